@@ -1,0 +1,6 @@
+use Rattle.std.proofs.Common.{◌≡◌, ◌-◌, ◌^◌, min, take}
+use Rattle.sheet_refs.specs.Names.{decimal_number}
+use Rattle.sheet_refs.proofs.names.decimal_of.Given as goal
+
+abbrev pub invariant-loop-digit : goal.invariant-loop-digit
+invariant-loop-digit l = l.number ≡ min (decimal_number (take l.digit-index l.text)) (2 ^ 64 - 1)

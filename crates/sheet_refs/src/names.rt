@@ -1,0 +1,101 @@
+ghost use Rattle.std.specs.Prelude.{◌≡◌, ℕ, ◌≤◌, ◌<◌, ◌^◌, ◌-◌, length, MatchOption, ◌==◌};
+ghost use Rattle.std.specs.Char.{is_ascii_alphabetic};
+ghost use Rattle.std.specs.List.{prefix_len, position};
+ghost use Rattle.sheet_refs.specs.Cells.{Position, Corners};
+ghost use Rattle.sheet_refs.specs.Names.{IsDecimal, IsColumnName, IsRowName, IsCellName, IsRangeName, place_of, IsLetter};
+
+use super::cell::{Cell, MAX_COLS, MAX_ROWS};
+use super::range::Range;
+
+/// The number that the digits write in base ten; None exactly where the text isn't one or more digits
+/// or the number exceeds `most`.
+pub fn decimal_of(text: &[u8], most: u64) -> Option<u64>
+    requires { most < 2 ^ 64 - 1 }
+    ensures { MatchOption result ((number : ℕ) → ¬ IsDecimal text.now most number) (IsDecimal text.now most) }
+{
+    if text.is_empty() || !text.iter().all(|byte| byte.is_ascii_digit()) {
+        return None;
+    }
+    // A number past the type's end stays at that end, which `most` is below.
+    let mut number: u64 = 0;
+    for digit in text {
+        number = number.saturating_mul(10).saturating_add(u64::from(*digit - b'0'));
+    }
+    (number <= most).then_some(number)
+}
+
+fn place_in_alphabet(letter: u8) -> u32
+    requires { IsLetter letter }
+    ensures place { result ≡ place_of letter }
+    ensures small { result < 27 }
+{
+    let first = if letter <= b'Z' { b'A' } else { b'a' };
+    u32::from(letter - first) + 1
+}
+
+fn column_of(text: &[u8]) -> Option<u32>
+    ensures { MatchOption result ((col : ℕ) → ¬ IsColumnName text.now col) (IsColumnName text.now) }
+{
+    if text.is_empty() || text.len() > 3 || !text.iter().all(|byte| byte.is_ascii_alphabetic()) {
+        return None;
+    }
+    let mut column = 0;
+    for letter in text {
+        column = column * 26 + place_in_alphabet(*letter);
+    }
+    (column <= MAX_COLS).then_some(column)
+}
+
+fn row_of(text: &[u8]) -> Option<u32>
+    ensures { MatchOption result ((row : ℕ) → ¬ IsRowName text.now row) (IsRowName text.now) }
+{
+    if text.len() > 7 || text.first() == Some(&b'0') {
+        return None;
+    }
+    let row = decimal_of(text, u64::from(MAX_ROWS))?;
+    Some(row as u32)
+}
+
+fn letters_in_front(text: &[u8]) -> usize
+    ensures count { result ≡ prefix_len is_ascii_alphabetic text.now }
+    ensures within { result ≤ length text.now }
+{
+    text.iter()
+        .take_while(|byte| byte.is_ascii_alphabetic())
+        .count()
+}
+
+/// The cell that a text names: one to three letters of either case, A to XFD, and a row number from 1
+/// to 1,048,576 without a leading zero. None exactly where the text is no such name.
+pub fn cell_of(text: &[u8]) -> Option<Cell>
+    ensures { MatchOption result ((cell : Position) → ¬ IsCellName text.now cell) (IsCellName text.now) }
+{
+    let (column, row) = text.split_at(letters_in_front(text));
+    let col = column_of(column)?;
+    let row = row_of(row)?;
+    Cell::new(row, col)
+}
+
+fn colon_in(text: &[u8]) -> Option<usize>
+    ensures { result ≡ position (λ byte. byte == 58) text.now }
+{
+    text.iter().position(|byte| *byte == b':')
+}
+
+/// The range that a text names: one cell, or two opposite corners joined by a colon, in any order.
+/// None exactly where the text is neither.
+pub fn range_of(text: &[u8]) -> Option<Range>
+    ensures { MatchOption result ((range : Corners) → ¬ IsRangeName text.now range) (IsRangeName text.now) }
+{
+    match colon_in(text) {
+        None => {
+            let cell = cell_of(text)?;
+            Some(Range::of(cell, cell))
+        }
+        Some(colon) => {
+            let head = cell_of(&text[..colon])?;
+            let tail = cell_of(&text[colon + 1..])?;
+            Some(Range::of(head, tail))
+        }
+    }
+}
