@@ -1,2 +1,6 @@
+pub mod Formula
+pub mod Grammar
+pub mod Tree
+pub mod TreeCode
 pub mod Values
 pub mod Wholes

@@ -1,5 +1,5 @@
 -- Values of cells, their codes and their printed forms.
-use Rattle.std.specs.Prelude.{◌≡◌, ℕ, ◌+◌, ◌*◌, ◌^◌, ◌≤◌, ℤ, pos, ◌+ℤ◌, nat_abs, List, [], codes}
+use Rattle.std.specs.Prelude.{ℕ, ◌+◌, ◌*◌, ◌^◌, pos, ◌+ℤ◌, nat_abs, List, [], codes}
 use Rattle.std.specs.Fmt.{signed_decimal}
 use Rattle.formula_syntax.specs.declared.value.ErrorKind.{ErrorKind}
 use Rattle.formula_syntax.specs.declared.value.ErrorKind.TheVariants.{Num, Circ}

@@ -10,7 +10,11 @@
 #![tactic(auto)]
 
 mod codes;
+mod reader;
+mod tree;
 mod value;
 
 pub use codes::{code, decode};
+pub use reader::{MAX_REFERENCES, MAX_TEXT, ReadRefused, read_formula};
+pub use tree::{BinaryOp, Formula, Node};
 pub use value::{ErrorKind, MAX_WHOLE, Value, Whole};

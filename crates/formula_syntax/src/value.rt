@@ -6,7 +6,6 @@ use std::marker::Model;
 /// The greatest whole number of a cell, 2^53 - 1; the least is its negative.
 pub const MAX_WHOLE: i64 = 9_007_199_254_740_991;
 
-
 /// A whole number from -(2^53 - 1) to 2^53 - 1.
 #[derive(Clone, Copy, Debug, PartialEq, Eq)]
 pub struct Whole {

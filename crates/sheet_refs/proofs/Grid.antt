@@ -56,6 +56,7 @@ cells_listed range ordered cell = (from_list, to_list)
   where
     all_length : length (cells_of range) ≡ height range * width range
     all_length = rows_length range range.head.row (height range)
+
     from_list : Contains (cells_of range) cell → IsIn cell range
     from_list (k, below, is) =
         let place = split_place (width range) (height range) k (omega (arith, below, all_length)) in
@@ -65,6 +66,7 @@ cells_listed range ordered cell = (from_list, to_list)
         let row : range.head.row + k / w ≡ cell.row = ap (λ (c : Position). c.row) here in
         let col : range.head.col + k % w ≡ cell.col = ap (λ (c : Position). c.col) here in
         record { row_from = omega arith; row_to = omega (arith, place.0); col_from = omega arith; col_to = omega (arith, place.1) }
+
     to_list : IsIn cell range → Contains (cells_of range) cell
     to_list inside =
         let i = cell.row - range.head.row in

@@ -38,8 +38,8 @@ take_front (x ∷ xs) rest = ap (λ t. x ∷ t) (take_front xs rest)
 name_front : (text : List ℕ) (cell : Position) (name : IsCellName text cell) → prefix_len is_ascii_alphabetic text ≡ length name.letters
 name_front text cell name =
     let parts = front_len is_ascii_alphabetic name.letters name.digits
-        (λ k d h. letter_passes _ (name.column.letters k d h))
-        (λ h. digit_fails _ (name.row.number.digits 0 0 h)) in
+    (λ k d h. letter_passes _ (name.column.letters k d h))
+    (λ h. digit_fails _ (name.row.number.digits 0 0 h)) in
     rw name.text_is parts
 
 pub name_column : (text : List ℕ) (cell : Position) (name : IsCellName text cell) → IsColumnName (take (prefix_len is_ascii_alphabetic text) text) cell.col
@@ -81,20 +81,22 @@ name_joined text letters digits col row (Some cell) split column number some pos
 abbrev pub is_colon : ℕ → Bool
 is_colon byte = byte == 58
 
-no_colon : (text : List ℕ) (cell : Position) → IsCellName text cell → All (λ byte. not (is_colon byte) ≡ true) text
-no_colon text cell name k d h =
+-- a name has letters and digits alone
+pub name_bytes : (text : List ℕ) (cell : Position) → IsCellName text cell → All (λ byte. IsLetter byte ⊎ IsDigit byte) text
+name_bytes text cell name k d h =
     rw name.text_is (elim (leb_tells (length name.letters) k) [
-      inl past ↦ rw (get_or-append_right name.letters name.digits (length name.letters) k d refl past.1)
-        (digit_passes _ (name.row.number.digits (k - length name.letters) d (omega (arith, whole, ap length name.text_is))))
-    | inr before ↦ rw (get_or_append_left name.letters name.digits d k before.1) (letter_no_colon _ (name.column.letters k d before.1)) ])
-  where
-    whole : length (name.letters ++ name.digits) ≡ length name.letters + length name.digits
-    whole = length-append name.letters name.digits
-    digit_passes : (b : ℕ) → IsDigit b → not (is_colon b) ≡ true
-    digit_passes b p = grind (arith, nat_tests)
-    letter_no_colon : (b : ℕ) → IsLetter b → not (is_colon b) ≡ true
-    letter_no_colon b (inl p) = grind (arith, nat_tests)
-    letter_no_colon b (inr p) = grind (arith, nat_tests)
+      | inl past ↦ rw (get_or-append_right name.letters name.digits (length name.letters) k d refl past.1)
+          (inr (name.row.number.digits (k - length name.letters) d (omega (arith, length-append name.letters name.digits, ap length name.text_is))))
+      | inr before ↦ rw (get_or_append_left name.letters name.digits d k before.1) (inl (name.column.letters k d before.1))
+    ])
+
+no_colon_byte : (byte : ℕ) → IsLetter byte ⊎ IsDigit byte → not (is_colon byte) ≡ true
+no_colon_byte byte (inl (inl h)) = grind (arith, nat_tests)
+no_colon_byte byte (inl (inr h)) = grind (arith, nat_tests)
+no_colon_byte byte (inr h) = grind (arith, nat_tests)
+
+no_colon : (text : List ℕ) (cell : Position) → IsCellName text cell → All (λ byte. not (is_colon byte) ≡ true) text
+no_colon text cell name k d h = no_colon_byte _ (name_bytes text cell name k d h)
 
 at_place : (at len : ℕ) → at < len → cond (nat_lt at len) (Some at) None ≡ Some at
 at_place at len h = grind (arith, nat_tests)

@@ -19,7 +19,9 @@ pub fn decimal_of(text: &[u8], most: u64) -> Option<u64>
     // A number past the type's end stays at that end, which `most` is below.
     let mut number: u64 = 0;
     for digit in text {
-        number = number.saturating_mul(10).saturating_add(u64::from(*digit - b'0'));
+        number = number
+            .saturating_mul(10)
+            .saturating_add(u64::from(*digit - b'0'));
     }
     (number <= most).then_some(number)
 }
