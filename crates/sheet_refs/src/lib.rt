@@ -9,9 +9,11 @@
 #![tactic(auto)]
 
 mod cell;
+mod memory;
 mod names;
 mod range;
 
 pub use cell::Cell;
+pub use memory::Memory;
 pub use names::{cell_of, decimal_of, range_of};
 pub use range::Range;
