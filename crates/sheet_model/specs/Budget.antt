@@ -1,0 +1,36 @@
+-- Values by a budget of steps: over any cells, any values, and any function that gives a cell its value from those of its inputs.
+-- `circ` is the value of a cell that leads into a cycle.
+use Rattle.std.specs.Prelude.{◌≡◌, ◌≢◌, ℕ, zero, suc, ◌<◌, ◌≤◌, List, slice_get, Some}
+
+-- the value of a cell depends on the values of its inputs alone
+abbrev pub IsLocal : {C V : Type 0} (Input : C → C → Type 0) (step : C → (C → V) → V) → Type 0
+IsLocal {C} {V} Input step = (c : C) (f g : C → V) → ((d : C) → Input c d → f d ≡ g d) → step c f ≡ step c g
+
+-- a cell with a circular input is circular
+abbrev pub IsStrict : {C V : Type 0} (Input : C → C → Type 0) (circ : V) (step : C → (C → V) → V) → Type 0
+IsStrict {C} {V} Input circ step = (c d : C) (f : C → V) → Input c d → f d ≡ circ → step c f ≡ circ
+
+-- the value with a budget: circular with none, and with one more what one step gives over the values with the rest
+unfoldable pub ev : {C V : Type 0} (circ : V) (step : C → (C → V) → V) → ℕ → C → V
+ev circ step zero c = circ
+ev circ step (suc n) c = step c (ev circ step n)
+
+-- the cell has this value with each budget from k on
+abbrev pub SettlesAt : {C V : Type 0} (circ : V) (step : C → (C → V) → V) → ℕ → C → V → Type 0
+SettlesAt circ step k c v = (n : ℕ) → k ≤ n → ev circ step n c ≡ v
+
+-- the cell is circular with each budget
+abbrev pub IsCircular : {C V : Type 0} (circ : V) (step : C → (C → V) → V) → C → Type 0
+IsCircular circ step c = (n : ℕ) → ev circ step n c ≡ circ
+
+-- the cell stands in the list
+abbrev pub StandsIn : {C : Type 0} → List C → C → Type 0
+StandsIn cells c = (i : ℕ) × (slice_get cells i ≡ Some c)
+
+-- a list in which the inputs of each cell stand before it, and a set of cells each of which has an input in the set;
+-- the listed cells have numbers below `count`, and no two have one number
+pub record IsJustified {C : Type 0} (Input : C → C → Type 0) (number : C → ℕ) (count : ℕ) (ordered : List C) (Circular : C → Type 0) : Type 0 where
+  pub inputs_before : (i : ℕ) (c d : C) → slice_get ordered i ≡ Some c → Input c d → (j : ℕ) × (j < i) × (slice_get ordered j ≡ Some d)
+  pub numbers_below : (i : ℕ) (c : C) → slice_get ordered i ≡ Some c → number c < count
+  pub numbers_differ : (i j : ℕ) (c d : C) → i < j → slice_get ordered i ≡ Some c → slice_get ordered j ≡ Some d → number c ≢ number d
+  pub circular_input : (c : C) → Circular c → (d : C) × Input c d × Circular d

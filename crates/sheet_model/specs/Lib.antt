@@ -1,0 +1,4 @@
+pub mod Budget
+pub mod Sheets
+pub mod Values
+pub mod Walks
