@@ -39,8 +39,8 @@ module _ {C V : Type 0} (Input : C → C → Type 0) (circ : V) (step : C → (C
   pub circular_always : ((v : V) → (v ≡ circ) ⊎ (v ≢ circ)) → (k : ℕ) (c : C) → SettlesAt circ step k c circ → IsCircular circ step c
   circular_always decide k c settles n =
       elim (decide (ev circ step n c)) [
-        inl circular ↦ circular
-      | inr differs ↦ absurd (differs (sym (stability n (n + k) c differs (omega arith)) ∙ settles (n + k) (omega arith)))
+        | inl circular ↦ circular
+        | inr differs ↦ absurd (differs (sym (stability n (n + k) c differs (omega arith)) ∙ settles (n + k) (omega arith)))
       ]
 
   -- in an order in which inputs come first, the cell at place i has its value from the budget i + 1 on
@@ -50,10 +50,10 @@ module _ {C V : Type 0} (Input : C → C → Type 0) (circ : V) (step : C → (C
   settles_below ordered before (suc bound) i c lt at =
       settles_next i (ev circ step i) c
       (λ d input n le.
-        let place = before i c d at input in
-        let j_lt : place.0 < i = place.1 in
-        let settles = settles_below ordered before bound place.0 d (omega arith) place.2 in
-        settles n (omega arith) ∙ sym (settles i j_lt))
+      let place = before i c d at input in
+      let j_lt : place.0 < i = place.1 in
+      let settles = settles_below ordered before bound place.0 d (omega arith) place.2 in
+      settles n (omega arith) ∙ sym (settles i j_lt))
 
 module _ {C : Type 0} (number : C → ℕ) (count : ℕ) (cells : List C) where
   read : (i : ℕ) → i < length cells → (c : C) × (slice_get cells i ≡ Some c)
@@ -67,20 +67,20 @@ module _ {C : Type 0} (number : C → ℕ) (count : ℕ) (cells : List C) where
   length-le-count differ below =
       subst (λ n. n ≤ count) (length-map cells number)
       (length-le_from_distinct_below (map number cells) count
-        (IsDistinct-from_apart eqb (map number cells)
-          (λ i j d lt in_range.
-            let j_lt : j < length cells = subst (λ n. j < n) (length-map cells number) in_range in
-            let a = read i (omega arith) in
-            let b = read j j_lt in
-            let differs : number a.0 ≢ number b.0 = differ i j a.0 b.0 lt a.1 b.1 in
-            let left : get_or (map number cells) i d ≡ number a.0 = number_at i d a.0 a.1 in
-            let right : get_or (map number cells) j d ≡ number b.0 = number_at j d b.0 b.1 in
-            apart (get_or (map number cells) i d) (get_or (map number cells) j d) (λ same. differs (sym left ∙ same ∙ right))))
-        (λ q found.
-          let place = Contains-from_any (λ (x y : ℕ) (e : eqb x y ≡ true). eqb-true x y e) q (map number cells) found in
-          let k_lt : place.0 < length cells = subst (λ n. place.0 < n) (length-map cells number) place.1 in
-          let a = read place.0 k_lt in
-          subst (λ n. n < count) (sym (number_at place.0 q a.0 a.1) ∙ place.2) (below place.0 a.0 a.1)))
+      (IsDistinct-from_apart eqb (map number cells)
+      (λ i j d lt in_range.
+      let j_lt : j < length cells = subst (λ n. j < n) (length-map cells number) in_range in
+      let a = read i (omega arith) in
+      let b = read j j_lt in
+      let differs : number a.0 ≢ number b.0 = differ i j a.0 b.0 lt a.1 b.1 in
+      let left : get_or (map number cells) i d ≡ number a.0 = number_at i d a.0 a.1 in
+      let right : get_or (map number cells) j d ≡ number b.0 = number_at j d b.0 b.1 in
+      apart (get_or (map number cells) i d) (get_or (map number cells) j d) (λ same. differs (sym left ∙ same ∙ right))))
+      (λ q found.
+      let place = Contains-from_any (λ (x y : ℕ) (e : eqb x y ≡ true). eqb-true x y e) q (map number cells) found in
+      let k_lt : place.0 < length cells = subst (λ n. place.0 < n) (length-map cells number) place.1 in
+      let a = read place.0 k_lt in
+      subst (λ n. n < count) (sym (number_at place.0 q a.0 a.1) ∙ place.2) (below place.0 a.0 a.1)))
     where
       apart : (a b : ℕ) → a ≢ b → eqb a b ≡ false
       apart a b ne = grind (arith, nat_tests)
@@ -102,11 +102,11 @@ module _ {C V : Type 0} (Input : C → C → Type 0) (circ : V) (step : C → (C
   value-step c stands =
       local c (ev circ step count) (ev circ step (suc count))
       (λ d input.
-        let place = justified.inputs_before stands.0 c d stands.1 input in
-        let within : place.0 < length ordered = slice_get_within ordered place.0 d place.2 in
-        let fits : length ordered ≤ count = length_ordered in
-        let settles = settles_at place.0 d place.2 in
-        settles count (omega arith) ∙ sym (settles (suc count) (omega arith)))
+      let place = justified.inputs_before stands.0 c d stands.1 input in
+      let within : place.0 < length ordered = slice_get_within ordered place.0 d place.2 in
+      let fits : length ordered ≤ count = length_ordered in
+      let settles = settles_at place.0 d place.2 in
+      settles count (omega arith) ∙ sym (settles (suc count) (omega arith)))
 
   -- a cell of the set is circular
   pub value-circular : (c : C) → Circular c → IsCircular circ step c
@@ -120,10 +120,10 @@ module _ {C V : Type 0} (Input : C → C → Type 0) (circ : V) (step : C → (C
   ordered_unique v is_step (suc bound) i c lt at =
       is_step c (i, at)
       ∙ local c v (ev circ step (suc count))
-        (λ d input.
-          let place = justified.inputs_before i c d at input in
-          let j_lt : place.0 < i = place.1 in
-          ordered_unique v is_step bound place.0 d (omega arith) place.2)
+      (λ d input.
+      let place = justified.inputs_before i c d at input in
+      let j_lt : place.0 < i = place.1 in
+      ordered_unique v is_step bound place.0 d (omega arith) place.2)
       ∙ sym (value-step c (i, at))
 
   -- values that are one step over themselves at ordered cells, and circular at the others, are the values with that budget

@@ -29,8 +29,8 @@ state_at states p n count lt = elim (slice_get_cases states p).1 [ inl there ↦
 closed_read : (states : List State) (p : ℕ) (t : State) → slice_get (map closed_state states) p ≡ Some t → (s : State) × (slice_get states p ≡ Some s) × (closed_state s ≡ t)
 closed_read states p t at =
     elim (slice_get_cases states p).1 [
-      inl there ↦ (there.0, there.2, (let e = sym (slice_get-map closed_state states p) ∙ at in let f = ap (option_map closed_state) there.2 in cc))
-    | inr past ↦ absurd (let e = sym (slice_get-map closed_state states p) ∙ at in let f = ap (option_map closed_state) past.1 in cc)
+      | inl there ↦ (there.0, there.2, (let e = sym (slice_get-map closed_state states p) ∙ at in let f = ap (option_map closed_state) there.2 in cc))
+      | inr past ↦ absurd (let e = sym (slice_get-map closed_state states p) ∙ at in let f = ap (option_map closed_state) past.1 in cc)
     ]
 
 closed-not_open : (s : State) → closed_state s ≡ Open → ⊥
@@ -43,30 +43,36 @@ module _ (sheet : SheetValue) (states : List State) (frames : List Frame) (walk 
   next_open : (cell : Position) → IsWaiting sheet states frames cell → slice_get states (place_of sheet cell) ≢ Some Unseen → (c : Position) → IsTrue (is_inside sheet c) × (slice_get states (place_of sheet c) ≡ Some Open) → (d : Position) × IsInput sheet c d × ((IsTrue (is_inside sheet d) × (slice_get states (place_of sheet d) ≡ Some Open)) ⊎ IsCircular (Error Circ) (step sheet) d)
   next_open cell waiting seen c is_open =
       elim (slice_get_cases frames (suc place.0)).1 [
-        inl there ↦ (there.0.cell, rw (← same_cell) (walk.waits place.0 place.1 there.0 place.2 there.2), inl (walk.inside (suc place.0) there.0 there.2, walk.opened (suc place.0) there.0 there.2))
-      | inr past ↦ (cell, rw (← same_cell) (waiting.newest place.0 place.1 place.2 (let lt = slice_get_within frames place.0 place.1 place.2 in let le : length frames ≤ suc place.0 = past.0 in omega arith)), blocked)
+        | inl there ↦ (there.0.cell, rw (← same_cell) (walk.waits place.0 place.1 there.0 place.2 there.2), inl (walk.inside (suc place.0) there.0 there.2, walk.opened (suc place.0) there.0 there.2))
+        | inr past ↦ (cell, rw (← same_cell) (waiting.newest place.0 place.1 place.2 (let lt = slice_get_within frames place.0 place.1 place.2 in let le : length frames ≤ suc place.0 = past.0 in omega arith)), blocked)
       ]
     where
       place : (i : ℕ) × (frame : Frame) × (slice_get frames i ≡ Some frame) × (place_of sheet frame.cell ≡ place_of sheet c)
       place = walk.listed (place_of sheet c) is_open.1
+
       same_cell : place.1.cell ≡ c
       same_cell = place_same sheet place.1.cell c (walk.inside place.0 place.1 place.2) is_open.0 place.3
+
       state : (s : State) × (slice_get states (place_of sheet cell) ≡ Some s)
       state = state_at states (place_of sheet cell) (cell_count sheet) walk.count (place-lt sheet cell waiting.inside)
+
       stop_here : (s : State) → slice_get states (place_of sheet cell) ≡ Some s → is_plain_state s ≡ false
       stop_here s at = ap is_plain_state (sym (get_or_from_slice_get states (place_of sheet cell) s Unseen at)) ∙ rw waiting.inside at waiting.stop
+
       circular : (v : Value) → not (is_circular v) ≡ false → v ≡ Error Circ
       circular v test = is_circular-true v (go (is_circular v) test)
         where
           go : (b : Bool) → not b ≡ false → b ≡ true
           go true h = refl
           go false h = cc
+
       go : (s : State) → slice_get states (place_of sheet cell) ≡ Some s → is_plain_state s ≡ false → (IsTrue (is_inside sheet cell) × (slice_get states (place_of sheet cell) ≡ Some Open)) ⊎ IsCircular (Error Circ) (step sheet) cell
       go Unseen at stop = absurd (seen at)
       go Open at stop = inl (waiting.inside, at)
       go (Known v) at stop =
           inr (circular_always (IsInput sheet) (Error Circ) (step sheet) (step_local sheet) (step_strict sheet) circular_or_not (known_count states) cell
-            (subst (λ w. SettlesAt (Error Circ) (step sheet) (known_count states) cell w) (circular v stop) (walk.settled cell v waiting.inside at)))
+          (subst (λ w. SettlesAt (Error Circ) (step sheet) (known_count states) cell w) (circular v stop) (walk.settled cell v waiting.inside at)))
+
       blocked : (IsTrue (is_inside sheet cell) × (slice_get states (place_of sheet cell) ≡ Some Open)) ⊎ IsCircular (Error Circ) (step sheet) cell
       blocked = go state.0 state.1 (stop_here state.0 state.1)
 
@@ -82,8 +88,8 @@ module _ (sheet : SheetValue) (states : List State) (frames : List Frame) (walk 
   walk_close cell waiting seen = record {
     count = length-map states closed_state ∙ walk.count;
     settled = λ c v inside at.
-      let was = closed_read states (place_of sheet c) (Known v) at in
-      settled_before c v inside was.0 was.1 was.2;
+        let was = closed_read states (place_of sheet c) (Known v) at in
+        settled_before c v inside was.0 was.1 was.2;
     listed = λ p at. let was = closed_read states p Open at in absurd (closed-not_open was.0 was.2);
     inside = λ i frame at. absurd (cc);
     opened = λ i frame at. absurd (cc);
@@ -99,6 +105,7 @@ module _ (sheet : SheetValue) (states : List State) (frames : List Frame) (walk 
           keeps Unseen e = e
           keeps Open e = refl
           keeps (Known v) e = refl
+
       settled_before : (c : Position) (v : Value) → IsTrue (is_inside sheet c) → (s : State) → slice_get states (place_of sheet c) ≡ Some s → closed_state s ≡ Known v → SettlesAt (Error Circ) (step sheet) (known_count (map closed_state states)) c v
       settled_before c v inside Unseen at e = absurd (cc)
       settled_before c v inside Open at e = let same : Error Circ ≡ v = cc in λ n le. open_circular cell waiting seen c inside at n ∙ same
@@ -147,14 +154,14 @@ module _ (sheet : SheetValue) (states : List State) (rest : List Frame) (f : Fra
     count = length-set states (place_of sheet f.cell) (Known (Error Circ)) ∙ closing.count;
     inside = λ i g at. closing.inside i g (slice_get-append rest (f ∷ []) i g at);
     listed = λ q at.
-      elim (read_set states (place_of sheet f.cell) q here.0 (Known (Error Circ)) Open here.1 at) [
-        inl same ↦ absurd (let no = same.1 in cc)
-      | inr other ↦ (let l = closing.listed q other.1 in
-          elim (slice_get-pushed rest f l.0 l.1 l.2) [
-            inl old ↦ (l.0, l.1, old, l.3)
-          | inr last ↦ absurd (other.0 (sym l.3 ∙ ap (λ (g : Frame). place_of sheet g.cell) (sym last.1)))
-          ])
-      ];
+        elim (read_set states (place_of sheet f.cell) q here.0 (Known (Error Circ)) Open here.1 at) [
+          | inl same ↦ absurd (let no = same.1 in cc)
+          | inr other ↦ (let l = closing.listed q other.1 in
+              elim (slice_get-pushed rest f l.0 l.1 l.2) [
+                | inl old ↦ (l.0, l.1, old, l.3)
+                | inr last ↦ absurd (other.0 (sym l.3 ∙ ap (λ (g : Frame). place_of sheet g.cell) (sym last.1)))
+              ])
+        ];
     closes = λ i g at. ap (λ states. slice_get states (place_of sheet g.cell)) closing_same ∙ closing.closes i g (slice_get-append rest (f ∷ []) i g at);
   }
 

@@ -19,12 +19,13 @@ module _ (sheet : SheetValue) (states : List State) (walk : IsWalk sheet states 
   unfolding value_of
   value_known cell inside =
       elim (slice_get_cases states (place_of sheet cell)).1 [
-        inl there ↦ go there.0 there.2
-      | inr past ↦ absurd (let lt = place-lt sheet cell inside in let e = walk.count in let le : length states ≤ place_of sheet cell = past.0 in omega arith)
+        | inl there ↦ go there.0 there.2
+        | inr past ↦ absurd (let lt = place-lt sheet cell inside in let e = walk.count in let le : length states ≤ place_of sheet cell = past.0 in omega arith)
       ]
     where
       enough : known_count states ≤ suc (cell_count sheet)
       enough = let most = count_by-le-length is_known states in let e = walk.count in omega arith
+
       go : (s : State) → slice_get states (place_of sheet cell) ≡ Some s → (v : Value) × (slice_get states (place_of sheet cell) ≡ Some (Known v)) × (value_of sheet cell ≡ v)
       go Unseen at = absurd (seen (place_of sheet cell) (place-lt sheet cell inside) at)
       go Open at = absurd (let l = walk.listed (place_of sheet cell) at in let no = l.2 in cc)
@@ -35,8 +36,8 @@ module _ (sheet : SheetValue) (states : List State) (walk : IsWalk sheet states 
   codes_known = record {
     count = length-map states (λ s. code_of (known_value s)) ∙ walk.count;
     each = λ cell inside.
-      let known = value_known cell inside in
-      slice_get-map (λ s. code_of (known_value s)) states (place_of sheet cell)
-      ∙ ap (option_map (λ s. code_of (known_value s))) known.1
-      ∙ ap (λ v. Some (code_of v)) (sym known.2);
+        let known = value_known cell inside in
+        slice_get-map (λ s. code_of (known_value s)) states (place_of sheet cell)
+        ∙ ap (option_map (λ s. code_of (known_value s))) known.1
+        ∙ ap (λ v. Some (code_of v)) (sym known.2);
   }

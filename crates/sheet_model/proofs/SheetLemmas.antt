@@ -1,10 +1,11 @@
 -- Places of cells in a sheet.
-use Rattle.std.proofs.Common.{◌≡◌, ◌≢◌, ℕ, zero, suc, ◌+◌, ◌-◌, ◌*◌, ◌<◌, ◌≤◌, List, [], ◌∷◌, ◌++◌, map, replicate, IsTrue, true, false, refl, ap, arith}
-use Rattle.std.proofs.lemmas.List.{replicate-append-replicate}
+use Rattle.std.proofs.Common.{◌≡◌, ◌≢◌, ℕ, zero, suc, ◌+◌, ◌-◌, ◌*◌, ◌<◌, ◌≤◌, List, [], ◌∷◌, ◌++◌, map, replicate, Bool, cond, length, get_or, IsTrue, true, false, refl, ◌∙◌, ap, arith, length-set, get_or-set_same, get_or-set_other}
+use Rattle.std.proofs.lemmas.List.{length-replicate}
 use Rattle.std.proofs.lemmas.Bool.Decides.{nat_tests}
 use Rattle.std.proofs.lemmas.Nat.{rows, mul-add-lt, same_from_place}
 use Rattle.sheet_refs.specs.Cells.{Position}
-use Rattle.sheet_model.specs.Sheets.{SheetValue, is_inside, place_of, cell_count}
+use Rattle.formula_syntax.specs.declared.value.Value.TheVariants.{Empty}
+use Rattle.sheet_model.specs.Sheets.{SheetValue, ContentValue, Constant, IsSheetSize, IsFilled, is_inside, place_of, cell_count, content_of, with_content, blank_sheet}
 
 -- where a position in the rectangle lies
 pub record IsInside (sheet : SheetValue) (cell : Position) : Type 0 where
@@ -47,6 +48,38 @@ pub map-replicate : {A B : Type 0} (f : A → B) (n : ℕ) (x : A) → map f (re
 map-replicate f zero x = refl
 map-replicate f (suc n) x = ap (λ xs. f x ∷ xs) (map-replicate f n x)
 
--- one more copy at the end
-pub replicate-push : {A : Type 0} (n : ℕ) (x : A) → replicate n x ++ x ∷ [] ≡ replicate (n + 1) x
-replicate-push n x = replicate-append-replicate n 1 x
+-- a copy, or the same by default past the last one
+get_or-replicate_default : {A : Type 0} (n i : ℕ) (x : A) → get_or (replicate n x) i x ≡ x
+get_or-replicate_default zero i x = refl
+get_or-replicate_default (suc n) zero x = refl
+get_or-replicate_default (suc n) (suc i) x = get_or-replicate_default n i x
+
+module _ (sheet : SheetValue) (cell : Position) (content : ContentValue) (inside : IsTrue (is_inside sheet cell)) where
+  -- after a write a cell has what was written to it, and every other cell what it had
+  pub content_of-same : IsFilled sheet → content_of (with_content sheet cell content) cell ≡ content
+  content_of-same filled =
+      let lt = place-lt sheet cell inside in
+      let within : place_of sheet cell < length sheet.contents = (let e = filled.filled in omega arith) in
+      rw (inside, get_or-set_same sheet.contents (place_of sheet cell) content (Constant Empty) within) refl
+
+  pub content_of-other : (other : Position) → other ≢ cell → content_of (with_content sheet cell content) other ≡ content_of sheet other
+  content_of-other other differs = go (is_inside sheet other) refl
+    where
+      go : (b : Bool) → is_inside sheet other ≡ b → content_of (with_content sheet cell content) other ≡ content_of sheet other
+      go true is = let apart : place_of sheet other ≢ place_of sheet cell = λ same. differs (place_same sheet other cell is inside same) in
+          rw (is, get_or-set_other sheet.contents (place_of sheet cell) (place_of sheet other) content (Constant Empty) apart) refl
+      go false is = rw is refl
+
+  pub IsFilled-with_content : IsFilled sheet → IsFilled (with_content sheet cell content)
+  IsFilled-with_content filled = record { size = filled.size; filled = length-set sheet.contents (place_of sheet cell) content ∙ filled.filled }
+
+-- a blank sheet is filled with empty cells
+pub IsFilled-blank : (rows cols : ℕ) → IsSheetSize rows cols → IsFilled (blank_sheet rows cols)
+IsFilled-blank rows cols size = record { size = size; filled = length-replicate (rows * cols) (Constant Empty) }
+
+pub content_of-blank : (rows cols : ℕ) (cell : Position) → content_of (blank_sheet rows cols) cell ≡ Constant Empty
+content_of-blank rows cols cell = go (is_inside (blank_sheet rows cols) cell)
+  where
+    go : (b : Bool) → cond b (get_or (replicate (rows * cols) (Constant Empty)) (place_of (blank_sheet rows cols) cell) (Constant Empty)) (Constant Empty) ≡ Constant Empty
+    go true = get_or-replicate_default (rows * cols) (place_of (blank_sheet rows cols) cell) (Constant Empty)
+    go false = refl

@@ -24,8 +24,8 @@ use Rattle.sheet_model.proofs.WalkLemmas.{settles_later, differ, known_plain, pl
 pub read_set : (states : List State) (p q : ℕ) (s t u : State) → slice_get states p ≡ Some s → slice_get (set states p t) q ≡ Some u → ((q ≡ p) × (t ≡ u)) ⊎ ((q ≢ p) × (slice_get states q ≡ Some u))
 read_set states p q s t u at at_set =
     elim (eqb_tells q p) [
-      inl same ↦ inl (same.1, let e = slice_get-set_same states p s t at in let f = ap (slice_get (set states p t)) same.1 in cc)
-    | inr other ↦ inr (other.1, sym (slice_get-set_other states p q t other.1) ∙ at_set)
+      | inl same ↦ inl (same.1, let e = slice_get-set_same states p s t at in let f = ap (slice_get (set states p t)) same.1 in cc)
+      | inr other ↦ inr (other.1, sym (slice_get-set_other states p q t other.1) ∙ at_set)
     ]
 
 module _ (sheet : SheetValue) (states : List State) where
@@ -34,55 +34,58 @@ module _ (sheet : SheetValue) (states : List State) where
   walk_open frames cell walk inside unseen waiting = record {
     count = length-set states p Open ∙ walk.count;
     settled = λ c v c_inside at.
-      elim (read_set states p (place_of sheet c) Unseen Open (Known v) unseen at) [
-        inl here ↦ absurd (let no = here.1 in cc)
-      | inr other ↦ settles_later sheet (known_count states) (known_count (set states p Open)) c v (omega (arith, known_same)) (walk.settled c v c_inside other.1)
-      ];
+        elim (read_set states p (place_of sheet c) Unseen Open (Known v) unseen at) [
+          | inl here ↦ absurd (let no = here.1 in cc)
+          | inr other ↦ settles_later sheet (known_count states) (known_count (set states p Open)) c v (omega (arith, known_same)) (walk.settled c v c_inside other.1)
+        ];
     listed = λ q at.
-      elim (read_set states p q Unseen Open Open unseen at) [
-        inl here ↦ (length frames, new, slice_get-push frames new, sym here.0)
-      | inr other ↦ (let l = walk.listed q other.1 in (l.0, l.1, slice_get-append frames (new ∷ []) l.0 l.1 l.2, l.3))
-      ];
+        elim (read_set states p q Unseen Open Open unseen at) [
+          | inl here ↦ (length frames, new, slice_get-push frames new, sym here.0)
+          | inr other ↦ (let l = walk.listed q other.1 in (l.0, l.1, slice_get-append frames (new ∷ []) l.0 l.1 l.2, l.3))
+        ];
     inside = λ i f at. elim (slice_get-pushed frames new i f at) [ inl old ↦ walk.inside i f old | inr last ↦ subst (λ (g : Frame). IsTrue (is_inside sheet g.cell)) last.1 inside ];
     opened = λ i f at.
-      elim (slice_get-pushed frames new i f at) [
-        inl old ↦ slice_get-set_other states p (place_of sheet f.cell) Open (apart i f old) ∙ walk.opened i f old
-      | inr last ↦ subst (λ (g : Frame). slice_get (set states p Open) (place_of sheet g.cell) ≡ Some Open) last.1 (slice_get-set_same states p Unseen Open unseen)
-      ];
+        elim (slice_get-pushed frames new i f at) [
+          | inl old ↦ slice_get-set_other states p (place_of sheet f.cell) Open (apart i f old) ∙ walk.opened i f old
+          | inr last ↦ subst (λ (g : Frame). slice_get (set states p Open) (place_of sheet g.cell) ≡ Some Open) last.1 (slice_get-set_same states p Unseen Open unseen)
+        ];
     once = λ i j f g lt at_i at_j.
-      elim (slice_get-pushed frames new i f at_i) [
-        inl old_i ↦ elim (slice_get-pushed frames new j g at_j) [
-            inl old_j ↦ walk.once i j f g lt old_i old_j
-          | inr last ↦ subst (λ (h : Frame). place_of sheet f.cell ≢ place_of sheet h.cell) last.1 (apart i f old_i)
+        elim (slice_get-pushed frames new i f at_i) [
+          | inl old_i ↦ elim (slice_get-pushed frames new j g at_j) [
+            | inl old_j ↦ walk.once i j f g lt old_i old_j
+            | inr last ↦ subst (λ (h : Frame). place_of sheet f.cell ≢ place_of sheet h.cell) last.1 (apart i f old_i)
           ]
-      | inr last_i ↦ absurd (let in_range = slice_get_within (frames ++ new ∷ []) j g at_j in let e = length-append frames (new ∷ []) in let first : i ≡ length frames = last_i.0 in omega arith)
-      ];
+          | inr last_i ↦ absurd (let in_range = slice_get_within (frames ++ new ∷ []) j g at_j in let e = length-append frames (new ∷ []) in let first : i ≡ length frames = last_i.0 in omega arith)
+        ];
     waits = λ i f g at_i at_j.
-      elim (slice_get-pushed frames new (suc i) g at_j) [
-        inl old_j ↦ (let lt : suc i < length frames = slice_get_within frames (suc i) g old_j in
-          elim (slice_get-pushed frames new i f at_i) [
-            inl old_i ↦ walk.waits i f g old_i old_j
-          | inr last_i ↦ absurd (let first : i ≡ length frames = last_i.0 in omega arith)
-          ])
-      | inr last ↦ (let end : suc i ≡ length frames = last.0 in
-          elim (slice_get-pushed frames new i f at_i) [
-            inl old_i ↦ subst (λ (h : Frame). IsInput sheet f.cell h.cell) last.1 (waiting i f old_i end)
-          | inr last_i ↦ absurd (let first : i ≡ length frames = last_i.0 in omega arith)
-          ])
-      ];
+        elim (slice_get-pushed frames new (suc i) g at_j) [
+          | inl old_j ↦ (let lt : suc i < length frames = slice_get_within frames (suc i) g old_j in
+              elim (slice_get-pushed frames new i f at_i) [
+                | inl old_i ↦ walk.waits i f g old_i old_j
+                | inr last_i ↦ absurd (let first : i ≡ length frames = last_i.0 in omega arith)
+              ])
+          | inr last ↦ (let end : suc i ≡ length frames = last.0 in
+              elim (slice_get-pushed frames new i f at_i) [
+                | inl old_i ↦ subst (λ (h : Frame). IsInput sheet f.cell h.cell) last.1 (waiting i f old_i end)
+                | inr last_i ↦ absurd (let first : i ≡ length frames = last_i.0 in omega arith)
+              ])
+        ];
     passed = λ i f at.
-      elim (slice_get-pushed frames new i f at) [
-        inl old ↦ (λ k c lt ref. plain_kept sheet states walk.count p Unseen Open unseen refl c (walk.passed i f old k c lt ref))
-      | inr last ↦ subst (λ (h : Frame). HasPassed sheet (set states p Open) h) last.1 (λ k c lt ref. absurd (let no : k < 0 = lt in omega arith))
-      ];
+        elim (slice_get-pushed frames new i f at) [
+          | inl old ↦ (λ k c lt ref. plain_kept sheet states walk.count p Unseen Open unseen refl c (walk.passed i f old k c lt ref))
+          | inr last ↦ subst (λ (h : Frame). HasPassed sheet (set states p Open) h) last.1 (λ k c lt ref. absurd (let no : k < 0 = lt in omega arith))
+        ];
   }
     where
       p : ℕ
       p = place_of sheet cell
+
       new : Frame
       new = record { cell = cell; next = 0 }
+
       apart : (i : ℕ) (f : Frame) → slice_get frames i ≡ Some f → place_of sheet f.cell ≢ p
       apart i f at = differ states (place_of sheet f.cell) p Open Unseen (walk.opened i f at) unseen (λ same. cc)
+
       known_same : known_count (set states p Open) + 0 ≡ known_count states + 0
       known_same = count_by-set is_known states p Unseen Open unseen
 
@@ -94,23 +97,23 @@ module _ (sheet : SheetValue) (states : List State) where
   walk_finish rest f walk plain = record {
     count = length-set states p (Known value) ∙ walk.count;
     settled = λ c v c_inside at.
-      elim (read_set states p (place_of sheet c) Open (Known value) (Known v) here at) [
-        inl same ↦ (let same_value : value ≡ v = (let e = same.1 in cc) in
-          let same_cell : f.cell ≡ c = place_same sheet f.cell c f_inside c_inside (sym same.0) in
-          subst (λ k. SettlesAt (Error Circ) (step sheet) k c v) (sym one_more)
-          (subst (λ d. SettlesAt (Error Circ) (step sheet) (suc (known_count states)) d v) same_cell
-            (subst (λ w. SettlesAt (Error Circ) (step sheet) (suc (known_count states)) f.cell w) same_value settles)))
-      | inr other ↦ settles_later sheet (known_count states) (known_count (set states p (Known value))) c v (omega (arith, one_more)) (walk.settled c v c_inside other.1)
-      ];
+        elim (read_set states p (place_of sheet c) Open (Known value) (Known v) here at) [
+          | inl same ↦ (let same_value : value ≡ v = (let e = same.1 in cc) in
+              let same_cell : f.cell ≡ c = place_same sheet f.cell c f_inside c_inside (sym same.0) in
+              subst (λ k. SettlesAt (Error Circ) (step sheet) k c v) (sym one_more)
+              (subst (λ d. SettlesAt (Error Circ) (step sheet) (suc (known_count states)) d v) same_cell
+              (subst (λ w. SettlesAt (Error Circ) (step sheet) (suc (known_count states)) f.cell w) same_value settles)))
+          | inr other ↦ settles_later sheet (known_count states) (known_count (set states p (Known value))) c v (omega (arith, one_more)) (walk.settled c v c_inside other.1)
+        ];
     listed = λ q at.
-      elim (read_set states p q Open (Known value) Open here at) [
-        inl same ↦ absurd (let no = same.1 in cc)
-      | inr other ↦ (let l = walk.listed q other.1 in
-          elim (slice_get-pushed rest f l.0 l.1 l.2) [
-            inl old ↦ (l.0, l.1, old, l.3)
-          | inr last ↦ absurd (other.0 (sym l.3 ∙ ap (λ (g : Frame). place_of sheet g.cell) (sym last.1)))
-          ])
-      ];
+        elim (read_set states p q Open (Known value) Open here at) [
+          | inl same ↦ absurd (let no = same.1 in cc)
+          | inr other ↦ (let l = walk.listed q other.1 in
+              elim (slice_get-pushed rest f l.0 l.1 l.2) [
+                | inl old ↦ (l.0, l.1, old, l.3)
+                | inr last ↦ absurd (other.0 (sym l.3 ∙ ap (λ (g : Frame). place_of sheet g.cell) (sym last.1)))
+              ])
+        ];
     inside = λ i g at. walk.inside i g (old i g at);
     opened = λ i g at. slice_get-set_other states p (place_of sheet g.cell) (Known value) (apart i g at) ∙ walk.opened i g (old i g at);
     once = λ i j g h lt at_i at_j. walk.once i j g h lt (old i g at_i) (old j h at_j);
@@ -120,27 +123,35 @@ module _ (sheet : SheetValue) (states : List State) where
     where
       p : ℕ
       p = place_of sheet f.cell
+
       value : Value
       value = step sheet f.cell (known_values sheet states)
+
       at_end : slice_get (rest ++ f ∷ []) (length rest) ≡ Some f
       at_end = slice_get-push rest f
+
       here : slice_get states p ≡ Some Open
       here = walk.opened (length rest) f at_end
+
       f_inside : IsTrue (is_inside sheet f.cell)
       f_inside = walk.inside (length rest) f at_end
+
       old : (i : ℕ) (g : Frame) → slice_get rest i ≡ Some g → slice_get (rest ++ f ∷ []) i ≡ Some g
       old i g at = slice_get-append rest (f ∷ []) i g at
+
       apart : (i : ℕ) (g : Frame) → slice_get rest i ≡ Some g → place_of sheet g.cell ≢ p
       apart i g at = walk.once i (length rest) g f (slice_get_within rest i g at) (old i g at) at_end
+
       one_more : known_count (set states p (Known value)) ≡ suc (known_count states)
       one_more = let counted = count_by-set is_known states p Open (Known value) here in omega (arith, counted)
+
       settles : SettlesAt (Error Circ) (step sheet) (suc (known_count states)) f.cell value
       settles =
           settles_next (IsInput sheet) (Error Circ) (step sheet) (step_local sheet) (step_strict sheet) (known_count states) (known_values sheet states) f.cell
           (λ d input.
-            let known = known_plain sheet states walk.count d input.inside (plain input.referred.0 d input.referred.1) in
-            let e : known_values sheet states d ≡ known.0 = ap known_value (get_or_from_slice_get states (place_of sheet d) (Known known.0) Unseen known.1) in
-            subst (λ v. SettlesAt (Error Circ) (step sheet) (known_count states) d v) (sym e) (walk.settled d known.0 input.inside known.1))
+          let known = known_plain sheet states walk.count d input.inside (plain input.referred.0 d input.referred.1) in
+          let e : known_values sheet states d ≡ known.0 = ap known_value (get_or_from_slice_get states (place_of sheet d) (Known known.0) Unseen known.1) in
+          subst (λ v. SettlesAt (Error Circ) (step sheet) (known_count states) d v) (sym e) (walk.settled d known.0 input.inside known.1))
 
   pub work_finish : (rest : List Frame) (f : Frame) (p : ℕ) (v : Value) → slice_get states p ≡ Some Open → work_left (set states p (Known v)) rest < work_left states (rest ++ f ∷ [])
   work_finish rest f p v open_here = let same = count_by-set is_unseen states p Open (Known v) open_here in let longer = length-append rest (f ∷ []) in omega arith
@@ -159,10 +170,10 @@ passed_all sheet states f next passed further k cell lt at =
 pub waiting_new : (sheet : SheetValue) (states : List State) (rest : List Frame) (w : Frame) (cell : Position) → slice_get (content_references (content_of sheet w.cell)) w.next ≡ Some cell → IsFalse (is_plain sheet states cell) → IsWaiting sheet states (rest ++ w ∷ []) cell
 waiting_new sheet states rest w cell at stop = record {
   newest = λ i f at_i end.
-    elim (slice_get-pushed rest w i f at_i) [
-      inl old ↦ absurd (let lt = slice_get_within rest i f old in let e = length-append rest (w ∷ []) in omega arith)
-    | inr last ↦ subst (λ (g : Frame). IsInput sheet g.cell cell) last.1 (record { referred = (w.next, at); inside = inside })
-    ];
+      elim (slice_get-pushed rest w i f at_i) [
+        | inl old ↦ absurd (let lt = slice_get_within rest i f old in let e = length-append rest (w ∷ []) in omega arith)
+        | inr last ↦ subst (λ (g : Frame). IsInput sheet g.cell cell) last.1 (record { referred = (w.next, at); inside = inside })
+      ];
   some = let e = length-append rest (w ∷ []) in omega arith;
   inside = inside;
   stop = stop;
@@ -171,5 +182,6 @@ waiting_new sheet states rest w cell at stop = record {
     go : (b c : Bool) → cond b c true ≡ false → b ≡ true
     go true c h = refl
     go false c h = cc
+
     inside : IsTrue (is_inside sheet cell)
     inside = go (is_inside sheet cell) (is_plain_state (get_or states (place_of sheet cell) Unseen)) stop

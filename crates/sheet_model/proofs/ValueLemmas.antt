@@ -36,6 +36,7 @@ list_any_stands {A} p xs x stands passes = go xs stands.0 stands.1
     or-true : (b : Bool) → (b || true) ≡ true
     or-true true = refl
     or-true false = refl
+
     go : (xs : List A) (i : ℕ) → slice_get xs i ≡ Some x → list_any p xs ≡ true
     go [] i at = absurd (cc)
     go (z ∷ zs) zero at = let same : z ≡ x = cc in rw (same, passes) refl
@@ -62,7 +63,7 @@ module _ (sheet : SheetValue) where
   content_same f g (Constant value) same = refl
   content_same f g (Computed formula) same =
       let within : (cell : Position) → StandsIn (references_of formula) cell → values_within sheet f cell ≡ values_within sheet g cell =
-        λ cell stands. within_same f g cell (same cell stands) in
+      λ cell stands. within_same f g cell (same cell stands) in
       ap₂ (λ b v. cond b (Error Circ) (never_empty v))
       (list_any_same (λ cell. is_circular (values_within sheet f cell)) (λ cell. is_circular (values_within sheet g cell)) (references_of formula) (λ cell stands. ap is_circular (within cell stands)))
       (meaning_same (values_within sheet f) (values_within sheet g) formula within)
@@ -74,7 +75,7 @@ module _ (sheet : SheetValue) where
   content_strict f cell (Constant value) stands inside circular = absurd (cc (stands.1))
   content_strict f cell (Computed formula) stands inside circular =
       let found : list_any (λ cell. is_circular (values_within sheet f cell)) (references_of formula) ≡ true =
-        list_any_stands (λ cell. is_circular (values_within sheet f cell)) (references_of formula) cell stands (rw (inside, circular) refl) in
+      list_any_stands (λ cell. is_circular (values_within sheet f cell)) (references_of formula) cell stands (rw (inside, circular) refl) in
       rw found refl
 
   pub step_strict : IsStrict (IsInput sheet) (Error Circ) (step sheet)

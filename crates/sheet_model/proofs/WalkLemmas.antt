@@ -48,7 +48,7 @@ module _ (sheet : SheetValue) (states : List State) where
   pub value_of_plain : (formula : Tree) → ((k : ℕ) (cell : Position) → slice_get (references_of formula) k ≡ Some cell → IsTrue (is_plain sheet states cell)) → never_empty (meaning (values_within sheet (known_values sheet states)) formula) ≡ formula_value (values_within sheet (known_values sheet states)) formula
   value_of_plain formula plain =
       let none : list_any (λ cell. is_circular (values_within sheet (known_values sheet states) cell)) (references_of formula) ≡ false =
-        list_any_none (λ cell. is_circular (values_within sheet (known_values sheet states) cell)) (references_of formula) (λ cell stands. plain_value cell (plain stands.0 cell stands.1)) in
+      list_any_none (λ cell. is_circular (values_within sheet (known_values sheet states) cell)) (references_of formula) (λ cell stands. plain_value cell (plain stands.0 cell stands.1)) in
       rw none refl
 
 -- a settled value stays so with more budget to begin from
@@ -65,8 +65,8 @@ module _ (sheet : SheetValue) (states : List State) (count : length states ≡ c
   known_plain cell inside plain =
       let plain_here : is_plain_state (get_or states (place_of sheet cell) Unseen) ≡ true = rw inside at plain in
       elim (slice_get_cases states (place_of sheet cell)).1 [
-        inl there ↦ go there.0 there.2 (subst (λ s. is_plain_state s ≡ true) (get_or_from_slice_get states (place_of sheet cell) there.0 Unseen there.2) plain_here)
-      | inr past ↦ absurd (let lt = place-lt sheet cell inside in let le : length states ≤ place_of sheet cell = past.0 in omega (arith, count))
+        | inl there ↦ go there.0 there.2 (subst (λ s. is_plain_state s ≡ true) (get_or_from_slice_get states (place_of sheet cell) there.0 Unseen there.2) plain_here)
+        | inr past ↦ absurd (let lt = place-lt sheet cell inside in let le : length states ≤ place_of sheet cell = past.0 in omega (arith, count))
       ]
     where
       go : (s : State) → slice_get states (place_of sheet cell) ≡ Some s → is_plain_state s ≡ true → (v : Value) × (slice_get states (place_of sheet cell) ≡ Some (Known v))
@@ -81,9 +81,10 @@ module _ (sheet : SheetValue) (states : List State) (count : length states ≡ c
       here : is_plain_state (get_or states (place_of sheet cell) Unseen) ≡ true → is_plain_state (get_or (set states p t) (place_of sheet cell) Unseen) ≡ true
       here h =
           elim (eqb_tells (place_of sheet cell) p) [
-            inl same ↦ absurd (let e : get_or states p Unseen ≡ s = get_or_from_slice_get states p s Unseen at in let f = ap (λ q. is_plain_state (get_or states q Unseen)) same.1 in let g = ap is_plain_state e in cc)
-          | inr other ↦ rw (get_or-set_other states p (place_of sheet cell) t Unseen other.1) h
+            | inl same ↦ absurd (let e : get_or states p Unseen ≡ s = get_or_from_slice_get states p s Unseen at in let f = ap (λ q. is_plain_state (get_or states q Unseen)) same.1 in let g = ap is_plain_state e in cc)
+            | inr other ↦ rw (get_or-set_other states p (place_of sheet cell) t Unseen other.1) h
           ]
+
       go : (b : Bool) → cond b (is_plain_state (get_or states (place_of sheet cell) Unseen)) true ≡ true → cond b (is_plain_state (get_or (set states p t) (place_of sheet cell) Unseen)) true ≡ true
       go true h = here h
       go false h = refl
@@ -92,9 +93,9 @@ module _ (sheet : SheetValue) (states : List State) (count : length states ≡ c
 constant_known : (sheet : SheetValue) (cell : Position) (v : Value) → IsTrue (is_inside sheet cell) → slice_get (map first_state sheet.contents) (place_of sheet cell) ≡ Some (Known v) → content_of sheet cell ≡ Constant v
 constant_known sheet cell v inside at =
     elim (slice_get_cases sheet.contents (place_of sheet cell)).1 [
-      inl there ↦ rw (inside, get_or_from_slice_get sheet.contents (place_of sheet cell) there.0 (Constant Empty) there.2)
-        (constant there.0 (let e = sym (slice_get-map first_state sheet.contents (place_of sheet cell)) ∙ at in let f = ap (option_map first_state) there.2 in cc))
-    | inr past ↦ absurd (let e = sym (slice_get-map first_state sheet.contents (place_of sheet cell)) ∙ at in let f = ap (option_map first_state) past.1 in cc)
+      | inl there ↦ rw (inside, get_or_from_slice_get sheet.contents (place_of sheet cell) there.0 (Constant Empty) there.2)
+          (constant there.0 (let e = sym (slice_get-map first_state sheet.contents (place_of sheet cell)) ∙ at in let f = ap (option_map first_state) there.2 in cc))
+      | inr past ↦ absurd (let e = sym (slice_get-map first_state sheet.contents (place_of sheet cell)) ∙ at in let f = ap (option_map first_state) past.1 in cc)
     ]
   where
     constant : (content : ContentValue) → first_state content ≡ Known v → content ≡ Constant v
@@ -106,12 +107,12 @@ pub walk_new : (sheet : SheetValue) → IsFilled sheet → IsWalk sheet (map fir
 walk_new sheet filled = record {
   count = length-map sheet.contents first_state ∙ filled.filled;
   settled = λ cell v inside at.
-    let is_constant = constant_known sheet cell v inside at in
-    let one : 1 ≤ known_count (map first_state sheet.contents) = count_by-pos is_known (map first_state sheet.contents) (place_of sheet cell) (Known v) at refl in
-    settles_later sheet 1 (known_count (map first_state sheet.contents)) cell v one
-    (subst (λ w. SettlesAt (Error Circ) (step sheet) 1 cell w) (ap (step_content sheet (λ d. Error Circ)) is_constant)
+      let is_constant = constant_known sheet cell v inside at in
+      let one : 1 ≤ known_count (map first_state sheet.contents) = count_by-pos is_known (map first_state sheet.contents) (place_of sheet cell) (Known v) at refl in
+      settles_later sheet 1 (known_count (map first_state sheet.contents)) cell v one
+      (subst (λ w. SettlesAt (Error Circ) (step sheet) 1 cell w) (ap (step_content sheet (λ d. Error Circ)) is_constant)
       (settles_next (IsInput sheet) (Error Circ) (step sheet) (step_local sheet) (step_strict sheet) 0 (λ d. Error Circ) cell
-        (λ d input. absurd (let no = subst (λ content. StandsIn (content_references content) d) is_constant input.referred in let none = no.1 in cc))));
+      (λ d input. absurd (let no = subst (λ content. StandsIn (content_references content) d) is_constant input.referred in let none = no.1 in cc))));
   listed = λ p at. absurd (not_open sheet.contents p at);
   inside = λ i frame at. absurd (cc);
   opened = λ i frame at. absurd (cc);
@@ -132,11 +133,11 @@ walk_advance sheet states rest f g walk same_cell has_passed = record {
   count = walk.count;
   settled = walk.settled;
   listed = λ p at.
-    let l = walk.listed p at in
-    elim (slice_get-last rest g f l.0 l.1 l.2) [
-      inl stays ↦ (l.0, l.1, stays, l.3)
-    | inr last ↦ (l.0, g, last.0, ap (place_of sheet) (same_cell ∙ ap (λ (h : Frame). h.cell) last.1) ∙ l.3)
-    ];
+      let l = walk.listed p at in
+      elim (slice_get-last rest g f l.0 l.1 l.2) [
+        | inl stays ↦ (l.0, l.1, stays, l.3)
+        | inr last ↦ (l.0, g, last.0, ap (place_of sheet) (same_cell ∙ ap (λ (h : Frame). h.cell) last.1) ∙ l.3)
+      ];
   inside = λ i h at. let b = before i h at in rw b.2 (walk.inside i b.0 b.1);
   opened = λ i h at. let b = before i h at in rw b.2 (walk.opened i b.0 b.1);
   once = λ i j h k lt at_i at_j. let a = before i h at_i in let b = before j k at_j in rw (a.2, b.2) (walk.once i j a.0 b.0 lt a.1 b.1);

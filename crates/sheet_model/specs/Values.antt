@@ -10,7 +10,7 @@ use Rattle.formula_syntax.specs.declared.value.Value.{Value}
 use Rattle.formula_syntax.specs.declared.value.Value.TheVariants.{Empty, Number, Error}
 use Rattle.formula_syntax.specs.Tree.{Tree, number, reference, binary, references_of}
 use Rattle.formula_syntax.specs.Values.{code_of}
-use Rattle.sheet_model.specs.Budget.{ev, StandsIn}
+use Rattle.sheet_model.specs.Budget.{ev, StandsIn, IsJustified}
 use Rattle.sheet_model.specs.Sheets.{SheetValue, ContentValue, Constant, Computed, is_inside, cell_count, place_of, content_of}
 
 -- a value as a number: an empty cell counts as 0, and an error stays itself
@@ -64,9 +64,13 @@ step_content sheet values (Computed formula) = formula_value (values_within shee
 abbrev pub step : SheetValue → Position → (Position → Value) → Value
 step sheet cell values = step_content sheet values (content_of sheet cell)
 
+-- the value of a cell that leads into a cycle
+abbrev pub circular_value : Value
+circular_value = Error Circ
+
 -- the value of a cell with a budget of steps
 abbrev pub budget_value : SheetValue → ℕ → Position → Value
-budget_value sheet n cell = ev (Error Circ) (step sheet) n cell
+budget_value sheet n cell = ev circular_value (step sheet) n cell
 
 -- the value of a cell: one more step than the sheet has cells is budget enough
 unfoldable pub value_of : SheetValue → Position → Value
@@ -81,6 +85,15 @@ content_references (Computed formula) = references_of formula
 pub record IsInput (sheet : SheetValue) (cell input : Position) : Type 0 where
   pub referred : StandsIn (content_references (content_of sheet cell)) input
   pub inside : IsTrue (is_inside sheet input)
+
+-- an order of cells in which inputs come first, and a set of cells, told by a test, in which each has an input
+abbrev pub IsOrderOf : SheetValue → List Position → (Position → Bool) → Type 0
+IsOrderOf sheet ordered circular = IsJustified (IsInput sheet) (place_of sheet) (cell_count sheet) ordered (λ cell. IsTrue (circular cell))
+
+-- values that are one step over themselves at the cells of the order, and #CIRC! at those of the set
+pub record IsSettledBy (sheet : SheetValue) (ordered : List Position) (circular : Position → Bool) (values : Position → Value) : Type 0 where
+  pub at_ordered : (cell : Position) → StandsIn ordered cell → values cell ≡ step sheet cell values
+  pub at_circular : (cell : Position) → IsTrue (circular cell) → values cell ≡ circular_value
 
 -- the codes of the values of all cells, row by row
 pub record AreValues (sheet : SheetValue) (codes : List ℕ) : Type 0 where

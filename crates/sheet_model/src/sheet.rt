@@ -85,7 +85,7 @@ impl Sheet {
     }
 
     /// The cell at a place.
-    pub fn cell_at(&self, place: usize) -> Cell
+    pub(crate) fn cell_at(&self, place: usize) -> Cell
         requires { place < cell_count self.now }
         ensures inside { IsTrue (is_inside self.now result) }
         ensures place { place_of self.now result ≡ place }
@@ -99,7 +99,7 @@ impl Sheet {
     }
 
     /// What stands in the cells, row by row.
-    pub fn contents(&self) -> &[Content]
+    pub(crate) fn contents(&self) -> &[Content]
         ensures contents { map content_value result.now ≡ self.now.contents }
         ensures filled { IsFilled self.now }
     {
@@ -118,7 +118,7 @@ impl Sheet {
     }
 
     /// Puts a content into a cell of the rectangle, and gives back what stood there.
-    pub fn set(&mut self, cell: Cell, content: Content) -> Content
+    pub(crate) fn set(&mut self, cell: Cell, content: Content) -> Content
         requires { IsTrue (is_inside self.old cell) }
         ensures replaced { content_value result ≡ content_of self.old cell }
         ensures placed { self.new ≡ with_content self.old cell (content_value content) }

@@ -9,8 +9,8 @@ loop-place-preserved c = λ k cell from below at.
     below_more (λ (k : ℕ). (cell : Position) → c.args.next ≤ k → slice_get c.args.references.now k ≡ Some cell → IsTrue (is_plain c.args.sheet.now c.args.states.now cell)) c.loop-place.place
     (λ k lt cell from at. c.loop-place.invariant k cell from lt at)
     (λ cell from at.
-      let same : cell ≡ c.index-references-place.result = sym (get_or_from_slice_get c.args.references.now c.loop-place.place cell c.index-references-place.result at) ∙ sym c.index-references-place.is in
-      rw same (sym c.is_plain.ensures ∙ c.if-is_plain.true))
+    let same : cell ≡ c.index-references-place.result = sym (get_or_from_slice_get c.args.references.now c.loop-place.place cell c.index-references-place.result at) ∙ sym c.index-references-place.is in
+    rw same (sym c.is_plain.ensures ∙ c.if-is_plain.true))
     k below cell from at
 
 pub returns-else-is_plain-clause-stop : goal.returns-else-is_plain-clause-stop

@@ -23,7 +23,7 @@ returns-in-Unseen-clause-walk c =
     let at = rw c.in-Unseen.is at (state (goal.at.returns-in-Unseen-clause-walk c).After-index) in
     on_ok c.open.result
     (λ (frames : c.open.new.self.frames.items ≡ c.args.self.now.frames.items ++ record { cell = c.args.cell; next = 0 } ∷ []). rw (frames, c.open.ensures.states, c.place-place.ensures.place)
-      (walk_open c.args.sheet.now c.args.self.now.states.items c.args.self.now.frames.items c.args.cell c.requires.walk c.requires.waiting.inside at c.requires.waiting.newest))
+    (walk_open c.args.sheet.now c.args.self.now.states.items c.args.self.now.frames.items c.args.cell c.requires.walk c.requires.waiting.inside at c.requires.waiting.newest))
     c.open.ensures.frames
 
 pub returns-in-Unseen-clause-seen : goal.returns-in-Unseen-clause-seen

@@ -18,8 +18,8 @@ loop-self-init c =
     let at : slice_get c.args.self.now.states.items (place_of c.args.sheet.now c.cell_at.result) ≡ Some Unseen = rw c.cell_at.ensures.place (unseen c) in
     record {
       walk =
-        rw (c.in_ok-open.ensures.frames, c.in_ok-open.ensures.states, ← c.cell_at.ensures.place)
-        (walk_open c.args.sheet.now c.args.self.now.states.items c.args.self.now.frames.items c.cell_at.result c.requires.walk c.cell_at.ensures.inside at
+          rw (c.in_ok-open.ensures.frames, c.in_ok-open.ensures.states, ← c.cell_at.ensures.place)
+          (walk_open c.args.sheet.now c.args.self.now.states.items c.args.self.now.frames.items c.cell_at.result c.requires.walk c.cell_at.ensures.inside at
           (λ i f at_i end. absurd (let no = rw c.requires.idle at at_i in cc)));
       seen = λ p h. h;
     }

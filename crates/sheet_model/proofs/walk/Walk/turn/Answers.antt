@@ -27,9 +27,9 @@ passed c =
     passed_all c.args.sheet.now c.args.self.now.states.items c.in-Some.frame c.first_stop-next.result
     ((walk c).passed (length c.pop.new.self.items) c.in-Some.frame (newest c))
     (λ k cell from below at.
-      let at_list : slice_get c.references_of-references.result.now k ≡ Some cell = rw (references c) at in
-      let plain : IsTrue (is_plain c.args.sheet.now c.deref.result.now cell) = c.first_stop-next.ensures.passed k cell from below at_list in
-      rw c.deref.ensures.value at plain)
+    let at_list : slice_get c.references_of-references.result.now k ≡ Some cell = rw (references c) at in
+    let plain : IsTrue (is_plain c.args.sheet.now c.deref.result.now cell) = c.first_stop-next.ensures.passed k cell from below at_list in
+    rw c.deref.ensures.value at plain)
 
 -- where it stops past the last reference, that is each of them
 all_passed : (c : After-first_stop-next) → length c.references_of-references.result.now ≤ c.first_stop-next.result → (k : ℕ) (cell : Position) → slice_get (content_references (content_of c.args.sheet.now c.in-Some.frame.cell)) k ≡ Some cell → IsTrue (is_plain c.args.sheet.now c.args.self.now.states.items cell)
@@ -60,7 +60,7 @@ returns-then-next-references-clause-seen c =
     let differs : Known c.evaluate-value.result ≢ Unseen = λ e. cc in
     rw c.place.ensures.place
     (seen_set c.args.self.now.states.items (place_of c.args.sheet.now c.in-Some.frame.cell) Open (Known c.evaluate-value.result)
-      ((walk before).opened (length c.pop.new.self.items) c.in-Some.frame (newest before)) differs)
+    ((walk before).opened (length c.pop.new.self.items) c.in-Some.frame (newest before)) differs)
 
 pub enter-requires-clause-walk : goal.enter-requires-clause-walk
 enter-requires-clause-walk c =
@@ -72,7 +72,7 @@ pub enter-requires-clause-waiting : goal.enter-requires-clause-waiting
 enter-requires-clause-waiting c =
     let before = (goal.at.enter-requires-clause-waiting c).After-first_stop-next in
     let at_list : slice_get c.references_of-references.result.now c.first_stop-next.result ≡ Some c.index-references-next.result =
-      slice_get_read c.references_of-references.result.now (length c.references_of-references.result.now) c.first_stop-next.result c.index-references-next.result refl (let more = c.if-next-references.false in omega arith) c.index-references-next.is in
+    slice_get_read c.references_of-references.result.now (length c.references_of-references.result.now) c.first_stop-next.result c.index-references-next.result refl (let more = c.if-next-references.false in omega arith) c.index-references-next.is in
     let stop = rw c.deref.ensures.value at (c.first_stop-next.ensures.stop c.index-references-next.result at_list) in
     rw c.in_ok-push.ensures.items
     (waiting_new c.args.sheet.now c.args.self.now.states.items c.pop.new.self.items (record { cell = c.in-Some.frame.cell; next = c.first_stop-next.result }) c.index-references-next.result (rw (references before) at at_list) stop)

@@ -1,0 +1,19 @@
+ghost use Rattle.std.specs.Prelude.{◌≡◌, ◌≢◌, ◌≤◌, ◌⊎◌, ℕ, Bool, List, IsTrue};
+ghost use Rattle.sheet_refs.specs.Cells.{Position};
+ghost use Rattle.formula_syntax.specs.declared.value.Value.{Value as CellValue};
+ghost use Rattle.sheet_model.specs.Budget.{StandsIn};
+ghost use Rattle.sheet_model.specs.Sheets.{SheetValue};
+ghost use Rattle.sheet_model.specs.Values.{budget_value, value_of, step, circular_value, IsOrderOf, IsSettledBy};
+
+/// What holds of the values of every sheet, however they are computed.
+///
+/// A value that isn't `#CIRC!` stays the same with more budget. Where all cells are told apart into an
+/// order, in which the inputs of each cell stand before it, and a set, in which each cell has an input,
+/// the value of an ordered cell is one step over the values, and that of a cell of the set is `#CIRC!`;
+/// and no other values have these two properties.
+pub fn value_laws()
+    ensures stability { (sheet : SheetValue) (cell : Position) (n m : ℕ) → budget_value sheet n cell ≢ circular_value → n ≤ m → budget_value sheet m cell ≡ budget_value sheet n cell }
+    ensures ordered { (sheet : SheetValue) (ordered : List Position) (circular : Position → Bool) → IsOrderOf sheet ordered circular → (cell : Position) → StandsIn ordered cell → value_of sheet cell ≡ step sheet cell (value_of sheet) }
+    ensures circular { (sheet : SheetValue) (ordered : List Position) (circular : Position → Bool) → IsOrderOf sheet ordered circular → (cell : Position) → IsTrue (circular cell) → value_of sheet cell ≡ circular_value }
+    ensures unique { (sheet : SheetValue) (ordered : List Position) (circular : Position → Bool) (values : Position → CellValue) → IsOrderOf sheet ordered circular → IsSettledBy sheet ordered circular values → (cell : Position) → StandsIn ordered cell ⊎ IsTrue (circular cell) → values cell ≡ value_of sheet cell }
+{}
