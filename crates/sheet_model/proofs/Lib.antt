@@ -1,0 +1,5 @@
+pub mod FieldLemmas
+pub mod ListLemmas
+pub mod PlainLemmas
+pub mod RecordLemmas
+pub mod SheetLemmas

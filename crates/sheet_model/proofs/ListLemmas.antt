@@ -1,0 +1,90 @@
+-- What stands at a place of a list after a push or a write.
+use Rattle.std.proofs.Common.{◌≡◌, ◌≢◌, ℕ, zero, suc, ◌+◌, ◌*◌, ◌<◌, ◌≤◌, ◌⊎◌, inl, inr, List, [], ◌∷◌, ◌++◌, length, map, slice_get, get_or, set, replicate, count_by, sum_by, Some, None, Bool, true, false, cond, option_map, refl, sym, ◌∙◌, ap, arith, length-append, length-set, get_or-set_same, get_or-set_other, le_of_suc-le-suc}
+use Rattle.std.proofs.lemmas.Option.{slice_get_within, slice_get-get_or, slice_get_past, slice_get_cases, slice_get-map, get_or_from_slice_get}
+use Rattle.std.proofs.lemmas.List.Sums.{sum_by-cons}
+
+pub slice_get-append : {A : Type 0} (xs ys : List A) (i : ℕ) (x : A) → slice_get xs i ≡ Some x → slice_get (xs ++ ys) i ≡ Some x
+slice_get-append [] ys i x at = absurd (cc)
+slice_get-append (z ∷ zs) ys zero x at = at
+slice_get-append (z ∷ zs) ys (suc i) x at = slice_get-append zs ys i x at
+
+pub slice_get-push : {A : Type 0} (xs : List A) (y : A) → slice_get (xs ++ y ∷ []) (length xs) ≡ Some y
+slice_get-push [] y = refl
+slice_get-push (x ∷ xs) y = slice_get-push xs y
+
+-- what stands in a list after a push stood in it before, or is the new last element
+pub slice_get-pushed : {A : Type 0} (xs : List A) (y : A) (i : ℕ) (x : A) → slice_get (xs ++ y ∷ []) i ≡ Some x → (slice_get xs i ≡ Some x) ⊎ ((i ≡ length xs) × (y ≡ x))
+slice_get-pushed [] y zero x at = inr (refl, cc)
+slice_get-pushed [] y (suc i) x at = absurd (cc)
+slice_get-pushed (z ∷ zs) y zero x at = inl at
+slice_get-pushed (z ∷ zs) y (suc i) x at =
+    elim (slice_get-pushed zs y i x at) [ inl before ↦ inl before | inr last ↦ inr (ap suc last.0, last.1) ]
+
+pub slice_get-set_same : {A : Type 0} (xs : List A) (i : ℕ) (x y : A) → slice_get xs i ≡ Some x → slice_get (set xs i y) i ≡ Some y
+slice_get-set_same [] i x y at = absurd (cc)
+slice_get-set_same (z ∷ zs) zero x y at = refl
+slice_get-set_same (z ∷ zs) (suc i) x y at = slice_get-set_same zs i x y at
+
+pub slice_get-set_other : {A : Type 0} (xs : List A) (i j : ℕ) (y : A) → j ≢ i → slice_get (set xs i y) j ≡ slice_get xs j
+slice_get-set_other [] i j y differs = refl
+slice_get-set_other (z ∷ zs) zero zero y differs = absurd (differs refl)
+slice_get-set_other (z ∷ zs) zero (suc j) y differs = refl
+slice_get-set_other (z ∷ zs) (suc i) zero y differs = refl
+slice_get-set_other (z ∷ zs) (suc i) (suc j) y differs = slice_get-set_other zs i j y (λ same. differs (ap suc same))
+
+-- writing what stands there already changes nothing
+pub set_same : {A : Type 0} (xs : List A) (i : ℕ) (x : A) → slice_get xs i ≡ Some x → set xs i x ≡ xs
+set_same [] i x at = absurd (cc)
+set_same (z ∷ zs) zero x at = let same : z ≡ x = cc in ap (λ y. y ∷ zs) (sym same)
+set_same (z ∷ zs) (suc i) x at = ap (λ ys. z ∷ ys) (set_same zs i x at)
+
+-- a function that leaves each element alone leaves the list alone
+pub map_same : {A : Type 0} (f : A → A) (xs : List A) → ((i : ℕ) (x : A) → slice_get xs i ≡ Some x → f x ≡ x) → map f xs ≡ xs
+map_same f [] same = refl
+map_same f (x ∷ xs) same = rw (same zero x refl) (ap (λ ys. x ∷ ys) (map_same f xs (λ i y at. same (suc i) y at)))
+
+module _ {A : Type 0} (p : A → Bool) where
+  count-cons : (x : A) (xs : List A) → count_by p (x ∷ xs) ≡ cond (p x) 1 0 + count_by p xs
+  count-cons x xs = sum_by-cons (λ x. cond (p x) 1 0) x xs
+
+  -- the number of elements that pass, before and after one is written
+  pub count_by-set : (xs : List A) (i : ℕ) (x y : A) → slice_get xs i ≡ Some x → count_by p (set xs i y) + cond (p x) 1 0 ≡ count_by p xs + cond (p y) 1 0
+  count_by-set [] i x y at = absurd (cc)
+  count_by-set (z ∷ zs) zero x y at =
+      let same : z ≡ x = cc in
+      rw (same, count-cons y zs, count-cons x zs) (omega arith)
+  count_by-set (z ∷ zs) (suc i) x y at =
+      let rest = count_by-set zs i x y at in
+      rw (count-cons z (set zs i y), count-cons z zs) (omega (arith, rest))
+
+  -- a function that keeps whether an element passes keeps how many do
+  pub count_by-map : (f : A → A) (xs : List A) → ((x : A) → p (f x) ≡ p x) → count_by p (map f xs) ≡ count_by p xs
+  count_by-map f [] same = refl
+  count_by-map f (x ∷ xs) same =
+      rw (count-cons (f x) (map f xs), count-cons x xs, same x) (ap (λ n. cond (p x) 1 0 + n) (count_by-map f xs same))
+
+  -- where each element that passes does so after a function, no fewer do
+  pub count_by-map-le : (f : A → A) (xs : List A) → ((x : A) → p x ≡ true → p (f x) ≡ true) → count_by p xs ≤ count_by p (map f xs)
+  count_by-map-le f [] keeps = omega arith
+  count_by-map-le f (x ∷ xs) keeps =
+      let rest = count_by-map-le f xs keeps in
+      let one : cond (p x) 1 0 ≤ cond (p (f x)) 1 0 = go (p x) (p (f x)) (keeps x) in
+      rw (count-cons (f x) (map f xs), count-cons x xs) (omega (arith, rest))
+    where
+      go : (a b : Bool) → (a ≡ true → b ≡ true) → cond a 1 0 ≤ cond b 1 0
+      go true true h = omega arith
+      go true false h = absurd (let h2 : false ≡ true = h refl in cc)
+      go false b h = omega arith
+
+-- a copy is what was copied
+pub slice_get-replicate : {A : Type 0} (n : ℕ) (x : A) (i : ℕ) (y : A) → slice_get (replicate n x) i ≡ Some y → x ≡ y
+slice_get-replicate zero x i y at = absurd (cc)
+slice_get-replicate (suc n) x zero y at = cc
+slice_get-replicate (suc n) x (suc i) y at = slice_get-replicate n x i y at
+
+-- what stands in a list with another last element stood there before, or is that element
+pub slice_get-last : {A : Type 0} (xs : List A) (y z : A) (i : ℕ) (x : A) → slice_get (xs ++ z ∷ []) i ≡ Some x → (slice_get (xs ++ y ∷ []) i ≡ Some x) ⊎ ((slice_get (xs ++ y ∷ []) i ≡ Some y) × (z ≡ x))
+slice_get-last [] y z zero x at = inr (refl, cc)
+slice_get-last [] y z (suc i) x at = absurd (cc)
+slice_get-last (w ∷ ws) y z zero x at = inl at
+slice_get-last (w ∷ ws) y z (suc i) x at = slice_get-last ws y z i x at
