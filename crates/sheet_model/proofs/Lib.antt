@@ -1,8 +1,11 @@
 pub mod BudgetLemmas
-pub mod SheetLemmas
+pub mod CycleLemmas
+pub mod FieldLemmas
 pub mod ListLemmas
+pub mod PlainLemmas
+pub mod RecordLemmas
+pub mod ResultLemmas
+pub mod SheetLemmas
+pub mod TurnLemmas
 pub mod ValueLemmas
 pub mod WalkLemmas
-pub mod TurnLemmas
-pub mod CycleLemmas
-pub mod ResultLemmas

@@ -14,6 +14,7 @@
 mod content;
 mod eval;
 mod laws;
+mod plain;
 mod sheet;
 #[cfg(test)]
 mod tests;
@@ -21,5 +22,6 @@ mod walk;
 
 pub use content::Content;
 pub use laws::value_laws;
+pub use plain::{PlainRefused, load_plain};
 pub use sheet::Sheet;
 pub use walk::all_values;
