@@ -1,0 +1,21 @@
+//! Where the texts of a run come from and where its output goes.
+//!
+//! A [`Shelf`] holds texts under names, and a [`Sink`] takes bytes in pieces. Each counts the faults that
+//! it has met, and the count never falls. A call answers a fault only where the count rose in that call, so
+//! code that is generic over the two can't make up a fault of its own. A shelf that tells what it holds
+//! gives exactly that text, and a sink that tells what it has taken gains exactly the piece that was put,
+//! or after a fault a prefix of it. An object need not tell: then its count alone is promised.
+//!
+//! [`SureShelf`] and [`SureSink`] never fail. Nothing stands below this crate but the standard library.
+#![tactic(auto)]
+
+mod refusals;
+mod shelf;
+mod sink;
+mod sure;
+mod texts;
+
+pub use refusals::{Failed, Fetch, Memory};
+pub use shelf::Shelf;
+pub use sink::Sink;
+pub use sure::{SureShelf, SureSink};
