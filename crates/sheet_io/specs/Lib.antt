@@ -3,3 +3,6 @@ pub mod Shelf
 pub mod Sink
 pub mod Texts
 pub mod Sure
+pub mod MemoryShelf
+pub mod MemorySink
+pub mod Schedule

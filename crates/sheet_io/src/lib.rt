@@ -9,12 +9,17 @@
 //! [`SureShelf`] and [`SureSink`] never fail. Nothing stands below this crate but the standard library.
 #![tactic(auto)]
 
+mod memory_shelf;
+mod memory_sink;
 mod refusals;
+mod schedule;
 mod shelf;
 mod sink;
 mod sure;
 mod texts;
 
+pub use memory_shelf::MemoryShelf;
+pub use memory_sink::MemorySink;
 pub use refusals::{Failed, Fetch, Memory};
 pub use shelf::Shelf;
 pub use sink::Sink;
