@@ -6,3 +6,5 @@ pub mod Sure
 pub mod MemoryShelf
 pub mod MemorySink
 pub mod Schedule
+pub mod FileShelf
+pub mod StreamSink

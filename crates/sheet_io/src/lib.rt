@@ -9,18 +9,22 @@
 //! [`SureShelf`] and [`SureSink`] never fail. Nothing stands below this crate but the standard library.
 #![tactic(auto)]
 
+mod file_shelf;
 mod memory_shelf;
 mod memory_sink;
 mod refusals;
 mod schedule;
 mod shelf;
 mod sink;
+mod stream_sink;
 mod sure;
 mod texts;
 
+pub use file_shelf::FileShelf;
 pub use memory_shelf::MemoryShelf;
 pub use memory_sink::MemorySink;
 pub use refusals::{Failed, Fetch, Memory};
 pub use shelf::Shelf;
 pub use sink::Sink;
+pub use stream_sink::StreamSink;
 pub use sure::{SureShelf, SureSink};
