@@ -20,9 +20,10 @@ written_none told bytes = record { done = []; split = refl; taken = Appends-nil 
 -- a write took the first n bytes of the rest
 pub written_more : (old now new : Option (List ℕ)) (bytes rest : List ℕ) (n : ℕ) → IsWritten old now bytes rest → Appends now new (take n rest) → IsWritten old new bytes (drop n rest)
 written_more old now new bytes rest n w more = record {
-    done = w.done ++ take n rest;
-    split = w.split ∙ ap (λ l. w.done ++ l) (sym (take-append-drop n rest)) ∙ sym (append_assoc w.done (take n rest) (drop n rest));
-    taken = Appends-trans old now new w.done (take n rest) w.taken more }
+  done = w.done ++ take n rest;
+  split = w.split ∙ ap (λ l. w.done ++ l) (sym (take-append-drop n rest)) ∙ sym (append_assoc w.done (take n rest) (drop n rest));
+  taken = Appends-trans old now new w.done (take n rest) w.taken more;
+}
 
 appends_kept : (old now new : Option (List ℕ)) (bytes : List ℕ) → Appends old now bytes → Keeps now new → Appends old new bytes
 appends_kept None now new bytes p q = tt

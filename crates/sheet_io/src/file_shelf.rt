@@ -1,6 +1,6 @@
 // A shelf whose names are paths of files.
 ghost use Rattle.std.specs.Prelude.{◌≡◌, ◌≤◌, ◌+◌, None, vec_len};
-ghost use Rattle.sheet_io.specs.Shelf.{Fetches};
+ghost use Rattle.sheet_io.specs.Shelf.{Fetches, TakesAtMost};
 ghost use Rattle.sheet_io.specs.FileShelf.{file_faults};
 
 use crate::{Fetch, Shelf};
@@ -49,7 +49,9 @@ const PIECE: usize = 8192;
 /// Appends all that a reader has left, unless that is more than `limit` bytes, of which it then took one
 /// more. A read of no bytes is the end. It stops at the first error.
 fn read_whole<R: Read>(reader: &mut R, limit: usize, into: &mut Vec<u8>) -> Result<(), Fetch>
-    ensures { Fetches (R.remaining reader.old) limit into.old.items into.new.items result }
+    ensures fetched { Fetches (R.remaining reader.old) limit into.old.items into.new.items result }
+    ensures takes { TakesAtMost (R.remaining reader.old) (R.remaining reader.new) (limit + 1) }
+    ensures within { vec_len into.new ≤ vec_len into.old + limit }
 {
     let mut buffer = [0; PIECE];
     let mut room = limit;

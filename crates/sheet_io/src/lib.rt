@@ -18,6 +18,8 @@ mod shelf;
 mod sink;
 mod stream_sink;
 mod sure;
+#[cfg(test)]
+mod tests;
 mod texts;
 
 pub use file_shelf::FileShelf;
