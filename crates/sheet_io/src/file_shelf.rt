@@ -1,7 +1,10 @@
 // A shelf whose names are paths of files.
-ghost use Rattle.std.specs.Prelude.{◌≡◌, ◌≤◌, ◌+◌, None, vec_len};
+ghost use Rattle.std.specs.Prelude.{◌≡◌, ◌≤◌, ◌+◌, None, IsErrOf, vec_len};
+ghost use Rattle.sheet_io.specs.Faults.{Rose};
+ghost use Rattle.sheet_io.specs.Schedule.{next_fault};
 ghost use Rattle.sheet_io.specs.Shelf.{Fetches, TakesAtMost};
 ghost use Rattle.sheet_io.specs.FileShelf.{file_faults};
+ghost use Rattle.sheet_io.specs.declared.refusals.Fetch.TheVariants.{Failed};
 
 use crate::{Fetch, Shelf};
 use std::fs::File;
@@ -31,7 +34,16 @@ impl<'a, R: Files> Shelf for FileShelf<'a, R> {
 
     ghost faults = { file_faults };
 
-    fn fetch(&mut self, name: &str, limit: usize, into: &mut Vec<u8>) -> Result<(), Fetch> {
+    fn fetch(&mut self, name: &str, limit: usize, into: &mut Vec<u8>) -> Result<(), Fetch>
+        ensures fetched { Fetches None limit into.old.items into.new.items result }
+        ensures within { vec_len into.new ≤ vec_len into.old + limit }
+        ensures counted { file_faults self.old ≤ file_faults self.new }
+        ensures cause { IsErrOf result Failed → Rose (file_faults self.old) (file_faults self.new) }
+
+        // Each failed fetch is one fault, and nothing else is.
+        ensures rises { IsErrOf result Failed → file_faults self.new ≡ next_fault (file_faults self.old) }
+        ensures stays { ¬ IsErrOf result Failed → file_faults self.new ≡ file_faults self.old }
+    {
         let result = match File::open(self.rt, name) {
             Ok(mut file) => read_whole(&mut file, limit, into),
             Err(_) => Err(Fetch::Failed),

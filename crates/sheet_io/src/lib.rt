@@ -6,7 +6,10 @@
 //! gives exactly that text, and a sink that tells what it has taken gains exactly the piece that was put,
 //! or after a fault a prefix of it. An object need not tell: then its count alone is promised.
 //!
-//! [`SureShelf`] and [`SureSink`] never fail. Nothing stands below this crate but the standard library.
+//! [`SureShelf`] and [`SureSink`] never fail, and [`MemoryShelf`] and [`MemorySink`] fail by a list.
+//! [`FileShelf`] and [`StreamSink`] reach the outside: what a file holds or a stream took, no clause says.
+//! Definitions: `specs/Faults.antt`, `specs/Shelf.antt` and `specs/Sink.antt`. Below this crate stands the
+//! standard library alone, and above it whatever reads a text or writes output.
 #![tactic(auto)]
 
 mod file_shelf;

@@ -69,7 +69,7 @@ impl Shelf for MemoryShelf {
         ensures fail { fetches_to_fail self.new ≡ fetches_to_fail self.old }
         ensures calls { fetch_calls self.new ≡ next_call (fetch_calls self.old) }
         ensures rises { IsErrOf result Failed → fetch_faults self.new ≡ next_fault (fetch_faults self.old) }
-        ensures stays { (IsErrOf result Failed → ⊥) → fetch_faults self.new ≡ fetch_faults self.old }
+        ensures stays { ¬ IsErrOf result Failed → fetch_faults self.new ≡ fetch_faults self.old }
     {
         if self.schedule.begin() {
             return Err(self.refuse());

@@ -1,7 +1,9 @@
 // A sink over a writer of the standard library, as standard output.
-ghost use Rattle.std.specs.Prelude.{◌≡◌};
+ghost use Rattle.std.specs.Prelude.{◌≡◌, ◌≤◌, OnOk, OnErr};
+ghost use Rattle.sheet_io.specs.Faults.{Rose};
+ghost use Rattle.sheet_io.specs.Schedule.{next_fault};
 ghost use Rattle.sheet_io.specs.Sink.{Puts};
-ghost use Rattle.sheet_io.specs.StreamSink.{stream_faults};
+ghost use Rattle.sheet_io.specs.StreamSink.{stream_writer, stream_faults};
 
 use crate::{Failed, Sink};
 use std::io::Write;
@@ -20,18 +22,27 @@ pub struct StreamSink<W: Write> {
 impl<W: Write> StreamSink<W> {
     /// A sink over this writer, without faults so far.
     pub fn new(writer: W) -> Self
-        ensures { stream_faults result ≡ 0 }
+        ensures writer { stream_writer result ≡ writer }
+        ensures faults { stream_faults result ≡ 0 }
     {
         StreamSink { writer, faults: 0 }
     }
 }
 
 impl<W: Write> Sink for StreamSink<W> {
-    ghost written = { λ sink. W.contents sink.writer };
+    ghost written = { λ sink. W.contents (stream_writer sink) };
 
     ghost faults = { stream_faults };
 
-    fn put(&mut self, bytes: &[u8]) -> Result<(), Failed> {
+    fn put(&mut self, bytes: &[u8]) -> Result<(), Failed>
+        ensures taken { Puts (W.contents (stream_writer self.old)) (W.contents (stream_writer self.new)) bytes.now result }
+        ensures counted { stream_faults self.old ≤ stream_faults self.new }
+        ensures cause { OnErr result (Rose (stream_faults self.old) (stream_faults self.new)) }
+
+        // Each failed put is one fault, and nothing else is.
+        ensures rises { OnErr result (stream_faults self.new ≡ next_fault (stream_faults self.old)) }
+        ensures stays { OnOk result (stream_faults self.new ≡ stream_faults self.old) }
+    {
         let result = write_through(&mut self.writer, bytes);
         if result.is_err() {
             self.faults = self.faults.saturating_add(1);

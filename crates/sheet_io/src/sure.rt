@@ -1,6 +1,7 @@
 // A shelf and a sink that never fail.
-ghost use Rattle.std.specs.Prelude.{◌≡◌, Some, None, [], unwrap_or};
-ghost use Rattle.sheet_io.specs.Texts.{text_under};
+ghost use Rattle.std.specs.Prelude.{◌≡◌, Some, None};
+ghost use Rattle.sheet_io.specs.Sure.{sure_texts};
+ghost use Rattle.sheet_io.specs.Texts.{text_or_empty};
 
 use crate::texts::find_text;
 use crate::{Failed, Fetch, Shelf, Sink};
@@ -12,8 +13,6 @@ pub struct SureShelf {
 }
 
 impl SureShelf {
-    ghost use Rattle.sheet_io.specs.Sure.{sure_texts};
-
     /// A shelf with these names and texts. Where a name stands twice, the first place counts.
     pub fn new(texts: Vec<(String, Vec<u8>)>) -> Self
         ensures { sure_texts result ≡ texts.items }
@@ -23,7 +22,7 @@ impl SureShelf {
 }
 
 impl Shelf for SureShelf {
-    ghost holds = { λ s name. Some (unwrap_or (text_under s.texts.items name) []) };
+    ghost holds = { λ shelf name. Some (text_or_empty (sure_texts shelf) name) };
 
     ghost faults = { λ _. 0 };
 
@@ -44,7 +43,9 @@ pub struct SureSink;
 
 impl SureSink {
     /// A sink without faults.
-    pub fn new() -> Self {
+    pub fn new() -> Self
+        ensures { result ≡ record {} }
+    {
         SureSink
     }
 }
