@@ -1,6 +1,6 @@
 -- A piece written bit by bit.
-use Rattle.std.proofs.Common.{◌≡◌, ℕ, ◌-◌, List, [], ◌++◌, length, take, drop, None, Some, refl, sym, ap, ◌∙◌, subst, append_assoc, append-nil, take-append-drop, arith}
-use Rattle.std.proofs.KnownBytes.{Appends-trans, Appends-nil, Keeps-refl}
+use Rattle.std.proofs.Common.{◌≡◌, ℕ, ◌-◌, List, ◌++◌, length, take, drop, None, Some, sym, ap, ◌∙◌, subst, append_assoc, take-append-drop, arith}
+use Rattle.std.proofs.KnownBytes.{Appends-trans, Keeps-refl}
 use Rattle.std.proofs.lemmas.Grind.{common_steps}
 use Rattle.std.specs.Io.KnownBytes.{Appends, Keeps}
 use Rattle.std.specs.declared.option.Option.{Option}
@@ -12,10 +12,6 @@ pub record IsWritten (old now : Option (List ℕ)) (bytes rest : List ℕ) : Typ
   pub done : List ℕ
   pub split : bytes ≡ done ++ rest
   pub taken : Appends old now done
-
--- nothing is written at first
-pub written_none : (told : Option (List ℕ)) (bytes : List ℕ) → IsWritten told told bytes bytes
-written_none told bytes = record { done = []; split = refl; taken = Appends-nil told }
 
 -- a write took the first n bytes of the rest
 pub written_more : (old now new : Option (List ℕ)) (bytes rest : List ℕ) (n : ℕ) → IsWritten old now bytes rest → Appends now new (take n rest) → IsWritten old new bytes (drop n rest)
@@ -35,11 +31,6 @@ appends_kept (Some xs) (Some ys) (Some zs) bytes p q = q ∙ p
 pub written_part : (old now new : Option (List ℕ)) (bytes rest : List ℕ) → IsWritten old now bytes rest → Keeps now new → AppendsPrefix old new bytes
 written_part old now new bytes rest w kept =
     subst (AppendsPrefix old new) (sym w.split) (prefix_more old new w.done rest (prefix_all old new w.done (appends_kept old now new w.done w.taken kept)))
-
--- no rest is left
-pub written_all : (old now new : Option (List ℕ)) (bytes rest : List ℕ) → rest ≡ [] → IsWritten old now bytes rest → Keeps now new → Appends old new bytes
-written_all old now new bytes rest none w kept =
-    subst (Appends old new) (sym (w.split ∙ ap (λ l. w.done ++ l) none ∙ append-nil w.done)) (appends_kept old now new w.done w.taken kept)
 
 -- a write took the first n bytes of the rest, and then the call gave up
 pub written_last : (old now new : Option (List ℕ)) (bytes rest : List ℕ) (n : ℕ) → IsWritten old now bytes rest → Appends now new (take n rest) → AppendsPrefix old new bytes
