@@ -13,7 +13,9 @@ use std::rt::Files;
 
 /// Files, whose names are their paths. It tells nothing of what they hold.
 ///
-/// A file that isn't opened is a fault, and so is a read that gives an error.
+/// A file that isn't opened is a fault, and so is a read that gives an error, an interrupted one too. A
+/// fetch reads at most one byte past its limit, in pieces of 8,192 bytes, and appends none past it. After a
+/// refusal the caller's vector may hold a part of the text behind what it held.
 #[derive(Drop)]
 pub struct FileShelf<'a, R: Files> {
     rt: &'a R,

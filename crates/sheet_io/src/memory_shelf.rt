@@ -1,5 +1,5 @@
 // A shelf whose texts stand in memory.
-ghost use Rattle.std.specs.Prelude.{◌≡◌, ◌<◌, ◌≤◌, ◌⊎◌, ◌↔◌, length, Contains, IsNone, IsErrOf, IsSomeAnd};
+ghost use Rattle.std.specs.Prelude.{◌≡◌, ◌<◌, ◌≤◌, ◌↔◌, length, OnErr, IsErrOf, IsSomeAnd};
 ghost use Rattle.sheet_io.specs.Faults.{Rose};
 ghost use Rattle.sheet_io.specs.Schedule.{next_call, next_fault};
 ghost use Rattle.sheet_io.specs.Shelf.{Fetches};
@@ -14,6 +14,7 @@ use crate::{Fetch, Shelf};
 /// Texts in memory, and a list of the fetches that are to fail.
 ///
 /// A fetch fails exactly where its number is listed or its name stands nowhere; each time the faults rise.
+/// After a refusal the caller's vector is as it was. A call past the 4,294,967,295th counts under that number.
 #[derive(Debug, Drop)]
 pub struct MemoryShelf {
     texts: Vec<(String, Vec<u8>)>,
@@ -65,6 +66,8 @@ impl Shelf for MemoryShelf {
         ensures fails { IsErrOf result Failed ↔ FetchFails self.old name.now }
         ensures too_long { IsErrOf result TooLong
             ↔ (¬ FetchFails self.old name.now × IsSomeAnd (memory_holds self.old name.now) (λ text. limit < length text)) }
+
+        ensures refused { OnErr result (into.new.items ≡ into.old.items) }
 
         ensures fail { fetches_to_fail self.new ≡ fetches_to_fail self.old }
         ensures calls { fetch_calls self.new ≡ next_call (fetch_calls self.old) }

@@ -8,7 +8,8 @@ use std::alloc::Global;
 /// Bytes in memory up to a fixed number, and a list of the puts that are to fail.
 ///
 /// A put whose number is listed appends nothing and fails. Any other appends what still fits, and fails
-/// where that isn't the whole piece. Each time it fails the faults rise.
+/// where that isn't the whole piece. Each time it fails the faults rise. A call past the 4,294,967,295th
+/// counts under that number.
 #[derive(Debug, Drop)]
 pub struct MemorySink {
     bytes: Vec<u8>,

@@ -11,8 +11,8 @@ use std::io::Write;
 /// Writes to a stream. It tells what its writer tells: of standard output, a file or a socket nothing.
 ///
 /// Each put writes its piece through to the end and flushes, so many small puts make many system calls.
-/// A write that gives an error, or that takes nothing of what is left, is a fault, and so is a flush that
-/// gives an error.
+/// A write that gives an error, an interrupted one too, or that takes nothing of what is left, is a fault,
+/// and so is a flush that gives an error.
 #[derive(Drop)]
 pub struct StreamSink<W: Write> {
     writer: W,
