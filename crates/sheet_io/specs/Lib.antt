@@ -1,0 +1,10 @@
+pub mod Faults
+pub mod Shelf
+pub mod Sink
+pub mod Texts
+pub mod Sure
+pub mod MemoryShelf
+pub mod MemorySink
+pub mod Schedule
+pub mod FileShelf
+pub mod StreamSink
