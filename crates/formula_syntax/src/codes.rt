@@ -11,6 +11,7 @@ const SHIFT: i64 = 1 << 53;
 /// the i-th error. No two values have one code.
 pub fn code(v: Value) -> u64
     ensures code { result ≡ code_of v }
+    ensures value { IsValue v }
     ensures distinct { (other : Value) → IsValue other → code_of other ≡ result → other ≡ v }
 {
     match &v {

@@ -1,11 +1,12 @@
 -- What a walk that is done tells: the value of each cell.
-use Rattle.std.proofs.Common.{◌≡◌, ◌≢◌, ℕ, zero, suc, ◌+◌, ◌*◌, ◌<◌, ◌≤◌, ◌⊎◌, inl, inr, List, [], ◌∷◌, ◌++◌, length, map, slice_get, count_by, Some, IsTrue, option_map, refl, sym, ◌∙◌, ap, arith}
+use Rattle.std.proofs.Common.{◌≡◌, ◌≢◌, ℕ, zero, suc, ◌+◌, ◌*◌, ◌<◌, ◌≤◌, ◌⊎◌, inl, inr, List, [], ◌∷◌, ◌++◌, length, map, slice_get, count_by, Some, IsTrue, option_map, refl, sym, ◌∙◌, ap, subst, arith}
 use Rattle.std.proofs.lemmas.List.{length-map}
 use Rattle.std.proofs.lemmas.List.Sums.{count_by-le-length}
-use Rattle.std.proofs.lemmas.Option.{slice_get-map, slice_get_cases}
+use Rattle.std.proofs.lemmas.Option.{slice_get-map, slice_get_cases, slice_get_within, get_or_from_slice_get}
+use Rattle.std.specs.List.{All}
 use Rattle.sheet_refs.specs.Cells.{Position}
 use Rattle.formula_syntax.specs.declared.value.Value.{Value}
-use Rattle.formula_syntax.specs.Values.{code_of}
+use Rattle.formula_syntax.specs.Values.{IsValue, code_of}
 use Rattle.sheet_model.specs.Sheets.{SheetValue, is_inside, place_of, cell_count}
 use Rattle.sheet_model.specs.Values.{value_of, AreValues}
 use Rattle.sheet_model.specs.declared.eval.State.{State}
@@ -32,12 +33,18 @@ module _ (sheet : SheetValue) (states : List State) (walk : IsWalk sheet states 
       go (Known v) at = (v, at, walk.settled cell v inside at (suc (cell_count sheet)) enough)
 
   -- so the codes of the known values are those of the sheet's values
-  pub codes_known : AreValues sheet (map (λ s. code_of (known_value s)) states)
-  codes_known = record {
+  pub codes_known : All (λ s. IsValue (known_value s)) states → AreValues sheet (map (λ s. code_of (known_value s)) states)
+  codes_known in_range = record {
     count = length-map states (λ s. code_of (known_value s)) ∙ walk.count;
     each = λ cell inside.
         let known = value_known cell inside in
         slice_get-map (λ s. code_of (known_value s)) states (place_of sheet cell)
         ∙ ap (option_map (λ s. code_of (known_value s))) known.1
         ∙ ap (λ v. Some (code_of v)) (sym known.2);
+    values = λ cell inside.
+        let known = value_known cell inside in
+        let place = place_of sheet cell in
+        let at = get_or_from_slice_get states place (Known known.0) Unseen known.1 in
+        let below = slice_get_within states place (Known known.0) known.1 in
+        rw known.2 (subst (λ (s : State). IsValue (known_value s)) at (in_range place Unseen below));
   }

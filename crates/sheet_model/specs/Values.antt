@@ -9,7 +9,7 @@ use Rattle.formula_syntax.specs.declared.value.ErrorKind.TheVariants.{Num, Circ}
 use Rattle.formula_syntax.specs.declared.value.Value.{Value}
 use Rattle.formula_syntax.specs.declared.value.Value.TheVariants.{Empty, Number, Error}
 use Rattle.formula_syntax.specs.Tree.{Tree, number, reference, binary, references_of}
-use Rattle.formula_syntax.specs.Values.{code_of}
+use Rattle.formula_syntax.specs.Values.{IsValue, code_of}
 use Rattle.sheet_model.specs.Budget.{ev, StandsIn, IsJustified}
 use Rattle.sheet_model.specs.Sheets.{SheetValue, ContentValue, Constant, Computed, is_inside, cell_count, place_of, content_of}
 
@@ -95,7 +95,8 @@ pub record IsSettledBy (sheet : SheetValue) (ordered : List Position) (circular 
   pub at_ordered : (cell : Position) → StandsIn ordered cell → values cell ≡ step sheet cell values
   pub at_circular : (cell : Position) → IsTrue (circular cell) → values cell ≡ circular_value
 
--- the codes of the values of all cells, row by row
+-- the codes of the values of all cells, row by row, each of them a value in range
 pub record AreValues (sheet : SheetValue) (codes : List ℕ) : Type 0 where
   pub count : length codes ≡ cell_count sheet
   pub each : (cell : Position) → IsTrue (is_inside sheet cell) → slice_get codes (place_of sheet cell) ≡ Some (code_of (value_of sheet cell))
+  pub values : (cell : Position) → IsTrue (is_inside sheet cell) → IsValue (value_of sheet cell)

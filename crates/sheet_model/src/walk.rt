@@ -1,6 +1,6 @@
-ghost use Rattle.std.specs.Prelude.{◌≡◌, ◌≢◌, ◌<◌, ◌≤◌, ℕ, [], ◌∷◌, ◌++◌, length, map, set, slice_get, IfOk, OnOk, IsTrue, IsFalse};
+ghost use Rattle.std.specs.Prelude.{◌≡◌, ◌≢◌, ◌<◌, ◌≤◌, ℕ, [], ◌∷◌, ◌++◌, length, map, set, slice_get, All, IfOk, OnOk, IsTrue, IsFalse};
 ghost use Rattle.sheet_refs.specs.Cells.{Position};
-ghost use Rattle.formula_syntax.specs.Values.{code_of};
+ghost use Rattle.formula_syntax.specs.Values.{IsValue, code_of};
 ghost use Rattle.sheet_model.specs.Sheets.{cell_count, place_of, is_inside};
 ghost use Rattle.sheet_model.specs.Values.{AreValues};
 ghost use Rattle.sheet_model.specs.Walks.{IsWalk, KeepsSeen, SeenBelow, IsWaiting, IsClosing, is_plain as plain, work_left, closed_state, known_value};
@@ -153,7 +153,8 @@ impl Walk {
 }
 
 fn code_at(state: State) -> u64
-    ensures { result ≡ code_of (known_value state) }
+    ensures code { result ≡ code_of (known_value state) }
+    ensures value { IsValue (known_value state) }
 {
     match &state {
         State::Known(value) => code(*value),
@@ -162,9 +163,14 @@ fn code_at(state: State) -> u64
 }
 
 fn codes(alloc: Global, states: &[State]) -> Result<Vec<u64>, AllocError>
-    ensures { IfOk result (λ codes. codes.items ≡ map (λ state. code_of (known_value state)) states.now) }
+    ensures codes { IfOk result (λ codes. codes.items ≡ map (λ state. code_of (known_value state)) states.now) }
+    ensures values { OnOk result (All (λ state. IsValue (known_value state)) states.now) }
 {
-    states.iter().map(|state| code_at(*state)).collect(alloc)
+    let mut codes = Vec::with_capacity(alloc, states.len())?;
+    for state in states {
+        codes.push(code_at(*state))?;
+    }
+    Ok(codes)
 }
 
 /// The code of the value of each cell, row by row.
