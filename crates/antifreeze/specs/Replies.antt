@@ -1,0 +1,41 @@
+-- What the program owes to its words and to the texts that they name.
+use Rattle.std.specs.Prelude.{◌≡◌, ℕ, ◌<◌, ◌≤◌, List, length, Some, IsTrue, ◌⊎◌}
+use Rattle.std.specs.declared.option.Option.{Option}
+use Rattle.std.specs.Io.KnownBytes.{Appends}
+use Rattle.sheet_refs.specs.Cells.{Position, Corners, IsIn}
+use Rattle.sheet_io.specs.Faults.{Rose}
+use Rattle.sheet_io.specs.Sink.{AppendsPrefix}
+use Rattle.sheet_model.specs.Plain.{IsPlainSheet, IsFirstUnread}
+use Rattle.sheet_model.specs.Sheets.{SheetValue, is_inside}
+use Rattle.sheet_model.specs.Values.{value_of}
+use Rattle.antifreeze.specs.Lines.{usage_line, outside_line, too_long_line, not_yet_line}
+use Rattle.antifreeze.specs.Texts.{show_text}
+use Rattle.antifreeze.specs.Words.{AsksToShow}
+
+-- each cell of the range is a cell of the sheet
+abbrev pub IsWithinSheet : Corners → SheetValue → Type 0
+IsWithinSheet range sheet = (cell : Position) → IsIn cell range → IsTrue (is_inside sheet cell)
+
+-- what a command writes: the text that it asks for
+pub data Writes (words : List (List ℕ)) (holds : List ℕ → Option (List ℕ)) : List ℕ → Type 0 where
+  -- `show` writes the value of each cell of its range
+  shows : (name text : List ℕ) (range : Corners) (sheet : SheetValue) → AsksToShow words name range → holds name ≡ Some text → length text ≤ 16777216 → IsPlainSheet text sheet → IsWithinSheet range sheet → Writes words holds (show_text (value_of sheet) range)
+
+-- what a command is refused for: a status, and the line that says why
+pub data Refuses (words : List (List ℕ)) (holds : List ℕ → Option (List ℕ)) : ℕ → List ℕ → Type 0 where
+  -- the words are no command
+  usage : ((name : List ℕ) (range : Corners) → ¬ AsksToShow words name range) → Refuses words holds 2 usage_line
+  -- the range is not wholly in the sheet
+  outside : (name text : List ℕ) (range : Corners) (sheet : SheetValue) → AsksToShow words name range → holds name ≡ Some text → length text ≤ 16777216 → IsPlainSheet text sheet → ¬ IsWithinSheet range sheet → Refuses words holds 2 outside_line
+  -- the sheet's text is past the limit
+  too_long : (name text : List ℕ) (range : Corners) → AsksToShow words name range → holds name ≡ Some text → 16777216 < length text → Refuses words holds 3 too_long_line
+  -- the sheet's text has a record of a form that is not read yet
+  not_yet : (name text : List ℕ) (range : Corners) (number : ℕ) → AsksToShow words name range → holds name ≡ Some text → length text ≤ 16777216 → IsFirstUnread text number → Refuses words holds 3 (not_yet_line number)
+
+-- the shelf tells each text that the words name
+abbrev pub Tells : List (List ℕ) → (List ℕ → Option (List ℕ)) → Type 0
+Tells words holds = (name : List ℕ) (range : Corners) → AsksToShow words name range → (text : List ℕ) × (holds name ≡ Some text)
+
+-- a line has gone to a sink whole, or a prefix of it where the sink's faults rose
+abbrev pub TakesLine : Option (List ℕ) → Option (List ℕ) → ℕ → ℕ → List ℕ → Type 0
+TakesLine old new before after line = Appends old new line ⊎ (Rose before after × AppendsPrefix old new line)

@@ -1,0 +1,9 @@
+//! The program: `run` reads the words, the sheet and its window, and writes the window's values.
+#![tactic(auto)]
+
+mod text;
+mod words;
+
+fn main(rt: HostRuntime) {
+    let _ = rt;
+}
