@@ -1,2 +1,4 @@
+pub mod CoverLemmas
+pub mod ReplyLemmas
 pub mod TextLemmas
 pub mod WordLemmas

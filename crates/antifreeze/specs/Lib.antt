@@ -1,4 +1,5 @@
 pub mod Lines
+pub mod Outcomes
 pub mod Replies
 pub mod Texts
 pub mod Words

@@ -1,28 +1,27 @@
--- The lines that say why a run was refused.
+-- The lines that say why a run was refused. Each begins with the program's name and ends with a line feed.
 use Rattle.std.specs.Prelude.{ℕ, List, [], ◌∷◌, ◌++◌, codes}
 use Rattle.std.specs.Fmt.{decimal}
 
--- a line of the program
-abbrev pub line_of : List ℕ → List ℕ
-line_of reason = codes "antifreeze: " ++ (reason ++ 10 ∷ [])
+abbrev pub line_end : List ℕ
+line_end = 10 ∷ []
 
 abbrev pub usage_line : List ℕ
-usage_line = line_of (codes "usage: antifreeze show|deps|precs SHEET RANGE; check SHEET; play|live SHEET SCRIPT; gen NUMBER; --workers N with live, gen")
+usage_line = codes "antifreeze: usage: antifreeze show|deps|precs SHEET RANGE; check SHEET; play|live SHEET SCRIPT; gen NUMBER; --workers N with live, gen" ++ line_end
 
 abbrev pub outside_line : List ℕ
-outside_line = line_of (codes "range outside the sheet")
+outside_line = codes "antifreeze: range outside the sheet" ++ line_end
 
 abbrev pub too_long_line : List ℕ
-too_long_line = line_of (codes "sheet: text too long")
+too_long_line = codes "antifreeze: sheet: text too long" ++ line_end
 
 abbrev pub not_yet_line : ℕ → List ℕ
-not_yet_line number = line_of (codes "sheet: record " ++ (decimal number ++ codes " not read yet"))
+not_yet_line number = codes "antifreeze: sheet: record " ++ (decimal number ++ (codes " not read yet" ++ line_end))
 
 abbrev pub read_failed_line : List ℕ → List ℕ
-read_failed_line name = line_of (name ++ codes ": read failed")
+read_failed_line name = codes "antifreeze: " ++ (name ++ (codes ": read failed" ++ line_end))
 
 abbrev pub write_failed_line : List ℕ
-write_failed_line = line_of (codes "write failed")
+write_failed_line = codes "antifreeze: write failed" ++ line_end
 
 abbrev pub no_memory_line : List ℕ
-no_memory_line = line_of (codes "out of memory")
+no_memory_line = codes "antifreeze: out of memory" ++ line_end

@@ -1,6 +1,7 @@
 //! The program: `run` reads the words, the sheet and its window, and writes the window's values.
 #![tactic(auto)]
 
+mod reply;
 mod text;
 mod words;
 

@@ -5,6 +5,7 @@ ghost use Rattle.antifreeze.specs.Words.{AsksToShow};
 use sheet_refs::{Range, range_of};
 
 /// What the words of `show` name.
+#[derive(Clone, Copy)]
 pub struct Show<'a> {
     /// The sheet, as the command line names it.
     pub name: &'a str,
