@@ -1,4 +1,4 @@
-pub mod CoverLemmas
+pub mod Exclusive
 pub mod ReplyLemmas
 pub mod TextLemmas
 pub mod WordLemmas

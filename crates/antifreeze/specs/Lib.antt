@@ -1,5 +1,6 @@
 pub mod Lines
 pub mod Outcomes
 pub mod Replies
+pub mod Runs
 pub mod Texts
 pub mod Words

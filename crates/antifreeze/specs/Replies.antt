@@ -1,10 +1,7 @@
 -- What the program owes to its words and to the texts that they name.
 use Rattle.std.specs.Prelude.{◌≡◌, ℕ, ◌<◌, ◌≤◌, List, length, Some, IsTrue, ◌⊎◌}
 use Rattle.std.specs.declared.option.Option.{Option}
-use Rattle.std.specs.Io.KnownBytes.{Appends}
 use Rattle.sheet_refs.specs.Cells.{Position, Corners, IsIn}
-use Rattle.sheet_io.specs.Faults.{Rose}
-use Rattle.sheet_io.specs.Sink.{AppendsPrefix}
 use Rattle.sheet_model.specs.Plain.{IsPlainSheet, IsFirstUnread}
 use Rattle.sheet_model.specs.Sheets.{SheetValue, is_inside}
 use Rattle.sheet_model.specs.Values.{value_of}
@@ -35,7 +32,3 @@ pub data Refuses (words : List (List ℕ)) (holds : List ℕ → Option (List �
 -- the shelf tells each text that the words name
 abbrev pub Tells : List (List ℕ) → (List ℕ → Option (List ℕ)) → Type 0
 Tells words holds = (name : List ℕ) (range : Corners) → AsksToShow words name range → (text : List ℕ) × (holds name ≡ Some text)
-
--- a line has gone to a sink whole, or a prefix of it where the sink's faults rose
-abbrev pub TakesLine : Option (List ℕ) → Option (List ℕ) → ℕ → ℕ → List ℕ → Type 0
-TakesLine old new before after line = Appends old new line ⊎ (Rose before after × AppendsPrefix old new line)

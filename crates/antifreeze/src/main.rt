@@ -3,6 +3,7 @@
 
 mod reply;
 mod text;
+mod top;
 mod words;
 
 fn main(rt: HostRuntime) {

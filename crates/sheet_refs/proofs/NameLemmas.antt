@@ -138,12 +138,12 @@ no_lone_range text lone none range (two _ first second a b split head tail) =
     none-some _ (sym lone ∙ two_colon text first second a split head)
 
 -- what stands on the two sides of a range's colon
-part_before : (text first second : List ℕ) (a : Position) (colon : ℕ) → position is_colon text ≡ Some colon → text ≡ first ++ 58 ∷ second → IsCellName first a → take colon text ≡ first
+pub part_before : (text first second : List ℕ) (a : Position) (colon : ℕ) → position is_colon text ≡ Some colon → text ≡ first ++ 58 ∷ second → IsCellName first a → take colon text ≡ first
 part_before text first second a colon found split head =
     let e : colon ≡ length first = same_Some _ _ (sym found ∙ two_colon text first second a split head) in
     rw (e, split) (take_front first (58 ∷ second))
 
-part_after : (text first second : List ℕ) (a : Position) (colon : ℕ) → position is_colon text ≡ Some colon → text ≡ first ++ 58 ∷ second → IsCellName first a → drop (colon + 1) text ≡ second
+pub part_after : (text first second : List ℕ) (a : Position) (colon : ℕ) → position is_colon text ≡ Some colon → text ≡ first ++ 58 ∷ second → IsCellName first a → drop (colon + 1) text ≡ second
 part_after text first second a colon found split head =
     let e : colon ≡ length first = same_Some _ _ (sym found ∙ two_colon text first second a split head) in
     rw (e, split) (drop-append-add first (58 ∷ second) 1)

@@ -1,0 +1,70 @@
+ghost use Rattle.std.specs.Prelude.{◌≡◌, ◌≢◌, ◌⊎◌, ℕ, List, map, string_bytes};
+ghost use Rattle.sheet_io.specs.Faults.{Rose};
+ghost use Rattle.antifreeze.specs.Lines.{write_failed_line, no_memory_line};
+ghost use Rattle.antifreeze.specs.Replies.{Writes, Refuses, Tells};
+ghost use Rattle.antifreeze.specs.Runs.{IsStatus, IsDone, IsCut, IsRefused, IsUnfetched, TakesLine};
+
+use super::reply::{Reply, reply_to};
+use sheet_io::{Shelf, Sink};
+use std::alloc::Global;
+
+/// Does what the words ask for: `show SHEET RANGE` writes the values of the range to `out`. The sheet's
+/// text is what stands under its name on the shelf.
+///
+/// The result is the status of the process: 0 for done, 2 for words that are no command or a range that
+/// isn't in the sheet, 3 for a sheet's text that is refused, 5 for a fetch that failed, 6 for a put on
+/// `out` that failed, and 7 for want of memory. With every status but 0 one line goes to `notes`, and
+/// nothing is written to `out` with any but 0 and 6: all memory is taken before the first byte.
+pub fn run<F: Shelf, K: Sink, N: Sink>(alloc: Global, words: &[String], shelf: &mut F, out: &mut K, notes: &mut N) -> u8
+    ensures status { IsStatus result }
+
+    // What each status tells.
+    ensures done { result ≡ 0 → IsDone (map string_bytes words.now) (F.holds shelf.old) (K.written out.old) (K.written out.new) }
+    ensures refused { (result ≡ 2) ⊎ (result ≡ 3)
+        → IsRefused (map string_bytes words.now) (F.holds shelf.old) result (N.written notes.old) (N.written notes.new) (N.faults notes.old) (N.faults notes.new) }
+    ensures read_failed { result ≡ 5 → Rose (F.faults shelf.old) (F.faults shelf.new) }
+    ensures unfetched { result ≡ 5
+        → IsUnfetched (map string_bytes words.now) (N.written notes.old) (N.written notes.new) (N.faults notes.old) (N.faults notes.new) }
+    ensures write_failed { result ≡ 6 → Rose (K.faults out.old) (K.faults out.new) }
+    ensures cut { result ≡ 6 → IsCut (map string_bytes words.now) (F.holds shelf.old) (K.written out.old) (K.written out.new) }
+    ensures cut_noted { result ≡ 6
+        → TakesLine (N.written notes.old) (N.written notes.new) (N.faults notes.old) (N.faults notes.new) write_failed_line }
+    ensures no_memory { result ≡ 7
+        → TakesLine (N.written notes.old) (N.written notes.new) (N.faults notes.old) (N.faults notes.new) no_memory_line }
+    ensures nothing_written { result ≢ 0 → result ≢ 6 → K.written out.new ≡ K.written out.old }
+    ensures nothing_noted { result ≡ 0 → N.written notes.new ≡ N.written notes.old }
+
+    // Where no fault rises, what the words and the shelf's texts ask for is done, or memory ran out.
+    ensures writes { (text : List ℕ) → Writes (map string_bytes words.now) (F.holds shelf.old) text
+        → ¬ Rose (F.faults shelf.old) (F.faults shelf.new)
+        → ¬ Rose (K.faults out.old) (K.faults out.new)
+        → (result ≡ 0) ⊎ (result ≡ 7) }
+    ensures refuses { (status : ℕ) (line : List ℕ) → Refuses (map string_bytes words.now) (F.holds shelf.old) status line
+        → ¬ Rose (F.faults shelf.old) (F.faults shelf.new)
+        → (result ≡ status) ⊎ (result ≡ 7) }
+{
+    match reply_to(alloc, words, shelf) {
+        Ok(Reply::Output(text)) => match out.put(text.as_bytes()) {
+            Ok(()) => 0,
+            Err(_) => {
+                tell(notes, "antifreeze: write failed\n");
+                6
+            }
+        },
+        Ok(Reply::Refusal { status, line }) => {
+            tell(notes, line.as_str());
+            status
+        }
+        Err(_) => {
+            tell(notes, "antifreeze: out of memory\n");
+            7
+        }
+    }
+}
+
+// A line that the notes don't take changes nothing else.
+fn tell<N: Sink>(notes: &mut N, line: &str)
+    ensures { TakesLine (N.written notes.old) (N.written notes.new) (N.faults notes.old) (N.faults notes.new) line.now }
+{
+    let _ = notes.put(line.as_bytes());
+}
