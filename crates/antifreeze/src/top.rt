@@ -55,11 +55,17 @@ pub fn run<F: Shelf, K: Sink, N: Sink>(alloc: Global, words: &[String], shelf: &
             tell(notes, line.as_str());
             status
         }
-        Err(_) => {
-            tell(notes, "antifreeze: out of memory\n");
-            7
-        }
+        Err(_) => no_memory(notes),
     }
+}
+
+/// Notes the want of memory; the result is the status for it.
+pub fn no_memory<N: Sink>(notes: &mut N) -> u8
+    ensures status { result ≡ 7 }
+    ensures noted { TakesLine (N.written notes.old) (N.written notes.new) (N.faults notes.old) (N.faults notes.new) no_memory_line }
+{
+    tell(notes, "antifreeze: out of memory\n");
+    7
 }
 
 // A line that the notes don't take changes nothing else.
