@@ -1,5 +1,5 @@
 -- The walk over a sheet: what is known of each cell, and the cells that are open.
-use Rattle.std.specs.Prelude.{◌≡◌, ◌≢◌, ℕ, suc, ◌+◌, ◌*◌, ◌<◌, ◌≤◌, Bool, true, false, not, if◌then◌else◌, IsTrue, IsFalse, List, [], length, map, slice_get, slice_index_or, count_by, Some}
+use Rattle.std.specs.Prelude.{◌≡◌, ◌≢◌, ℕ, suc, ◌+◌, ◌*◌, ◌<◌, Bool, true, false, not, if◌then◌else◌, IsTrue, IsFalse, List, length, map, slice_get, slice_index_or, count_by, Some}
 use Rattle.sheet_refs.specs.Cells.{Position}
 use Rattle.formula_syntax.specs.declared.value.ErrorKind.TheVariants.{Circ}
 use Rattle.formula_syntax.specs.declared.value.Value.{Value}
