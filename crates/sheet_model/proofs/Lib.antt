@@ -6,3 +6,4 @@ pub mod WalkLemmas
 pub mod TurnLemmas
 pub mod CycleLemmas
 pub mod ResultLemmas
+mod WorkedRows
