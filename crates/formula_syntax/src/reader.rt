@@ -2,7 +2,7 @@ ghost use Rattle.std.specs.Prelude.{◌≡◌, ℕ, ◌<◌, ◌≤◌, length, 
 ghost use Rattle.std.specs.Option.{option_map_or};
 ghost use Rattle.formula_syntax.specs.Grammar.{IsItem, IsSum, Spells};
 ghost use Rattle.formula_syntax.specs.Tree.{Tree, tree_of, references_of, binary};
-ghost use Rattle.formula_syntax.specs.declared.reader.TheConstants.{MAX_TEXT};
+ghost use Rattle.formula_syntax.specs.declared.reader.TheConstants.{MAX_TEXT, MAX_REFERENCES};
 
 use super::tree::{BinaryOp, Formula, Node};
 use super::value::{MAX_WHOLE, Whole};
@@ -52,6 +52,7 @@ impl<T: Drop> From<AllocFailed<T>> for ReadRefused {
 pub fn read_formula(alloc: Global, text: &[u8]) -> Result<Formula, ReadRefused>
     requires { length text.now ≤ MAX_TEXT }
     ensures read { IfOk result (Spells text.now) }
+    ensures few { IfOk result (λ formula. length (references_of formula) ≤ MAX_REFERENCES) }
     ensures not_formula { result ≡ Err ReadRefused.NotFormula
         → (tree : Tree) → Spells text.now tree → 255 < length (references_of tree) }
 {

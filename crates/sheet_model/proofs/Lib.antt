@@ -6,4 +6,7 @@ pub mod WalkLemmas
 pub mod TurnLemmas
 pub mod CycleLemmas
 pub mod ResultLemmas
+pub mod FieldLemmas
+pub mod PlainLemmas
+pub mod RecordLemmas
 mod WorkedRows

@@ -1,5 +1,5 @@
 -- Values of small sheets, worked out by hand and computed by the definitions.
-use Rattle.std.proofs.Common.{◌≡◌, ℕ, ℤ, pos, List, [], ◌∷◌, map, refl}
+use Rattle.std.proofs.Common.{◌≡◌, ℕ, pos, List, [], ◌∷◌, map, refl}
 use Rattle.std.specs.Prelude.{negsuc}
 use Rattle.sheet_refs.specs.Cells.{Position}
 use Rattle.formula_syntax.specs.declared.tree.BinaryOp.TheVariants.{Add}

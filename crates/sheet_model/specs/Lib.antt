@@ -1,4 +1,6 @@
 pub mod Budget
+pub mod Plain
+pub mod PlainRows
 pub mod Sheets
 pub mod Values
 pub mod Walks

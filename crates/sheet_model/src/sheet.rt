@@ -1,5 +1,5 @@
-ghost use Rattle.std.specs.Prelude.{◌≡◌, ◌<◌, map, IfOk, IsTrue};
-ghost use Rattle.sheet_model.specs.Sheets.{IsSheetSize, IsFilled, is_inside, cell_count, place_of, content_of, blank_sheet, with_content, content_value};
+ghost use Rattle.std.specs.Prelude.{◌≡◌, ◌*◌, ◌<◌, map, IfOk, IsTrue, vec_len};
+ghost use Rattle.sheet_model.specs.Sheets.{IsSheetSize, IsFilled, is_inside, cell_count, place_of, content_of, blank_sheet, with_content, content_value, sheet_value};
 
 use super::content::Content;
 use sheet_refs::{Cell, Memory};
@@ -44,12 +44,21 @@ impl Sheet {
         for _ in 0..cells {
             contents.push(Content::Empty)?;
         }
-        Ok(Sheet {
+        Ok(Sheet::of(rows, cols, contents))
+    }
+
+    // The sheet of these sizes with these contents, row by row.
+    pub(crate) fn of(rows: u32, cols: u32, contents: Vec<Content>) -> Sheet
+        requires size { IsSheetSize rows cols }
+        requires filled { vec_len contents ≡ rows * cols }
+        ensures { result ≡ sheet_value rows cols contents.items }
+    {
+        Sheet {
             rows,
             cols,
             contents,
             outside: Content::Empty,
-        })
+        }
     }
 
     /// The number of rows.

@@ -1,0 +1,14 @@
+use Rattle.std.proofs.Common.{rules, tests}
+use Rattle.std.proofs.lemmas.Iterator.{YieldsList-from_take}
+use Rattle.std.proofs.lemmas.Iterator.Consumers.{map_from_collect, YieldsList-from_filter}
+use Rattle.std.proofs.lemmas.Iterator.Splits.{YieldsList-from_slice_split}
+use Rattle.sheet_model.proofs.plain.first_records.Goals as goal
+
+pub returns : goal.returns
+returns c =
+    map_from_collect _ c.collect.ensures.ran
+    (YieldsList-from_take 1025
+    (YieldsList-from_filter _ _
+    (YieldsList-from_slice_split _ _ c.args.text.now (search rules) (search rules) (search rules) (λ x r q k. search (rules, tests)))
+    (search rules) (λ x r q k. search (rules, tests)))
+    (search rules))
