@@ -1,7 +1,6 @@
 -- What a budget of steps gives: a value that is not circular stays the same with more budget, and an order in which
 -- inputs come first, beside a set of cells with an input among them, settles each value.
-use Rattle.std.proofs.Common.{◌≡◌, ◌≢◌, ℕ, zero, suc, ◌+◌, ◌<◌, ◌≤◌, ◌⊎◌, inl, inr, List, length, map, get_or, slice_get, Option, Some, option_map, refl, sym, ◌∙◌, ap, subst, arith, eqb, true, false, le_of_suc-le-suc, le_trans}
-use Rattle.std.specs.List.{IsDistinct, list_any, Contains}
+use Rattle.std.proofs.Common.{◌≡◌, ◌≢◌, ℕ, zero, suc, ◌+◌, ◌<◌, ◌≤◌, ◌⊎◌, inl, inr, List, length, map, get_or, slice_get, Some, option_map, refl, sym, ◌∙◌, ap, subst, arith, eqb, true, false, le_of_suc-le-suc}
 use Rattle.std.proofs.lemmas.Bool.Decides.{nat_tests}
 use Rattle.std.proofs.lemmas.Bool.{eqb-true}
 use Rattle.std.proofs.lemmas.List.{length-map}

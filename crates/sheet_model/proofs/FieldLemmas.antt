@@ -1,5 +1,5 @@
 -- Which fields are read, and as what.
-use Rattle.std.proofs.Common.{◌≡◌, ◌≢◌, ℕ, ◌+◌, ◌<◌, ◌≤◌, ℤ, pos, List, [], ◌∷◌, length, get_or, refl, sym, ◌∙◌, subst, ap, arith}
+use Rattle.std.proofs.Common.{◌≡◌, ◌≢◌, ℕ, ◌<◌, ◌≤◌, ℤ, List, [], ◌∷◌, length, get_or, refl, sym, ◌∙◌, subst, arith}
 use Rattle.sheet_refs.specs.Names.{IsDecimal, IsDigit}
 use Rattle.formula_syntax.specs.Grammar.{Spells}
 use Rattle.formula_syntax.specs.Tree.{Tree, references_of}

@@ -9,3 +9,4 @@ pub mod SheetLemmas
 pub mod TurnLemmas
 pub mod ValueLemmas
 pub mod WalkLemmas
+mod WorkedRows

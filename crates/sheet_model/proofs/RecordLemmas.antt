@@ -1,8 +1,8 @@
 -- Records read one after the other, and the sheet that they make.
-use Rattle.std.proofs.Common.{◌≡◌, ◌≢◌, ℕ, zero, suc, ◌+◌, ◌-◌, ◌*◌, ◌<◌, ◌≤◌, ◌⊎◌, inl, inr, max, List, [], ◌∷◌, length, get_or, map, take, refl, sym, ◌∙◌, subst, ap, arith, true, false, IsTrue, cond}
+use Rattle.std.proofs.Common.{◌≡◌, ℕ, zero, suc, ◌+◌, ◌-◌, ◌*◌, ◌<◌, ◌≤◌, inl, inr, max, List, [], ◌∷◌, length, get_or, map, take, refl, ◌∙◌, subst, ap, arith}
 use Rattle.std.specs.Borrow.{Bor}
-use Rattle.std.specs.List.{fold, slice_split}
-use Rattle.std.specs.Prelude.{count_by, ◌==◌}
+use Rattle.std.specs.List.{fold}
+use Rattle.std.specs.Prelude.{◌==◌}
 use Rattle.std.proofs.lemmas.List.{length-map, length-take, get_or-map, get_or-take, take_all}
 use Rattle.std.proofs.lemmas.List.Splits.{length-slice_split}
 use Rattle.std.proofs.lemmas.Bool.Decides.{leb_tells}
@@ -11,11 +11,11 @@ use Rattle.std.proofs.Math.Nat.{mul-le-mul}
 use Rattle.sheet_refs.specs.Cells.{Position}
 use Rattle.sheet_model.specs.declared.content.Content.{Content}
 use Rattle.sheet_model.specs.declared.content.Content.TheVariants.{Empty}
-use Rattle.sheet_model.specs.Plain.{IsField, HasFields, IsPlainRecord, IsPlainSheet, IsFirstUnread, records_of, fields_of, field_at, longest}
-use Rattle.sheet_model.specs.PlainRows.{Appends, AppendsRow}
+use Rattle.sheet_model.specs.Plain.{IsField, HasFields, IsPlainRecord, IsPlainSheet, IsFirstUnread, records_of, fields_of, longest}
+use Rattle.sheet_model.specs.PlainRows.{AppendsRow}
 use Rattle.formula_syntax.specs.declared.value.Value.TheVariants as value
-use Rattle.sheet_model.specs.Sheets.{SheetValue, Constant, IsSheetSize, content_value, content_of, is_inside, sheet_value}
-use Rattle.sheet_model.proofs.SheetLemmas.{IsInside, inside_from}
+use Rattle.sheet_model.specs.Sheets.{Constant, IsSheetSize, content_value, content_of, sheet_value}
+use Rattle.sheet_model.proofs.SheetLemmas.{inside_from}
 
 -- the records before a row are read, and the contents hold their fields
 pub record HasRows (lines : List (List ℕ)) (cols row : ℕ) (contents : List Content) : Type 0 where

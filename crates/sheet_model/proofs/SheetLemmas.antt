@@ -1,8 +1,8 @@
 -- Places of cells in a sheet.
-use Rattle.std.proofs.Common.{◌≡◌, ◌≢◌, ℕ, zero, suc, ◌+◌, ◌-◌, ◌*◌, ◌<◌, ◌≤◌, List, [], ◌∷◌, ◌++◌, map, replicate, Bool, cond, length, get_or, IsTrue, true, false, refl, ◌∙◌, ap, arith, length-set, get_or-set_same, get_or-set_other}
+use Rattle.std.proofs.Common.{◌≡◌, ◌≢◌, ℕ, zero, suc, ◌-◌, ◌*◌, ◌<◌, ◌≤◌, ◌∷◌, map, replicate, Bool, cond, length, get_or, IsTrue, true, false, refl, ◌∙◌, ap, arith, length-set, get_or-set_same, get_or-set_other}
 use Rattle.std.proofs.lemmas.List.{length-replicate}
 use Rattle.std.proofs.lemmas.Bool.Decides.{nat_tests}
-use Rattle.std.proofs.lemmas.Nat.{rows, mul-add-lt, same_from_place}
+use Rattle.std.proofs.lemmas.Nat.{rows, same_from_place}
 use Rattle.sheet_refs.specs.Cells.{Position}
 use Rattle.formula_syntax.specs.declared.value.Value.TheVariants.{Empty}
 use Rattle.sheet_model.specs.Sheets.{SheetValue, ContentValue, Constant, IsSheetSize, IsFilled, is_inside, place_of, cell_count, content_of, with_content, blank_sheet}

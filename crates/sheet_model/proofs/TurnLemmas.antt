@@ -1,23 +1,23 @@
 -- A turn of the walk that opens one more cell, and one that settles the newest open cell.
-use Rattle.std.proofs.Common.{◌≡◌, ◌≢◌, ℕ, zero, suc, ◌+◌, ◌*◌, ◌<◌, ◌≤◌, ◌⊎◌, inl, inr, List, [], ◌∷◌, ◌++◌, length, map, slice_get, get_or, set, count_by, Some, None, Bool, true, false, not, cond, option_map, IsTrue, IsFalse, refl, sym, ◌∙◌, ap, subst, arith, length-set, length-append}
+use Rattle.std.proofs.Common.{◌≡◌, ◌≢◌, ℕ, suc, ◌+◌, ◌<◌, ◌≤◌, ◌⊎◌, inl, inr, List, [], ◌∷◌, ◌++◌, length, slice_get, get_or, set, Some, Bool, true, false, cond, IsTrue, IsFalse, refl, sym, ◌∙◌, ap, subst, arith, length-set, length-append}
 use Rattle.std.proofs.lemmas.Bool.Decides.{eqb_tells}
 use native.Mathlib.Decide.{dec_lt}
-use Rattle.std.proofs.lemmas.Option.{slice_get_within, slice_get_cases, get_or_from_slice_get, slice_get-map}
+use Rattle.std.proofs.lemmas.Option.{slice_get_within, get_or_from_slice_get}
 use Rattle.sheet_refs.specs.Cells.{Position}
-use Rattle.formula_syntax.specs.declared.value.ErrorKind.TheVariants.{Num, Circ}
+use Rattle.formula_syntax.specs.declared.value.ErrorKind.TheVariants.{Circ}
 use Rattle.formula_syntax.specs.declared.value.Value.{Value}
-use Rattle.formula_syntax.specs.declared.value.Value.TheVariants.{Empty, Number, Error}
-use Rattle.sheet_model.specs.Budget.{StandsIn, SettlesAt, IsCircular}
-use Rattle.sheet_model.specs.Sheets.{SheetValue, is_inside, content_of, place_of, cell_count}
-use Rattle.sheet_model.specs.Values.{is_circular, step, content_references, IsInput}
+use Rattle.formula_syntax.specs.declared.value.Value.TheVariants.{Error}
+use Rattle.sheet_model.specs.Budget.{SettlesAt}
+use Rattle.sheet_model.specs.Sheets.{SheetValue, is_inside, content_of, place_of}
+use Rattle.sheet_model.specs.Values.{step, content_references, IsInput}
 use Rattle.sheet_model.specs.declared.eval.State.{State}
 use Rattle.sheet_model.specs.declared.eval.State.TheVariants.{Unseen, Open, Known}
 use Rattle.sheet_model.specs.declared.walk.Frame.{Frame}
-use Rattle.sheet_model.specs.Walks.{known_value, known_values, is_plain_state, is_plain, is_known, is_unseen, known_count, work_left, closed_state, HasPassed, IsWalk, KeepsSeen, IsWaiting, IsClosing}
-use Rattle.sheet_model.proofs.BudgetLemmas.{settles_next, circular_closed, circular_always}
-use Rattle.sheet_model.proofs.ListLemmas.{slice_get-append, slice_get-push, slice_get-pushed, slice_get-set_same, slice_get-set_other, count_by-set, count_by-map, count_by-map-le, set_same, map_same}
-use Rattle.sheet_model.proofs.SheetLemmas.{place-lt, place_same}
-use Rattle.sheet_model.proofs.ValueLemmas.{step_local, step_strict, circular_or_not, is_circular-true}
+use Rattle.sheet_model.specs.Walks.{known_value, known_values, is_plain_state, is_plain, is_known, is_unseen, known_count, work_left, HasPassed, IsWalk, KeepsSeen, IsWaiting}
+use Rattle.sheet_model.proofs.BudgetLemmas.{settles_next}
+use Rattle.sheet_model.proofs.ListLemmas.{slice_get-append, slice_get-push, slice_get-pushed, slice_get-set_same, slice_get-set_other, count_by-set}
+use Rattle.sheet_model.proofs.SheetLemmas.{place_same}
+use Rattle.sheet_model.proofs.ValueLemmas.{step_local, step_strict}
 use Rattle.sheet_model.proofs.WalkLemmas.{settles_later, differ, known_plain, plain_kept}
 
 -- a write at one place, read at another or at that one

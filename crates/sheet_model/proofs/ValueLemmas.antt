@@ -1,5 +1,5 @@
 -- One step of evaluation looks at the inputs of a cell alone, and a circular input makes it circular.
-use Rattle.std.proofs.Common.{◌≡◌, ◌≢◌, ℕ, zero, suc, ◌+◌, ◌<◌, ◌≤◌, ◌⊎◌, inl, inr, List, [], ◌∷◌, ◌++◌, length, slice_get, Some, Bool, true, false, cond, ◌||◌, IsTrue, refl, sym, ◌∙◌, ap, ap₂, arith}
+use Rattle.std.proofs.Common.{◌≡◌, ◌≢◌, ℕ, zero, suc, ◌⊎◌, inl, inr, List, [], ◌∷◌, ◌++◌, slice_get, Some, Bool, true, false, cond, ◌||◌, IsTrue, refl, ap, ap₂}
 use Rattle.std.specs.List.{list_any}
 use Rattle.sheet_refs.specs.Cells.{Position}
 use Rattle.formula_syntax.specs.declared.tree.BinaryOp.TheVariants.{Add}
@@ -9,7 +9,7 @@ use Rattle.formula_syntax.specs.declared.value.Value.TheVariants.{Empty, Number,
 use Rattle.formula_syntax.specs.Tree.{Tree, number, reference, binary, references_of}
 use Rattle.sheet_model.specs.Budget.{IsLocal, IsStrict, StandsIn}
 use Rattle.sheet_model.specs.Sheets.{SheetValue, ContentValue, Constant, Computed, is_inside, content_of}
-use Rattle.sheet_model.specs.Values.{as_number, sum_of, meaning, never_empty, is_circular, values_within, formula_value, step_content, step, content_references, IsInput}
+use Rattle.sheet_model.specs.Values.{as_number, sum_of, meaning, never_empty, is_circular, values_within, step_content, step, content_references, IsInput}
 
 -- what stands in one of two lists stands in both together
 pub StandsIn-left : {A : Type 0} (xs ys : List A) (x : A) → StandsIn xs x → StandsIn (xs ++ ys) x

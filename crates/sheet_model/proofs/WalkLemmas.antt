@@ -1,25 +1,25 @@
 -- What each turn of the walk keeps.
-use Rattle.std.proofs.Common.{◌≡◌, ◌≢◌, ℕ, zero, suc, ◌+◌, ◌*◌, ◌<◌, ◌≤◌, ◌⊎◌, inl, inr, List, [], ◌∷◌, ◌++◌, length, map, slice_get, get_or, set, count_by, Some, None, Bool, true, false, not, cond, option_map, IsTrue, refl, sym, ◌∙◌, ap, subst, arith, length-set, replicate, get_or-set_other}
+use Rattle.std.proofs.Common.{◌≡◌, ◌≢◌, ℕ, zero, suc, ◌≤◌, inl, inr, List, [], ◌∷◌, ◌++◌, length, map, slice_get, get_or, set, Some, Bool, true, false, not, cond, option_map, IsTrue, refl, sym, ◌∙◌, ap, subst, arith, get_or-set_other}
 use Rattle.std.proofs.lemmas.List.{length-map}
 use Rattle.std.specs.List.{list_any}
 use Rattle.std.proofs.lemmas.Bool.Decides.{eqb_tells}
-use Rattle.std.proofs.lemmas.Option.{slice_get_within, slice_get_cases, slice_get-map, get_or_from_slice_get}
+use Rattle.std.proofs.lemmas.Option.{slice_get_cases, slice_get-map, get_or_from_slice_get}
 use Rattle.sheet_model.proofs.BudgetLemmas.{settles_next}
-use Rattle.sheet_model.proofs.ListLemmas.{slice_get-append, slice_get-push, slice_get-pushed, slice_get-set_same, slice_get-set_other, slice_get-last, count_by-pos}
-use Rattle.sheet_model.proofs.SheetLemmas.{place-lt, place_same}
+use Rattle.sheet_model.proofs.ListLemmas.{slice_get-last, count_by-pos}
+use Rattle.sheet_model.proofs.SheetLemmas.{place-lt}
 use Rattle.sheet_model.proofs.ValueLemmas.{step_local, step_strict}
 use Rattle.sheet_refs.specs.Cells.{Position}
-use Rattle.formula_syntax.specs.declared.value.ErrorKind.TheVariants.{Num, Circ}
+use Rattle.formula_syntax.specs.declared.value.ErrorKind.TheVariants.{Circ}
 use Rattle.formula_syntax.specs.declared.value.Value.{Value}
-use Rattle.formula_syntax.specs.declared.value.Value.TheVariants.{Empty, Number, Error}
+use Rattle.formula_syntax.specs.declared.value.Value.TheVariants.{Empty, Error}
 use Rattle.formula_syntax.specs.Tree.{Tree, references_of}
-use Rattle.sheet_model.specs.Budget.{StandsIn, SettlesAt, IsCircular}
+use Rattle.sheet_model.specs.Budget.{StandsIn, SettlesAt}
 use Rattle.sheet_model.specs.Sheets.{SheetValue, ContentValue, Constant, Computed, IsFilled, is_inside, content_of, place_of, cell_count}
 use Rattle.sheet_model.specs.Values.{meaning, never_empty, is_circular, values_within, formula_value, step_content, step, content_references, IsInput}
 use Rattle.sheet_model.specs.declared.eval.State.{State}
 use Rattle.sheet_model.specs.declared.eval.State.TheVariants.{Unseen, Open, Known}
 use Rattle.sheet_model.specs.declared.walk.Frame.{Frame}
-use Rattle.sheet_model.specs.Walks.{first_state, known_value, known_values, is_plain_state, is_plain, is_known, is_unseen, known_count, closed_state, HasPassed, IsWalk}
+use Rattle.sheet_model.specs.Walks.{first_state, known_value, known_values, is_plain_state, is_plain, is_known, known_count, HasPassed, IsWalk}
 
 -- a test that no element passes
 list_any_none : {A : Type 0} (p : A → Bool) (xs : List A) → ((x : A) → StandsIn xs x → p x ≡ false) → list_any p xs ≡ false

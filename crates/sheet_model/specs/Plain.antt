@@ -1,7 +1,6 @@
 -- Sheets written as plain text: lines of fields, with no quotes.
-use Rattle.std.specs.Prelude.{◌≡◌, ℕ, ◌+◌, ◌-◌, ◌*◌, ◌<◌, ◌≤◌, max, ℤ, pos, neg_ℤ, Bool, not, ◌==◌, List, [], ◌∷◌, length, fold, filter, slice_index_or}
+use Rattle.std.specs.Prelude.{◌≡◌, ℕ, ◌+◌, ◌<◌, ◌≤◌, max, ℤ, pos, neg_ℤ, not, ◌==◌, List, [], ◌∷◌, length, fold, filter, slice_index_or}
 use Rattle.std.specs.List.{slice_split}
-use Rattle.sheet_refs.specs.Cells.{Position}
 use Rattle.sheet_refs.specs.Names.{IsDecimal}
 use Rattle.formula_syntax.specs.declared.value.Value.TheVariants.{Empty, Number}
 use Rattle.formula_syntax.specs.Grammar.{Spells}

@@ -1,15 +1,17 @@
 -- The walk over a sheet: what is known of each cell, and the cells that are open.
-use Rattle.std.specs.Prelude.{◌≡◌, ◌≢◌, ℕ, suc, ◌+◌, ◌*◌, ◌<◌, ◌≤◌, Bool, true, false, not, if◌then◌else◌, IsTrue, IsFalse, List, [], length, map, slice_get, slice_index_or, count_by, Some}
+use Rattle.std.specs.Prelude.{◌≡◌, ◌≢◌, ℕ, suc, ◌+◌, ◌*◌, ◌<◌, Bool, true, false, not, if◌then◌else◌, IsTrue, IsFalse, List, [], length, map, slice_get, slice_index_or, count_by, Some}
 use Rattle.sheet_refs.specs.Cells.{Position}
 use Rattle.formula_syntax.specs.declared.value.ErrorKind.TheVariants.{Circ}
 use Rattle.formula_syntax.specs.declared.value.Value.{Value}
 use Rattle.formula_syntax.specs.declared.value.Value.TheVariants as value
+use Rattle.formula_syntax.specs.Values.{code_of}
 use Rattle.sheet_model.specs.Budget.{SettlesAt}
 use Rattle.sheet_model.specs.Sheets.{SheetValue, ContentValue, Constant, Computed, is_inside, cell_count, place_of, content_of}
 use Rattle.sheet_model.specs.Values.{is_circular, step, content_references, IsInput}
 use Rattle.sheet_model.specs.declared.eval.State.{State}
 use Rattle.sheet_model.specs.declared.eval.State.TheVariants.{Unseen, Open, Known}
 use Rattle.sheet_model.specs.declared.walk.Frame.{Frame}
+use Rattle.sheet_model.specs.declared.walk.Walk.{Walk}
 
 -- what is known of a cell before the walk: the value of a constant
 abbrev pub first_state : ContentValue → State
@@ -21,6 +23,10 @@ abbrev pub known_value : State → Value
 known_value Unseen = value.Empty
 known_value Open = value.Empty
 known_value (Known value) = value
+
+-- the code of the value that is known of a cell
+abbrev pub known_code : State → ℕ
+known_code state = code_of (known_value state)
 
 -- the values of the cells as far as they are known
 abbrev pub known_values : SheetValue → List State → Position → Value
@@ -97,3 +103,17 @@ pub record IsClosing (sheet : SheetValue) (states : List State) (frames : List F
   pub inside : (i : ℕ) (frame : Frame) → slice_get frames i ≡ Some frame → IsTrue (is_inside sheet frame.cell)
   pub listed : (p : ℕ) → slice_get states p ≡ Some Open → (i : ℕ) × (frame : Frame) × (slice_get frames i ≡ Some frame) × (place_of sheet frame.cell ≡ p)
   pub closes : (i : ℕ) (frame : Frame) → slice_get frames i ≡ Some frame → slice_get (map closed_state states) (place_of sheet frame.cell) ≡ Some (Known (value.Error Circ))
+
+-- the same of a walk in memory
+abbrev pub IsSound : SheetValue → Walk → Type 0
+IsSound sheet walk = IsWalk sheet walk.states.items walk.frames.items
+
+-- no cell is open
+abbrev pub IsIdle : Walk → Type 0
+IsIdle walk = walk.frames.items ≡ []
+
+abbrev pub cells_left : Walk → ℕ
+cells_left walk = work_left walk.states.items walk.frames.items
+
+abbrev pub StaysSeen : Walk → Walk → Type 0
+StaysSeen old new = KeepsSeen old.states.items new.states.items

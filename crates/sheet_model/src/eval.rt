@@ -4,7 +4,7 @@ ghost use Rattle.formula_syntax.specs.Wholes.{IsWhole};
 ghost use Rattle.sheet_refs.specs.Cells.{Position};
 ghost use Rattle.formula_syntax.specs.Tree.{tree_of};
 ghost use Rattle.sheet_model.specs.Sheets.{cell_count, content_value};
-ghost use Rattle.sheet_model.specs.Values.{as_number as number_of, in_range as ranged, sum_of, meaning as meaning_of, never_empty as value_or_zero, values_within, formula_value, step_content, content_references};
+ghost use Rattle.sheet_model.specs.Values.{as_number as number_of, in_range as ranged, sum_of, meaning as meaning_of, never_empty as value_or_zero, values_within, step_content, content_references};
 ghost use Rattle.sheet_model.specs.Walks.{first_state, known_values, known_value, is_plain as plain};
 
 use super::content::Content;
@@ -26,7 +26,8 @@ pub enum State {
 
 /// The states of the cells before the walk: constants are known, and formulas not looked at.
 pub fn first_states(alloc: Global, contents: &[Content]) -> Result<Vec<State>, AllocError>
-    ensures { IfOk result (λ states. states.items ≡ map (λ content. first_state (content_value content)) contents.now) }
+    ensures { IfOk result
+        (λ states. states.items ≡ map (λ content. first_state (content_value content)) contents.now) }
 {
     let mut states = Vec::with_capacity(alloc, contents.len())?;
     for content in contents {
@@ -88,7 +89,8 @@ fn value_at(sheet: &Sheet, states: &[State], cell: Cell) -> Value
 /// The meaning of a formula over the known values. It looks at each node of the tree once.
 fn meaning(sheet: &Sheet, states: &[State], node: &Node) -> Value
     requires { length states.now ≡ cell_count sheet.now }
-    ensures { result ≡ meaning_of (values_within sheet.now (known_values sheet.now states.now)) (tree_of node.now) }
+    ensures { result
+        ≡ meaning_of (values_within sheet.now (known_values sheet.now states.now)) (tree_of node.now) }
 {
     match node {
         Node::Number(number) => Value::Number(*number),
@@ -140,8 +142,11 @@ fn never_empty(value: Value) -> Value
 /// references. It takes time in proportion to the size of the formula.
 pub fn evaluate(sheet: &Sheet, states: &[State], content: &Content) -> Value
     requires count { length states.now ≡ cell_count sheet.now }
-    requires plain { (k : ℕ) (cell : Position) → slice_get (content_references (content_value content.now)) k ≡ Some cell → IsTrue (plain sheet.now states.now cell) }
-    ensures { result ≡ step_content sheet.now (known_values sheet.now states.now) (content_value content.now) }
+    requires plain { (k : ℕ) (cell : Position)
+        → slice_get (content_references (content_value content.now)) k ≡ Some cell
+        → IsTrue (plain sheet.now states.now cell) }
+    ensures { result
+        ≡ step_content sheet.now (known_values sheet.now states.now) (content_value content.now) }
 {
     match content {
         Content::Empty => Value::Empty,

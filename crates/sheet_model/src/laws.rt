@@ -12,8 +12,18 @@ ghost use Rattle.sheet_model.specs.Values.{budget_value, value_of, step, circula
 /// the value of an ordered cell is one step over the values, and that of a cell of the set is `#CIRC!`;
 /// and no other values have these two properties.
 pub fn value_laws()
-    ensures stability { (sheet : SheetValue) (cell : Position) (n m : ℕ) → budget_value sheet n cell ≢ circular_value → n ≤ m → budget_value sheet m cell ≡ budget_value sheet n cell }
-    ensures ordered { (sheet : SheetValue) (ordered : List Position) (circular : Position → Bool) → IsOrderOf sheet ordered circular → (cell : Position) → StandsIn ordered cell → value_of sheet cell ≡ step sheet cell (value_of sheet) }
-    ensures circular { (sheet : SheetValue) (ordered : List Position) (circular : Position → Bool) → IsOrderOf sheet ordered circular → (cell : Position) → IsTrue (circular cell) → value_of sheet cell ≡ circular_value }
-    ensures unique { (sheet : SheetValue) (ordered : List Position) (circular : Position → Bool) (values : Position → CellValue) → IsOrderOf sheet ordered circular → IsSettledBy sheet ordered circular values → (cell : Position) → StandsIn ordered cell ⊎ IsTrue (circular cell) → values cell ≡ value_of sheet cell }
+    ensures stability { (sheet : SheetValue) (cell : Position) (n m : ℕ)
+        → budget_value sheet n cell ≢ circular_value → n ≤ m
+        → budget_value sheet m cell ≡ budget_value sheet n cell }
+    ensures ordered { (sheet : SheetValue) (ordered : List Position) (circular : Position → Bool)
+        → IsOrderOf sheet ordered circular → (cell : Position) → StandsIn ordered cell
+        → value_of sheet cell ≡ step sheet cell (value_of sheet) }
+    ensures circular { (sheet : SheetValue) (ordered : List Position) (circular : Position → Bool)
+        → IsOrderOf sheet ordered circular → (cell : Position) → IsTrue (circular cell)
+        → value_of sheet cell ≡ circular_value }
+    ensures unique { (sheet : SheetValue) (ordered : List Position) (circular : Position → Bool)
+        (values : Position → CellValue)
+        → IsOrderOf sheet ordered circular → IsSettledBy sheet ordered circular values
+        → (cell : Position) → StandsIn ordered cell ⊎ IsTrue (circular cell)
+        → values cell ≡ value_of sheet cell }
 {}

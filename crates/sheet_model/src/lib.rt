@@ -4,6 +4,7 @@
 //! of a cell is, `specs/Values.antt` says by a budget of steps: with no budget every cell is circular, and
 //! with one more a formula has its meaning over the values with the rest. `all_values` gives the code of
 //! each of these values; it doesn't count budgets, but walks the references with a list of open cells.
+//! `load_plain` reads a sheet from a text without quotes (`specs/Plain.antt`).
 //!
 //! What is true of values in general stands over any cells and any step in `specs/Budget.antt` and
 //! `proofs/BudgetLemmas.antt`, with no formula in sight, and `value_laws` states it of sheets.

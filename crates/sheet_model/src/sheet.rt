@@ -1,4 +1,4 @@
-ghost use Rattle.std.specs.Prelude.{◌≡◌, ◌*◌, ◌<◌, map, vec_len, IfOk, IsTrue};
+ghost use Rattle.std.specs.Prelude.{◌≡◌, ◌*◌, ◌<◌, map, IfOk, IsTrue, vec_len};
 ghost use Rattle.sheet_model.specs.Sheets.{IsSheetSize, IsFilled, is_inside, cell_count, place_of, content_of, blank_sheet, with_content, content_value, sheet_value};
 
 use super::content::Content;
@@ -44,12 +44,7 @@ impl Sheet {
         for _ in 0..cells {
             contents.push(Content::Empty)?;
         }
-        Ok(Sheet {
-            rows,
-            cols,
-            contents,
-            outside: Content::Empty,
-        })
+        Ok(Sheet::of(rows, cols, contents))
     }
 
     // The sheet of these sizes with these contents, row by row.

@@ -50,16 +50,19 @@ fn shown(alloc: Global, sheet: &Sheet, count: usize) -> Result<String, Fail> {
 /// The values of a sheet of three columns with these fields, row by row.
 fn values_of(alloc: Global, fields: &[&str]) -> Result<String, Fail> {
     let mut sheet = Sheet::blank(alloc, 3, 3)?;
-    let mut row = 1;
-    let mut col = 1;
-    for field in fields {
-        put(alloc, &mut sheet, row, col, field)?;
-        if col == 3 {
-            row += 1;
-            col = 1;
-        } else {
-            col += 1;
-        }
+    let places = [
+        (1, 1),
+        (1, 2),
+        (1, 3),
+        (2, 1),
+        (2, 2),
+        (2, 3),
+        (3, 1),
+        (3, 2),
+        (3, 3),
+    ];
+    for (field, (row, col)) in fields.iter().zip(places.iter()) {
+        put(alloc, &mut sheet, *row, *col, field)?;
     }
     shown(alloc, &sheet, fields.len())
 }

@@ -1,9 +1,9 @@
 ghost use Rattle.std.specs.Prelude.{◌≡◌, ◌≢◌, ◌<◌, ◌≤◌, ℕ, [], ◌∷◌, ◌++◌, length, map, set, slice_get, All, IfOk, OnOk, IsTrue, IsFalse};
 ghost use Rattle.sheet_refs.specs.Cells.{Position};
-ghost use Rattle.formula_syntax.specs.Values.{IsValue, code_of};
+ghost use Rattle.formula_syntax.specs.Values.{IsValue};
 ghost use Rattle.sheet_model.specs.Sheets.{cell_count, place_of, is_inside};
 ghost use Rattle.sheet_model.specs.Values.{AreValues};
-ghost use Rattle.sheet_model.specs.Walks.{IsWalk, KeepsSeen, SeenBelow, IsWaiting, IsClosing, is_plain as plain, work_left, closed_state, known_value};
+ghost use Rattle.sheet_model.specs.Walks.{IsSound, IsIdle, StaysSeen, SeenBelow, IsWaiting, IsClosing, cells_left, closed_state, is_plain as plain, known_code, known_value};
 
 use super::eval::{State, evaluate, first_states, is_plain, references_of};
 use super::sheet::Sheet;
@@ -29,8 +29,10 @@ struct Walk {
 /// references where there is none.
 fn first_stop(sheet: &Sheet, states: &[State], references: &[Cell], next: usize) -> usize
     requires { length states.now ≡ cell_count sheet.now }
-    ensures passed { (k : ℕ) (cell : Position) → next ≤ k → k < result → slice_get references.now k ≡ Some cell → IsTrue (plain sheet.now states.now cell) }
-    ensures stop { (cell : Position) → slice_get references.now result ≡ Some cell → IsFalse (plain sheet.now states.now cell) }
+    ensures passed { (k : ℕ) (cell : Position) → next ≤ k → k < result
+        → slice_get references.now k ≡ Some cell → IsTrue (plain sheet.now states.now cell) }
+    ensures stop { (cell : Position) → slice_get references.now result ≡ Some cell
+        → IsFalse (plain sheet.now states.now cell) }
 {
     let mut place = next;
     while place < references.len() && is_plain(sheet, states, references[place]) {
@@ -41,8 +43,8 @@ fn first_stop(sheet: &Sheet, states: &[State], references: &[Cell], next: usize)
 
 impl Walk {
     fn new(alloc: Global, sheet: &Sheet) -> Result<Walk, AllocError>
-        ensures walk { IfOk result (λ walk. IsWalk sheet.now walk.states.items walk.frames.items) }
-        ensures idle { IfOk result (λ walk. walk.frames.items ≡ []) }
+        ensures walk { IfOk result (λ walk. IsSound sheet.now walk) }
+        ensures idle { IfOk result (λ walk. IsIdle walk) }
     {
         let states = first_states(alloc, sheet.contents())?;
         Ok(Walk {
@@ -65,11 +67,11 @@ impl Walk {
     /// Opens the cell for which the newest open cell waits; where it is open or circular, all open cells
     /// lead into a cycle, and are closed.
     fn enter(&mut self, sheet: &Sheet, cell: Cell) -> Result<(), AllocError>
-        requires walk { IsWalk sheet.now self.old.states.items self.old.frames.items }
+        requires walk { IsSound sheet.now self.old }
         requires waiting { IsWaiting sheet.now self.old.states.items self.old.frames.items cell }
-        ensures walk { OnOk result (IsWalk sheet.now self.new.states.items self.new.frames.items) }
-        ensures seen { OnOk result (KeepsSeen self.old.states.items self.new.states.items) }
-        ensures less { OnOk result (work_left self.new.states.items self.new.frames.items < work_left self.old.states.items self.old.frames.items) }
+        ensures walk { OnOk result (IsSound sheet.now self.new) }
+        ensures seen { OnOk result (StaysSeen self.old self.new) }
+        ensures less { OnOk result (cells_left self.new < cells_left self.old) }
     {
         let place = sheet.place(cell);
         if let State::Unseen = self.states[place] {
@@ -83,7 +85,8 @@ impl Walk {
     fn open(&mut self, place: usize, cell: Cell) -> Result<(), AllocError>
         requires { place < length self.old.states.items }
         ensures states { self.new.states.items ≡ set self.old.states.items place State.Open }
-        ensures frames { OnOk result (self.new.frames.items ≡ self.old.frames.items ++ record { cell = cell; next = 0 } ∷ []) }
+        ensures frames { OnOk result
+            (self.new.frames.items ≡ self.old.frames.items ++ record { cell = cell; next = 0 } ∷ []) }
     {
         self.states[place] = State::Open;
         self.frames.push(Frame { cell, next: 0 })?;
@@ -93,10 +96,10 @@ impl Walk {
     /// Looks on at the references of the newest open cell: settles it, or opens one more cell, or finds
     /// that all open cells lead into a cycle.
     fn turn(&mut self, sheet: &Sheet) -> Result<(), AllocError>
-        requires { IsWalk sheet.now self.old.states.items self.old.frames.items }
-        ensures walk { OnOk result (IsWalk sheet.now self.new.states.items self.new.frames.items) }
-        ensures seen { OnOk result (KeepsSeen self.old.states.items self.new.states.items) }
-        ensures less { OnOk result (self.old.frames.items ≢ [] → work_left self.new.states.items self.new.frames.items < work_left self.old.states.items self.old.frames.items) }
+        requires { IsSound sheet.now self.old }
+        ensures walk { OnOk result (IsSound sheet.now self.new) }
+        ensures seen { OnOk result (StaysSeen self.old self.new) }
+        ensures less { OnOk result (¬ IsIdle self.old → cells_left self.new < cells_left self.old) }
     {
         let Some(frame) = self.frames.pop() else {
             return Ok(());
@@ -119,12 +122,12 @@ impl Walk {
 
     /// Settles the cell at a place, and every cell that it leads to.
     fn settle(&mut self, sheet: &Sheet, place: usize) -> Result<(), AllocError>
-        requires walk { IsWalk sheet.now self.old.states.items self.old.frames.items }
-        requires idle { self.old.frames.items ≡ [] }
+        requires walk { IsSound sheet.now self.old }
+        requires idle { IsIdle self.old }
         requires place { place < cell_count sheet.now }
-        ensures walk { OnOk result (IsWalk sheet.now self.new.states.items self.new.frames.items) }
-        ensures idle { OnOk result (self.new.frames.items ≡ []) }
-        ensures seen { OnOk result (KeepsSeen self.old.states.items self.new.states.items) }
+        ensures walk { OnOk result (IsSound sheet.now self.new) }
+        ensures idle { OnOk result (IsIdle self.new) }
+        ensures seen { OnOk result (StaysSeen self.old self.new) }
         ensures known { OnOk result (slice_get self.new.states.items place ≢ Some State.Unseen) }
     {
         let State::Unseen = self.states[place] else {
@@ -139,10 +142,10 @@ impl Walk {
 
     /// Settles every cell.
     fn run(&mut self, sheet: &Sheet) -> Result<(), AllocError>
-        requires walk { IsWalk sheet.now self.old.states.items self.old.frames.items }
-        requires idle { self.old.frames.items ≡ [] }
-        ensures walk { OnOk result (IsWalk sheet.now self.new.states.items self.new.frames.items) }
-        ensures idle { OnOk result (self.new.frames.items ≡ []) }
+        requires walk { IsSound sheet.now self.old }
+        requires idle { IsIdle self.old }
+        ensures walk { OnOk result (IsSound sheet.now self.new) }
+        ensures idle { OnOk result (IsIdle self.new) }
         ensures known { OnOk result (SeenBelow self.new.states.items (cell_count sheet.now)) }
     {
         for place in 0..self.states.len() {
@@ -153,7 +156,7 @@ impl Walk {
 }
 
 fn code_at(state: State) -> u64
-    ensures code { result ≡ code_of (known_value state) }
+    ensures code { result ≡ known_code state }
     ensures value { IsValue (known_value state) }
 {
     match &state {
@@ -163,7 +166,7 @@ fn code_at(state: State) -> u64
 }
 
 fn codes(alloc: Global, states: &[State]) -> Result<Vec<u64>, AllocError>
-    ensures codes { IfOk result (λ codes. codes.items ≡ map (λ state. code_of (known_value state)) states.now) }
+    ensures codes { IfOk result (λ codes. codes.items ≡ map known_code states.now) }
     ensures values { OnOk result (All (λ state. IsValue (known_value state)) states.now) }
 {
     let mut codes = Vec::with_capacity(alloc, states.len())?;

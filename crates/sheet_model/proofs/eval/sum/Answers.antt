@@ -1,4 +1,4 @@
-use Rattle.std.proofs.Common.{◌≡◌, w64, to_z, of_z, to_z-of_z, ◌+ℤ◌, ◌∙◌, ap, arith}
+use Rattle.std.proofs.Common.{◌≡◌, w64, to_z, of_z, ◌+ℤ◌, ◌∙◌, ap, arith}
 use Rattle.std.proofs.lemmas.Int.{ints}
 use Rattle.sheet_model.specs.Values.{in_range}
 use Rattle.sheet_model.proofs.eval.sum.Goals as goal

@@ -1,4 +1,4 @@
-use Rattle.std.proofs.Common.{◌≡◌, ◌≤◌, [], length, rules, arith}
+use Rattle.std.proofs.Common.{◌≡◌, [], arith}
 use Rattle.std.proofs.lemmas.Grind.{common_steps}
 use Rattle.sheet_model.specs.Plain.IsField.{no_bytes, a_number, a_formula}
 use Rattle.sheet_model.proofs.plain.content_of_field.Goals as goal

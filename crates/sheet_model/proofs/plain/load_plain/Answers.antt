@@ -1,10 +1,10 @@
-use Rattle.std.proofs.Common.{◌≡◌, ◌<◌, ◌≤◌, ◌+◌, ℕ, List, [], length, map, take, get_or, refl, subst, sym, ◌∙◌, ap, arith, rules}
+use Rattle.std.proofs.Common.{◌≡◌, ◌<◌, ◌+◌, ℕ, List, length, map, take, refl, subst, sym, ◌∙◌, arith}
 use Rattle.std.specs.Borrow.{Bor}
 use Rattle.std.proofs.lemmas.List.{length-map}
 use Rattle.std.proofs.lemmas.Bool.Decides.{when_true, when_false}
-use Rattle.sheet_model.specs.Plain.{HasFields, IsFirstUnread, fields_of, longest, records_of}
+use Rattle.sheet_model.specs.Plain.{IsFirstUnread, longest, records_of}
 use Rattle.sheet_model.proofs.PlainLemmas.{lent_at}
-use Rattle.sheet_model.proofs.RecordLemmas.{HasRows, more_rows, longest_bounds, first_unread, size_read, sheet_read}
+use Rattle.sheet_model.proofs.RecordLemmas.{more_rows, longest_bounds, first_unread, size_read, sheet_read}
 use Rattle.sheet_model.proofs.plain.load_plain.Goals as goal
 
 -- the lines behind references

@@ -1,5 +1,3 @@
-use Rattle.std.proofs.Common.{◌≡◌, arith, length, map}
-use Rattle.std.specs.Prelude.{None, Some}
 use Rattle.std.proofs.lemmas.List.{length-map}
 use Rattle.std.proofs.lemmas.Option.{MatchOption-at_none, MatchOption-at_some}
 use Rattle.sheet_model.proofs.PlainLemmas.{appends_more, lent_at}

@@ -1,10 +1,8 @@
-use Rattle.std.proofs.Common.{◌≡◌, ◌<◌, ◌≤◌, ℕ, List, length, map, arith, vec_len, subst, sym, ap}
+use Rattle.std.proofs.Common.{◌≡◌, ◌≤◌, ℕ, List, length, map, arith, sym, ap}
 use Rattle.std.specs.Borrow.{Bor}
 use Rattle.std.proofs.lemmas.List.{length-map}
-use Rattle.std.specs.Bool.{MatchBool}
 use Rattle.std.proofs.lemmas.Bool.Decides.{when_true, when_false}
-use Rattle.sheet_model.specs.Plain.{fields_of, AreFields}
-use Rattle.sheet_model.specs.PlainRows.{AppendsFields}
+use Rattle.sheet_model.specs.Plain.{fields_of}
 use Rattle.sheet_model.proofs.PlainLemmas.{appends_more, past_fields, whole_taken, few_taken}
 use Rattle.sheet_model.proofs.plain.push_record.Goals as goal
 

@@ -7,4 +7,4 @@ use Rattle.sheet_model.proofs.sheet.Sheet.blank.Goals as goal
 pub returns : goal.returns
 returns c =
     let all : c.loop.counter ≡ c.args.rows * c.args.cols = omega arith in
-    rw (c.loop.invariant, map-replicate content_value c.loop.counter Empty, all)
+    rw (c.of.ensures, c.loop.invariant, map-replicate content_value c.loop.counter Empty, all)

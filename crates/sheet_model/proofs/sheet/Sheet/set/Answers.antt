@@ -1,4 +1,3 @@
-use Rattle.std.proofs.Common.{◌≡◌, ap}
 use Rattle.std.proofs.lemmas.List.{map-set}
 use Rattle.sheet_model.proofs.sheet.Sheet.set.Goals as goal
 

@@ -2,9 +2,8 @@ use Rattle.std.proofs.Common.{◌≡◌, ◌≢◌, [], ◌∷◌, ◌++◌, sli
 use Rattle.std.proofs.lemmas.Option.{slice_get_read}
 use Rattle.sheet_model.specs.Sheets.{place_of, cell_count}
 use Rattle.sheet_model.specs.declared.eval.State.TheVariants.{Unseen, Open}
-use Rattle.sheet_model.specs.Walks.{IsWalk, KeepsSeen}
 use Rattle.sheet_model.proofs.ListLemmas.{on_ok}
-use Rattle.sheet_model.proofs.TurnLemmas.{walk_open, work_open, seen_set}
+use Rattle.sheet_model.proofs.TurnLemmas.{walk_open, seen_set}
 use Rattle.sheet_model.proofs.CycleLemmas.{walk_close, closing_begin, work_close, seen_close}
 use Rattle.sheet_model.proofs.walk.Walk.enter.Goals as goal
 use Rattle.sheet_model.proofs.walk.Walk.enter.Goals.{After-index}

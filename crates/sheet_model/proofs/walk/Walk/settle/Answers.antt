@@ -1,4 +1,4 @@
-use Rattle.std.proofs.Common.{◌≡◌, ◌≢◌, slice_get, Some, sym, ap}
+use Rattle.std.proofs.Common.{◌≡◌, ◌≢◌, slice_get, Some, sym}
 use Rattle.std.proofs.lemmas.Option.{slice_get_read}
 use Rattle.sheet_model.specs.Sheets.{place_of, cell_count}
 use Rattle.sheet_model.specs.declared.eval.State.TheVariants.{Unseen, Open}

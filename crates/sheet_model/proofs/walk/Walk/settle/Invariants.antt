@@ -1,5 +1,3 @@
-use Rattle.std.proofs.Common.{◌≡◌, ◌≢◌, slice_get, Some}
-use Rattle.sheet_model.specs.declared.eval.State.TheVariants.{Unseen}
 use Rattle.sheet_model.specs.Walks.{IsWalk, KeepsSeen, work_left}
 use Rattle.sheet_model.proofs.walk.Walk.settle.Given as goal
 

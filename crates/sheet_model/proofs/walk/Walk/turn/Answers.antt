@@ -1,10 +1,10 @@
-use Rattle.std.proofs.Common.{◌≡◌, ◌≢◌, ◌≤◌, ◌<◌, ℕ, [], ◌∷◌, ◌++◌, length, slice_get, Some, IsTrue, refl, sym, ◌∙◌, ap, arith}
+use Rattle.std.proofs.Common.{◌≡◌, ◌≢◌, ◌≤◌, ℕ, [], ◌∷◌, ◌++◌, length, slice_get, Some, IsTrue, refl, ◌∙◌, ap, arith}
 use Rattle.std.proofs.lemmas.Option.{slice_get_within, slice_get_read}
 use Rattle.sheet_refs.specs.Cells.{Position}
-use Rattle.sheet_model.specs.Sheets.{is_inside, place_of, content_of}
-use Rattle.sheet_model.specs.Values.{content_references, step, step_content}
+use Rattle.sheet_model.specs.Sheets.{place_of, content_of}
+use Rattle.sheet_model.specs.Values.{content_references}
 use Rattle.sheet_model.specs.declared.eval.State.TheVariants.{Unseen, Open, Known}
-use Rattle.sheet_model.specs.Walks.{IsWalk, KeepsSeen, HasPassed, known_values, is_plain}
+use Rattle.sheet_model.specs.Walks.{IsWalk, HasPassed, is_plain}
 use Rattle.sheet_model.proofs.ListLemmas.{slice_get-push}
 use Rattle.sheet_model.proofs.WalkLemmas.{walk_advance}
 use Rattle.sheet_model.proofs.TurnLemmas.{walk_finish, seen_set, passed_all, waiting_new}
