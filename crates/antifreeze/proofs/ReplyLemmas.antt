@@ -28,26 +28,28 @@ module _ (words : List (List ℕ)) (holds : List ℕ → Option (List ℕ)) (nam
   fetched_text fetched text whole here = MatchOption-at_some _ _ text here whole
 
   pub owed : (fetched : List ℕ) (before after : ℕ) (reply : Reply) → IfSome (holds name) (λ t. fetched ≡ t) → IfSome (holds name) (λ t. length t ≤ 16777216) → RepliesTo fetched range reply → IsOwed words holds before after reply
-  owed fetched before after (Output output) whole fits shown =
-      ((name, range, asked), λ tells.
+  owed fetched before after (Output output) whole fits shown = (
+    (name, range, asked),
+    λ tells.
         let (text, here) = told tells in
         let read = subst (λ (t : List ℕ). IsPlainSheet t shown.sheet) (fetched_text fetched text whole here) shown.read in
-        rw shown.output_is (shows name text range shown.sheet asked here (MatchOption-at_some _ _ text here fits) read shown.within))
+        rw shown.output_is (shows name text range shown.sheet asked here (MatchOption-at_some _ _ text here fits) read shown.within),
+  )
   owed fetched before after (Refusal status line) whole fits (inl refused) =
       inr (record {
         status_is = inl refused.status_is;
         refused = λ tells.
-          let (text, here) = told tells in
-          let read = subst (λ (t : List ℕ). IsPlainSheet t refused.sheet) (fetched_text fetched text whole here) refused.read in
-          rw (refused.status_is, refused.line_is) (outside name text range refused.sheet asked here (MatchOption-at_some _ _ text here fits) read refused.outside);
+            let (text, here) = told tells in
+            let read = subst (λ (t : List ℕ). IsPlainSheet t refused.sheet) (fetched_text fetched text whole here) refused.read in
+            rw (refused.status_is, refused.line_is) (outside name text range refused.sheet asked here (MatchOption-at_some _ _ text here fits) read refused.outside);
       })
   owed fetched before after (Refusal status line) whole fits (inr refused) =
       inr (record {
         status_is = inr refused.status_is;
         refused = λ tells.
-          let (text, here) = told tells in
-          let unread = subst (λ (t : List ℕ). IsFirstUnread t refused.number) (fetched_text fetched text whole here) refused.unread in
-          rw (refused.status_is, refused.line_is) (not_yet name text range refused.number asked here (MatchOption-at_some _ _ text here fits) unread);
+            let (text, here) = told tells in
+            let unread = subst (λ (t : List ℕ). IsFirstUnread t refused.number) (fetched_text fetched text whole here) refused.unread in
+            rw (refused.status_is, refused.line_is) (not_yet name text range refused.number asked here (MatchOption-at_some _ _ text here fits) unread);
       })
 
   -- the text is past the limit
@@ -57,8 +59,8 @@ module _ (words : List (List ℕ)) (holds : List ℕ → Option (List ℕ)) (nam
       inr (record {
         status_is = inr status_is;
         refused = λ tells.
-          let (text, here) = told tells in
-          rw (status_is, line_is) (too_long name text range asked here (MatchOption-at_some _ _ text here long));
+            let (text, here) = told tells in
+            rw (status_is, line_is) (too_long name text range asked here (MatchOption-at_some _ _ text here long));
       })
 
 -- the words are no command

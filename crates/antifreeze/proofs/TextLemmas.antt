@@ -51,17 +51,18 @@ row_whole shown window row =
 pub cell_step : (shown : Position → Value) (row first col : ℕ) (old mid new : List ℕ) → first ≤ col → mid ≡ old ++ cells_text shown row first (col - first) → new ≡ mid ++ (if eqb col first then printed shown row col else (44 ∷ printed shown row col)) → new ≡ old ++ cells_text shown row first (col + 1 - first)
 cell_step shown row first col old mid new from before after =
     elim (eqb_tells col first) [
-      inl same ↦
-        let none : col - first ≡ 0 = omega (arith, same.1) in
-        let one : col + 1 - first ≡ 1 = omega (arith, same.1) in
-        let start : mid ≡ old = (rw none at before) ∙ append-nil old in
-        rw one ((rw (start, same.0) at after) ∙ ap (λ at. old ++ printed shown row at) same.1)
-    | inr differs ↦
-        let count : col + 1 - first ≡ col - first + 1 = omega (arith, from) in
-        let here : first + (col - first) ≡ col = omega (arith, from) in
-        let more = next_cell shown row first (col - first) (omega (arith, from, differs.1)) in
-        let joined = rw (before, differs.0, append_assoc) at after in
-        rw (count, more, here) joined ]
+      | inl same ↦
+          let none : col - first ≡ 0 = omega (arith, same.1) in
+          let one : col + 1 - first ≡ 1 = omega (arith, same.1) in
+          let start : mid ≡ old = (rw none at before) ∙ append-nil old in
+          rw one ((rw (start, same.0) at after) ∙ ap (λ at. old ++ printed shown row at) same.1)
+      | inr differs ↦
+          let count : col + 1 - first ≡ col - first + 1 = omega (arith, from) in
+          let here : first + (col - first) ≡ col = omega (arith, from) in
+          let more = next_cell shown row first (col - first) (omega (arith, from, differs.1)) in
+          let joined = rw (before, differs.0, append_assoc) at after in
+          rw (count, more, here) joined
+    ]
 
 -- a cell that was made of a row and a column
 pub cell_made : (made : Option Position) (cell : Position) (row col : ℕ) → IfSome made (λ c. (c.row ≡ row) × (c.col ≡ col)) → made ≡ Some cell → cell ≡ record { row = row; col = col }
@@ -83,7 +84,7 @@ next_row shown window first (suc count) =
     let last : first + 1 + count ≡ first + suc count = omega arith in
     let rest = next_row shown window (first + 1) count in
     rw more (ap (λ text. row_text shown window first ++ text) (rest ∙ ap (λ at. some_rows shown window (first + 1) count ++ row_text shown window at) last)
-      ∙ sym (append_assoc (row_text shown window first) (some_rows shown window (first + 1) count) (row_text shown window (first + suc count))))
+    ∙ sym (append_assoc (row_text shown window first) (some_rows shown window (first + 1) count) (row_text shown window (first + suc count))))
 
 -- one more row behind a text that ends with the rows before it
 pub row_step : (shown : Position → Value) (window : Corners) (first row : ℕ) (start mid new : List ℕ) → first ≤ row → mid ≡ start ++ some_rows shown window first (row - first) → new ≡ mid ++ row_text shown window row → new ≡ start ++ some_rows shown window first (row + 1 - first)

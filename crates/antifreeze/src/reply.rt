@@ -12,7 +12,8 @@ use std::alloc::Global;
 /// The longest text of a sheet that is read, in bytes.
 pub const MAX_SHEET: usize = 16_777_216;
 
-const USAGE: &str = "antifreeze: usage: antifreeze show|deps|precs SHEET RANGE; check SHEET; play|live SHEET SCRIPT; gen NUMBER; --workers N with live, gen\n";
+const USAGE: &str =
+    "antifreeze: usage: antifreeze show|deps|precs SHEET RANGE; check SHEET; play|live SHEET SCRIPT; gen NUMBER; --workers N with live, gen\n";
 
 /// What a run has found out before it writes a byte.
 #[derive(Drop)]

@@ -4,9 +4,16 @@ use std::alloc::Global;
 use std::test::Fail;
 
 /// What a run of these words gives over one sheet named `s`: the status, the output and the notes.
-fn run_on(alloc: Global, sheet: &str, words: &[&str]) -> Result<(u8, MemorySink, MemorySink), Fail> {
+fn run_on(
+    alloc: Global,
+    sheet: &str,
+    words: &[&str],
+) -> Result<(u8, MemorySink, MemorySink), Fail> {
     let mut texts = Vec::new(alloc);
-    texts.push((String::from_str(alloc, "s")?, sheet.as_bytes().to_vec(alloc)?))?;
+    texts.push((
+        String::from_str(alloc, "s")?,
+        sheet.as_bytes().to_vec(alloc)?,
+    ))?;
     let mut shelf = MemoryShelf::new(texts, Vec::new(alloc));
     let mut given = Vec::new(alloc);
     for word in words {

@@ -14,7 +14,12 @@ use std::fmt::Write;
 
 /// What `show` writes of a range of the sheet, given the codes of all its cells' values, row by row. It
 /// takes time and memory in proportion to the cells of the range.
-pub fn show_text(alloc: Global, sheet: &Sheet, range: Range, values: &[u64]) -> Result<String, AllocError>
+pub fn show_text(
+    alloc: Global,
+    sheet: &Sheet,
+    range: Range,
+    values: &[u64],
+) -> Result<String, AllocError>
     requires values { AreValues sheet.now values.now }
     requires within { IsWithinSheet range sheet.now }
     ensures { IfOk result (λ text. string_bytes text ≡ show_text (value_of sheet.now) range) }
@@ -27,7 +32,13 @@ pub fn show_text(alloc: Global, sheet: &Sheet, range: Range, values: &[u64]) -> 
 }
 
 // Appends a row of the range, with its line's end.
-fn push_row(text: &mut String, sheet: &Sheet, range: Range, values: &[u64], row: u32) -> Result<(), AllocError>
+fn push_row(
+    text: &mut String,
+    sheet: &Sheet,
+    range: Range,
+    values: &[u64],
+    row: u32,
+) -> Result<(), AllocError>
     requires values { AreValues sheet.now values.now }
     requires within { IsWithinSheet range sheet.now }
     requires from { range.head.row ≤ row }

@@ -15,7 +15,13 @@ use std::alloc::Global;
 /// isn't in the sheet, 3 for a sheet's text that is refused, 5 for a fetch that failed, 6 for a put on
 /// `out` that failed, and 7 for want of memory. With every status but 0 one line goes to `notes`, and
 /// nothing is written to `out` with any but 0 and 6: all memory is taken before the first byte.
-pub fn run<F: Shelf, K: Sink, N: Sink>(alloc: Global, words: &[String], shelf: &mut F, out: &mut K, notes: &mut N) -> u8
+pub fn run<F: Shelf, K: Sink, N: Sink>(
+    alloc: Global,
+    words: &[String],
+    shelf: &mut F,
+    out: &mut K,
+    notes: &mut N,
+) -> u8
     ensures status { IsStatus result }
 
     // What each status tells.
