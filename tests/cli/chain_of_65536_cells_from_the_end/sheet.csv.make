@@ -1,0 +1,10 @@
+# Each cell is one more than the cell after it.
+def name(cell):
+    """The name of a cell, counted row by row from 0 in a sheet of 64 columns."""
+    row, col = divmod(cell, 64)
+    letters = "ABCDEFGHIJKLMNOPQRSTUVWXYZ"
+    return ("" if col < 26 else letters[col // 26 - 1]) + letters[col % 26] + str(row + 1)
+
+
+for row in range(1024):
+    print(",".join(f"={name(cell + 1)}+1" if cell < 65535 else "1" for cell in range(64 * row, 64 * row + 64)))

@@ -1,0 +1,3 @@
+print("sheet 0 A1:BL1024")
+for row in range(1024):
+    print(",".join(str("#CIRC!") for cell in range(64 * row, 64 * row + 64)))

@@ -1,0 +1,3 @@
+# A sum of 255 references.
+print("=" + "+".join(["A2"] * 255))
+print("3")

@@ -1,0 +1,3 @@
+# 255 references and one number.
+print("=" + "A2+" * 255 + "1")
+print("1")
