@@ -3,7 +3,7 @@ use Rattle.std.proofs.Common.{◌≡◌, ℕ, ◌<◌, ◌≤◌, inl, inr, List
 use Rattle.std.specs.Prelude.{Option, Some, IfSome, slice_index_or, [], String, string_bytes}
 use Rattle.std.proofs.lemmas.Option.{MatchOption-at_some}
 use Rattle.sheet_refs.specs.Cells.{Corners}
-use Rattle.sheet_refs.proofs.UniqueNames.{range_unique}
+use Rattle.sheet_refs.proofs.NameLemmas.{one_range as range_named_once}
 use Rattle.sheet_model.specs.Plain.{IsPlainSheet, IsFirstUnread, IsPlainRecord, records_of, longest}
 use Rattle.sheet_model.specs.Sheets.{SheetValue}
 use Rattle.antifreeze.specs.Replies.{IsWithinSheet, IsTextOf, Writes, Refuses, Tells}
@@ -22,7 +22,7 @@ one_name words name other range window asked again = cc (asked.words_are, again.
 pub one_range : (words : List (List ℕ)) (name other : List ℕ) (range window : Corners) → AsksToShow words name range → AsksToShow words other window → range ≡ window
 one_range words name other range window asked again =
     let word : asked.range_word ≡ again.range_word = cc (asked.words_are, again.words_are) in
-    range_unique again.range_word range window (rw word at asked.names_range) again.names_range
+    range_named_once again.range_word range window (rw word at asked.names_range) again.names_range
 
 -- the text that stands under a name is the one that is told
 told_text : (holds : List ℕ → Option (List ℕ)) (name text told : List ℕ) → holds name ≡ Some told → IsTextOf holds name text → text ≡ told
