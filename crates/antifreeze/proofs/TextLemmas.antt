@@ -3,14 +3,14 @@ use Rattle.std.proofs.Common.{◌≡◌, ℕ, zero, suc, ◌+◌, ◌-◌, ◌<�
 use Rattle.std.specs.List.{join_with_byte, range_with_len, flat_map}
 use Rattle.std.specs.Prelude.{if◌then◌else◌, eqb, Option, Some, IfSome}
 use Rattle.std.proofs.lemmas.Option.{MatchOption-at_some}
-use Rattle.std.proofs.Common.{inl, inr, ◌⊎◌}
+use Rattle.std.proofs.Common.{inl, inr}
 use Rattle.std.proofs.lemmas.Bool.Decides.{eqb_tells}
 use Rattle.std.proofs.lemmas.List.{append-nil}
 use Rattle.std.proofs.lemmas.List.FromFn.{map-range_with_len_more, length-map-range_with_len}
-use Rattle.sheet_refs.specs.Cells.{Position, Corners, row_cells, rows_of, width, height}
+use Rattle.sheet_refs.specs.Cells.{Position, Corners, width}
 use Rattle.formula_syntax.specs.declared.value.Value.{Value}
 use Rattle.formula_syntax.specs.Values.{value_text}
-use Rattle.antifreeze.specs.Texts.{row_text, rows_text}
+use Rattle.antifreeze.specs.Texts.{row_text}
 
 -- the value in a row and a column, printed
 abbrev pub printed : (Position → Value) → ℕ → ℕ → List ℕ

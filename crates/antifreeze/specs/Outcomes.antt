@@ -1,5 +1,5 @@
 -- Replies, before a byte is written, and the ends of a run.
-use Rattle.std.specs.Prelude.{◌≡◌, ℕ, List, Some, string_bytes, ◌⊎◌}
+use Rattle.std.specs.Prelude.{◌≡◌, ℕ, List, string_bytes, ◌⊎◌}
 use Rattle.std.specs.declared.option.Option.{Option}
 use Rattle.sheet_refs.specs.Cells.{Corners}
 use Rattle.sheet_io.specs.Faults.{Rose}
@@ -7,9 +7,9 @@ use Rattle.sheet_model.specs.Plain.{IsPlainSheet, IsFirstUnread}
 use Rattle.sheet_model.specs.Sheets.{SheetValue}
 use Rattle.sheet_model.specs.Values.{value_of}
 use Rattle.antifreeze.specs.Lines.{outside_line, not_yet_line, read_failed_line}
-use Rattle.antifreeze.specs.Replies.{IsWithinSheet, Writes, Refuses, Tells}
+use Rattle.antifreeze.specs.Replies.{IsWithinSheet, Writes, Refuses}
 use Rattle.antifreeze.specs.Texts.{show_text}
-use Rattle.antifreeze.specs.Words.{AsksToShow, Asks}
+use Rattle.antifreeze.specs.Words.{AsksToShow}
 use Rattle.antifreeze.specs.declared.reply.Reply.{Reply}
 use Rattle.antifreeze.specs.declared.reply.Reply.TheVariants.{Output, Refusal}
 
@@ -54,12 +54,12 @@ pub record IsReadFailure (words : List (List ℕ)) (before after status : ℕ) (
   pub status_is : status ≡ 5
   pub line_is : line ≡ read_failed_line name
 
--- the words, or a text that the shelf tells, are refused
+-- the words, or the text that they name, are refused
 pub record IsRefusal (words : List (List ℕ)) (holds : List ℕ → Option (List ℕ)) (status : ℕ) (line : List ℕ) : Type 0 where
   pub status_is : (status ≡ 2) ⊎ (status ≡ 3)
-  pub refused : Tells words holds → Refuses words holds status line
+  pub refused : Refuses words holds status line
 
 -- a reply to the words over a shelf, whose faults went from a number to another
 abbrev pub IsOwed : List (List ℕ) → (List ℕ → Option (List ℕ)) → ℕ → ℕ → Reply → Type 0
-IsOwed words holds before after (Output output) = Asks words × (Tells words holds → Writes words holds (string_bytes output))
+IsOwed words holds before after (Output output) = Writes words holds (string_bytes output)
 IsOwed words holds before after (Refusal status line) = IsReadFailure words before after status (string_bytes line) ⊎ IsRefusal words holds status (string_bytes line)

@@ -6,8 +6,8 @@ use Rattle.sheet_refs.specs.Cells.{Corners}
 use Rattle.sheet_io.specs.Faults.{Rose}
 use Rattle.sheet_io.specs.Sink.{AppendsPrefix}
 use Rattle.antifreeze.specs.Lines.{read_failed_line}
-use Rattle.antifreeze.specs.Replies.{Writes, Refuses, Tells}
-use Rattle.antifreeze.specs.Words.{AsksToShow, Asks}
+use Rattle.antifreeze.specs.Replies.{Writes, Refuses}
+use Rattle.antifreeze.specs.Words.{AsksToShow}
 
 -- all done; words or range refused; sheet refused; a fetch failed; a put failed; want of memory
 abbrev pub IsStatus : ℕ → Type 0
@@ -29,18 +29,10 @@ pub record HasBegun (words : List (List ℕ)) (holds : List ℕ → Option (List
   pub writes : Writes words holds text
   pub gained : AppendsPrefix old new text
 
--- the words are a command, and where the shelf tells their texts out has gained what they ask for
-abbrev pub IsDone : List (List ℕ) → (List ℕ → Option (List ℕ)) → Option (List ℕ) → Option (List ℕ) → Type 0
-IsDone words holds old new = Asks words × (Tells words holds → HasWritten words holds old new)
-
--- the same, up to a place in the text
-abbrev pub IsCut : List (List ℕ) → (List ℕ → Option (List ℕ)) → Option (List ℕ) → Option (List ℕ) → Type 0
-IsCut words holds old new = Asks words × (Tells words holds → HasBegun words holds old new)
-
--- the notes say why the words, or the texts that the shelf tells, are refused
+-- the notes say why the words, or the text that they name, are refused
 pub record IsRefused (words : List (List ℕ)) (holds : List ℕ → Option (List ℕ)) (status : ℕ) (old new : Option (List ℕ)) (before after : ℕ) : Type 0 where
   pub line : List ℕ
-  pub refused : Tells words holds → Refuses words holds status line
+  pub refused : Refuses words holds status line
   pub noted : TakesLine old new before after line
 
 -- the notes say which sheet was not fetched

@@ -9,7 +9,3 @@ pub record AsksToShow (words : List (List ℕ)) (name : List ℕ) (range : Corne
   pub words_are : words ≡ codes "show" ∷ name ∷ range_word ∷ []
   pub no_option : slice_index name 0 ≢ 45
   pub names_range : IsRangeName range_word range
-
--- the words are a command
-abbrev pub Asks : List (List ℕ) → Type 0
-Asks words = (name : List ℕ) × (range : Corners) × AsksToShow words name range

@@ -2,7 +2,7 @@ ghost use Rattle.std.specs.Prelude.{◌≡◌, ◌≢◌, ◌⊎◌, ℕ, List, 
 ghost use Rattle.sheet_io.specs.Faults.{Rose};
 ghost use Rattle.antifreeze.specs.Lines.{write_failed_line, no_memory_line};
 ghost use Rattle.antifreeze.specs.Replies.{Writes, Refuses, Tells};
-ghost use Rattle.antifreeze.specs.Runs.{IsStatus, IsDone, IsCut, IsRefused, IsUnfetched, TakesLine};
+ghost use Rattle.antifreeze.specs.Runs.{IsStatus, HasWritten, HasBegun, IsRefused, IsUnfetched, TakesLine};
 
 use super::reply::{Reply, reply_to};
 use sheet_io::{Shelf, Sink};
@@ -25,14 +25,14 @@ pub fn run<F: Shelf, K: Sink, N: Sink>(
     ensures status { IsStatus result }
 
     // What each status tells.
-    ensures done { result ≡ 0 → IsDone (map string_bytes words.now) (F.holds shelf.old) (K.written out.old) (K.written out.new) }
+    ensures done { result ≡ 0 → HasWritten (map string_bytes words.now) (F.holds shelf.old) (K.written out.old) (K.written out.new) }
     ensures refused { (result ≡ 2) ⊎ (result ≡ 3)
         → IsRefused (map string_bytes words.now) (F.holds shelf.old) result (N.written notes.old) (N.written notes.new) (N.faults notes.old) (N.faults notes.new) }
     ensures read_failed { result ≡ 5 → Rose (F.faults shelf.old) (F.faults shelf.new) }
     ensures unfetched { result ≡ 5
         → IsUnfetched (map string_bytes words.now) (N.written notes.old) (N.written notes.new) (N.faults notes.old) (N.faults notes.new) }
     ensures write_failed { result ≡ 6 → Rose (K.faults out.old) (K.faults out.new) }
-    ensures cut { result ≡ 6 → IsCut (map string_bytes words.now) (F.holds shelf.old) (K.written out.old) (K.written out.new) }
+    ensures cut { result ≡ 6 → HasBegun (map string_bytes words.now) (F.holds shelf.old) (K.written out.old) (K.written out.new) }
     ensures cut_noted { result ≡ 6
         → TakesLine (N.written notes.old) (N.written notes.new) (N.faults notes.old) (N.faults notes.new) write_failed_line }
     ensures no_memory { result ≡ 7
@@ -40,12 +40,15 @@ pub fn run<F: Shelf, K: Sink, N: Sink>(
     ensures nothing_written { result ≢ 0 → result ≢ 6 → K.written out.new ≡ K.written out.old }
     ensures nothing_noted { result ≡ 0 → N.written notes.new ≡ N.written notes.old }
 
-    // Where no fault rises, what the words and the shelf's texts ask for is done, or memory ran out.
-    ensures writes { (text : List ℕ) → Writes (map string_bytes words.now) (F.holds shelf.old) text
+    // Where the shelf tells the texts that the words name and no fault rises, what they ask for is done,
+    // or memory ran out.
+    ensures writes { (text : List ℕ) → Tells (map string_bytes words.now) (F.holds shelf.old)
+        → Writes (map string_bytes words.now) (F.holds shelf.old) text
         → ¬ Rose (F.faults shelf.old) (F.faults shelf.new)
         → ¬ Rose (K.faults out.old) (K.faults out.new)
         → (result ≡ 0) ⊎ (result ≡ 7) }
-    ensures refuses { (status : ℕ) (line : List ℕ) → Refuses (map string_bytes words.now) (F.holds shelf.old) status line
+    ensures refuses { (status : ℕ) (line : List ℕ) → Tells (map string_bytes words.now) (F.holds shelf.old)
+        → Refuses (map string_bytes words.now) (F.holds shelf.old) status line
         → ¬ Rose (F.faults shelf.old) (F.faults shelf.new)
         → (result ≡ status) ⊎ (result ≡ 7) }
 {

@@ -3,18 +3,11 @@ use Rattle.std.proofs.Common.{◌≡◌, ℕ, ◌<◌, ◌⊎◌, eqb, false, Li
 use Rattle.std.specs.List.{All}
 use Rattle.sheet_refs.specs.Cells.{Position}
 use Rattle.sheet_refs.specs.Names.{IsDecimal, IsCellName, IsLetter, IsDigit}
-use Rattle.sheet_refs.proofs.NameLemmas.{name_column, name_row, name_bytes}
+use Rattle.sheet_refs.proofs.NameLemmas.{one_cell, name_bytes}
 use Rattle.std.proofs.lemmas.Bool.Decides.{nat_tests}
 use Rattle.formula_syntax.specs.Grammar.{IsItem}
 use Rattle.formula_syntax.specs.Grammar.IsItem.{a_number, a_cell}
 use Rattle.formula_syntax.specs.Tree.{Tree, number, reference}
-
--- a text names one cell at most
-pub cell_unique : (text : List ℕ) (a b : Position) → IsCellName text a → IsCellName text b → a ≡ b
-cell_unique text a b name other =
-    let col : a.col ≡ b.col = (name_column text a name).value ∙ sym (name_column text b other).value in
-    let row : a.row ≡ b.row = (name_row text a name).number.value ∙ sym (name_row text b other).number.value in
-    ap (λ (c : ℕ). record { row = a.row; col = c }) col ∙ ap (λ (r : ℕ). record { row = r; col = b.col }) row
 
 letter_no_digit : (b : ℕ) → IsLetter b → IsDigit b → ⊥
 letter_no_digit b (inl h) d = omega arith
@@ -35,7 +28,7 @@ pub item_unique : (text : List ℕ) (a b : Tree) → IsItem text a → IsItem te
 item_unique text _ _ (a_number _ n d) (a_number _ m e) = ap (λ (k : ℕ). number (pos k)) (d.value ∙ sym e.value)
 item_unique text _ _ (a_number _ n d) (a_cell _ cell name) = absurd (number_or_cell text _ n cell d name)
 item_unique text _ _ (a_cell _ cell name) (a_number _ n d) = absurd (number_or_cell text _ n cell d name)
-item_unique text _ _ (a_cell _ a name) (a_cell _ b other) = ap reference (cell_unique text a b name other)
+item_unique text _ _ (a_cell _ a name) (a_cell _ b other) = ap reference (one_cell text a b name other)
 
 -- what is neither a number nor a cell's name is no item
 pub no_item : (text : List ℕ) → ((n : ℕ) → ¬ IsDecimal text 9007199254740991 n) → ((cell : Position) → ¬ IsCellName text cell) → (tree : Tree) → ¬ IsItem text tree

@@ -8,7 +8,8 @@ use super::value::{ErrorKind, Value, Whole};
 const SHIFT: i64 = 1 << 53;
 
 /// The word that stands for a value: 0 for Empty, `(n + 2^53) * 8 + 1` for a number n, `8i + 3` for
-/// the i-th error. No two values have one code.
+/// the i-th error of `#NULL!`, `#DIV/0!`, `#VALUE!`, `#REF!`, `#NAME?`, `#NUM!`, `#N/A` and `#CIRC!`,
+/// counted from 0. No two values have one code.
 pub fn code(v: Value) -> u64
     ensures code { result ≡ code_of v }
     ensures value { IsValue v }

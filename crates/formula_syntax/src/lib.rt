@@ -11,6 +11,8 @@
 
 mod codes;
 mod reader;
+#[cfg(test)]
+mod tests;
 mod tree;
 mod value;
 

@@ -8,14 +8,18 @@ use std::marker::Model;
 /// An operator between two operands.
 #[derive(Clone, Copy, Debug, PartialEq, Eq)]
 pub enum BinaryOp {
+    /// The sum, written `+`.
     Add,
 }
 
 /// A formula's tree, or a part of it.
 #[derive(Drop)]
 pub enum Node {
+    /// A number, which is never negative in a formula that was read.
     Number(Whole),
+    /// The value of a cell.
     Reference(Cell),
+    /// An operator between its left and its right operand.
     Binary(BinaryOp, Box<Node>, Box<Node>),
 }
 

@@ -89,8 +89,11 @@ impl fmt::Display for ErrorKind {
 /// The value of a cell.
 #[derive(Clone, Copy, Debug, PartialEq, Eq)]
 pub enum Value {
+    /// That of a cell in which nothing stands.
     Empty,
+    /// A whole number in range.
     Number(Whole),
+    /// What stands in place of a value that there isn't.
     Error(ErrorKind),
 }
 

@@ -1,3 +1,3 @@
 pub mod Grid
 pub mod NameLemmas
-pub mod UniqueNames
+pub mod PrintLemmas

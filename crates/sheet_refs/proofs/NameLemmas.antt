@@ -1,6 +1,6 @@
 -- A name splits in one way: its letters are what stands before its first digit, its corners what
 -- stands on the two sides of its colon.
-use Rattle.std.proofs.Common.{◌≡◌, ◌≢◌, ℕ, ◌*◌, ◌-◌, ◌↔◌, ◌+◌, ◌<◌, ◌≤◌, ◌⊎◌, Bool, true, false, List, [], ◌∷◌, ◌++◌, length, get_or, take, drop, refl, sym, ◌∙◌, ap, subst, arith, inl, inr, eqb}
+use Rattle.std.proofs.Common.{◌≡◌, ◌≢◌, ℕ, ◌*◌, ◌-◌, ◌↔◌, ◌+◌, ◌<◌, ◌≤◌, ◌⊎◌, Bool, true, false, List, [], ◌∷◌, ◌++◌, length, get_or, take, drop, refl, sym, ◌∙◌, ap, arith, inl, inr}
 use Rattle.std.specs.List.{prefix_len, position_or_len, position, All, fold}
 use Rattle.std.specs.Prelude.{Option, Some, None, IsSome, IfSome, MatchOption, ◌==◌, nat_lt, not, cond}
 use Rattle.std.specs.Char.{is_ascii_alphabetic}
@@ -12,8 +12,9 @@ use Rattle.std.proofs.lemmas.List.Sums.{prefix_len_is}
 use Rattle.std.proofs.lemmas.List.Quantifiers.{position-Some}
 use Rattle.std.proofs.lemmas.Option.{none-some, same_Some}
 use Rattle.std.proofs.lemmas.Bool.Decides.{nat_tests, leb_tells}
+use Rattle.sheet_refs.proofs.Grid.{same_position}
 use Rattle.sheet_refs.specs.Cells.{Position, Corners, IsNamed}
-use Rattle.sheet_refs.specs.Names.{IsLetter, IsDigit, IsDecimal, IsColumnName, IsRowName, IsCellName, IsRangeName, place_of}
+use Rattle.sheet_refs.specs.Names.{IsLetter, IsDigit, IsColumnName, IsRowName, IsCellName, IsRangeName, place_of}
 use Rattle.sheet_refs.specs.Names.IsRangeName.{one, two}
 
 letter_passes : (b : ℕ) → IsLetter b → is_ascii_alphabetic b ≡ true
@@ -138,12 +139,12 @@ no_lone_range text lone none range (two _ first second a b split head tail) =
     none-some _ (sym lone ∙ two_colon text first second a split head)
 
 -- what stands on the two sides of a range's colon
-pub part_before : (text first second : List ℕ) (a : Position) (colon : ℕ) → position is_colon text ≡ Some colon → text ≡ first ++ 58 ∷ second → IsCellName first a → take colon text ≡ first
+part_before : (text first second : List ℕ) (a : Position) (colon : ℕ) → position is_colon text ≡ Some colon → text ≡ first ++ 58 ∷ second → IsCellName first a → take colon text ≡ first
 part_before text first second a colon found split head =
     let e : colon ≡ length first = same_Some _ _ (sym found ∙ two_colon text first second a split head) in
     rw (e, split) (take_front first (58 ∷ second))
 
-pub part_after : (text first second : List ℕ) (a : Position) (colon : ℕ) → position is_colon text ≡ Some colon → text ≡ first ++ 58 ∷ second → IsCellName first a → drop (colon + 1) text ≡ second
+part_after : (text first second : List ℕ) (a : Position) (colon : ℕ) → position is_colon text ≡ Some colon → text ≡ first ++ 58 ∷ second → IsCellName first a → drop (colon + 1) text ≡ second
 part_after text first second a colon found split head =
     let e : colon ≡ length first = same_Some _ _ (sym found ∙ two_colon text first second a split head) in
     rw (e, split) (drop-append-add first (58 ∷ second) 1)
@@ -157,3 +158,23 @@ pub no_tail : (text : List ℕ) (colon : ℕ) → position is_colon text ≡ Som
 no_tail text colon found none range (one _ cell name) = none-some _ (sym (one_colon text cell name) ∙ found)
 no_tail text colon found none range (two _ first second a b split head tail) =
     none b (rw (part_after text first second a colon found split head) tail)
+
+-- the letters and the digits of a name say which cell it names
+pub one_cell : (text : List ℕ) (a b : Position) → IsCellName text a → IsCellName text b → a ≡ b
+one_cell text a b name other =
+    let row : a.row ≡ b.row = (name_row text a name).number.value ∙ sym (name_row text b other).number.value in
+    let col : a.col ≡ b.col = (name_column text a name).value ∙ sym (name_column text b other).value in
+    same_position row col
+
+pub one_range : (text : List ℕ) (a b : Corners) → IsRangeName text a → IsRangeName text b → a ≡ b
+one_range text _ _ (one _ a name) (one _ b other) = rw (one_cell text a b name other) refl
+one_range text _ _ (one _ a name) (two _ first second b d split head tail) =
+    absurd (none-some _ (sym (one_colon text a name) ∙ two_colon text first second b split head))
+one_range text _ _ (two _ first second b d split head tail) (one _ a name) =
+    absurd (none-some _ (sym (one_colon text a name) ∙ two_colon text first second b split head))
+one_range text _ _ (two _ first second a b split head tail) (two _ third fourth c d apart front back) =
+    let colon = two_colon text first second a split head in
+    let other = two_colon text third fourth c apart front in
+    let same_first : first ≡ third = sym (part_before text first second a (length first) colon split head) ∙ part_before text third fourth c (length first) colon apart front in
+    let same_second : second ≡ fourth = sym (part_after text first second a (length first) colon split head) ∙ part_after text third fourth c (length first) colon apart front in
+    rw (one_cell third a c (rw same_first at head) front, one_cell fourth b d (rw same_second at tail) back) refl

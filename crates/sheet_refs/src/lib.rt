@@ -9,11 +9,15 @@
 #![tactic(auto)]
 
 mod cell;
+mod laws;
 mod memory;
 mod names;
 mod range;
+#[cfg(test)]
+mod tests;
 
 pub use cell::Cell;
+pub use laws::name_laws;
 pub use memory::Memory;
 pub use names::{cell_of, decimal_of, range_of};
 pub use range::Range;

@@ -8,7 +8,8 @@ use super::cell::{Cell, MAX_COLS, MAX_ROWS};
 use super::range::Range;
 
 /// The number that the digits write in base ten; None exactly where the text isn't one or more digits
-/// or the number exceeds `most`.
+/// or the number exceeds `most`, which is less than the greatest number of 64 bits. Leading zeros are
+/// digits like others. The time is in proportion to the length of the text.
 pub fn decimal_of(text: &[u8], most: u64) -> Option<u64>
     requires { most < 2 ^ 64 - 1 }
     ensures { MatchOption result ((number : ℕ) → ¬ IsDecimal text.now most number) (IsDecimal text.now most) }

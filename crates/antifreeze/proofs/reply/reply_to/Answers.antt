@@ -12,7 +12,7 @@ returns-in-Ok-clause-owed g c =
     let told = g.F.Shelf.holds c.args.shelf.now c.in-Some.show.name.now in
     let whole : IfSome told (λ t. c.deref.result.now ≡ t) = rw c.deref.ensures.value (rw c.new-text.ensures.items at c.in-Ok.ensures.fetched.whole) in
     if_owed _ _ _ c.show_reply.ensures
-    (λ reply is. owed _ _ c.in-Some.show.name.now c.in-Some.show.range c.in-Some.ensures c.deref.result.now _ _ reply whole c.in-Ok.ensures.fetched.fits is)
+    (λ reply is. owed _ _ c.in-Some.show.name.now c.in-Some.show.range c.in-Some.ensures c.deref.result.now _ _ reply (record { told = whole; short = c.in-Ok.ensures.fetched.fits }) is)
 
 pub returns-in-Err-Failed-clause-owed : goal.returns-in-Err-Failed-clause-owed
 returns-in-Err-Failed-clause-owed g c =

@@ -1,4 +1,4 @@
-use Rattle.std.proofs.Common.{ℕ, ◌<◌, ◌≤◌, ◌^◌, ◌+◌, arith, lit<}
+use Rattle.std.proofs.Common.{ℕ, ◌<◌, ◌≤◌, ◌^◌, arith, lit<}
 use Rattle.std.proofs.Math.Nat.{pow-le-pow_right}
 use Rattle.sheet_refs.proofs.names.column_of.Goals as goal
 
