@@ -1,0 +1,6 @@
+mod Prefixes
+mod Frames
+mod Places
+mod Holds
+mod ReadLemmas
+mod ViewLemmas
