@@ -4,3 +4,7 @@ mod Places
 mod Holds
 mod ReadLemmas
 mod ViewLemmas
+mod Lists
+mod Steps
+mod Opening
+mod Runs
