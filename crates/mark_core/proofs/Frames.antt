@@ -109,7 +109,7 @@ module _ {E : Type 0} (worth : List E → ℕ → ℕ) (touches : List E → E �
     log_grows : length edits.log ≤ length edits'.log
     log_grows = prefix_length edits.log edits'.log advances.log
 
-    pub log_stays : (view : View E) → IsRightLog edits.log view → IsRightLog edits'.log view
+    pub log_stays : (view : View (List E)) → IsRightLog edits.log view → IsRightLog edits'.log view
     log_stays view l =
         record {
           known_prefix = prefix_of_prefix view.log edits.log edits'.log l.known_prefix advances.log;

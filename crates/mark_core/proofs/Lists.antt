@@ -77,10 +77,10 @@ module _ (places : List Place) (place : ℕ) (there : place < length places) whe
       }
 
 -- a view that isn't spent is there
-pub live_within : {E : Type 0} (views : List (View E)) (view : ℕ) → (get_or views view spent_view).spent ≡ false → view < length views
+pub live_within : {E : Type 0} (views : List (View (List E))) (view : ℕ) → (get_or views view spent_view).spent ≡ false → view < length views
 live_within views view live =
     elim (cases_lt view (length views)) [
       inl lt ↦ lt
     | inr le ↦ absurd (let past : get_or views view spent_view ≡ spent_view = get_or_past views view spent_view le in
-        let spent : (get_or views view spent_view).spent ≡ true = ap (λ (v : View _). v.spent) past in cc)
+        let spent : (get_or views view spent_view).spent ≡ true = ap (λ (v : View (List _)). v.spent) past in cc)
     ]

@@ -41,7 +41,7 @@ holders_stay s s' held holds one =
     }
 
 -- what is right at each view after one was exchanged
-each_after_set : {E : Type 0} (P : View E → Type 0) (views : List (View E)) (view : ℕ) (changed : View E) → view < length views
+each_after_set : {E : Type 0} (P : View (List E) → Type 0) (views : List (View (List E))) (view : ℕ) (changed : View (List E)) → view < length views
     → P changed → ((other : ℕ) → other ≢ view → P (get_or views other spent_view))
     → (other : ℕ) → P (get_or (set views view changed) other spent_view)
 each_after_set P views view changed lt here there other =
@@ -50,17 +50,17 @@ each_after_set P views view changed lt here there other =
     | inr s ↦ subst P (sym s.1) (there other s.0)
     ]
 
-ended_spent : {E : Type 0} (view : View E) (half : Option Half) (place mark : ℕ) → (ended_at view half place mark).spent ≡ view.spent
+ended_spent : {E : Type 0} (view : View (List E)) (half : Option Half) (place mark : ℕ) → (ended_at view half place mark).spent ≡ view.spent
 ended_spent view None place mark = refl
 ended_spent view (Some half) place mark =
     cond_both (half.place == place) (ended view half mark) view (λ v. v.spent ≡ view.spent) (λ e. refl) (λ e. refl)
 
-ended_log : {E : Type 0} (view : View E) (half : Option Half) (place mark : ℕ) → (ended_at view half place mark).log ≡ view.log
+ended_log : {E : Type 0} (view : View (List E)) (half : Option Half) (place mark : ℕ) → (ended_at view half place mark).log ≡ view.log
 ended_log view None place mark = refl
 ended_log view (Some half) place mark =
     cond_both (half.place == place) (ended view half mark) view (λ v. v.log ≡ view.log) (λ e. refl) (λ e. refl)
 
-ended_holds : {E : Type 0} (view : View E) (half : Option Half) (place mark : ℕ) → (ended_at view half place mark).holds ≡ view.holds
+ended_holds : {E : Type 0} (view : View (List E)) (half : Option Half) (place mark : ℕ) → (ended_at view half place mark).holds ≡ view.holds
 ended_holds view None place mark = refl
 ended_holds view (Some half) place mark =
     cond_both (half.place == place) (ended view half mark) view (λ v. v.holds ≡ view.holds) (λ e. refl) (λ e. refl)
@@ -75,15 +75,15 @@ module _ {E : Type 0} (places : ℕ) (worth : List E → ℕ → ℕ) (touches :
   law place lt log entry ne = untouched log entry place (within place lt) ne
 
   -- a change of one view that leaves its log and what it holds
-  quiet : (view : ℕ) (changed : View E) → view < length s.views
+  quiet : (view : ℕ) (changed : View (List E)) → view < length s.views
       → changed.spent ≡ (view_at s view).spent → changed.log ≡ (view_at s view).log → changed.holds ≡ (view_at s view).holds
       → IsRightView worth touches codeless s.edits (words_of s.places) changed
       → IsHonest places worth touches codeless (with_view s view changed)
   quiet view changed lt spent log holds right =
       record {
         count = honest.count;
-        editor_live = set_keeps (λ (v : View E). v.spent) s.views view changed spent_view lt spent 0 ∙ honest.editor_live;
-        editor_log = set_keeps (λ (v : View E). v.log) s.views view changed spent_view lt log 0 ∙ honest.editor_log;
+        editor_live = set_keeps (λ (v : View (List E)). v.spent) s.views view changed spent_view lt spent 0 ∙ honest.editor_live;
+        editor_log = set_keeps (λ (v : View (List E)). v.log) s.views view changed spent_view lt log 0 ∙ honest.editor_log;
         marks = honest.marks;
         values = honest.values;
         views =
@@ -91,7 +91,7 @@ module _ {E : Type 0} (places : ℕ) (worth : List E → ℕ → ℕ) (touches :
           (λ other differs. honest.views other);
         holders =
           holders_stay s (with_view s view changed) (λ place. refl)
-          (set_keeps (λ (v : View E). v.holds) s.views view changed spent_view lt holds) honest.holders;
+          (set_keeps (λ (v : View (List E)). v.holds) s.views view changed spent_view lt holds) honest.holders;
       }
 
   pub see_keeps : (view : ℕ) → IsLive (view_at s view) → IsHonest places worth touches codeless (after_see s view)
@@ -126,31 +126,31 @@ module _ {E : Type 0} (places : ℕ) (worth : List E → ℕ → ℕ) (touches :
 
   pub split_keeps : (view : ℕ) → IsLive (view_at s view) → IsHonest places worth touches codeless (after_split s view)
   split_keeps view live =
-      let new : View E = split_off (view_at s view) in
+      let new : View (List E) = split_off (view_at s view) in
       let first : 0 < length s.views = live_within s.views 0 honest.editor_live in
       let editor : get_or (s.views ++ new ∷ []) 0 spent_view ≡ view_at s 0 =
           elim (push_cases s.views new spent_view 0) [ inl p ↦ absurd (omega (arith, p.0)) | inr p ↦ p.1 ] in
       record {
         count = honest.count;
-        editor_live = ap (λ (v : View E). v.spent) editor ∙ honest.editor_live;
-        editor_log = ap (λ (v : View E). v.log) editor ∙ honest.editor_log;
+        editor_live = ap (λ (v : View (List E)). v.spent) editor ∙ honest.editor_live;
+        editor_log = ap (λ (v : View (List E)). v.log) editor ∙ honest.editor_log;
         marks = honest.marks;
         values = honest.values;
         views = λ other.
           elim (push_cases s.views new spent_view other) [
             inl p ↦
-              subst (λ (v : View E). IsRightView worth touches codeless s.edits (words_of s.places) v) (sym p.1)
+              subst (λ (v : View (List E)). IsRightView worth touches codeless s.edits (words_of s.places) v) (sym p.1)
               (view_split worth touches codeless s.edits (words_of s.places) (view_at s view) (honest.views view))
-          | inr p ↦ subst (λ (v : View E). IsRightView worth touches codeless s.edits (words_of s.places) v) (sym p.1) (honest.views other)
+          | inr p ↦ subst (λ (v : View (List E)). IsRightView worth touches codeless s.edits (words_of s.places) v) (sym p.1) (honest.views other)
           ];
         holders =
           holders_stay s (after_split s view) (λ place. refl)
           (λ other.
             elim (push_cases s.views new spent_view other) [
               inl p ↦
-                ap (λ (v : View E). v.holds) p.1
-                ∙ sym (ap (λ (v : View E). v.holds) (get_or_past s.views other spent_view (omega (arith, p.0))))
-            | inr p ↦ ap (λ (v : View E). v.holds) p.1
+                ap (λ (v : View (List E)). v.holds) p.1
+                ∙ sym (ap (λ (v : View (List E)). v.holds) (get_or_past s.views other spent_view (omega (arith, p.0))))
+            | inr p ↦ ap (λ (v : View (List E)). v.holds) p.1
             ])
           honest.holders;
       }
@@ -169,7 +169,7 @@ module _ {E : Type 0} (places : ℕ) (worth : List E → ℕ → ℕ) (touches :
   pub join_keeps : (view other : ℕ) → view ≢ other → other ≢ 0 → MayJoin (view_at s view) (view_at s other)
       → IsHonest places worth touches codeless (after_join s view other)
   join_keeps view other apart not_editor may =
-      let both : View E = joined (view_at s view) (view_at s other) in
+      let both : View (List E) = joined (view_at s view) (view_at s other) in
       let lt : view < length s.views = live_within s.views view may.live in
       let lt_other : other < length s.views = live_within s.views other may.other_live in
       let length_same : length (set s.views view both) ≡ length s.views = length-set s.views view both in
@@ -179,17 +179,17 @@ module _ {E : Type 0} (places : ℕ) (worth : List E → ℕ → ℕ) (touches :
       record {
         count = honest.count;
         editor_live =
-          ap (λ (v : View E). v.spent) first
-          ∙ set_keeps (λ (v : View E). v.spent) s.views view both spent_view lt refl 0
+          ap (λ (v : View (List E)). v.spent) first
+          ∙ set_keeps (λ (v : View (List E)). v.spent) s.views view both spent_view lt refl 0
           ∙ honest.editor_live;
         editor_log =
-          ap (λ (v : View E). v.log) first
+          ap (λ (v : View (List E)). v.log) first
           ∙ elim (set_cases s.views view both spent_view 0 lt) [
             inl p ↦
-              ap (λ (v : View E). v.log) p.1
+              ap (λ (v : View (List E)). v.log) p.1
               ∙ ap (λ i. longer (view_at s i).log (view_at s other).log) (sym p.0)
               ∙ editor_longer other
-          | inr p ↦ ap (λ (v : View E). v.log) p.1
+          | inr p ↦ ap (λ (v : View (List E)). v.log) p.1
           ]
           ∙ honest.editor_log;
         marks = honest.marks;
@@ -206,12 +206,12 @@ module _ {E : Type 0} (places : ℕ) (worth : List E → ℕ → ℕ) (touches :
           (λ third.
             elim (set_cases (set s.views view both) other spent_view spent_view third lt') [
               inl p ↦
-                ap (λ (v : View E). v.holds) p.1
+                ap (λ (v : View (List E)). v.holds) p.1
                 ∙ sym may.empty_handed
                 ∙ ap (λ i. (view_at s i).holds) (sym p.0)
             | inr p ↦
-              ap (λ (v : View E). v.holds) p.1
-              ∙ set_keeps (λ (v : View E). v.holds) s.views view both spent_view lt refl third
+              ap (λ (v : View (List E)). v.holds) p.1
+              ∙ set_keeps (λ (v : View (List E)). v.holds) s.views view both spent_view lt refl third
             ])
           honest.holders;
       }
@@ -244,15 +244,15 @@ module _ {E : Type 0} (places : ℕ) (worth : List E → ℕ → ℕ) (touches :
       → IsHonest places worth touches codeless (after_commit s 0 entry)
   commit_keeps entry may =
       let lt : 0 < length s.views = live_within s.views 0 honest.editor_live in
-      let new : View E = committed (view_at s 0) entry in
+      let new : View (List E) = committed (view_at s 0) entry in
       let all : (place : ℕ) → place < places → touches s.edits.log entry place → Contains s.edits.marked place =
           λ place there t. may.marked place (omega (arith, honest.count)) (subst (λ (l : List E). touches l entry place) (sym honest.editor_log) t) in
       record {
         count = honest.count;
-        editor_live = set_keeps (λ (v : View E). v.spent) s.views 0 new spent_view lt refl 0 ∙ honest.editor_live;
+        editor_live = set_keeps (λ (v : View (List E)). v.spent) s.views 0 new spent_view lt refl 0 ∙ honest.editor_live;
         editor_log =
           elim (set_cases s.views 0 new spent_view 0 lt) [
-            inl p ↦ ap (λ (v : View E). v.log) p.1 ∙ ap (λ l. l ++ entry ∷ []) honest.editor_log
+            inl p ↦ ap (λ (v : View (List E)). v.log) p.1 ∙ ap (λ l. l ++ entry ∷ []) honest.editor_log
           | inr p ↦ absurd (p.0 refl)
           ];
         marks = λ place there.
@@ -268,7 +268,7 @@ module _ {E : Type 0} (places : ℕ) (worth : List E → ℕ → ℕ) (touches :
             (commit_advances worth touches codeless s.edits entry may.pending (words_of s.places)) (λ hold among h. (refl, refl)) (honest.views other));
         holders =
           holders_stay s (after_commit s 0 entry) (λ place. refl)
-          (set_keeps (λ (v : View E). v.holds) s.views 0 new spent_view lt refl) honest.holders;
+          (set_keeps (λ (v : View (List E)). v.holds) s.views 0 new spent_view lt refl) honest.holders;
       }
 
   -- no view holds a place whose clean word is free
@@ -285,10 +285,10 @@ module _ {E : Type 0} (places : ℕ) (worth : List E → ℕ → ℕ) (touches :
   holds_more view place first other lt h =
       elim (set_cases s.views view (took (view_at s view) place) spent_view first lt) [
         inl p ↦
-          subst (λ (v : View E). HoldsPlace v other) (sym p.1)
+          subst (λ (v : View (List E)). HoldsPlace v other) (sym p.1)
           (any_append_left (λ (hold : Held). hold.place ≡ other) (view_at s view).holds (record { place = place; word = None } ∷ [])
             (subst (λ (i : ℕ). HoldsPlace (view_at s i) other) p.0 h))
-      | inr p ↦ subst (λ (v : View E). HoldsPlace v other) (sym p.1) h
+      | inr p ↦ subst (λ (v : View (List E)). HoldsPlace v other) (sym p.1) h
       ]
 
   held_before : (view place first other : ℕ) → view < length s.views → other ≢ place
@@ -297,11 +297,11 @@ module _ {E : Type 0} (places : ℕ) (worth : List E → ℕ → ℕ) (touches :
       elim (set_cases s.views view (took (view_at s view) place) spent_view first lt) [
         inl p ↦
           elim (any_push_cases (λ (hold : Held). hold.place ≡ other) (view_at s view).holds (record { place = place; word = None })
-            (subst (λ (v : View E). HoldsPlace v other) p.1 h)) [
+            (subst (λ (v : View (List E)). HoldsPlace v other) p.1 h)) [
             inl old ↦ subst (λ (i : ℕ). HoldsPlace (view_at s i) other) (sym p.0) old
           | inr same ↦ absurd (differs (sym same))
           ]
-      | inr p ↦ subst (λ (v : View E). HoldsPlace v other) p.1 h
+      | inr p ↦ subst (λ (v : View (List E)). HoldsPlace v other) p.1 h
       ]
 
   claimer : (view place first : ℕ) → view < length s.views → (place_at s.places place).clean.held ≡ false
@@ -309,7 +309,7 @@ module _ {E : Type 0} (places : ℕ) (worth : List E → ℕ → ℕ) (touches :
   claimer view place first lt free h =
       elim (set_cases s.views view (took (view_at s view) place) spent_view first lt) [
         inl p ↦ p.0
-      | inr p ↦ absurd (none_holds first place free (subst (λ (v : View E). HoldsPlace v place) p.1 h))
+      | inr p ↦ absurd (none_holds first place free (subst (λ (v : View (List E)). HoldsPlace v place) p.1 h))
       ]
 
   pub claim_keeps : (view place : ℕ) (seen : Clean) → MayRead (length s.places) (view_at s view) place → MayClaim (view_at s view) place seen
@@ -324,11 +324,11 @@ module _ {E : Type 0} (places : ℕ) (worth : List E → ℕ → ℕ) (touches :
       let read_mark : (place_at s.places claim.read.place).mark ≡ (place_at s.places place).mark = ap (λ p. (place_at s.places p).mark) claim.ground.same_place in
       let stale : seen.upto ≤ (place_at s.places place).mark = omega (arith, claim.ground.stale, read.mark_below) in
       let free : (place_at s.places place).clean.held ≡ false = ap (λ (x : Clean). x.held) found ∙ claim.free in
-      let new : View E = took (view_at s view) place in
+      let new : View (List E) = took (view_at s view) place in
       record {
         count = length-set s.places place (record (place_at s.places place) { clean = held }) ∙ honest.count;
-        editor_live = set_keeps (λ (v : View E). v.spent) s.views view new spent_view lt refl 0 ∙ honest.editor_live;
-        editor_log = set_keeps (λ (v : View E). v.log) s.views view new spent_view lt refl 0 ∙ honest.editor_log;
+        editor_live = set_keeps (λ (v : View (List E)). v.spent) s.views view new spent_view lt refl 0 ∙ honest.editor_live;
+        editor_log = set_keeps (λ (v : View (List E)). v.log) s.views view new spent_view lt refl 0 ∙ honest.editor_log;
         marks = λ other there. subst (λ (m : ℕ). IsRightMark touches s.edits other m) (sym (stores.marks other)) (honest.marks other there);
         values = λ other there.
           values_after_claim worth codeless s.edits (words_of s.places) (words_of after) place seen found stale stores other (honest.values other there);
@@ -349,7 +349,7 @@ module _ {E : Type 0} (places : ℕ) (worth : List E → ℕ → ℕ) (touches :
                     view,
                     elim (set_cases s.views view new spent_view view lt) [
                       inl p ↦
-                        subst (λ (v : View E). HoldsPlace v other) (sym p.1)
+                        subst (λ (v : View (List E)). HoldsPlace v other) (sym p.1)
                         (any_contained (λ (h : Held). h.place ≡ other) ((view_at s view).holds ++ record { place = place; word = None } ∷ []) (record { place = place; word = None })
                           (Contains-push (view_at s view).holds (record { place = place; word = None })) (sym same))
                     | inr p ↦ absurd (p.0 refl)
@@ -390,10 +390,10 @@ module _ {E : Type 0} (places : ℕ) (worth : List E → ℕ → ℕ) (touches :
   wrote_holds view place word first other lt h =
       elim (set_cases s.views view (wrote (view_at s view) place word) spent_view first lt) [
         inl p ↦
-          subst (λ (v : View E). HoldsPlace v other) (sym p.1)
+          subst (λ (v : View (List E)). HoldsPlace v other) (sym p.1)
           (any_map (λ (hold : Held). hold.place ≡ other) (hold_with place word) (λ hold e. hold_place place word hold ∙ e) (view_at s view).holds
             (subst (λ (i : ℕ). HoldsPlace (view_at s i) other) p.0 h))
-      | inr p ↦ subst (λ (v : View E). HoldsPlace v other) (sym p.1) h
+      | inr p ↦ subst (λ (v : View (List E)). HoldsPlace v other) (sym p.1) h
       ]
 
   wrote_held : (view place word first other : ℕ) → view < length s.views
@@ -403,8 +403,8 @@ module _ {E : Type 0} (places : ℕ) (worth : List E → ℕ → ℕ) (touches :
         inl p ↦
           subst (λ (i : ℕ). HoldsPlace (view_at s i) other) (sym p.0)
           (any_from_map (λ (hold : Held). hold.place ≡ other) (hold_with place word) (λ hold e. sym (hold_place place word hold) ∙ e) (view_at s view).holds
-            (subst (λ (v : View E). HoldsPlace v other) p.1 h))
-      | inr p ↦ subst (λ (v : View E). HoldsPlace v other) p.1 h
+            (subst (λ (v : View (List E)). HoldsPlace v other) p.1 h))
+      | inr p ↦ subst (λ (v : View (List E)). HoldsPlace v other) p.1 h
       ]
 
   pub put_keeps : (view place word : ℕ) → MayRead (length s.places) (view_at s view) place → MayPut worth (view_at s view) place word
@@ -414,11 +414,11 @@ module _ {E : Type 0} (places : ℕ) (worth : List E → ℕ → ℕ) (touches :
       let lt : view < length s.views = live_within s.views view may.live in
       let stores : StoresValue (words_of s.places) (words_of after) place word = stores_value s.places place may.there word in
       let stale : (place_at s.places place).clean.upto ≤ (place_at s.places place).mark = held_stale view place put.hold may.there put.among put.same_place in
-      let new : View E = wrote (view_at s view) place word in
+      let new : View (List E) = wrote (view_at s view) place word in
       record {
         count = length-set s.places place (record (place_at s.places place) { value = word }) ∙ honest.count;
-        editor_live = set_keeps (λ (v : View E). v.spent) s.views view new spent_view lt refl 0 ∙ honest.editor_live;
-        editor_log = set_keeps (λ (v : View E). v.log) s.views view new spent_view lt refl 0 ∙ honest.editor_log;
+        editor_live = set_keeps (λ (v : View (List E)). v.spent) s.views view new spent_view lt refl 0 ∙ honest.editor_live;
+        editor_log = set_keeps (λ (v : View (List E)). v.log) s.views view new spent_view lt refl 0 ∙ honest.editor_log;
         marks = λ other there. subst (λ (m : ℕ). IsRightMark touches s.edits other m) (sym (stores.marks other)) (honest.marks other there);
         values = λ other there.
           values_after_put worth codeless s.edits (words_of s.places) (words_of after) place word stale stores other (honest.values other there);
@@ -449,11 +449,11 @@ module _ {E : Type 0} (places : ℕ) (worth : List E → ℕ → ℕ) (touches :
   gave_holds view place mark first other lt differs h =
       elim (set_cases s.views view (gave_back (view_at s view) place mark) spent_view first lt) [
         inl p ↦
-          subst (λ (v : View E). HoldsPlace v other) (sym p.1)
+          subst (λ (v : View (List E)). HoldsPlace v other) (sym p.1)
           (any_filter (λ (hold : Held). hold.place ≡ other) (λ hold. not (hold.place == place))
             (λ hold e. is_other hold.place place (λ e'. differs (sym e ∙ e'))) (view_at s view).holds
             (subst (λ (i : ℕ). HoldsPlace (view_at s i) other) p.0 h))
-      | inr p ↦ subst (λ (v : View E). HoldsPlace v other) (sym p.1) h
+      | inr p ↦ subst (λ (v : View (List E)). HoldsPlace v other) (sym p.1) h
       ]
 
   gave_held : (view place mark first other : ℕ) → view < length s.views
@@ -463,9 +463,9 @@ module _ {E : Type 0} (places : ℕ) (worth : List E → ℕ → ℕ) (touches :
         inl p ↦
           let kept : Any (λ (hold : Held). (hold.place ≡ other) × (not (hold.place == place) ≡ true)) (view_at s view).holds =
               any_from_filter (λ (hold : Held). hold.place ≡ other) (λ hold. not (hold.place == place)) (view_at s view).holds
-              (subst (λ (v : View E). HoldsPlace v other) p.1 h) in
+              (subst (λ (v : View (List E)). HoldsPlace v other) p.1 h) in
           subst (λ (i : ℕ). HoldsPlace (view_at s i) other) (sym p.0) (kept.0, kept.1, kept.2, kept.3, kept.4.0)
-      | inr p ↦ subst (λ (v : View E). HoldsPlace v other) p.1 h
+      | inr p ↦ subst (λ (v : View (List E)). HoldsPlace v other) p.1 h
       ]
 
   pub finish_keeps : (view place mark : ℕ) → MayRead (length s.places) (view_at s view) place → MayFinish worth touches (view_at s view) place mark
@@ -480,11 +480,11 @@ module _ {E : Type 0} (places : ℕ) (worth : List E → ℕ → ℕ) (touches :
       let below : IsPrefix (view_at s view).log s.edits.log = (honest.views view).log.known_prefix in
       let right : IsRightHold worth (words_of s.places) (view_at s view).log hold =
           All-contains (IsRightHold worth (words_of s.places) (view_at s view).log) (view_at s view).holds hold (honest.views view).holds finish.among in
-      let new : View E = gave_back (view_at s view) place mark in
+      let new : View (List E) = gave_back (view_at s view) place mark in
       record {
         count = length-set s.places place (record (place_at s.places place) { clean = free }) ∙ honest.count;
-        editor_live = set_keeps (λ (v : View E). v.spent) s.views view new spent_view lt refl 0 ∙ honest.editor_live;
-        editor_log = set_keeps (λ (v : View E). v.log) s.views view new spent_view lt refl 0 ∙ honest.editor_log;
+        editor_live = set_keeps (λ (v : View (List E)). v.spent) s.views view new spent_view lt refl 0 ∙ honest.editor_live;
+        editor_log = set_keeps (λ (v : View (List E)). v.log) s.views view new spent_view lt refl 0 ∙ honest.editor_log;
         marks = λ other there. subst (λ (m : ℕ). IsRightMark touches s.edits other m) (sym (stores.marks other)) (honest.marks other there);
         values = λ other there.
           values_after_finish worth touches codeless s.edits (words_of s.places) (words_of after) (view_at s view).log place finish.word mark below

@@ -61,7 +61,7 @@ module _ {E : Type 0} (worth : List E → ℕ → ℕ) (touches : List E → E �
       }
 
   -- an event that advances edits and words leaves a view right whose held places it leaves alone
-  pub view_stays : (edits edits' : Edits E) (words words' : Words) (view : View E)
+  pub view_stays : (edits edits' : Edits E) (words words' : Words) (view : View (List E))
       → Advances edits edits' words words'
       → ((hold : Held) → Contains view.holds hold → IsRightHold worth words view.log hold
           → (words'.clean hold.place ≡ words.clean hold.place) × (words'.value hold.place ≡ words.value hold.place))
@@ -83,7 +83,7 @@ module _ {E : Type 0} (worth : List E → ℕ → ℕ) (touches : List E → E �
             hold_stays worth words words' view.log view.log hold (prefix_itself view.log) s.0 s.1 h);
       }
 
-  module _ (edits : Edits E) (words : Words) (view : View E) (right : IsRightView worth touches codeless edits words view) where
+  module _ (edits : Edits E) (words : Words) (view : View (List E)) (right : IsRightView worth touches codeless edits words view) where
     pub view_saw : IsRightView worth touches codeless edits words (saw view (length edits.log))
     view_saw =
         record {
@@ -112,7 +112,7 @@ module _ {E : Type 0} (worth : List E → ℕ → ℕ) (touches : List E → E �
           holds = All-nil (IsRightHold worth words view.log);
         }
 
-    pub view_joined : (other : View E) → IsRightView worth touches codeless edits words other → IsRightView worth touches codeless edits words (joined view other)
+    pub view_joined : (other : View (List E)) → IsRightView worth touches codeless edits words other → IsRightView worth touches codeless edits words (joined view other)
     view_joined other right' =
         record {
           log = record {
@@ -271,7 +271,7 @@ module _ {E : Type 0} (worth : List E → ℕ → ℕ) (touches : List E → E �
       )
 
   -- the claiming view
-  pub view_took : (edits : Edits E) (words words' : Words) (view : View E) (place : ℕ) (seen : Clean)
+  pub view_took : (edits : Edits E) (words words' : Words) (view : View (List E)) (place : ℕ) (seen : Clean)
       → words.clean place ≡ seen → seen.held ≡ false → seen.upto ≤ words.mark place
       → StoresClean words words' place (record { upto = seen.upto; held = true })
       → IsRightView worth touches codeless edits words view → IsRightView worth touches codeless edits words' (took view place)
@@ -294,7 +294,7 @@ module _ {E : Type 0} (worth : List E → ℕ → ℕ) (touches : List E → E �
       }
 
   -- the putting view
-  pub view_wrote : (edits : Edits E) (words words' : Words) (view : View E) (place word : ℕ)
+  pub view_wrote : (edits : Edits E) (words words' : Words) (view : View (List E)) (place word : ℕ)
       → (words.clean place).upto ≤ words.mark place → StoresValue words words' place word → IsWorthKnown worth view.log place word
       → IsRightView worth touches codeless edits words view → IsRightView worth touches codeless edits words' (wrote view place word)
   view_wrote edits words words' view place word stale stores known right =
@@ -319,7 +319,7 @@ module _ {E : Type 0} (worth : List E → ℕ → ℕ) (touches : List E → E �
       }
 
   -- the finishing view
-  pub view_gave_back : (edits : Edits E) (words words' : Words) (view : View E) (place word mark : ℕ)
+  pub view_gave_back : (edits : Edits E) (words words' : Words) (view : View (List E)) (place word mark : ℕ)
       (computed : IsWorthMarked worth touches view.log place word mark)
       (untouched : (log : List E) (entry : E) → (touches log entry place → ⊥) → worth (log ++ entry ∷ []) place ≡ worth log place)
       → (words.clean place).upto ≤ words.mark place

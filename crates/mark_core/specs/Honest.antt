@@ -42,7 +42,7 @@ pub record IsRightValue {E : Type 0} (worth : List E → ℕ → ℕ) (codeless 
   pub held : clean.held ≡ true → clean.upto ≤ mark
 
 -- A view's log is a prefix of the log, and no longer than what the view has seen.
-pub record IsRightLog {E : Type 0} (log : List E) (view : View E) : Type 0 where
+pub record IsRightLog {E : Type 0} (log : List E) (view : View (List E)) : Type 0 where
   pub known_prefix : IsPrefix view.log log
   pub below_seen : length view.log ≤ view.seen
   pub seen_below : view.seen ≤ length log
@@ -105,7 +105,7 @@ pub record IsRightRead {E : Type 0} (worth : List E → ℕ → ℕ) (touches : 
   pub legal : (word : ℕ) → read.word ≡ Some word → IsLegalRead worth touches codeless edits read word
 
 -- the view holds the place
-abbrev pub HoldsPlace : {E : Type 0} → View E → ℕ → Type 0
+abbrev pub HoldsPlace : {E : Type 0} → View (List E) → ℕ → Type 0
 HoldsPlace view place = Any (λ hold. hold.place ≡ place) view.holds
 
 -- A held place of a view: its clean word says so, and a word that was put is there and is a worth that the
@@ -116,7 +116,7 @@ pub record IsRightHold {E : Type 0} (worth : List E → ℕ → ℕ) (words : Wo
   pub worth_known : (word : ℕ) → hold.word ≡ Some word → IsWorthKnown worth log hold.place word
 
 -- all that holds of one view
-pub record IsRightView {E : Type 0} (worth : List E → ℕ → ℕ) (touches : List E → E → ℕ → Type 0) (codeless : ℕ → Type 0) (edits : Edits E) (words : Words) (view : View E) : Type 0 where
+pub record IsRightView {E : Type 0} (worth : List E → ℕ → ℕ) (touches : List E → E → ℕ → Type 0) (codeless : ℕ → Type 0) (edits : Edits E) (words : Words) (view : View (List E)) : Type 0 where
   pub log : IsRightLog edits.log view
   pub known : All (IsRightKnown (length edits.log) words) view.known
   pub half : (half : Half) → view.half ≡ Some half → IsRightHalf codeless (length edits.log) words half

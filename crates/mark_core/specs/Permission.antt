@@ -9,21 +9,21 @@ use Rattle.mark_core.specs.Mark.{IsLastMark}
 use Rattle.mark_core.specs.State.{Edits, View, State, view_at}
 
 -- the view wasn't joined into another
-abbrev pub IsLive : {E : Type 0} → View E → Type 0
+abbrev pub IsLive : {E : Type 0} → View (List E) → Type 0
 IsLive view = view.spent ≡ false
 
 -- the entry may mark the place: nothing is pending or this entry is, and it touches the place
-pub record MayMark {E : Type 0} (touches : List E → E → ℕ → Type 0) (edits : Edits E) (view : View E) (entry : E) (place : ℕ) : Type 0 where
+pub record MayMark {E : Type 0} (touches : List E → E → ℕ → Type 0) (edits : Edits E) (view : View (List E)) (entry : E) (place : ℕ) : Type 0 where
   pub idle : (edits.pending ≡ None) ⊎ (edits.pending ≡ Some entry)
   pub touched : touches view.log entry place
 
 -- the entry may be committed: it is pending, and each place that it touches is marked for it
-pub record MayCommit {E : Type 0} (touches : List E → E → ℕ → Type 0) (places : ℕ) (edits : Edits E) (view : View E) (entry : E) : Type 0 where
+pub record MayCommit {E : Type 0} (touches : List E → E → ℕ → Type 0) (places : ℕ) (edits : Edits E) (view : View (List E)) (entry : E) : Type 0 where
   pub pending : edits.pending ≡ Some entry
   pub marked : (place : ℕ) → place < places → touches view.log entry place → Contains edits.marked place
 
 -- the other view may be joined into this one
-pub record MayJoin {E : Type 0} (view other : View E) : Type 0 where
+pub record MayJoin {E : Type 0} (view other : View (List E)) : Type 0 where
   pub live : IsLive view
   pub other_live : IsLive other
   pub empty_handed : other.holds ≡ []
@@ -35,7 +35,7 @@ pub record IsGround (read : Finished) (place : ℕ) (clean : Clean) : Type 0 whe
   pub stale : clean.upto ≤ read.mark
 
 -- the place may be claimed from this clean word: it is free, and the view has read the place with it as stale
-pub record MayClaim {E : Type 0} (view : View E) (place : ℕ) (seen : Clean) : Type 0 where
+pub record MayClaim {E : Type 0} (view : View (List E)) (place : ℕ) (seen : Clean) : Type 0 where
   pub free : seen.held ≡ false
   pub read : Finished
   pub among : Contains view.reads read
@@ -48,7 +48,7 @@ pub record IsWorthKnown {E : Type 0} (worth : List E → ℕ → ℕ) (log : Lis
   pub worth_is : worth (take count log) place ≡ word
 
 -- the word may be put: the view holds the place, and the word is a worth that it knows
-pub record MayPut {E : Type 0} (worth : List E → ℕ → ℕ) (view : View E) (place word : ℕ) : Type 0 where
+pub record MayPut {E : Type 0} (worth : List E → ℕ → ℕ) (view : View (List E)) (place word : ℕ) : Type 0 where
   pub hold : Held
   pub among : Contains view.holds hold
   pub same_place : hold.place ≡ place
@@ -62,13 +62,13 @@ pub record IsWorthMarked {E : Type 0} (worth : List E → ℕ → ℕ) (touches 
   pub last : IsLastMark touches (take count log) place mark
 
 -- the place may be given back for the mark: the view holds it and put a word, and word and mark belong to the same entries
-pub record MayFinish {E : Type 0} (worth : List E → ℕ → ℕ) (touches : List E → E → ℕ → Type 0) (view : View E) (place mark : ℕ) : Type 0 where
+pub record MayFinish {E : Type 0} (worth : List E → ℕ → ℕ) (touches : List E → E → ℕ → Type 0) (view : View (List E)) (place mark : ℕ) : Type 0 where
   pub word : ℕ
   pub among : Contains view.holds (record { place = place; word = Some word })
   pub computed : IsWorthMarked worth touches view.log place word mark
 
 -- a place that is there, and a view that isn't spent
-pub record MayRead {E : Type 0} (places : ℕ) (view : View E) (place : ℕ) : Type 0 where
+pub record MayRead {E : Type 0} (places : ℕ) (view : View (List E)) (place : ℕ) : Type 0 where
   pub there : place < places
   pub live : IsLive view
 

@@ -20,11 +20,11 @@ abbrev pub entries_of : {E : Type 0} → Edits E → List E
 entries_of edits = edits.log ++ option_to_list edits.pending
 
 -- what one actor knows and has done
-pub record View (E : Type 0) : Type 0 where
+pub record View (L : Type 0) : Type 0 where
   -- whether it was joined into another view
   pub spent : Bool
-  -- the entries that it knows
-  pub log : List E
+  -- the entries that it knows: the list of them, or how many of the log they are
+  pub log : L
   -- the greatest count of commits that it has seen
   pub seen : ℕ
   -- the counts that its see events loaded, in order
@@ -43,7 +43,7 @@ pub record View (E : Type 0) : Type 0 where
   pub lost : List Lost
 
 -- a view that was joined into another, and one that isn't there
-abbrev pub spent_view : {E : Type 0} → View E
+abbrev pub spent_view : {E : Type 0} → View (List E)
 spent_view =
     record {
       spent = true; log = []; seen = 0; sees = []; known = []; half = None; reads = [];
@@ -51,7 +51,7 @@ spent_view =
     }
 
 -- a view that knows this much and has done nothing
-abbrev pub new_view : {E : Type 0} → List E → ℕ → List Known → View E
+abbrev pub new_view : {L : Type 0} → L → ℕ → List Known → View L
 new_view log seen known =
     record {
       spent = false; log = log; seen = seen; sees = []; known = known; half = None; reads = [];
@@ -62,14 +62,14 @@ new_view log seen known =
 pub record State (E : Type 0) : Type 0 where
   pub edits : Edits E
   pub places : List Place
-  pub views : List (View E)
+  pub views : List (View (List E))
 
 -- the view with this number; where there is none, a spent one
-abbrev pub view_at : {E : Type 0} → State E → ℕ → View E
+abbrev pub view_at : {E : Type 0} → State E → ℕ → View (List E)
 view_at state view = slice_index_or state.views view spent_view
 
 -- the state with another view in place of this one
-abbrev pub with_view : {E : Type 0} → State E → ℕ → View E → State E
+abbrev pub with_view : {E : Type 0} → State E → ℕ → View (List E) → State E
 with_view state view changed =
     record { edits = state.edits; places = state.places; views = slice_set state.views view changed }
 

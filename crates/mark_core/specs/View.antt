@@ -9,16 +9,16 @@ use Rattle.mark_core.specs.declared.words.Held.{Held}
 use Rattle.mark_core.specs.State.{View, new_view}
 
 -- after a load of the count of commits
-abbrev pub saw : {E : Type 0} → View E → ℕ → View E
+abbrev pub saw : {L : Type 0} → View L → ℕ → View L
 saw view count = record view { seen = count; sees = view.sees ++ count ∷ [] }
 
 -- after a commit of the entry
-abbrev pub committed : {E : Type 0} → View E → E → View E
+abbrev pub committed : {E : Type 0} → View (List E) → E → View (List E)
 committed view entry =
     record view { log = view.log ++ entry ∷ []; seen = length view.log + 1 }
 
 -- a new view that knows what this one does
-abbrev pub split_off : {E : Type 0} → View E → View E
+abbrev pub split_off : {L : Type 0} → View L → View L
 split_off view = new_view view.log view.seen view.known
 
 -- the longer of two lists, the first where they have one length
@@ -26,7 +26,7 @@ abbrev pub longer : {X : Type 0} → List X → List X → List X
 longer xs ys = if nat_lt (length xs) (length ys) then ys else xs
 
 -- the view that stays, after a join with the other
-abbrev pub joined : {E : Type 0} → View E → View E → View E
+abbrev pub joined : {E : Type 0} → View (List E) → View (List E) → View (List E)
 joined view other =
     record view {
       log = longer view.log other.log;
@@ -45,12 +45,12 @@ floor_of (pair ∷ known) place =
     if pair.place == place then max (pair.mark + 1) (floor_of known place) else floor_of known place
 
 -- a read of the place, of which only the clean word was loaded
-abbrev pub begun : {E : Type 0} → View E → ℕ → Clean → Half
+abbrev pub begun : {L : Type 0} → View L → ℕ → Clean → Half
 begun view place clean =
     record { place = place; clean = clean; floor = floor_of view.known place; word = None }
 
 -- after a load of the clean word
-abbrev pub began : {E : Type 0} → View E → ℕ → Clean → View E
+abbrev pub began : {L : Type 0} → View L → ℕ → Clean → View L
 began view place clean = record view { half = Some (begun view place clean) }
 
 -- the begun read with the word, where it is a read of this place
@@ -60,7 +60,7 @@ with_word (Some half) place word =
     if half.place == place then Some (record half { word = Some word }) else Some half
 
 -- after a load of the value
-abbrev pub valued : {E : Type 0} → View E → ℕ → ℕ → View E
+abbrev pub valued : {L : Type 0} → View L → ℕ → ℕ → View L
 valued view place word = record view { half = with_word view.half place word }
 
 -- the read that a load of this mark ends
@@ -79,7 +79,7 @@ learned half mark =
     else []
 
 -- after the load of a mark that ends the read
-abbrev pub ended : {E : Type 0} → View E → Half → ℕ → View E
+abbrev pub ended : {L : Type 0} → View L → Half → ℕ → View L
 ended view half mark =
     record view {
       half = None;
@@ -87,22 +87,22 @@ ended view half mark =
       known = view.known ++ learned half mark;
     }
 
-abbrev pub ended_at : {E : Type 0} → View E → Option Half → ℕ → ℕ → View E
+abbrev pub ended_at : {L : Type 0} → View L → Option Half → ℕ → ℕ → View L
 ended_at view None place mark = view
 ended_at view (Some half) place mark =
     if half.place == place then ended view half mark else view
 
 -- after a load of the mark, which ends a begun read of this place
-abbrev pub finished : {E : Type 0} → View E → ℕ → ℕ → View E
+abbrev pub finished : {L : Type 0} → View L → ℕ → ℕ → View L
 finished view place mark = ended_at view view.half place mark
 
 -- after a claim that took the place
-abbrev pub took : {E : Type 0} → View E → ℕ → View E
+abbrev pub took : {L : Type 0} → View L → ℕ → View L
 took view place =
     record view { holds = view.holds ++ record { place = place; word = None } ∷ [] }
 
 -- after a claim that was refused and found this clean word
-abbrev pub missed : {E : Type 0} → View E → ℕ → Clean → View E
+abbrev pub missed : {L : Type 0} → View L → ℕ → Clean → View L
 missed view place found =
     record view { lost = view.lost ++ record { place = place; found = found } ∷ [] }
 
@@ -112,11 +112,11 @@ hold_with place word hold =
     if hold.place == place then record hold { word = Some word } else hold
 
 -- after a put of the word
-abbrev pub wrote : {E : Type 0} → View E → ℕ → ℕ → View E
+abbrev pub wrote : {L : Type 0} → View L → ℕ → ℕ → View L
 wrote view place word = record view { holds = map (hold_with place word) view.holds }
 
 -- after a finish for the mark
-abbrev pub gave_back : {E : Type 0} → View E → ℕ → ℕ → View E
+abbrev pub gave_back : {L : Type 0} → View L → ℕ → ℕ → View L
 gave_back view place mark =
     record view {
       holds = filter (λ hold. not (hold.place == place)) view.holds;
