@@ -8,3 +8,4 @@ mod Lists
 mod Steps
 mod Opening
 mod Runs
+mod FloorLemmas

@@ -42,13 +42,17 @@ pub record View (L : Type 0) : Type 0 where
   -- what its refused claims found, one for each refused claim
   pub lost : List Lost
 
--- a view that was joined into another, and one that isn't there
-abbrev pub spent_view : {E : Type 0} → View (List E)
-spent_view =
+-- a view that was joined into another, with nothing but this for its log
+abbrev pub spent_with : {L : Type 0} → L → View L
+spent_with log =
     record {
-      spent = true; log = []; seen = 0; sees = []; known = []; half = None; reads = [];
+      spent = true; log = log; seen = 0; sees = []; known = []; half = None; reads = [];
       holds = []; done = []; lost = [];
     }
+
+-- a view that was joined into another, and one that isn't there
+abbrev pub spent_view : {E : Type 0} → View (List E)
+spent_view = spent_with []
 
 -- a view that knows this much and has done nothing
 abbrev pub new_view : {L : Type 0} → L → ℕ → List Known → View L

@@ -25,11 +25,11 @@ split_off view = new_view view.log view.seen view.known
 abbrev pub longer : {X : Type 0} → List X → List X → List X
 longer xs ys = if nat_lt (length xs) (length ys) then ys else xs
 
--- the view that stays, after a join with the other
-abbrev pub joined : {E : Type 0} → View (List E) → View (List E) → View (List E)
-joined view other =
+-- the view that stays, after a join with the other that leaves it with this log
+abbrev pub joined_with : {L : Type 0} → L → View L → View L → View L
+joined_with log view other =
     record view {
-      log = longer view.log other.log;
+      log = log;
       seen = max view.seen other.seen;
       sees = view.sees ++ other.sees;
       known = view.known ++ other.known;
@@ -37,6 +37,10 @@ joined view other =
       done = view.done ++ other.done;
       lost = view.lost ++ other.lost;
     }
+
+-- the view that stays, with the longer log
+abbrev pub joined : {E : Type 0} → View (List E) → View (List E) → View (List E)
+joined view other = joined_with (longer view.log other.log) view other
 
 -- one more than the greatest mark for which the place is known, and 0 where it isn't known
 abbrev pub floor_of : List Known → ℕ → ℕ

@@ -19,7 +19,7 @@ pub enum Seen {
 pub fn shown(number: u64, clean: Clean, word: u64, mark: u64) -> Seen
     ensures { Shows number clean word mark result }
 {
-    if mark == u64::MAX || clean.upto != mark + 1 {
+    if !clean.is_for(mark) {
         Seen::Stale(mark)
     } else if mark > number {
         Seen::Newer(mark)

@@ -15,6 +15,7 @@ mod answers;
 mod events;
 mod laws;
 mod subjects;
+mod views;
 mod words;
 
 pub use answers::{Seen, shown};

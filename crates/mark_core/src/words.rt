@@ -1,5 +1,7 @@
 #![tactic(auto)]
 
+ghost use Rattle.std.specs.Prelude.{◌≡◌, ◌+◌, ◌↔◌, IsTrue};
+
 use std::alloc::{AllocError, AllocFailed, Allocator};
 use std::error::Error;
 use std::fmt;
@@ -34,6 +36,15 @@ impl<T: Drop> From<AllocFailed<T>> for Memory {
 pub struct Clean {
     pub upto: u64,
     pub held: bool,
+}
+
+impl Clean {
+    /// Whether the value was computed for this mark.
+    pub fn is_for(&self, mark: u64) -> bool
+        ensures { IsTrue result ↔ (self.now.upto ≡ mark + 1) }
+    {
+        self.upto > mark && self.upto - mark == 1
+    }
 }
 
 /// The three words of a place: the number of the last edit that marked it (0 for the load), its clean
