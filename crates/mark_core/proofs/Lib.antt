@@ -9,3 +9,4 @@ mod Steps
 mod Opening
 mod Runs
 mod FloorLemmas
+mod KeptLemmas

@@ -7,3 +7,4 @@ pub mod Permission
 pub mod Step
 pub mod Honest
 pub mod Run
+pub mod Kept

@@ -14,6 +14,7 @@
 mod answers;
 mod events;
 mod laws;
+mod machine;
 mod subjects;
 mod views;
 mod words;
