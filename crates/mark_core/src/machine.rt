@@ -1,10 +1,10 @@
 #![tactic(auto)]
 
-ghost use Rattle.std.specs.Prelude.{◌≡◌, Option, IfOk, ◌<◌, ◌^◌, length};
+ghost use Rattle.std.specs.Prelude.{◌≡◌, IfOk, map};
 ghost use Rattle.mark_core.specs.Place.{opened as opened_place};
 ghost use Rattle.mark_core.specs.State.{State, opening_state};
 
-use std::alloc::Global;
+use std::alloc::{AllocError, Global};
 use std::marker::Model;
 
 use crate::views::Stored;
@@ -43,10 +43,7 @@ impl<E: Drop> Machine<E> {
     pub fn open(alloc: Global, opening: &[Option<u64>]) -> Result<Machine<E>, Memory>
         ensures { IfOk result (λ machine. machine ≡ opening_state opening.now) }
     {
-        let places = opening
-            .iter()
-            .map(|code| opened(*code))
-            .collect::<Vec<Place>>(alloc)?;
+        let places = opened_places(alloc, opening)?;
         let mut views = Vec::new(alloc);
         views.push(Stored::editor(alloc))?;
         Ok(Machine {
@@ -58,6 +55,13 @@ impl<E: Drop> Machine<E> {
             views,
         })
     }
+}
+
+/// The places as they open.
+fn opened_places(alloc: Global, opening: &[Option<u64>]) -> Result<Vec<Place>, AllocError>
+    ensures { IfOk result (λ places. places.items ≡ map opened_place opening.now) }
+{
+    opening.iter().map(|code| opened(*code)).collect(alloc)
 }
 
 /// A place as it opens.
