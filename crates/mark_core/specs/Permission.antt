@@ -91,3 +91,8 @@ Allowed worth touches s (Put view place word) =
     MayRead (length s.places) (view_at s view) place × MayPut worth (view_at s view) place word
 Allowed worth touches s (Finish view place mark) =
     MayRead (length s.places) (view_at s view) place × MayFinish worth touches (view_at s view) place mark
+
+-- there is room for one more view where the event makes one
+abbrev pub HasRoom : {E : Type 0} → State E → Event E → Type 0
+HasRoom s (Split view) = length s.views < 4294967295
+HasRoom s event = Unit {0}
