@@ -156,7 +156,7 @@ module _ {E : Type 0} (log : List E) (pending : Option E) (marked : List ℕ) (p
         ∙ ap (λ (q : Place). with_place (with_view s view (gave_back (view_at s view) place mark)) place (record q { clean = record { upto = mark + 1; held = false } }))
         (sym (place_kept place p there at))
 
-    pub kept_commit : (entry : E) (log' : List E) (marked' : List ℕ) (count : ℕ) (x x' : View ℕ) → marked' ≡ [] → 0 < length s.views → IsKept log views → x ≡ get_or views 0 x
+    pub kept_commit : (entry : E) (log' : List E) (marked' : List ℕ) (count : ℕ) (x x' : View ℕ) → marked' ≡ [] → 0 < length s.views → IsKept log places views → x ≡ get_or views 0 x
         → log' ≡ log ++ entry ∷ [] → count ≡ length log + 1 → x' ≡ record x { log = count; seen = count }
         → kept_state log' None marked' places (set views 0 x') ≡ after_commit s 0 entry
     kept_commit entry log' marked' count x x' cleared there right is grows counted made =
@@ -174,7 +174,7 @@ module _ {E : Type 0} (log : List E) (pending : Option E) (marked : List ℕ) (p
           ∙ ap (λ v. set (map (known_view log) views) 0 v) (new ∙ ap (λ v. committed v entry) (sym (view_kept 0 x lt is))))
         ∙ ap (λ t. after_commit t 0 entry) kept
 
-    pub kept_join : (view other : ℕ) (x x' t gone : View ℕ) → view < length s.views → other < length s.views → view ≢ other → IsKept log views
+    pub kept_join : (view other : ℕ) (x x' t gone : View ℕ) → view < length s.views → other < length s.views → view ≢ other → IsKept log places views
         → x ≡ get_or (set views other gone) view x → t ≡ get_or views other t → gone ≡ spent_with 0 → x' ≡ joined_with (max x.log t.log) x t
         → kept_state log pending marked places (set (set views other gone) view x') ≡ after_join s view other
     kept_join view other x x' t gone lt lt' apart right is at spends made =
@@ -208,9 +208,9 @@ put_back views view other x x' t gone apart lt is at same =
     ∙ ap (λ v. set views other v) at
     ∙ set-get_or views other t
 
-module _ {E : Type 0} (log : List E) (views : List (View ℕ)) (right : IsKept log views) where
+module _ {E : Type 0} (log : List E) (places : List Place) (views : List (View ℕ)) (right : IsKept log places views) where
   -- one more view
-  pub kept_push : (view : ℕ) (x new : View ℕ) → view < length views → x ≡ get_or views view x → new ≡ split_off x → IsKept log (views ++ new ∷ [])
+  pub kept_push : (view : ℕ) (x new : View ℕ) → view < length views → x ≡ get_or views view x → new ≡ split_off x → IsKept log places (views ++ new ∷ [])
   kept_push view x new lt is made =
       record {
         editor = ap (λ (v : View ℕ). v.log) (get_or_append_left views (new ∷ []) (spent_with 0) 0 (omega arith)) ∙ right.editor;
@@ -218,12 +218,13 @@ module _ {E : Type 0} (log : List E) (views : List (View ℕ)) (right : IsKept l
           All-push (λ (v : View ℕ). v.log ≤ length log) views new right.counted
           (subst (λ (v : View ℕ). v.log ≤ length log) (sym made) (subst (λ (v : View ℕ). v.log ≤ length log) (sym is) (right.counted view x lt)));
         fits = right.fits;
+        few = right.few;
       }
 
   -- one view spent, and another that took over what it knew
   pub kept_joined : (view other : ℕ) (x x' t gone : View ℕ) → view < length views → other < length views → view ≢ other → other ≢ 0
       → x ≡ get_or (set views other gone) view x → t ≡ get_or views other t → gone ≡ spent_with 0 → x' ≡ joined_with (max x.log t.log) x t
-      → IsKept log (set (set views other gone) view x')
+      → IsKept log places (set (set views other gone) view x')
   kept_joined view other x x' t gone lt lt' apart not_editor is at spends made =
       let is' : x ≡ get_or views view x = is ∙ get_or-set_other views other view gone x apart in
       let below : x.log ≤ length log = subst (λ (v : View ℕ). v.log ≤ length log) (sym is') (right.counted view x lt) in
@@ -246,6 +247,7 @@ module _ {E : Type 0} (log : List E) (views : List (View ℕ)) (right : IsKept l
           All-set (λ (v : View ℕ). v.log ≤ length log) (set views other gone) view x' (omega arith)
           (All-set (λ (v : View ℕ). v.log ≤ length log) views other gone (omega arith) right.counted);
         fits = right.fits;
+        few = right.few;
       }
 
 -- the parts of a machine that has just opened

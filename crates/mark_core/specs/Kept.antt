@@ -28,8 +28,10 @@ kept_state log pending marked places views =
       views = map (known_view log) views;
     }
 
--- the editor's view counts all entries and no view counts more, and the next number is one of the machine's
-pub record IsKept {E : Type 0} (log : List E) (views : List (View ℕ)) : Type 0 where
+-- The editor's view counts all entries and no view counts more, and the next number and the places' numbers
+-- are within the machine's.
+pub record IsKept {E : Type 0} (log : List E) (places : List Place) (views : List (View ℕ)) : Type 0 where
   pub editor : (slice_index_or views 0 (spent_with 0)).log ≡ length log
   pub counted : All (λ view. view.log ≤ length log) views
   pub fits : length log + 1 < 2 ^ 64
+  pub few : length places < 2 ^ 32

@@ -1,6 +1,6 @@
 #![tactic(auto)]
 
-ghost use Rattle.std.specs.Prelude.{◌≡◌, IfOk, map};
+ghost use Rattle.std.specs.Prelude.{◌≡◌, ◌<◌, ◌^◌, IfOk, map, length};
 ghost use Rattle.mark_core.specs.Place.{opened as opened_place};
 ghost use Rattle.mark_core.specs.State.{State, opening_state};
 
@@ -11,6 +11,7 @@ use crate::views::Stored;
 use crate::words::{Clean, Memory, Place};
 
 mod edits;
+mod looks;
 mod reads;
 mod seats;
 mod work;
@@ -35,12 +36,13 @@ impl<E> Model for Machine<E> {
 
     ghost view = { λ m. kept_state m.log.items m.pending m.marked.items m.places.items m.views.items };
 
-    ghost invariant = { λ m. IsKept m.log.items m.views.items };
+    ghost invariant = { λ m. IsKept m.log.items m.places.items m.views.items };
 }
 
 impl<E: Drop> Machine<E> {
     /// The opening state, with the codes that are given.
     pub fn open(alloc: Global, opening: &[Option<u64>]) -> Result<Machine<E>, Memory>
+        requires { length opening.now < 2 ^ 32 }
         ensures { IfOk result (λ machine. machine ≡ opening_state opening.now) }
     {
         let places = opened_places(alloc, opening)?;

@@ -9,7 +9,7 @@ invariant_of-self g c =
     let within = views_within c.self.inside.log.items c.self.inside.pending c.self.inside.marked.items c.self.inside.places.items c.self.inside.views.items c.args.self.now c.self.view_is in
     let at : c.replace-taken.result ≡ get_or c.self.inside.views.items c.args.other c.replace-taken.result =
         c.replace-taken.ensures.value ∙ c.index_mut.ensures.value ∙ ap (λ d. get_or c.self.inside.views.items c.args.other d) (sym c.replace-taken.ensures.value) in
-    kept_joined c.self.inside.log.items c.self.inside.views.items c.self.invariant c.args.view c.args.other
+    kept_joined c.self.inside.log.items c.self.inside.places.items c.self.inside.views.items c.self.invariant c.args.view c.args.other
     c.index_mut-2.result.now c.join.new.self c.replace-taken.result c.replace-taken.new.dest
     (within c.args.view c.requires.there) (within c.args.other c.requires.other_there) c.requires.apart c.requires.not_editor
     c.index_mut-2.ensures.value at (c.replace-taken.ensures.after ∙ c.spent.ensures) c.in-Ok.ensures.ok
@@ -19,7 +19,7 @@ invariant_of-self-in-Err g c =
     let within = views_within c.self.inside.log.items c.self.inside.pending c.self.inside.marked.items c.self.inside.places.items c.self.inside.views.items c.args.self.now c.self.view_is in
     let at : c.replace-taken.result ≡ get_or c.self.inside.views.items c.args.other c.replace-taken.result =
         c.replace-taken.ensures.value ∙ c.index_mut.ensures.value ∙ ap (λ d. get_or c.self.inside.views.items c.args.other d) (sym c.replace-taken.ensures.value) in
-    subst (λ views. IsKept c.self.inside.log.items views)
+    subst (λ views. IsKept c.self.inside.log.items c.self.inside.places.items views)
     (sym (put_back c.self.inside.views.items c.args.view c.args.other c.index_mut-2.result.now c.join.new.self c.replace-taken.result c.replace-taken.new.dest
       c.requires.apart (within c.args.other c.requires.other_there) c.index_mut-2.ensures.value at c.in-Err.ensures.err))
     c.self.invariant
