@@ -10,3 +10,4 @@ mod Opening
 mod Runs
 mod FloorLemmas
 mod KeptLemmas
+mod JudgeLemmas

@@ -61,6 +61,13 @@ pub record IsWorthMarked {E : Type 0} (worth : List E → ℕ → ℕ) (touches 
   pub worth_is : worth (take count log) place ≡ word
   pub last : IsLastMark touches (take count log) place mark
 
+-- the hold is one of the place, with a word that belongs with the mark to some of the entries
+pub record IsMarkedHold {E : Type 0} (worth : List E → ℕ → ℕ) (touches : List E → E → ℕ → Type 0) (log : List E) (place mark : ℕ) (hold : Held) : Type 0 where
+  pub same_place : hold.place ≡ place
+  pub word : ℕ
+  pub put : hold.word ≡ Some word
+  pub computed : IsWorthMarked worth touches log place word mark
+
 -- the place may be given back for the mark: the view holds it and put a word, and word and mark belong to the same entries
 pub record MayFinish {E : Type 0} (worth : List E → ℕ → ℕ) (touches : List E → E → ℕ → Type 0) (view : View (List E)) (place mark : ℕ) : Type 0 where
   pub word : ℕ

@@ -13,6 +13,7 @@
 
 mod answers;
 mod events;
+mod judging;
 mod laws;
 mod machine;
 mod protocol;

@@ -32,6 +32,20 @@ impl<S: Subject> Core<S> {
         Ok(Core { subject, state })
     }
 
+    /// The subject.
+    pub fn subject(&self) -> &S
+        ensures { result.now ≡ self.now.subject }
+    {
+        &self.subject
+    }
+
+    /// The state.
+    pub(crate) fn state(&self) -> &Machine<S::Entry>
+        ensures { result.now ≡ self.now.state }
+    {
+        &self.state
+    }
+
     /// Does the event, which is allowed, and answers its outcome. After `Memory` the state is as before.
     pub fn step(&mut self, event: Event<S::Entry>) -> Result<Outcome, Memory>
         requires allowed { Allowed (S.worth self.old.subject) (S.touches self.old.subject) self.old.state event }
