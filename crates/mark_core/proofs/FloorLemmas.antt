@@ -21,7 +21,7 @@ pub floor_more : (known : List Known) (place floor next given i : ℕ) (blank : 
     → max next (floor_of (drop (i + 1) known) place) ≡ floor_of known place
 floor_more known place floor next given i blank lt before is step =
     let first : floor_of (drop i known) place ≡ max given (floor_of (drop (i + 1) known) place) =
-        ap (λ l. floor_of l place) (drop_more known i blank lt)
-        ∙ floor-cons (get_or known i blank) (drop (i + 1) known) place
-        ∙ ap (λ n. max n (floor_of (drop (i + 1) known) place)) (sym is) in
+    ap (λ l. floor_of l place) (drop_more known i blank lt)
+    ∙ floor-cons (get_or known i blank) (drop (i + 1) known) place
+    ∙ ap (λ n. max n (floor_of (drop (i + 1) known) place)) (sym is) in
     omega arith

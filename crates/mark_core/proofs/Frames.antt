@@ -51,28 +51,28 @@ known_since : (count : ℕ) (before after : Words) (pair : Known) → Moves coun
     → (pair.mark < after.mark pair.place) ⊎ IsComputed after pair.place pair.mark
 known_since count before after pair (Same s) k =
     elim k.since [
-      inl h ↦ inl (omega (arith, s.mark))
-    | inr c ↦ inr (record { marked = s.mark ∙ c.marked; upto = ap (λ (x : Clean). x.upto) s.clean ∙ c.upto; free = ap (λ (x : Clean). x.held) s.clean ∙ c.free })
+      | inl h ↦ inl (omega (arith, s.mark))
+      | inr c ↦ inr (record { marked = s.mark ∙ c.marked; upto = ap (λ (x : Clean). x.upto) s.clean ∙ c.upto; free = ap (λ (x : Clean). x.held) s.clean ∙ c.free })
     ]
 known_since count before after pair (Raised r) k = inl (omega (arith, r.mark, k.within))
 known_since count before after pair (Reworked r) k =
     elim k.since [
-      inl h ↦ inl (omega (arith, r.mark))
-    | inr c ↦ absurd (omega (arith, r.stale, c.marked, c.upto))
+      | inl h ↦ inl (omega (arith, r.mark))
+      | inr c ↦ absurd (omega (arith, r.stale, c.marked, c.upto))
     ]
 
 half_stale : (codeless : ℕ → Type 0) (count : ℕ) (before after : Words) (half : Half) → Moves count before after half.place → IsRightHalf codeless count before half
     → (half.clean.upto ≤ after.mark half.place) ⊎ IsStillThere after half
 half_stale codeless count before after half (Same s) k =
     elim k.stale [
-      inl h ↦ inl (omega (arith, s.mark))
-    | inr t ↦ inr (record { clean = s.clean ∙ t.clean; free = t.free; word = λ word is. s.value ∙ t.word word is })
+      | inl h ↦ inl (omega (arith, s.mark))
+      | inr t ↦ inr (record { clean = s.clean ∙ t.clean; free = t.free; word = λ word is. s.value ∙ t.word word is })
     ]
 half_stale codeless count before after half (Raised r) k = inl (omega (arith, r.mark, k.upto_log))
 half_stale codeless count before after half (Reworked r) k =
     elim k.stale [
-      inl h ↦ inl (omega (arith, r.mark))
-    | inr t ↦ let same : (before.clean half.place).upto ≡ half.clean.upto = ap (λ (x : Clean). x.upto) t.clean in inl (omega (arith, r.mark, r.stale))
+      | inl h ↦ inl (omega (arith, r.mark))
+      | inr t ↦ let same : (before.clean half.place).upto ≡ half.clean.upto = ap (λ (x : Clean). x.upto) t.clean in inl (omega (arith, r.mark, r.stale))
     ]
 
 half_floor : (codeless : ℕ → Type 0) (count : ℕ) (before after : Words) (half : Half) → Moves count before after half.place → IsRightHalf codeless count before half
@@ -90,16 +90,15 @@ module _ {E : Type 0} (worth : List E → ℕ → ℕ) (touches : List E → E �
       → IsLegalAnswer worth touches codeless count entries number place mark shown
       → IsLegalAnswer worth touches codeless count' entries' number place mark shown
   legal_longer count count' entries entries' number place mark (Value word) p le grows l =
-      let e : take number entries' ≡ take number entries = take-prefix entries entries' number p le in
-      (
+      let e : take number entries' ≡ take number entries = take-prefix entries entries' number p le in (
         l.0 ∙ sym (ap (λ xs. worth xs place) e),
-        subst (λ (xs : List E). IsLastMark touches xs place mark) (sym e) l.1
+        subst (λ (xs : List E). IsLastMark touches xs place mark) (sym e) l.1,
       )
   legal_longer count count' entries entries' number place mark (Stale shown) p le grows l =
       let e : take number entries' ≡ take number entries = take-prefix entries entries' number p le in
       elim l [
-        inl s ↦ inl (s.0, subst (λ (xs : List E). IsLastMark touches xs place shown) (sym e) s.1, s.2)
-      | inr t ↦ inr (t.0, touched_in_longer touches entries entries' place shown p t.1)
+        | inl s ↦ inl (s.0, subst (λ (xs : List E). IsLastMark touches xs place shown) (sym e) s.1, s.2)
+        | inr t ↦ inr (t.0, touched_in_longer touches entries entries' place shown p t.1)
       ]
   legal_longer count count' entries entries' number place mark (Newer shown) p le grows l =
       let within : shown ≤ count = l.1 in
@@ -140,14 +139,14 @@ module _ {E : Type 0} (worth : List E → ℕ → ℕ) (touches : List E → E �
           mark_below = omega (arith, k.mark_below, mark_grows (length edits.log) words words' read.place (advances.place read.place));
           floor = k.floor;
           legal = λ word is.
-            let old = k.legal word is in
-            let within : read.number ≤ length edits.log = old.within in
-            let long : length (entries_of edits) ≡ length edits.log + length (option_to_list edits.pending) =
-                length-append edits.log (option_to_list edits.pending) in
-            record {
-              within = omega (arith, log_grows);
-              legal = λ shown shows.
-                legal_longer (length edits.log) (length edits'.log) (entries_of edits) (entries_of edits')
-                read.number read.place read.mark shown advances.entries (omega arith) log_grows (old.legal shown shows);
-            };
+              let old = k.legal word is in
+              let within : read.number ≤ length edits.log = old.within in
+              let long : length (entries_of edits) ≡ length edits.log + length (option_to_list edits.pending) =
+              length-append edits.log (option_to_list edits.pending) in
+              record {
+                within = omega (arith, log_grows);
+                legal = λ shown shows.
+                    legal_longer (length edits.log) (length edits'.log) (entries_of edits) (entries_of edits')
+                    read.number read.place read.mark shown advances.entries (omega arith) log_grows (old.legal shown shows);
+              };
         }

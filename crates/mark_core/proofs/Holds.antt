@@ -37,8 +37,8 @@ pub any_append_left : {X : Type 0} (P : X → Type 0) (xs ys : List X) → Any P
 any_append_left P [] ys a = absurd (any_none P a)
 any_append_left P (x ∷ xs) ys a =
     elim (any_cases P x xs a) [
-      inl p ↦ any_here P x (xs ++ ys) p
-    | inr r ↦ any_there P x (xs ++ ys) (any_append_left P xs ys r)
+      | inl p ↦ any_here P x (xs ++ ys) p
+      | inr r ↦ any_there P x (xs ++ ys) (any_append_left P xs ys r)
     ]
 
 pub any_push_cases : {X : Type 0} (P : X → Type 0) (xs : List X) (y : X) → Any P (xs ++ y ∷ []) → Any P xs ⊎ P y
@@ -46,9 +46,9 @@ any_push_cases P [] y a =
     elim (any_cases P y [] a) [ inl p ↦ inr p | inr r ↦ absurd (any_none P r) ]
 any_push_cases P (x ∷ xs) y a =
     elim (any_cases P x (xs ++ y ∷ []) a) [
-      inl p ↦ inl (any_here P x xs p)
-    | inr r ↦
-      elim (any_push_cases P xs y r) [ inl b ↦ inl (any_there P x xs b) | inr p ↦ inr p ]
+      | inl p ↦ inl (any_here P x xs p)
+      | inr r ↦
+          elim (any_push_cases P xs y r) [ inl b ↦ inl (any_there P x xs b) | inr p ↦ inr p ]
     ]
 
 -- what an entry of a list gives through a map that keeps it
@@ -56,16 +56,16 @@ pub any_map : {X : Type 0} (P : X → Type 0) (f : X → X) → ((x : X) → P x
 any_map P f keeps [] a = absurd (any_none P a)
 any_map P f keeps (x ∷ xs) a =
     elim (any_cases P x xs a) [
-      inl p ↦ any_here P (f x) (map f xs) (keeps x p)
-    | inr r ↦ any_there P (f x) (map f xs) (any_map P f keeps xs r)
+      | inl p ↦ any_here P (f x) (map f xs) (keeps x p)
+      | inr r ↦ any_there P (f x) (map f xs) (any_map P f keeps xs r)
     ]
 
 pub any_from_map : {X : Type 0} (P : X → Type 0) (f : X → X) → ((x : X) → P (f x) → P x) → (xs : List X) → Any P (map f xs) → Any P xs
 any_from_map P f back [] a = absurd (any_none P a)
 any_from_map P f back (x ∷ xs) a =
     elim (any_cases P (f x) (map f xs) a) [
-      inl p ↦ any_here P x xs (back x p)
-    | inr r ↦ any_there P x xs (any_from_map P f back xs r)
+      | inl p ↦ any_here P x xs (back x p)
+      | inr r ↦ any_there P x xs (any_from_map P f back xs r)
     ]
 
 pub any_filter : {X : Type 0} (P : X → Type 0) (test : X → Bool) → ((x : X) → P x → test x ≡ true) → (xs : List X) → Any P xs → Any P (filter test xs)
@@ -73,25 +73,25 @@ any_filter P test passes [] a = absurd (any_none P a)
 any_filter P test passes (x ∷ xs) a =
     cond_both (test x) (x ∷ filter test xs) (filter test xs) (λ l. Any P l)
     (λ e.
-      elim (any_cases P x xs a) [
-        inl p ↦ any_here P x (filter test xs) p
+    elim (any_cases P x xs a) [
+      | inl p ↦ any_here P x (filter test xs) p
       | inr r ↦ any_there P x (filter test xs) (any_filter P test passes xs r)
-      ])
+    ])
     (λ e.
-      elim (any_cases P x xs a) [
-        inl p ↦ absurd (let t : test x ≡ true = passes x p in cc)
+    elim (any_cases P x xs a) [
+      | inl p ↦ absurd (let t : test x ≡ true = passes x p in cc)
       | inr r ↦ any_filter P test passes xs r
-      ])
+    ])
 
 pub any_from_filter : {X : Type 0} (P : X → Type 0) (test : X → Bool) (xs : List X) → Any P (filter test xs) → Any (λ x. P x × (test x ≡ true)) xs
 any_from_filter P test [] = λ a. absurd (any_none P a)
 any_from_filter P test (x ∷ xs) =
     cond_both (test x) (x ∷ filter test xs) (filter test xs) (λ l. Any P l → Any (λ y. P y × (test y ≡ true)) (x ∷ xs))
     (λ e a.
-      elim (any_cases P x (filter test xs) a) [
-        inl p ↦ any_here (λ y. P y × (test y ≡ true)) x xs (p, e)
+    elim (any_cases P x (filter test xs) a) [
+      | inl p ↦ any_here (λ y. P y × (test y ≡ true)) x xs (p, e)
       | inr r ↦ any_there (λ y. P y × (test y ≡ true)) x xs (any_from_filter P test xs r)
-      ])
+    ])
     (λ e a. any_there (λ y. P y × (test y ≡ true)) x xs (any_from_filter P test xs a))
 
 -- what a filter keeps passes the test
@@ -101,7 +101,7 @@ all_filter P Q test f [] all = All-nil Q
 all_filter P Q test f (x ∷ xs) all =
     cond_both (test x) (x ∷ filter test xs) (filter test xs) (λ l. All Q l)
     (λ e. All-cons Q x (filter test xs) (All-head (λ y. (test y ≡ true → Q y)) x xs all e)
-      (all_filter P Q test f xs (All-tail (λ y. (test y ≡ true → Q y)) x xs all)))
+    (all_filter P Q test f xs (All-tail (λ y. (test y ≡ true → Q y)) x xs all)))
     (λ e. all_filter P Q test f xs (All-tail (λ y. (test y ≡ true → Q y)) x xs all))
 
 -- a word put to one of the held places leaves which places they are
@@ -153,17 +153,17 @@ module _ {E : Type 0} (worth : List E → ℕ → ℕ) where
   hold_put words words' log place word hold stores known right =
       cond_both (hold.place == place) (record hold { word = Some word }) hold (λ h. IsRightHold worth words' log h)
       (λ e.
-        let same : hold.place ≡ place = eqb-true hold.place place e in
-        record {
-          held = ap (λ (x : Clean). x.held) (stores.cleans hold.place) ∙ right.held;
-          put = λ w is. ap words'.value same ∙ stores.stored ∙ same_Some word w is;
-          worth_known = λ w is.
+      let same : hold.place ≡ place = eqb-true hold.place place e in
+      record {
+        held = ap (λ (x : Clean). x.held) (stores.cleans hold.place) ∙ right.held;
+        put = λ w is. ap words'.value same ∙ stores.stored ∙ same_Some word w is;
+        worth_known = λ w is.
             subst (λ (p : ℕ). IsWorthKnown worth log p w) (sym same)
             (subst (λ (v : ℕ). IsWorthKnown worth log place v) (same_Some word w is) known);
-        })
+      })
       (λ e.
-        record {
-          held = ap (λ (x : Clean). x.held) (stores.cleans hold.place) ∙ right.held;
-          put = λ w is. stores.values hold.place (eqb-false hold.place place e) ∙ right.put w is;
-          worth_known = right.worth_known;
-        })
+      record {
+        held = ap (λ (x : Clean). x.held) (stores.cleans hold.place) ∙ right.held;
+        put = λ w is. stores.values hold.place (eqb-false hold.place place e) ∙ right.put w is;
+        worth_known = right.worth_known;
+      })

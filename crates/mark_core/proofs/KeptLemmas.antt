@@ -40,8 +40,16 @@ known_same log entry (view ∷ views) all =
     let here : view.log ≤ length log = All-head (λ (v : View ℕ). v.log ≤ length log) view views all in
     let front : take view.log (log ++ entry ∷ []) ≡ take view.log log = take-append-le view.log log (entry ∷ []) here in
     ap (λ l. (let v : View (List _) = record {
-      spent = view.spent; log = l; seen = view.seen; sees = view.sees; known = view.known; half = view.half; reads = view.reads;
-      holds = view.holds; done = view.done; lost = view.lost;
+      spent = view.spent;
+      log = l;
+      seen = view.seen;
+      sees = view.sees;
+      known = view.known;
+      half = view.half;
+      reads = view.reads;
+      holds = view.holds;
+      done = view.done;
+      lost = view.lost;
     } in v) ∷ map (known_view (log ++ entry ∷ [])) views) front
     ∙ ap (λ vs. known_view log view ∷ vs) (known_same log entry views (All-tail (λ (v : View ℕ). v.log ≤ length log) view views all))
 
@@ -49,15 +57,31 @@ committed_known : {E : Type 0} (log : List E) (entry : E) (view : View ℕ) → 
     → known_view (log ++ entry ∷ []) (record view { log = length log + 1; seen = length log + 1 }) ≡ committed (known_view log view) entry
 committed_known log entry view is =
     let all : take (length log + 1) (log ++ entry ∷ []) ≡ log ++ entry ∷ [] =
-        take_all (length log + 1) (log ++ entry ∷ []) (let e : length (log ++ entry ∷ []) ≡ length log + 1 = length_push log entry in omega arith) in
+    take_all (length log + 1) (log ++ entry ∷ []) (let e : length (log ++ entry ∷ []) ≡ length log + 1 = length_push log entry in omega arith) in
     let whole : take view.log log ≡ log = take_all view.log log (omega arith) in
     ap (λ l. (let v : View (List _) = record {
-      spent = view.spent; log = l; seen = length log + 1; sees = view.sees; known = view.known; half = view.half; reads = view.reads;
-      holds = view.holds; done = view.done; lost = view.lost;
+      spent = view.spent;
+      log = l;
+      seen = length log + 1;
+      sees = view.sees;
+      known = view.known;
+      half = view.half;
+      reads = view.reads;
+      holds = view.holds;
+      done = view.done;
+      lost = view.lost;
     } in v)) all
     ∙ ap (λ l. (let v : View (List _) = record {
-      spent = view.spent; log = l ++ entry ∷ []; seen = length l + 1; sees = view.sees; known = view.known; half = view.half; reads = view.reads;
-      holds = view.holds; done = view.done; lost = view.lost;
+      spent = view.spent;
+      log = l ++ entry ∷ [];
+      seen = length l + 1;
+      sees = view.sees;
+      known = view.known;
+      half = view.half;
+      reads = view.reads;
+      holds = view.holds;
+      done = view.done;
+      lost = view.lost;
     } in v)) (sym whole)
 
 module _ {E : Type 0} (log : List E) (pending : Option E) (marked : List ℕ) (places : List Place) (views : List (View ℕ)) where
@@ -70,11 +94,11 @@ module _ {E : Type 0} (log : List E) (pending : Option E) (marked : List ℕ) (p
   kept_changes : (view : ℕ) (x x' : View ℕ) (F : View (List E) → View (List E)) → view < length views → x ≡ get_or views view x
       → known_view log x' ≡ F (known_view log x)
       → kept_state log pending marked places (set views view x')
-        ≡ with_view (kept_state log pending marked places views) view (F (view_at (kept_state log pending marked places views) view))
+      ≡ with_view (kept_state log pending marked places views) view (F (view_at (kept_state log pending marked places views) view))
   kept_changes view x x' F lt is makes =
       ap (λ vs. (let s : State E = record { edits = record { log = log; pending = pending; marked = marked }; places = places; views = vs } in s))
       (map-set (known_view log) views view x'
-        ∙ ap (λ v. set (map (known_view log) views) view v) (makes ∙ ap F (sym (view_kept view x lt is))))
+      ∙ ap (λ v. set (map (known_view log) views) view v) (makes ∙ ap F (sym (view_kept view x lt is))))
 
   module _ (s : State E) (kept : kept_state log pending marked places views ≡ s) where
     pub views_within : (view : ℕ) → view < length s.views → view < length views
@@ -131,7 +155,7 @@ module _ {E : Type 0} (log : List E) (pending : Option E) (marked : List ℕ) (p
     pub kept_claim : (view place : ℕ) (seen : Clean) (x x' : View ℕ) (p : Place) → view < length s.views → x ≡ get_or views view x
         → place < length s.places → p ≡ get_or places place p → x' ≡ took x place
         → kept_state log pending marked (set places place (record p { clean = record { upto = seen.upto; held = true } })) (set views view x')
-          ≡ after_claim s view place seen
+        ≡ after_claim s view place seen
     kept_claim view place seen x x' p lt is there at made =
         ap (λ t. with_place t place (record p { clean = record { upto = seen.upto; held = true } }))
         (changes view x x' (λ v. took v place) lt is (ap (known_view log) made))
@@ -149,7 +173,7 @@ module _ {E : Type 0} (log : List E) (pending : Option E) (marked : List ℕ) (p
     pub kept_finish : (view place mark : ℕ) (x x' : View ℕ) (p : Place) → view < length s.views → x ≡ get_or views view x
         → place < length s.places → p ≡ get_or places place p → x' ≡ gave_back x place mark
         → kept_state log pending marked (set places place (record p { clean = record { upto = mark + 1; held = false } })) (set views view x')
-          ≡ after_finish s view place mark
+        ≡ after_finish s view place mark
     kept_finish view place mark x x' p lt is there at made =
         ap (λ t. with_place t place (record p { clean = record { upto = mark + 1; held = false } }))
         (changes view x x' (λ v. gave_back v place mark) lt is (ap (known_view log) made))
@@ -162,16 +186,16 @@ module _ {E : Type 0} (log : List E) (pending : Option E) (marked : List ℕ) (p
     kept_commit entry log' marked' count x x' cleared there right is grows counted made =
         let lt : 0 < length views = views_within 0 there in
         let whole : x.log ≡ length log =
-            ap (λ (v : View ℕ). v.log) (is ∙ get_or_default views 0 x (spent_with 0) lt) ∙ right.editor in
+        ap (λ (v : View ℕ). v.log) (is ∙ get_or_default views 0 x (spent_with 0) lt) ∙ right.editor in
         let new : known_view (log ++ entry ∷ []) x' ≡ committed (known_view log x) entry =
-            ap (known_view (log ++ entry ∷ [])) (made ∙ ap (λ n. (let v : View ℕ = record x { log = n; seen = n } in v)) counted)
-            ∙ committed_known log entry x whole in
+        ap (known_view (log ++ entry ∷ [])) (made ∙ ap (λ n. (let v : View ℕ = record x { log = n; seen = n } in v)) counted)
+        ∙ committed_known log entry x whole in
         ap (λ m. kept_state log' None m places (set views 0 x')) cleared
         ∙ ap (λ l. kept_state l None [] places (set views 0 x')) grows
         ∙ ap (λ vs. (let t : State E = record { edits = record { log = log ++ entry ∷ []; pending = None; marked = [] }; places = places; views = vs } in t))
         (map-set (known_view (log ++ entry ∷ [])) views 0 x'
-          ∙ ap (λ vs. set vs 0 (known_view (log ++ entry ∷ []) x')) (known_same log entry views right.counted)
-          ∙ ap (λ v. set (map (known_view log) views) 0 v) (new ∙ ap (λ v. committed v entry) (sym (view_kept 0 x lt is))))
+        ∙ ap (λ vs. set vs 0 (known_view (log ++ entry ∷ []) x')) (known_same log entry views right.counted)
+        ∙ ap (λ v. set (map (known_view log) views) 0 v) (new ∙ ap (λ v. committed v entry) (sym (view_kept 0 x lt is))))
         ∙ ap (λ t. after_commit t 0 entry) kept
 
     pub kept_join : (view other : ℕ) (x x' t gone : View ℕ) → view < length s.views → other < length s.views → view ≢ other → IsKept log places views
@@ -184,17 +208,17 @@ module _ {E : Type 0} (log : List E) (pending : Option E) (marked : List ℕ) (p
         let below : x.log ≤ length log = subst (λ (v : View ℕ). v.log ≤ length log) (sym is') (right.counted view x there) in
         let below' : t.log ≤ length log = subst (λ (v : View ℕ). v.log ≤ length log) (sym at) (right.counted other t there') in
         let both : known_view log (joined_with (max x.log t.log) x t) ≡ joined (known_view log x) (known_view log t) =
-            ap (λ l. joined_with l (known_view log x) (known_view log t)) (longer_front log x.log t.log below below') in
+        ap (λ l. joined_with l (known_view log x) (known_view log t)) (longer_front log x.log t.log below below') in
         ap (λ vs. (let u : State E = record { edits = record { log = log; pending = pending; marked = marked }; places = places; views = vs } in u))
         (ap (map (known_view log)) (set_comm views other view gone x' (λ e. apart (sym e)))
-          ∙ map-set (known_view log) (set views view x') other gone
-          ∙ ap (λ v. set (map (known_view log) (set views view x')) other (known_view log v)) spends
-          ∙ ap (λ vs. set vs other spent_view)
-            (map-set (known_view log) views view x'
-              ∙ ap (λ v. set (map (known_view log) views) view v)
-                (ap (known_view log) made ∙ both
-                  ∙ ap (λ v. joined v (known_view log t)) (sym (view_kept view x there is'))
-                  ∙ ap (λ v. joined (view_at (kept_state log pending marked places views) view) v) (sym (view_kept other t there' at)))))
+        ∙ map-set (known_view log) (set views view x') other gone
+        ∙ ap (λ v. set (map (known_view log) (set views view x')) other (known_view log v)) spends
+        ∙ ap (λ vs. set vs other spent_view)
+        (map-set (known_view log) views view x'
+        ∙ ap (λ v. set (map (known_view log) views) view v)
+        (ap (known_view log) made ∙ both
+        ∙ ap (λ v. joined v (known_view log t)) (sym (view_kept view x there is'))
+        ∙ ap (λ v. joined (view_at (kept_state log pending marked places views) view) v) (sym (view_kept other t there' at)))))
         ∙ ap (λ u. after_join u view other) kept
 
 -- a view that was taken out and put back
@@ -215,8 +239,8 @@ module _ {E : Type 0} (log : List E) (places : List Place) (views : List (View �
       record {
         editor = ap (λ (v : View ℕ). v.log) (get_or_append_left views (new ∷ []) (spent_with 0) 0 (omega arith)) ∙ right.editor;
         counted =
-          All-push (λ (v : View ℕ). v.log ≤ length log) views new right.counted
-          (subst (λ (v : View ℕ). v.log ≤ length log) (sym made) (subst (λ (v : View ℕ). v.log ≤ length log) (sym is) (right.counted view x lt)));
+            All-push (λ (v : View ℕ). v.log ≤ length log) views new right.counted
+            (subst (λ (v : View ℕ). v.log ≤ length log) (sym made) (subst (λ (v : View ℕ). v.log ≤ length log) (sym is) (right.counted view x lt)));
         fits = right.fits;
         few = right.few;
       }
@@ -233,19 +257,19 @@ module _ {E : Type 0} (log : List E) (places : List Place) (views : List (View �
       let both : x'.log ≡ max x.log t.log = ap (λ (v : View ℕ). v.log) made in
       let still : length (set views other gone) ≡ length views = length-set views other gone in
       let first : get_or (set views other gone) 0 (spent_with 0) ≡ get_or views 0 (spent_with 0) =
-          get_or-set_other views other 0 gone (spent_with 0) (λ e. not_editor (sym e)) in
+      get_or-set_other views other 0 gone (spent_with 0) (λ e. not_editor (sym e)) in
       record {
         editor =
-          elim (set_cases (set views other gone) view x' (spent_with 0) 0 (omega arith)) [
-            inl p ↦
-              let editor : x.log ≡ length log =
+            elim (set_cases (set views other gone) view x' (spent_with 0) 0 (omega arith)) [
+              | inl p ↦
+                  let editor : x.log ≡ length log =
                   ap (λ (v : View ℕ). v.log) (is' ∙ get_or_default views view x (spent_with 0) lt ∙ ap (λ i. get_or views i (spent_with 0)) (sym p.0)) ∙ right.editor in
-              ap (λ (v : View ℕ). v.log) p.1 ∙ omega arith
-          | inr p ↦ ap (λ (v : View ℕ). v.log) (p.1 ∙ first) ∙ right.editor
-          ];
+                  ap (λ (v : View ℕ). v.log) p.1 ∙ omega arith
+              | inr p ↦ ap (λ (v : View ℕ). v.log) (p.1 ∙ first) ∙ right.editor
+            ];
         counted =
-          All-set (λ (v : View ℕ). v.log ≤ length log) (set views other gone) view x' (omega arith)
-          (All-set (λ (v : View ℕ). v.log ≤ length log) views other gone (omega arith) right.counted);
+            All-set (λ (v : View ℕ). v.log ≤ length log) (set views other gone) view x' (omega arith)
+            (All-set (λ (v : View ℕ). v.log ≤ length log) views other gone (omega arith) right.counted);
         fits = right.fits;
         few = right.few;
       }

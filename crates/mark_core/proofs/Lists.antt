@@ -14,8 +14,8 @@ pub set_cases : {X : Type 0} (xs : List X) (i : ℕ) (x d : X) (j : ℕ) → i <
     → ((j ≡ i) × (get_or (set xs i x) j d ≡ x)) ⊎ ((j ≢ i) × (get_or (set xs i x) j d ≡ get_or xs j d))
 set_cases xs i x d j lt =
     elim (cases_eq j i) [
-      inl same ↦ inl (same, ap (λ k. get_or (set xs i x) k d) same ∙ get_or-set_same xs i x d lt)
-    | inr differs ↦ inr (differs, get_or-set_other xs i j x d differs)
+      | inl same ↦ inl (same, ap (λ k. get_or (set xs i x) k d) same ∙ get_or-set_same xs i x d lt)
+      | inr differs ↦ inr (differs, get_or-set_other xs i j x d differs)
     ]
 
 -- the same after a push
@@ -23,17 +23,17 @@ pub push_cases : {X : Type 0} (xs : List X) (x d : X) (j : ℕ)
     → ((j ≡ length xs) × (get_or (xs ++ x ∷ []) j d ≡ x)) ⊎ ((j ≢ length xs) × (get_or (xs ++ x ∷ []) j d ≡ get_or xs j d))
 push_cases xs x d j =
     elim (cases_eq j (length xs)) [
-      inl same ↦ inl (same, get_or_push xs x d j (sym same))
-    | inr differs ↦
-      inr (
-        differs,
-        elim (cases_lt j (length xs)) [
-          inl lt ↦ get_or_append_left xs (x ∷ []) d j lt
-        | inr le ↦
-          let long : length (xs ++ x ∷ []) ≡ length xs + 1 = length-append xs (x ∷ []) in
-          get_or_past (xs ++ x ∷ []) j d (omega arith) ∙ sym (get_or_past xs j d le)
-        ]
-      )
+      | inl same ↦ inl (same, get_or_push xs x d j (sym same))
+      | inr differs ↦
+          inr (
+            differs,
+            elim (cases_lt j (length xs)) [
+              | inl lt ↦ get_or_append_left xs (x ∷ []) d j lt
+              | inr le ↦
+                  let long : length (xs ++ x ∷ []) ≡ length xs + 1 = length-append xs (x ∷ []) in
+                  get_or_past (xs ++ x ∷ []) j d (omega arith) ∙ sym (get_or_past xs j d le)
+            ],
+          )
     ]
 
 -- a field that the new element has as the old one had stays at each index
@@ -41,8 +41,8 @@ pub set_keeps : {X Y : Type 0} (field : X → Y) (xs : List X) (i : ℕ) (x d : 
     → (j : ℕ) → field (get_or (set xs i x) j d) ≡ field (get_or xs j d)
 set_keeps field xs i x d lt e j =
     elim (set_cases xs i x d j lt) [
-      inl s ↦ ap field s.1 ∙ e ∙ ap (λ k. field (get_or xs k d)) (sym s.0)
-    | inr s ↦ ap field s.1
+      | inl s ↦ ap field s.1 ∙ e ∙ ap (λ k. field (get_or xs k d)) (sym s.0)
+      | inr s ↦ ap field s.1
     ]
 
 module _ (places : List Place) (place : ℕ) (there : place < length places) where
@@ -80,7 +80,7 @@ module _ (places : List Place) (place : ℕ) (there : place < length places) whe
 pub live_within : {E : Type 0} (views : List (View (List E))) (view : ℕ) → (get_or views view spent_view).spent ≡ false → view < length views
 live_within views view live =
     elim (cases_lt view (length views)) [
-      inl lt ↦ lt
-    | inr le ↦ absurd (let past : get_or views view spent_view ≡ spent_view = get_or_past views view spent_view le in
-        let spent : (get_or views view spent_view).spent ≡ true = ap (λ (v : View (List _)). v.spent) past in cc)
+      | inl lt ↦ lt
+      | inr le ↦ absurd (let past : get_or views view spent_view ≡ spent_view = get_or_past views view spent_view le in
+          let spent : (get_or views view spent_view).spent ≡ true = ap (λ (v : View (List _)). v.spent) past in cc)
     ]

@@ -37,7 +37,7 @@ opening_holds E opening zero = refl
 opening_holds E opening (suc view) = refl
 
 module _ {E : Type 0} (places : ℕ) (worth : List E → ℕ → ℕ) (touches : List E → E → ℕ → Type 0)
-  (opening : List (Option ℕ)) (right : IsOpening places worth opening) where
+    (opening : List (Option ℕ)) (right : IsOpening places worth opening) where
   opening_value : (place : ℕ) (item : Option ℕ) → slice_get opening place ≡ Some item
       → IsRightValue worth (IsCodeless opening) [] place (opened item).mark (opened item).clean (opened item).value
   opening_value place None is =
@@ -70,20 +70,20 @@ module _ {E : Type 0} (places : ℕ) (worth : List E → ℕ → ℕ) (touches :
         editor_live = refl;
         editor_log = refl;
         marks = λ place there.
-          inr (record {
-            unmarked = λ c. absurd (let h : c.0 < 0 = c.1 in omega arith);
-            last = subst (λ (m : ℕ). IsLastMark touches [] place m) (sym (opened_mark opening place)) (last_mark_nothing touches place);
-          });
+            inr (record {
+              unmarked = λ c. absurd (let h : c.0 < 0 = c.1 in omega arith);
+              last = subst (λ (m : ℕ). IsLastMark touches [] place m) (sym (opened_mark opening place)) (last_mark_nothing touches place);
+            });
         values = λ place there.
-          let item : Option ℕ = get_or opening place None in
-          let is : slice_get opening place ≡ Some item = slice_get-get_or opening place None (omega (arith, right.count)) in
-          subst (λ (p : Place). IsRightValue worth (IsCodeless opening) [] place p.mark p.clean p.value)
-          (sym (opened_at opening place item is)) (opening_value place item is);
+            let item : Option ℕ = get_or opening place None in
+            let is : slice_get opening place ≡ Some item = slice_get-get_or opening place None (omega (arith, right.count)) in
+            subst (λ (p : Place). IsRightValue worth (IsCodeless opening) [] place p.mark p.clean p.value)
+            (sym (opened_at opening place item is)) (opening_value place item is);
         views = opening_view;
         holders =
-          record {
-            held = λ place is. absurd (let free : (place_at (map opened opening) place).clean.held ≡ false = opened_free opening place in cc);
-            one = λ place view other a b.
-              absurd (any_none (λ (hold : Held). hold.place ≡ place) (subst (λ (l : List Held). Any (λ hold. hold.place ≡ place) l) (opening_holds E opening view) a));
-          };
+            record {
+              held = λ place is. absurd (let free : (place_at (map opened opening) place).clean.held ≡ false = opened_free opening place in cc);
+              one = λ place view other a b.
+                  absurd (any_none (λ (hold : Held). hold.place ≡ place) (subst (λ (l : List Held). Any (λ hold. hold.place ≡ place) l) (opening_holds E opening view) a));
+            };
       }

@@ -83,17 +83,17 @@ module _ {E : Type 0} (touches : List E → E → ℕ → Type 0) where
         entry = entry;
         stands = rw e (slice_get_seam xs entry ys);
         touched =
-          subst (λ (l : List E). touches l entry place)
-          (sym (ap (λ n. take n (xs ++ entry ∷ ys)) e ∙ take_at xs (entry ∷ ys) (length xs) refl)) t;
+            subst (λ (l : List E). touches l entry place)
+            (sym (ap (λ n. take n (xs ++ entry ∷ ys)) e ∙ take_at xs (entry ∷ ys) (length xs) refl)) t;
       }
 
   pub next_touches : (xs : List E) (entry : E) (ys : List E) (place : ℕ) → IsTouched touches (xs ++ entry ∷ ys) place (length xs + 1) → touches xs entry place
   next_touches xs entry ys place t =
       let e : length xs + 1 - 1 ≡ length xs = omega arith in
       let same : t.entry ≡ entry =
-          same_Some t.entry entry (sym t.stands ∙ ap (λ n. slice_get (xs ++ entry ∷ ys) n) e ∙ slice_get_seam xs entry ys) in
+      same_Some t.entry entry (sym t.stands ∙ ap (λ n. slice_get (xs ++ entry ∷ ys) n) e ∙ slice_get_seam xs entry ys) in
       let front : take (length xs + 1 - 1) (xs ++ entry ∷ ys) ≡ xs =
-          ap (λ n. take n (xs ++ entry ∷ ys)) e ∙ take_at xs (entry ∷ ys) (length xs) refl in
+      ap (λ n. take n (xs ++ entry ∷ ys)) e ∙ take_at xs (entry ∷ ys) (length xs) refl in
       subst (λ (x : E). touches xs x place) same
       (subst (λ (l : List E). touches l t.entry place) front t.touched)
 
@@ -101,20 +101,20 @@ module _ {E : Type 0} (touches : List E → E → ℕ → Type 0) where
   pub touched_up_to : (xs : List E) (place number mark : ℕ) → IsTouched touches xs place number → IsLastMark touches xs place mark → number ≤ mark
   touched_up_to xs place number mark t m =
       elim (cases_lt mark number) [
-        inl later ↦ absurd (m.none_later number later (touched_within xs place number t) t)
-      | inr h ↦ h
+        | inl later ↦ absurd (m.none_later number later (touched_within xs place number t) t)
+        | inr h ↦ h
       ]
 
   -- a place has one last mark in a list
   pub last_mark_unique : (xs : List E) (place mark other : ℕ) → IsLastMark touches xs place mark → IsLastMark touches xs place other → mark ≡ other
   last_mark_unique xs place mark other m o =
       elim (cases_lt mark other) [
-        inl h ↦ absurd (m.none_later other h o.within (o.touched (omega arith)))
-      | inr le ↦
-        elim (cases_lt other mark) [
-          inl h ↦ absurd (o.none_later mark h m.within (m.touched (omega arith)))
-        | inr ge ↦ omega arith
-        ]
+        | inl h ↦ absurd (m.none_later other h o.within (o.touched (omega arith)))
+        | inr le ↦
+            elim (cases_lt other mark) [
+              | inl h ↦ absurd (o.none_later mark h m.within (m.touched (omega arith)))
+              | inr ge ↦ omega arith
+            ]
       ]
 
   -- a last mark is the last mark of each prefix that it is an entry of
@@ -124,8 +124,8 @@ module _ {E : Type 0} (touches : List E → E → ℕ → Type 0) where
         within = le;
         touched = λ h. touched_in_prefix xs ys place mark p le (m.touched h);
         none_later = λ n later within t.
-          let long : length xs ≤ length ys = prefix_length xs ys p in
-          m.none_later n later (omega arith) (touched_in_longer xs ys place n p t);
+            let long : length xs ≤ length ys = prefix_length xs ys p in
+            m.none_later n later (omega arith) (touched_in_longer xs ys place n p t);
       }
 
   pub last_mark_push_other : (xs : List E) (entry : E) (place mark : ℕ) → (touches xs entry place → ⊥) → IsLastMark touches xs place mark → IsLastMark touches (xs ++ entry ∷ []) place mark
@@ -137,12 +137,12 @@ module _ {E : Type 0} (touches : List E → E → ℕ → Type 0) where
         within = omega arith;
         touched = λ h. touched_in_longer xs (xs ++ entry ∷ []) place mark p (m.touched h);
         none_later = λ n later within t.
-          elim (cases_lt (length xs) n) [
-            inl new ↦
-              let e : n ≡ length xs + 1 = omega arith in
-              ne (next_touches xs entry [] place (subst (λ (k : ℕ). IsTouched touches (xs ++ entry ∷ []) place k) e t))
-          | inr within' ↦ m.none_later n later within' (touched_in_prefix xs (xs ++ entry ∷ []) place n p within' t)
-          ];
+            elim (cases_lt (length xs) n) [
+              | inl new ↦
+                  let e : n ≡ length xs + 1 = omega arith in
+                  ne (next_touches xs entry [] place (subst (λ (k : ℕ). IsTouched touches (xs ++ entry ∷ []) place k) e t))
+              | inr within' ↦ m.none_later n later within' (touched_in_prefix xs (xs ++ entry ∷ []) place n p within' t)
+            ];
       }
 
   pub last_mark_push : (xs : List E) (entry : E) (place : ℕ) → touches xs entry place → IsLastMark touches (xs ++ entry ∷ []) place (length xs + 1)
@@ -171,8 +171,8 @@ module _ {E : Type 0} (touches : List E → E → ℕ → Type 0) where
         let long : length (xs ++ entry ∷ []) ≡ length xs + 1 = length-append xs (entry ∷ []) in
         let longer : length (xs ++ entry ∷ rest) ≡ length xs + length (entry ∷ rest) = length-append xs (entry ∷ rest) in
         let further : worth ((xs ++ entry ∷ []) ++ rest) place ≡ worth (xs ++ entry ∷ []) place =
-            worth_from (xs ++ entry ∷ []) rest mark (omega arith)
-            (subst (λ (l : List E). IsLastMark touches l place mark) (sym e) m) in
+        worth_from (xs ++ entry ∷ []) rest mark (omega arith)
+        (subst (λ (l : List E). IsLastMark touches l place mark) (sym e) m) in
         sym (ap (λ l. worth l place) e)
         ∙ further
         ∙ untouched xs entry (λ t. m.none_later (length xs + 1) (omega arith) (omega arith) (touched_next xs entry rest place t))

@@ -12,8 +12,8 @@ use Rattle.mark_core.proofs.Steps.{see_keeps, mark_keeps, commit_keeps, split_ke
 use Rattle.mark_core.proofs.Opening.{opening_honest}
 
 module _ {E : Type 0} (places : ℕ) (worth : List E → ℕ → ℕ) (touches : List E → E → ℕ → Type 0)
-  (untouched : (log : List E) (entry : E) (place : ℕ) → place < places → (touches log entry place → ⊥) → worth (log ++ entry ∷ []) place ≡ worth log place)
-  (codeless : ℕ → Type 0) where
+    (untouched : (log : List E) (entry : E) (place : ℕ) → place < places → (touches log entry place → ⊥) → worth (log ++ entry ∷ []) place ≡ worth log place)
+    (codeless : ℕ → Type 0) where
   -- one event
   pub keeps_honest : (s : State E) (event : Event E) (outcome : Outcome) (after : State E)
       → Happens worth touches s event outcome after → IsHonest places worth touches codeless s → IsHonest places worth touches codeless after
@@ -22,12 +22,12 @@ module _ {E : Type 0} (places : ℕ) (worth : List E → ℕ → ℕ) (touches :
   keeps_honest s (Mark view entry place) outcome after h honest =
       subst (IsHonest places worth touches codeless) (sym h.gives.1)
       (mark_keeps places worth touches codeless untouched s honest entry place h.allowed.1.there
-        (subst (λ (v : ℕ). MayMark touches s.edits (view_at s v) entry place) h.allowed.0 h.allowed.2))
+      (subst (λ (v : ℕ). MayMark touches s.edits (view_at s v) entry place) h.allowed.0 h.allowed.2))
   keeps_honest s (Commit view entry) outcome after h honest =
       subst (IsHonest places worth touches codeless) (sym h.gives.1)
       (subst (λ (v : ℕ). IsHonest places worth touches codeless (after_commit s v entry)) (sym h.allowed.0)
-        (commit_keeps places worth touches codeless untouched s honest entry
-          (subst (λ (v : ℕ). MayCommit touches (length s.places) s.edits (view_at s v) entry) h.allowed.0 h.allowed.2)))
+      (commit_keeps places worth touches codeless untouched s honest entry
+      (subst (λ (v : ℕ). MayCommit touches (length s.places) s.edits (view_at s v) entry) h.allowed.0 h.allowed.2)))
   keeps_honest s (Split view) outcome after h honest =
       subst (IsHonest places worth touches codeless) (sym h.gives.1) (split_keeps places worth touches codeless untouched s honest view h.allowed)
   keeps_honest s (Join view other) outcome after h honest =
@@ -41,12 +41,12 @@ module _ {E : Type 0} (places : ℕ) (worth : List E → ℕ → ℕ) (touches :
       subst (IsHonest places worth touches codeless) (sym h.gives.1) (read_mark_keeps places worth touches codeless untouched s honest view place h.allowed)
   keeps_honest s (Claim view place seen) outcome after h honest =
       elim h.gives [
-        inl takes ↦
-          subst (IsHonest places worth touches codeless) (sym takes.effect)
-          (claim_keeps places worth touches codeless untouched s honest view place seen h.allowed.0 h.allowed.1 takes.found)
-      | inr misses ↦
-        subst (IsHonest places worth touches codeless) (sym misses.effect)
-        (refusal_keeps places worth touches codeless untouched s honest view place h.allowed.0.live)
+        | inl takes ↦
+            subst (IsHonest places worth touches codeless) (sym takes.effect)
+            (claim_keeps places worth touches codeless untouched s honest view place seen h.allowed.0 h.allowed.1 takes.found)
+        | inr misses ↦
+            subst (IsHonest places worth touches codeless) (sym misses.effect)
+            (refusal_keeps places worth touches codeless untouched s honest view place h.allowed.0.live)
       ]
   keeps_honest s (Put view place word) outcome after h honest =
       subst (IsHonest places worth touches codeless) (sym h.gives.1)
@@ -63,8 +63,8 @@ module _ {E : Type 0} (places : ℕ) (worth : List E → ℕ → ℕ) (touches :
       runs_honest events next after runs (keeps_honest s event outcome next happens honest)
 
 module _ {E : Type 0} (places : ℕ) (worth : List E → ℕ → ℕ) (touches : List E → E → ℕ → Type 0)
-  (untouched : (log : List E) (entry : E) (place : ℕ) → place < places → (touches log entry place → ⊥) → worth (log ++ entry ∷ []) place ≡ worth log place)
-  (opening : List (Option ℕ)) (right : IsOpening places worth opening) where
+    (untouched : (log : List E) (entry : E) (place : ℕ) → place < places → (touches log entry place → ⊥) → worth (log ++ entry ∷ []) place ≡ worth log place)
+    (opening : List (Option ℕ)) (right : IsOpening places worth opening) where
   pub honest_from_opening : (events : List (Event E)) (s : State E) → Runs worth touches (opening_state opening) events s
       → IsHonest places worth touches (IsCodeless opening) s
   honest_from_opening events s runs =

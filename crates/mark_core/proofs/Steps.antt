@@ -32,12 +32,12 @@ holders_stay : {E : Type 0} (s s' : State E)
 holders_stay s s' held holds one =
     record {
       held = λ place is.
-        let h = one.held place (sym (held place) ∙ is) in
-        (h.0, subst (λ (l : List Held). Any (λ hold. hold.place ≡ place) l) (sym (holds h.0)) h.1);
+          let h = one.held place (sym (held place) ∙ is) in
+          (h.0, subst (λ (l : List Held). Any (λ hold. hold.place ≡ place) l) (sym (holds h.0)) h.1);
       one = λ place view other a b.
-        one.one place view other
-        (subst (λ (l : List Held). Any (λ hold. hold.place ≡ place) l) (holds view) a)
-        (subst (λ (l : List Held). Any (λ hold. hold.place ≡ place) l) (holds other) b);
+          one.one place view other
+          (subst (λ (l : List Held). Any (λ hold. hold.place ≡ place) l) (holds view) a)
+          (subst (λ (l : List Held). Any (λ hold. hold.place ≡ place) l) (holds other) b);
     }
 
 -- what is right at each view after one was exchanged
@@ -46,8 +46,8 @@ each_after_set : {E : Type 0} (P : View (List E) → Type 0) (views : List (View
     → (other : ℕ) → P (get_or (set views view changed) other spent_view)
 each_after_set P views view changed lt here there other =
     elim (set_cases views view changed spent_view other lt) [
-      inl s ↦ subst P (sym s.1) here
-    | inr s ↦ subst P (sym s.1) (there other s.0)
+      | inl s ↦ subst P (sym s.1) here
+      | inr s ↦ subst P (sym s.1) (there other s.0)
     ]
 
 ended_spent : {E : Type 0} (view : View (List E)) (half : Option Half) (place mark : ℕ) → (ended_at view half place mark).spent ≡ view.spent
@@ -66,8 +66,8 @@ ended_holds view (Some half) place mark =
     cond_both (half.place == place) (ended view half mark) view (λ v. v.holds ≡ view.holds) (λ e. refl) (λ e. refl)
 
 module _ {E : Type 0} (places : ℕ) (worth : List E → ℕ → ℕ) (touches : List E → E → ℕ → Type 0) (codeless : ℕ → Type 0)
-  (untouched : (log : List E) (entry : E) (place : ℕ) → place < places → (touches log entry place → ⊥) → worth (log ++ entry ∷ []) place ≡ worth log place)
-  (s : State E) (honest : IsHonest places worth touches codeless s) where
+    (untouched : (log : List E) (entry : E) (place : ℕ) → place < places → (touches log entry place → ⊥) → worth (log ++ entry ∷ []) place ≡ worth log place)
+    (s : State E) (honest : IsHonest places worth touches codeless s) where
   within : (place : ℕ) → place < length s.places → place < places
   within place lt = omega (arith, honest.count)
 
@@ -87,11 +87,11 @@ module _ {E : Type 0} (places : ℕ) (worth : List E → ℕ → ℕ) (touches :
         marks = honest.marks;
         values = honest.values;
         views =
-          each_after_set (IsRightView worth touches codeless s.edits (words_of s.places)) s.views view changed lt right
-          (λ other differs. honest.views other);
+            each_after_set (IsRightView worth touches codeless s.edits (words_of s.places)) s.views view changed lt right
+            (λ other differs. honest.views other);
         holders =
-          holders_stay s (with_view s view changed) (λ place. refl)
-          (set_keeps (λ (v : View (List E)). v.holds) s.views view changed spent_view lt holds) honest.holders;
+            holders_stay s (with_view s view changed) (λ place. refl)
+            (set_keeps (λ (v : View (List E)). v.holds) s.views view changed spent_view lt holds) honest.holders;
       }
 
   pub see_keeps : (view : ℕ) → IsLive (view_at s view) → IsHonest places worth touches codeless (after_see s view)
@@ -117,7 +117,7 @@ module _ {E : Type 0} (places : ℕ) (worth : List E → ℕ → ℕ) (touches :
       (ended_log (view_at s view) (view_at s view).half place mark)
       (ended_holds (view_at s view) (view_at s view).half place mark)
       (view_finished worth touches codeless s.edits (words_of s.places) (view_at s view) (honest.views view) place
-        (honest.marks place (within place may.there)) (honest.values place (within place may.there)) (law place may.there))
+      (honest.marks place (within place may.there)) (honest.values place (within place may.there)) (law place may.there))
 
   pub refusal_keeps : (view place : ℕ) → IsLive (view_at s view) → IsHonest places worth touches codeless (after_refusal s view place)
   refusal_keeps view place live =
@@ -129,7 +129,7 @@ module _ {E : Type 0} (places : ℕ) (worth : List E → ℕ → ℕ) (touches :
       let new : View (List E) = split_off (view_at s view) in
       let first : 0 < length s.views = live_within s.views 0 honest.editor_live in
       let editor : get_or (s.views ++ new ∷ []) 0 spent_view ≡ view_at s 0 =
-          elim (push_cases s.views new spent_view 0) [ inl p ↦ absurd (omega (arith, p.0)) | inr p ↦ p.1 ] in
+      elim (push_cases s.views new spent_view 0) [ inl p ↦ absurd (omega (arith, p.0)) | inr p ↦ p.1 ] in
       record {
         count = honest.count;
         editor_live = ap (λ (v : View (List E)). v.spent) editor ∙ honest.editor_live;
@@ -137,29 +137,29 @@ module _ {E : Type 0} (places : ℕ) (worth : List E → ℕ → ℕ) (touches :
         marks = honest.marks;
         values = honest.values;
         views = λ other.
-          elim (push_cases s.views new spent_view other) [
-            inl p ↦
-              subst (λ (v : View (List E)). IsRightView worth touches codeless s.edits (words_of s.places) v) (sym p.1)
-              (view_split worth touches codeless s.edits (words_of s.places) (view_at s view) (honest.views view))
-          | inr p ↦ subst (λ (v : View (List E)). IsRightView worth touches codeless s.edits (words_of s.places) v) (sym p.1) (honest.views other)
-          ];
-        holders =
-          holders_stay s (after_split s view) (λ place. refl)
-          (λ other.
             elim (push_cases s.views new spent_view other) [
-              inl p ↦
-                ap (λ (v : View (List E)). v.holds) p.1
-                ∙ sym (ap (λ (v : View (List E)). v.holds) (get_or_past s.views other spent_view (omega (arith, p.0))))
-            | inr p ↦ ap (λ (v : View (List E)). v.holds) p.1
+              | inl p ↦
+                  subst (λ (v : View (List E)). IsRightView worth touches codeless s.edits (words_of s.places) v) (sym p.1)
+                  (view_split worth touches codeless s.edits (words_of s.places) (view_at s view) (honest.views view))
+              | inr p ↦ subst (λ (v : View (List E)). IsRightView worth touches codeless s.edits (words_of s.places) v) (sym p.1) (honest.views other)
+            ];
+        holders =
+            holders_stay s (after_split s view) (λ place. refl)
+            (λ other.
+            elim (push_cases s.views new spent_view other) [
+              | inl p ↦
+                  ap (λ (v : View (List E)). v.holds) p.1
+                  ∙ sym (ap (λ (v : View (List E)). v.holds) (get_or_past s.views other spent_view (omega (arith, p.0))))
+              | inr p ↦ ap (λ (v : View (List E)). v.holds) p.1
             ])
-          honest.holders;
+            honest.holders;
       }
 
   -- the longer of the editor's log and another view's is the editor's
   editor_longer : (other : ℕ) → longer (view_at s 0).log (view_at s other).log ≡ (view_at s 0).log
   editor_longer other =
       let le : length (view_at s other).log ≤ length s.edits.log =
-          prefix_length (view_at s other).log s.edits.log (honest.views other).log.known_prefix in
+      prefix_length (view_at s other).log s.edits.log (honest.views other).log.known_prefix in
       let same : length (view_at s 0).log ≡ length s.edits.log = ap length honest.editor_log in
       cond_both (nat_lt (length (view_at s 0).log) (length (view_at s other).log)) (view_at s other).log (view_at s 0).log
       (λ l. l ≡ (view_at s 0).log)
@@ -175,45 +175,45 @@ module _ {E : Type 0} (places : ℕ) (worth : List E → ℕ → ℕ) (touches :
       let length_same : length (set s.views view both) ≡ length s.views = length-set s.views view both in
       let lt' : other < length (set s.views view both) = omega arith in
       let first : get_or (set (set s.views view both) other spent_view) 0 spent_view ≡ get_or (set s.views view both) 0 spent_view =
-          elim (set_cases (set s.views view both) other spent_view spent_view 0 lt') [ inl p ↦ absurd (not_editor (sym p.0)) | inr p ↦ p.1 ] in
+      elim (set_cases (set s.views view both) other spent_view spent_view 0 lt') [ inl p ↦ absurd (not_editor (sym p.0)) | inr p ↦ p.1 ] in
       record {
         count = honest.count;
         editor_live =
-          ap (λ (v : View (List E)). v.spent) first
-          ∙ set_keeps (λ (v : View (List E)). v.spent) s.views view both spent_view lt refl 0
-          ∙ honest.editor_live;
+            ap (λ (v : View (List E)). v.spent) first
+            ∙ set_keeps (λ (v : View (List E)). v.spent) s.views view both spent_view lt refl 0
+            ∙ honest.editor_live;
         editor_log =
-          ap (λ (v : View (List E)). v.log) first
-          ∙ elim (set_cases s.views view both spent_view 0 lt) [
-            inl p ↦
-              ap (λ (v : View (List E)). v.log) p.1
-              ∙ ap (λ i. longer (view_at s i).log (view_at s other).log) (sym p.0)
-              ∙ editor_longer other
-          | inr p ↦ ap (λ (v : View (List E)). v.log) p.1
-          ]
-          ∙ honest.editor_log;
+            ap (λ (v : View (List E)). v.log) first
+            ∙ elim (set_cases s.views view both spent_view 0 lt) [
+              | inl p ↦
+                  ap (λ (v : View (List E)). v.log) p.1
+                  ∙ ap (λ i. longer (view_at s i).log (view_at s other).log) (sym p.0)
+                  ∙ editor_longer other
+              | inr p ↦ ap (λ (v : View (List E)). v.log) p.1
+            ]
+            ∙ honest.editor_log;
         marks = honest.marks;
         values = honest.values;
         views =
-          each_after_set (IsRightView worth touches codeless s.edits (words_of s.places)) (set s.views view both) other spent_view lt'
-          (view_spent worth touches codeless s.edits (words_of s.places))
-          (λ third differs.
+            each_after_set (IsRightView worth touches codeless s.edits (words_of s.places)) (set s.views view both) other spent_view lt'
+            (view_spent worth touches codeless s.edits (words_of s.places))
+            (λ third differs.
             each_after_set (IsRightView worth touches codeless s.edits (words_of s.places)) s.views view both lt
             (view_joined worth touches codeless s.edits (words_of s.places) (view_at s view) (honest.views view) (view_at s other) (honest.views other))
             (λ fourth differs'. honest.views fourth) third);
         holders =
-          holders_stay s (after_join s view other) (λ place. refl)
-          (λ third.
+            holders_stay s (after_join s view other) (λ place. refl)
+            (λ third.
             elim (set_cases (set s.views view both) other spent_view spent_view third lt') [
-              inl p ↦
-                ap (λ (v : View (List E)). v.holds) p.1
-                ∙ sym may.empty_handed
-                ∙ ap (λ i. (view_at s i).holds) (sym p.0)
-            | inr p ↦
-              ap (λ (v : View (List E)). v.holds) p.1
-              ∙ set_keeps (λ (v : View (List E)). v.holds) s.views view both spent_view lt refl third
+              | inl p ↦
+                  ap (λ (v : View (List E)). v.holds) p.1
+                  ∙ sym may.empty_handed
+                  ∙ ap (λ i. (view_at s i).holds) (sym p.0)
+              | inr p ↦
+                  ap (λ (v : View (List E)). v.holds) p.1
+                  ∙ set_keeps (λ (v : View (List E)). v.holds) s.views view both spent_view lt refl third
             ])
-          honest.holders;
+            honest.holders;
       }
 
   pub mark_keeps : (entry : E) (place : ℕ) → place < length s.places → MayMark touches s.edits (view_at s 0) entry place
@@ -223,21 +223,21 @@ module _ {E : Type 0} (places : ℕ) (worth : List E → ℕ → ℕ) (touches :
       let stores : StoresMark (words_of s.places) (words_of after) place (length s.edits.log + 1) = stores_mark s.places place there (length s.edits.log + 1) in
       let touched : touches s.edits.log entry place = subst (λ (l : List E). touches l entry place) honest.editor_log may.touched in
       let advances : Advances s.edits (marks_for s.edits entry place) (words_of s.places) (words_of after) =
-          mark_advances worth touches codeless s.edits (words_of s.places) (words_of after) entry place stores may.idle
-          (mark_bound touches s.edits place (place_at s.places place).mark (honest.marks place (within place there))) in
+      mark_advances worth touches codeless s.edits (words_of s.places) (words_of after) entry place stores may.idle
+      (mark_bound touches s.edits place (place_at s.places place).mark (honest.marks place (within place there))) in
       record {
         count = length-set s.places place (record (place_at s.places place) { mark = length s.edits.log + 1 }) ∙ honest.count;
         editor_live = honest.editor_live;
         editor_log = honest.editor_log;
         marks = λ other lt.
-          marks_after_mark worth touches codeless s.edits (words_of s.places) (words_of after) entry place stores may.idle touched other (honest.marks other lt);
+            marks_after_mark worth touches codeless s.edits (words_of s.places) (words_of after) entry place stores may.idle touched other (honest.marks other lt);
         values = λ other lt.
-          values_after_mark worth touches codeless s.edits (words_of s.places) (words_of after) entry place stores other (honest.values other lt);
+            values_after_mark worth touches codeless s.edits (words_of s.places) (words_of after) entry place stores other (honest.values other lt);
         views = λ view.
-          view_stays worth touches codeless s.edits (marks_for s.edits entry place) (words_of s.places) (words_of after) (view_at s view) advances
-          (λ hold among h. (stores.cleans hold.place, stores.values hold.place)) (honest.views view);
+            view_stays worth touches codeless s.edits (marks_for s.edits entry place) (words_of s.places) (words_of after) (view_at s view) advances
+            (λ hold among h. (stores.cleans hold.place, stores.values hold.place)) (honest.views view);
         holders =
-          holders_stay s (after_mark s entry place) (λ p. ap (λ (x : Clean). x.held) (stores.cleans p)) (λ view. refl) honest.holders;
+            holders_stay s (after_mark s entry place) (λ p. ap (λ (x : Clean). x.held) (stores.cleans p)) (λ view. refl) honest.holders;
       }
 
   pub commit_keeps : (entry : E) → MayCommit touches (length s.places) s.edits (view_at s 0) entry
@@ -246,36 +246,36 @@ module _ {E : Type 0} (places : ℕ) (worth : List E → ℕ → ℕ) (touches :
       let lt : 0 < length s.views = live_within s.views 0 honest.editor_live in
       let new : View (List E) = committed (view_at s 0) entry in
       let all : (place : ℕ) → place < places → touches s.edits.log entry place → Contains s.edits.marked place =
-          λ place there t. may.marked place (omega (arith, honest.count)) (subst (λ (l : List E). touches l entry place) (sym honest.editor_log) t) in
+      λ place there t. may.marked place (omega (arith, honest.count)) (subst (λ (l : List E). touches l entry place) (sym honest.editor_log) t) in
       record {
         count = honest.count;
         editor_live = set_keeps (λ (v : View (List E)). v.spent) s.views 0 new spent_view lt refl 0 ∙ honest.editor_live;
         editor_log =
-          elim (set_cases s.views 0 new spent_view 0 lt) [
-            inl p ↦ ap (λ (v : View (List E)). v.log) p.1 ∙ ap (λ l. l ++ entry ∷ []) honest.editor_log
-          | inr p ↦ absurd (p.0 refl)
-          ];
+            elim (set_cases s.views 0 new spent_view 0 lt) [
+              | inl p ↦ ap (λ (v : View (List E)). v.log) p.1 ∙ ap (λ l. l ++ entry ∷ []) honest.editor_log
+              | inr p ↦ absurd (p.0 refl)
+            ];
         marks = λ place there.
-          marks_after_commit worth touches codeless s.edits entry may.pending place (place_at s.places place).mark (all place there) (honest.marks place there);
+            marks_after_commit worth touches codeless s.edits entry may.pending place (place_at s.places place).mark (all place there) (honest.marks place there);
         values = λ place there.
-          values_after_commit worth touches codeless s.edits entry may.pending place (place_at s.places place).mark (place_at s.places place).clean (place_at s.places place).value
-          (all place there) (untouched s.edits.log entry place there) (honest.marks place there) (honest.values place there);
+            values_after_commit worth touches codeless s.edits entry may.pending place (place_at s.places place).mark (place_at s.places place).clean (place_at s.places place).value
+            (all place there) (untouched s.edits.log entry place there) (honest.marks place there) (honest.values place there);
         views =
-          each_after_set (IsRightView worth touches codeless (commits s.edits entry) (words_of s.places)) s.views 0 new lt
-          (view_committed worth touches codeless s.edits (words_of s.places) (view_at s 0) (honest.views 0) entry may.pending honest.editor_log)
-          (λ other differs.
+            each_after_set (IsRightView worth touches codeless (commits s.edits entry) (words_of s.places)) s.views 0 new lt
+            (view_committed worth touches codeless s.edits (words_of s.places) (view_at s 0) (honest.views 0) entry may.pending honest.editor_log)
+            (λ other differs.
             view_stays worth touches codeless s.edits (commits s.edits entry) (words_of s.places) (words_of s.places) (view_at s other)
             (commit_advances worth touches codeless s.edits entry may.pending (words_of s.places)) (λ hold among h. (refl, refl)) (honest.views other));
         holders =
-          holders_stay s (after_commit s 0 entry) (λ place. refl)
-          (set_keeps (λ (v : View (List E)). v.holds) s.views 0 new spent_view lt refl) honest.holders;
+            holders_stay s (after_commit s 0 entry) (λ place. refl)
+            (set_keeps (λ (v : View (List E)). v.holds) s.views 0 new spent_view lt refl) honest.holders;
       }
 
   -- no view holds a place whose clean word is free
   none_holds : (view place : ℕ) → (place_at s.places place).clean.held ≡ false → HoldsPlace (view_at s view) place → ⊥
   none_holds view place free (k, hold, lt, is, same) =
       let right : IsRightHold worth (words_of s.places) (view_at s view).log hold =
-          All-contains (IsRightHold worth (words_of s.places) (view_at s view).log) (view_at s view).holds hold (honest.views view).holds (k, lt, is) in
+      All-contains (IsRightHold worth (words_of s.places) (view_at s view).log) (view_at s view).holds hold (honest.views view).holds (k, lt, is) in
       let held : (place_at s.places place).clean.held ≡ true = ap (λ p. (place_at s.places p).clean.held) (sym same) ∙ right.held in
       absurd (cc)
 
@@ -284,32 +284,32 @@ module _ {E : Type 0} (places : ℕ) (worth : List E → ℕ → ℕ) (touches :
       → HoldsPlace (get_or (set s.views view (took (view_at s view) place)) first spent_view) other
   holds_more view place first other lt h =
       elim (set_cases s.views view (took (view_at s view) place) spent_view first lt) [
-        inl p ↦
-          subst (λ (v : View (List E)). HoldsPlace v other) (sym p.1)
-          (any_append_left (λ (hold : Held). hold.place ≡ other) (view_at s view).holds (record { place = place; word = None } ∷ [])
+        | inl p ↦
+            subst (λ (v : View (List E)). HoldsPlace v other) (sym p.1)
+            (any_append_left (λ (hold : Held). hold.place ≡ other) (view_at s view).holds (record { place = place; word = None } ∷ [])
             (subst (λ (i : ℕ). HoldsPlace (view_at s i) other) p.0 h))
-      | inr p ↦ subst (λ (v : View (List E)). HoldsPlace v other) (sym p.1) h
+        | inr p ↦ subst (λ (v : View (List E)). HoldsPlace v other) (sym p.1) h
       ]
 
   held_before : (view place first other : ℕ) → view < length s.views → other ≢ place
       → HoldsPlace (get_or (set s.views view (took (view_at s view) place)) first spent_view) other → HoldsPlace (view_at s first) other
   held_before view place first other lt differs h =
       elim (set_cases s.views view (took (view_at s view) place) spent_view first lt) [
-        inl p ↦
-          elim (any_push_cases (λ (hold : Held). hold.place ≡ other) (view_at s view).holds (record { place = place; word = None })
+        | inl p ↦
+            elim (any_push_cases (λ (hold : Held). hold.place ≡ other) (view_at s view).holds (record { place = place; word = None })
             (subst (λ (v : View (List E)). HoldsPlace v other) p.1 h)) [
-            inl old ↦ subst (λ (i : ℕ). HoldsPlace (view_at s i) other) (sym p.0) old
-          | inr same ↦ absurd (differs (sym same))
-          ]
-      | inr p ↦ subst (λ (v : View (List E)). HoldsPlace v other) p.1 h
+              | inl old ↦ subst (λ (i : ℕ). HoldsPlace (view_at s i) other) (sym p.0) old
+              | inr same ↦ absurd (differs (sym same))
+            ]
+        | inr p ↦ subst (λ (v : View (List E)). HoldsPlace v other) p.1 h
       ]
 
   claimer : (view place first : ℕ) → view < length s.views → (place_at s.places place).clean.held ≡ false
       → HoldsPlace (get_or (set s.views view (took (view_at s view) place)) first spent_view) place → first ≡ view
   claimer view place first lt free h =
       elim (set_cases s.views view (took (view_at s view) place) spent_view first lt) [
-        inl p ↦ p.0
-      | inr p ↦ absurd (none_holds first place free (subst (λ (v : View (List E)). HoldsPlace v place) p.1 h))
+        | inl p ↦ p.0
+        | inr p ↦ absurd (none_holds first place free (subst (λ (v : View (List E)). HoldsPlace v place) p.1 h))
       ]
 
   pub claim_keeps : (view place : ℕ) (seen : Clean) → MayRead (length s.places) (view_at s view) place → MayClaim (view_at s view) place seen
@@ -320,7 +320,7 @@ module _ {E : Type 0} (places : ℕ) (worth : List E → ℕ → ℕ) (touches :
       let lt : view < length s.views = live_within s.views view may.live in
       let stores : StoresClean (words_of s.places) (words_of after) place held = stores_clean s.places place may.there held in
       let read : IsRightRead worth touches codeless s.edits (words_of s.places) claim.read =
-          All-contains (IsRightRead worth touches codeless s.edits (words_of s.places)) (view_at s view).reads claim.read (honest.views view).reads claim.among in
+      All-contains (IsRightRead worth touches codeless s.edits (words_of s.places)) (view_at s view).reads claim.read (honest.views view).reads claim.among in
       let read_mark : (place_at s.places claim.read.place).mark ≡ (place_at s.places place).mark = ap (λ p. (place_at s.places p).mark) claim.ground.same_place in
       let stale : seen.upto ≤ (place_at s.places place).mark = omega (arith, claim.ground.stale, read.mark_below) in
       let free : (place_at s.places place).clean.held ≡ false = ap (λ (x : Clean). x.held) found ∙ claim.free in
@@ -331,42 +331,41 @@ module _ {E : Type 0} (places : ℕ) (worth : List E → ℕ → ℕ) (touches :
         editor_log = set_keeps (λ (v : View (List E)). v.log) s.views view new spent_view lt refl 0 ∙ honest.editor_log;
         marks = λ other there. subst (λ (m : ℕ). IsRightMark touches s.edits other m) (sym (stores.marks other)) (honest.marks other there);
         values = λ other there.
-          values_after_claim worth codeless s.edits (words_of s.places) (words_of after) place seen found stale stores other (honest.values other there);
+            values_after_claim worth codeless s.edits (words_of s.places) (words_of after) place seen found stale stores other (honest.values other there);
         views =
-          each_after_set (IsRightView worth touches codeless s.edits (words_of after)) s.views view new lt
-          (view_took worth touches codeless s.edits (words_of s.places) (words_of after) (view_at s view) place seen found claim.free stale stores (honest.views view))
-          (λ other differs.
+            each_after_set (IsRightView worth touches codeless s.edits (words_of after)) s.views view new lt
+            (view_took worth touches codeless s.edits (words_of s.places) (words_of after) (view_at s view) place seen found claim.free stale stores (honest.views view))
+            (λ other differs.
             view_stays worth touches codeless s.edits s.edits (words_of s.places) (words_of after) (view_at s other)
             (claim_advances worth codeless s.edits (words_of s.places) (words_of after) place seen found stale stores)
             (λ hold among h. claim_leaves worth touches codeless (words_of s.places) (words_of after) place seen held (view_at s other).log hold found claim.free stores h)
             (honest.views other));
         holders =
-          record {
-            held = λ other is.
-              elim (cases_eq other place) [
-                inl same ↦
-                  (
-                    view,
-                    elim (set_cases s.views view new spent_view view lt) [
-                      inl p ↦
-                        subst (λ (v : View (List E)). HoldsPlace v other) (sym p.1)
-                        (any_contained (λ (h : Held). h.place ≡ other) ((view_at s view).holds ++ record { place = place; word = None } ∷ []) (record { place = place; word = None })
-                          (Contains-push (view_at s view).holds (record { place = place; word = None })) (sym same))
-                    | inr p ↦ absurd (p.0 refl)
-                    ]
-                  )
-              | inr differs ↦
-                let h = honest.holders.held other (sym (ap (λ (x : Clean). x.held) (stores.cleans other differs)) ∙ is) in
-                (h.0, holds_more view place h.0 other lt h.1)
-              ];
-            one = λ other first second a b.
-              elim (cases_eq other place) [
-                inl same ↦
-                  claimer view place first lt free (subst (λ (p : ℕ). HoldsPlace (get_or (set s.views view new) first spent_view) p) same a)
-                  ∙ sym (claimer view place second lt free (subst (λ (p : ℕ). HoldsPlace (get_or (set s.views view new) second spent_view) p) same b))
-              | inr differs ↦ honest.holders.one other first second (held_before view place first other lt differs a) (held_before view place second other lt differs b)
-              ];
-          };
+            record {
+              held = λ other is.
+                  elim (cases_eq other place) [
+                    | inl same ↦ (
+                      view,
+                      elim (set_cases s.views view new spent_view view lt) [
+                        | inl p ↦
+                            subst (λ (v : View (List E)). HoldsPlace v other) (sym p.1)
+                            (any_contained (λ (h : Held). h.place ≡ other) ((view_at s view).holds ++ record { place = place; word = None } ∷ []) (record { place = place; word = None })
+                            (Contains-push (view_at s view).holds (record { place = place; word = None })) (sym same))
+                        | inr p ↦ absurd (p.0 refl)
+                      ],
+                    )
+                    | inr differs ↦
+                        let h = honest.holders.held other (sym (ap (λ (x : Clean). x.held) (stores.cleans other differs)) ∙ is) in
+                        (h.0, holds_more view place h.0 other lt h.1)
+                  ];
+              one = λ other first second a b.
+                  elim (cases_eq other place) [
+                    | inl same ↦
+                        claimer view place first lt free (subst (λ (p : ℕ). HoldsPlace (get_or (set s.views view new) first spent_view) p) same a)
+                        ∙ sym (claimer view place second lt free (subst (λ (p : ℕ). HoldsPlace (get_or (set s.views view new) second spent_view) p) same b))
+                    | inr differs ↦ honest.holders.one other first second (held_before view place first other lt differs a) (held_before view place second other lt differs b)
+                  ];
+            };
       }
 
   -- a place that the view holds is stale, and no other view holds it
@@ -374,37 +373,37 @@ module _ {E : Type 0} (places : ℕ) (worth : List E → ℕ → ℕ) (touches :
       → (place_at s.places place).clean.upto ≤ (place_at s.places place).mark
   held_stale view place hold there among same =
       let right : IsRightHold worth (words_of s.places) (view_at s view).log hold =
-          All-contains (IsRightHold worth (words_of s.places) (view_at s view).log) (view_at s view).holds hold (honest.views view).holds among in
+      All-contains (IsRightHold worth (words_of s.places) (view_at s view).log) (view_at s view).holds hold (honest.views view).holds among in
       (honest.values place (within place there)).held (ap (λ p. (place_at s.places p).clean.held) (sym same) ∙ right.held)
 
   held_apart : (view other place : ℕ) (hold mine : Held) → other ≢ view → Contains (view_at s view).holds mine → mine.place ≡ place
       → Contains (view_at s other).holds hold → hold.place ≢ place
   held_apart view other place hold mine differs among same among' same' =
       differs (honest.holders.one place other view
-        (any_contained (λ (h : Held). h.place ≡ place) (view_at s other).holds hold among' same')
-        (any_contained (λ (h : Held). h.place ≡ place) (view_at s view).holds mine among same))
+      (any_contained (λ (h : Held). h.place ≡ place) (view_at s other).holds hold among' same')
+      (any_contained (λ (h : Held). h.place ≡ place) (view_at s view).holds mine among same))
 
   -- which places the views hold after a put of this one
   wrote_holds : (view place word first other : ℕ) → view < length s.views → HoldsPlace (view_at s first) other
       → HoldsPlace (get_or (set s.views view (wrote (view_at s view) place word)) first spent_view) other
   wrote_holds view place word first other lt h =
       elim (set_cases s.views view (wrote (view_at s view) place word) spent_view first lt) [
-        inl p ↦
-          subst (λ (v : View (List E)). HoldsPlace v other) (sym p.1)
-          (any_map (λ (hold : Held). hold.place ≡ other) (hold_with place word) (λ hold e. hold_place place word hold ∙ e) (view_at s view).holds
+        | inl p ↦
+            subst (λ (v : View (List E)). HoldsPlace v other) (sym p.1)
+            (any_map (λ (hold : Held). hold.place ≡ other) (hold_with place word) (λ hold e. hold_place place word hold ∙ e) (view_at s view).holds
             (subst (λ (i : ℕ). HoldsPlace (view_at s i) other) p.0 h))
-      | inr p ↦ subst (λ (v : View (List E)). HoldsPlace v other) (sym p.1) h
+        | inr p ↦ subst (λ (v : View (List E)). HoldsPlace v other) (sym p.1) h
       ]
 
   wrote_held : (view place word first other : ℕ) → view < length s.views
       → HoldsPlace (get_or (set s.views view (wrote (view_at s view) place word)) first spent_view) other → HoldsPlace (view_at s first) other
   wrote_held view place word first other lt h =
       elim (set_cases s.views view (wrote (view_at s view) place word) spent_view first lt) [
-        inl p ↦
-          subst (λ (i : ℕ). HoldsPlace (view_at s i) other) (sym p.0)
-          (any_from_map (λ (hold : Held). hold.place ≡ other) (hold_with place word) (λ hold e. sym (hold_place place word hold) ∙ e) (view_at s view).holds
+        | inl p ↦
+            subst (λ (i : ℕ). HoldsPlace (view_at s i) other) (sym p.0)
+            (any_from_map (λ (hold : Held). hold.place ≡ other) (hold_with place word) (λ hold e. sym (hold_place place word hold) ∙ e) (view_at s view).holds
             (subst (λ (v : View (List E)). HoldsPlace v other) p.1 h))
-      | inr p ↦ subst (λ (v : View (List E)). HoldsPlace v other) p.1 h
+        | inr p ↦ subst (λ (v : View (List E)). HoldsPlace v other) p.1 h
       ]
 
   pub put_keeps : (view place word : ℕ) → MayRead (length s.places) (view_at s view) place → MayPut worth (view_at s view) place word
@@ -421,26 +420,26 @@ module _ {E : Type 0} (places : ℕ) (worth : List E → ℕ → ℕ) (touches :
         editor_log = set_keeps (λ (v : View (List E)). v.log) s.views view new spent_view lt refl 0 ∙ honest.editor_log;
         marks = λ other there. subst (λ (m : ℕ). IsRightMark touches s.edits other m) (sym (stores.marks other)) (honest.marks other there);
         values = λ other there.
-          values_after_put worth codeless s.edits (words_of s.places) (words_of after) place word stale stores other (honest.values other there);
+            values_after_put worth codeless s.edits (words_of s.places) (words_of after) place word stale stores other (honest.values other there);
         views =
-          each_after_set (IsRightView worth touches codeless s.edits (words_of after)) s.views view new lt
-          (view_wrote worth touches codeless s.edits (words_of s.places) (words_of after) (view_at s view) place word stale stores put.known (honest.views view))
-          (λ other differs.
+            each_after_set (IsRightView worth touches codeless s.edits (words_of after)) s.views view new lt
+            (view_wrote worth touches codeless s.edits (words_of s.places) (words_of after) (view_at s view) place word stale stores put.known (honest.views view))
+            (λ other differs.
             view_stays worth touches codeless s.edits s.edits (words_of s.places) (words_of after) (view_at s other)
             (put_advances worth codeless s.edits (words_of s.places) (words_of after) place word stale stores)
             (λ hold among h. (
               stores.cleans hold.place,
-              stores.values hold.place (held_apart view other place hold put.hold differs put.among put.same_place among)
+              stores.values hold.place (held_apart view other place hold put.hold differs put.among put.same_place among),
             ))
             (honest.views other));
         holders =
-          record {
-            held = λ other is.
-              let h = honest.holders.held other (sym (ap (λ (x : Clean). x.held) (stores.cleans other)) ∙ is) in
-              (h.0, wrote_holds view place word h.0 other lt h.1);
-            one = λ other first second a b.
-              honest.holders.one other first second (wrote_held view place word first other lt a) (wrote_held view place word second other lt b);
-          };
+            record {
+              held = λ other is.
+                  let h = honest.holders.held other (sym (ap (λ (x : Clean). x.held) (stores.cleans other)) ∙ is) in
+                  (h.0, wrote_holds view place word h.0 other lt h.1);
+              one = λ other first second a b.
+                  honest.holders.one other first second (wrote_held view place word first other lt a) (wrote_held view place word second other lt b);
+            };
       }
 
   -- which places the views hold after a finish of this one
@@ -448,24 +447,24 @@ module _ {E : Type 0} (places : ℕ) (worth : List E → ℕ → ℕ) (touches :
       → HoldsPlace (get_or (set s.views view (gave_back (view_at s view) place mark)) first spent_view) other
   gave_holds view place mark first other lt differs h =
       elim (set_cases s.views view (gave_back (view_at s view) place mark) spent_view first lt) [
-        inl p ↦
-          subst (λ (v : View (List E)). HoldsPlace v other) (sym p.1)
-          (any_filter (λ (hold : Held). hold.place ≡ other) (λ hold. not (hold.place == place))
+        | inl p ↦
+            subst (λ (v : View (List E)). HoldsPlace v other) (sym p.1)
+            (any_filter (λ (hold : Held). hold.place ≡ other) (λ hold. not (hold.place == place))
             (λ hold e. is_other hold.place place (λ e'. differs (sym e ∙ e'))) (view_at s view).holds
             (subst (λ (i : ℕ). HoldsPlace (view_at s i) other) p.0 h))
-      | inr p ↦ subst (λ (v : View (List E)). HoldsPlace v other) (sym p.1) h
+        | inr p ↦ subst (λ (v : View (List E)). HoldsPlace v other) (sym p.1) h
       ]
 
   gave_held : (view place mark first other : ℕ) → view < length s.views
       → HoldsPlace (get_or (set s.views view (gave_back (view_at s view) place mark)) first spent_view) other → HoldsPlace (view_at s first) other
   gave_held view place mark first other lt h =
       elim (set_cases s.views view (gave_back (view_at s view) place mark) spent_view first lt) [
-        inl p ↦
-          let kept : Any (λ (hold : Held). (hold.place ≡ other) × (not (hold.place == place) ≡ true)) (view_at s view).holds =
-              any_from_filter (λ (hold : Held). hold.place ≡ other) (λ hold. not (hold.place == place)) (view_at s view).holds
-              (subst (λ (v : View (List E)). HoldsPlace v other) p.1 h) in
-          subst (λ (i : ℕ). HoldsPlace (view_at s i) other) (sym p.0) (kept.0, kept.1, kept.2, kept.3, kept.4.0)
-      | inr p ↦ subst (λ (v : View (List E)). HoldsPlace v other) p.1 h
+        | inl p ↦
+            let kept : Any (λ (hold : Held). (hold.place ≡ other) × (not (hold.place == place) ≡ true)) (view_at s view).holds =
+            any_from_filter (λ (hold : Held). hold.place ≡ other) (λ hold. not (hold.place == place)) (view_at s view).holds
+            (subst (λ (v : View (List E)). HoldsPlace v other) p.1 h) in
+            subst (λ (i : ℕ). HoldsPlace (view_at s i) other) (sym p.0) (kept.0, kept.1, kept.2, kept.3, kept.4.0)
+        | inr p ↦ subst (λ (v : View (List E)). HoldsPlace v other) p.1 h
       ]
 
   pub finish_keeps : (view place mark : ℕ) → MayRead (length s.places) (view_at s view) place → MayFinish worth touches (view_at s view) place mark
@@ -479,7 +478,7 @@ module _ {E : Type 0} (places : ℕ) (worth : List E → ℕ → ℕ) (touches :
       let stale : (place_at s.places place).clean.upto ≤ (place_at s.places place).mark = held_stale view place hold may.there finish.among refl in
       let below : IsPrefix (view_at s view).log s.edits.log = (honest.views view).log.known_prefix in
       let right : IsRightHold worth (words_of s.places) (view_at s view).log hold =
-          All-contains (IsRightHold worth (words_of s.places) (view_at s view).log) (view_at s view).holds hold (honest.views view).holds finish.among in
+      All-contains (IsRightHold worth (words_of s.places) (view_at s view).log) (view_at s view).holds hold (honest.views view).holds finish.among in
       let new : View (List E) = gave_back (view_at s view) place mark in
       record {
         count = length-set s.places place (record (place_at s.places place) { clean = free }) ∙ honest.count;
@@ -487,33 +486,33 @@ module _ {E : Type 0} (places : ℕ) (worth : List E → ℕ → ℕ) (touches :
         editor_log = set_keeps (λ (v : View (List E)). v.log) s.views view new spent_view lt refl 0 ∙ honest.editor_log;
         marks = λ other there. subst (λ (m : ℕ). IsRightMark touches s.edits other m) (sym (stores.marks other)) (honest.marks other there);
         values = λ other there.
-          values_after_finish worth touches codeless s.edits (words_of s.places) (words_of after) (view_at s view).log place finish.word mark below
-          finish.computed (law place may.there) stores (right.put finish.word refl) other (honest.marks other there) (honest.values other there);
+            values_after_finish worth touches codeless s.edits (words_of s.places) (words_of after) (view_at s view).log place finish.word mark below
+            finish.computed (law place may.there) stores (right.put finish.word refl) other (honest.marks other there) (honest.values other there);
         views =
-          each_after_set (IsRightView worth touches codeless s.edits (words_of after)) s.views view new lt
-          (view_gave_back worth touches codeless s.edits (words_of s.places) (words_of after) (view_at s view) place finish.word mark
+            each_after_set (IsRightView worth touches codeless s.edits (words_of after)) s.views view new lt
+            (view_gave_back worth touches codeless s.edits (words_of s.places) (words_of after) (view_at s view) place finish.word mark
             finish.computed (law place may.there) stale stores (honest.marks place (within place may.there)) (honest.views view))
-          (λ other differs.
+            (λ other differs.
             view_stays worth touches codeless s.edits s.edits (words_of s.places) (words_of after) (view_at s other)
             (finish_advances worth touches codeless s.edits (words_of s.places) (words_of after) (view_at s view).log place finish.word mark below
-              finish.computed (law place may.there) stores stale)
+            finish.computed (law place may.there) stores stale)
             (λ hold' among h. (
               stores.cleans hold'.place (held_apart view other place hold' hold differs finish.among refl among),
-              stores.values hold'.place
+              stores.values hold'.place,
             ))
             (honest.views other));
         holders =
-          record {
-            held = λ other is.
-              elim (cases_eq other place) [
-                inl same ↦
-                  absurd (let freed : ((words_of after).clean other).held ≡ false =
-                      ap (λ p. ((words_of after).clean p).held) same ∙ ap (λ (x : Clean). x.held) stores.stored in cc)
-              | inr differs ↦
-                let h = honest.holders.held other (sym (ap (λ (x : Clean). x.held) (stores.cleans other differs)) ∙ is) in
-                (h.0, gave_holds view place mark h.0 other lt differs h.1)
-              ];
-            one = λ other first second a b.
-              honest.holders.one other first second (gave_held view place mark first other lt a) (gave_held view place mark second other lt b);
-          };
+            record {
+              held = λ other is.
+                  elim (cases_eq other place) [
+                    | inl same ↦
+                        absurd (let freed : ((words_of after).clean other).held ≡ false =
+                        ap (λ p. ((words_of after).clean p).held) same ∙ ap (λ (x : Clean). x.held) stores.stored in cc)
+                    | inr differs ↦
+                        let h = honest.holders.held other (sym (ap (λ (x : Clean). x.held) (stores.cleans other differs)) ∙ is) in
+                        (h.0, gave_holds view place mark h.0 other lt differs h.1)
+                  ];
+              one = λ other first second a b.
+                  honest.holders.one other first second (gave_held view place mark first other lt a) (gave_held view place mark second other lt b);
+            };
       }

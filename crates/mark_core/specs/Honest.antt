@@ -95,8 +95,8 @@ IsLegalAnswer worth touches codeless count entries number place mark (Newer show
 pub record IsLegalRead {E : Type 0} (worth : List E → ℕ → ℕ) (touches : List E → E → ℕ → Type 0) (codeless : ℕ → Type 0) (edits : Edits E) (read : Finished) (word : ℕ) : Type 0 where
   pub within : read.number ≤ length edits.log
   pub legal :
-    (shown : Seen) → Shows read.number read.clean word read.mark shown
-    → IsLegalAnswer worth touches codeless (length edits.log) (entries_of edits) read.number read.place read.mark shown
+      (shown : Seen) → Shows read.number read.clean word read.mark shown
+      → IsLegalAnswer worth touches codeless (length edits.log) (entries_of edits) read.number read.place read.mark shown
 
 -- A finished read: its mark hasn't fallen since, it met its floor, and with a word it is legal.
 pub record IsRightRead {E : Type 0} (worth : List E → ℕ → ℕ) (touches : List E → E → ℕ → Type 0) (codeless : ℕ → Type 0) (edits : Edits E) (words : Words) (read : Finished) : Type 0 where
@@ -136,7 +136,7 @@ pub record IsHonest {E : Type 0} (places : ℕ) (worth : List E → ℕ → ℕ)
   pub editor_log : (view_at s 0).log ≡ s.edits.log
   pub marks : (place : ℕ) → place < places → IsRightMark touches s.edits place ((words_of s.places).mark place)
   pub values :
-    (place : ℕ) → place < places
-    → IsRightValue worth codeless s.edits.log place ((words_of s.places).mark place) ((words_of s.places).clean place) ((words_of s.places).value place)
+      (place : ℕ) → place < places
+      → IsRightValue worth codeless s.edits.log place ((words_of s.places).mark place) ((words_of s.places).clean place) ((words_of s.places).value place)
   pub views : (view : ℕ) → IsRightView worth touches codeless s.edits (words_of s.places) (view_at s view)
   pub holders : HasOneHolder s

@@ -8,3 +8,4 @@ pub mod Step
 pub mod Honest
 pub mod Run
 pub mod Kept
+pub mod TwoCells

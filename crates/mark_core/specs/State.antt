@@ -46,8 +46,16 @@ pub record View (L : Type 0) : Type 0 where
 abbrev pub spent_with : {L : Type 0} → L → View L
 spent_with log =
     record {
-      spent = true; log = log; seen = 0; sees = []; known = []; half = None; reads = [];
-      holds = []; done = []; lost = [];
+      spent = true;
+      log = log;
+      seen = 0;
+      sees = [];
+      known = [];
+      half = None;
+      reads = [];
+      holds = [];
+      done = [];
+      lost = [];
     }
 
 -- a view that was joined into another, and one that isn't there
@@ -58,8 +66,16 @@ spent_view = spent_with []
 abbrev pub new_view : {L : Type 0} → L → ℕ → List Known → View L
 new_view log seen known =
     record {
-      spent = false; log = log; seen = seen; sees = []; known = known; half = None; reads = [];
-      holds = []; done = []; lost = [];
+      spent = false;
+      log = log;
+      seen = seen;
+      sees = [];
+      known = known;
+      half = None;
+      reads = [];
+      holds = [];
+      done = [];
+      lost = [];
     }
 
 -- the edits, the places and the views, of which view 0 is the editor's

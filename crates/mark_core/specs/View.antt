@@ -71,8 +71,12 @@ valued view place word = record view { half = with_word view.half place word }
 abbrev pub read_of : ℕ → Half → ℕ → Finished
 read_of number half mark =
     record {
-      number = number; place = half.place; clean = half.clean; word = half.word;
-      mark = mark; floor = half.floor;
+      number = number;
+      place = half.place;
+      clean = half.clean;
+      word = half.word;
+      mark = mark;
+      floor = half.floor;
     }
 
 -- what a read with a word tells of its place: that its value was computed for the mark

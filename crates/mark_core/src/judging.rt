@@ -6,12 +6,11 @@ ghost use Rattle.mark_core.specs.Mark.{IsTouched, IsLastMark};
 ghost use Rattle.mark_core.specs.State.{State, view_at};
 ghost use Rattle.mark_core.specs.Permission.{IsLive, MayMark, MayCommit, MayJoin, MayClaim, MayPut, MayFinish, IsWorthKnown, IsWorthMarked, IsGround, IsMarkedHold, Allowed};
 
-use std::alloc::Global;
-
 use crate::events::Event;
 use crate::protocol::Core;
 use crate::subjects::Judge;
 use crate::words::{Clean, Finished, Held, Memory};
+use std::alloc::Global;
 
 /// Whether the entry at this index touches the place after the entries before it.
 fn touched<S: Judge>(
@@ -68,10 +67,8 @@ fn none_touched<S: Judge>(
     place: u32,
     from: usize,
 ) -> Result<bool, Memory>
-    ensures {
-        IfOk result
-        (λ b. IsTrue b ↔ ((index : ℕ) → from ≤ index → index < length log.now → IsTouched (S.touches subject.now) log.now place (index + 1) → ⊥))
-    }
+    ensures { IfOk result
+        (λ b. IsTrue b ↔ ((index : ℕ) → from ≤ index → index < length log.now → IsTouched (S.touches subject.now) log.now place (index + 1) → ⊥)) }
 {
     for index in from..log.len() {
         if touched(alloc, subject, log, place, index)? {
@@ -90,10 +87,8 @@ fn belongs<S: Judge>(
     word: u64,
     mark: u64,
 ) -> Result<bool, Memory>
-    ensures {
-        IfOk result
-        (λ b. IsTrue b ↔ ((S.worth subject.now log.now place ≡ word) × IsLastMark (S.touches subject.now) log.now place mark))
-    }
+    ensures { IfOk result
+        (λ b. IsTrue b ↔ ((S.worth subject.now log.now place ≡ word) × IsLastMark (S.touches subject.now) log.now place mark)) }
 {
     if subject.worth_now(alloc, log, place)? != word {
         return Ok(false);
@@ -128,10 +123,8 @@ fn knows_marked<S: Judge>(
     word: u64,
     mark: u64,
 ) -> Result<bool, Memory>
-    ensures {
-        IfOk result
-        (λ b. IsTrue b ↔ IsWorthMarked (S.worth subject.now) (S.touches subject.now) log.now place word mark)
-    }
+    ensures { IfOk result
+        (λ b. IsTrue b ↔ IsWorthMarked (S.worth subject.now) (S.touches subject.now) log.now place word mark) }
 {
     for count in 0..log.len() {
         if belongs(alloc, subject, &log[..count], place, word, mark)? {
@@ -150,10 +143,8 @@ fn any_marked<S: Judge>(
     place: u32,
     mark: u64,
 ) -> Result<bool, Memory>
-    ensures {
-        IfOk result
-        (λ b. IsTrue b ↔ Any (λ hold. IsMarkedHold (S.worth subject.now) (S.touches subject.now) log.now place mark hold) holds.now)
-    }
+    ensures { IfOk result
+        (λ b. IsTrue b ↔ Any (λ hold. IsMarkedHold (S.worth subject.now) (S.touches subject.now) log.now place mark hold) holds.now) }
 {
     for hold in holds {
         if is_marked_hold(alloc, subject, log, *hold, place, mark)? {
@@ -172,10 +163,8 @@ fn is_marked_hold<S: Judge>(
     place: u32,
     mark: u64,
 ) -> Result<bool, Memory>
-    ensures {
-        IfOk result
-        (λ b. IsTrue b ↔ IsMarkedHold (S.worth subject.now) (S.touches subject.now) log.now place mark hold)
-    }
+    ensures { IfOk result
+        (λ b. IsTrue b ↔ IsMarkedHold (S.worth subject.now) (S.touches subject.now) log.now place mark hold) }
 {
     match hold.word {
         Some(word) if hold.place == place => {
@@ -195,10 +184,8 @@ fn all_marked<S: Judge>(
     marked: &[u32],
     places: u32,
 ) -> Result<bool, Memory>
-    ensures {
-        IfOk result
-        (λ b. IsTrue b ↔ ((place : ℕ) → place < places → S.touches subject.now log.now entry.now place → Contains marked.now place))
-    }
+    ensures { IfOk result
+        (λ b. IsTrue b ↔ ((place : ℕ) → place < places → S.touches subject.now log.now entry.now place → Contains marked.now place)) }
 {
     for place in 0..places {
         if !is_covered(alloc, subject, log, entry, marked, place)? {
@@ -217,9 +204,7 @@ fn is_covered<S: Judge>(
     marked: &[u32],
     place: u32,
 ) -> Result<bool, Memory>
-    ensures {
-        IfOk result (λ b. IsTrue b ↔ (S.touches subject.now log.now entry.now place → Contains marked.now place))
-    }
+    ensures { IfOk result (λ b. IsTrue b ↔ (S.touches subject.now log.now entry.now place → Contains marked.now place)) }
 {
     if marked.contains(&place) {
         return Ok(true);
@@ -254,10 +239,8 @@ impl<S: Judge> Core<S> {
     /// entry that the view knows, and a finish one for each pair of them; a commit takes one for each
     /// place.
     pub fn allows(&self, event: &Event<S::Entry>) -> Result<bool, Memory>
-        ensures {
-            IfOk result
-            (λ allowed. IsTrue allowed ↔ Allowed (S.worth self.now.subject) (S.touches self.now.subject) self.now.state event.now)
-        }
+        ensures { IfOk result
+            (λ allowed. IsTrue allowed ↔ Allowed (S.worth self.now.subject) (S.touches self.now.subject) self.now.state event.now) }
     {
         match event {
             Event::See { view } | Event::Split { view } => Ok(self.state().is_live(*view)),
@@ -275,10 +258,8 @@ impl<S: Judge> Core<S> {
 
     /// Whether the editor may mark the place for the entry.
     fn allows_mark(&self, view: u32, entry: &S::Entry, place: u32) -> Result<bool, Memory>
-        ensures {
-            IfOk result
-            (λ allowed. IsTrue allowed ↔ Allowed (S.worth self.now.subject) (S.touches self.now.subject) self.now.state (Event.Mark view entry.now place))
-        }
+        ensures { IfOk result
+            (λ allowed. IsTrue allowed ↔ Allowed (S.worth self.now.subject) (S.touches self.now.subject) self.now.state (Event.Mark view entry.now place)) }
     {
         if view != 0 || !self.state().may_read(view, place) || !self.may_pend(entry) {
             return Ok(false);
@@ -290,9 +271,7 @@ impl<S: Judge> Core<S> {
 
     /// Whether nothing is pending, or this entry is.
     fn may_pend(&self, entry: &S::Entry) -> bool
-        ensures {
-            IsTrue result ↔ ((self.now.state.edits.pending ≡ None) ⊎ (self.now.state.edits.pending ≡ Some entry.now))
-        }
+        ensures { IsTrue result ↔ ((self.now.state.edits.pending ≡ None) ⊎ (self.now.state.edits.pending ≡ Some entry.now)) }
     {
         match self.state().pending() {
             None => true,
@@ -312,10 +291,8 @@ impl<S: Judge> Core<S> {
 
     /// Whether the editor may commit the entry.
     fn allows_commit(&self, view: u32, entry: &S::Entry) -> Result<bool, Memory>
-        ensures {
-            IfOk result
-            (λ allowed. IsTrue allowed ↔ Allowed (S.worth self.now.subject) (S.touches self.now.subject) self.now.state (Event.Commit view entry.now))
-        }
+        ensures { IfOk result
+            (λ allowed. IsTrue allowed ↔ Allowed (S.worth self.now.subject) (S.touches self.now.subject) self.now.state (Event.Commit view entry.now)) }
     {
         if view != 0 || !self.state().is_live(view) || !self.is_pending(entry) {
             return Ok(false);
@@ -333,9 +310,7 @@ impl<S: Judge> Core<S> {
 
     /// Whether the other view may be joined into this one.
     fn allows_join(&self, view: u32, other: u32) -> bool
-        ensures {
-            IsTrue result ↔ Allowed (S.worth self.now.subject) (S.touches self.now.subject) self.now.state (Event.Join view other)
-        }
+        ensures { IsTrue result ↔ Allowed (S.worth self.now.subject) (S.touches self.now.subject) self.now.state (Event.Join view other) }
     {
         view != other
             && other != 0
@@ -346,9 +321,7 @@ impl<S: Judge> Core<S> {
 
     /// Whether the view may claim the place from this clean word.
     fn allows_claim(&self, view: u32, place: u32, seen: Clean) -> bool
-        ensures {
-            IsTrue result ↔ Allowed (S.worth self.now.subject) (S.touches self.now.subject) self.now.state (Event.Claim view place seen)
-        }
+        ensures { IsTrue result ↔ Allowed (S.worth self.now.subject) (S.touches self.now.subject) self.now.state (Event.Claim view place seen) }
     {
         self.state().may_read(view, place)
             && !seen.held
@@ -357,10 +330,8 @@ impl<S: Judge> Core<S> {
 
     /// Whether the view may put the word to the place.
     fn allows_put(&self, view: u32, place: u32, word: u64) -> Result<bool, Memory>
-        ensures {
-            IfOk result
-            (λ allowed. IsTrue allowed ↔ Allowed (S.worth self.now.subject) (S.touches self.now.subject) self.now.state (Event.Put view place word))
-        }
+        ensures { IfOk result
+            (λ allowed. IsTrue allowed ↔ Allowed (S.worth self.now.subject) (S.touches self.now.subject) self.now.state (Event.Put view place word)) }
     {
         let state = self.state();
         if !state.may_read(view, place) || !holds_place(state.holds(view), place) {
@@ -377,10 +348,8 @@ impl<S: Judge> Core<S> {
 
     /// Whether the view may give the place back for the mark.
     fn allows_finish(&self, view: u32, place: u32, mark: u64) -> Result<bool, Memory>
-        ensures {
-            IfOk result
-            (λ allowed. IsTrue allowed ↔ Allowed (S.worth self.now.subject) (S.touches self.now.subject) self.now.state (Event.Finish view place mark))
-        }
+        ensures { IfOk result
+            (λ allowed. IsTrue allowed ↔ Allowed (S.worth self.now.subject) (S.touches self.now.subject) self.now.state (Event.Finish view place mark)) }
     {
         let state = self.state();
         if !state.may_read(view, place) {

@@ -18,6 +18,7 @@ mod laws;
 mod machine;
 mod protocol;
 mod subjects;
+mod two_cells;
 mod views;
 mod words;
 
@@ -26,4 +27,8 @@ pub use events::{Event, Outcome};
 pub use laws::stays_honest;
 pub use protocol::Core;
 pub use subjects::{Judge, Subject};
-pub use words::{Clean, Memory};
+pub use two_cells::TwoCells;
+pub use words::{Clean, Finished, Half, Held, Known, Lost, Memory, Place};
+
+#[cfg(test)]
+mod tests;

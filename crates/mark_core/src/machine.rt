@@ -4,11 +4,10 @@ ghost use Rattle.std.specs.Prelude.{◌≡◌, ◌<◌, ◌^◌, IfOk, map, leng
 ghost use Rattle.mark_core.specs.Place.{opened as opened_place};
 ghost use Rattle.mark_core.specs.State.{State, opening_state};
 
-use std::alloc::{AllocError, Global};
-use std::marker::Model;
-
 use crate::views::Stored;
 use crate::words::{Clean, Memory, Place};
+use std::alloc::{AllocError, Global};
+use std::marker::Model;
 
 mod edits;
 mod looks;

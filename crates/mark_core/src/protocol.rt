@@ -1,17 +1,16 @@
 #![tactic(auto)]
 
-ghost use Rattle.std.specs.Prelude.{◌≡◌, ◌<◌, ◌^◌, length, IfOk, OnErr};
+ghost use Rattle.std.specs.Prelude.{◌≡◌, ◌↔◌, IsTrue, ◌<◌, ◌^◌, length, IfOk, OnErr};
 ghost use Rattle.mark_core.specs.State.{State, opening_state};
 ghost use Rattle.mark_core.specs.Permission.{Allowed, HasRoom};
 ghost use Rattle.mark_core.specs.Step.{Happens};
 ghost use Rattle.mark_core.specs.Run.{IsOpening};
 
-use std::alloc::Global;
-
 use crate::events::{Event, Outcome};
 use crate::machine::Machine;
 use crate::subjects::Subject;
 use crate::words::Memory;
+use std::alloc::Global;
 
 /// The protocol over one subject, one event at a time. Contracts see the subject and the state.
 #[derive(Drop)]
@@ -46,15 +45,23 @@ impl<S: Subject> Core<S> {
         &self.state
     }
 
+    /// Whether there is room for one more view, where the event makes one.
+    pub fn has_room(&self, event: &Event<S::Entry>) -> bool
+        ensures { IsTrue result ↔ HasRoom self.now.state event.now }
+    {
+        match event {
+            Event::Split { .. } => self.state.has_room(),
+            _ => true,
+        }
+    }
+
     /// Does the event, which is allowed, and answers its outcome. After `Memory` the state is as before.
     pub fn step(&mut self, event: Event<S::Entry>) -> Result<Outcome, Memory>
         requires allowed { Allowed (S.worth self.old.subject) (S.touches self.old.subject) self.old.state event }
         requires room { HasRoom self.old.state event }
         ensures same_subject { self.new.subject ≡ self.old.subject }
-        ensures ok {
-            IfOk result
-            (λ outcome. Happens (S.worth self.old.subject) (S.touches self.old.subject) self.old.state event outcome self.new.state)
-        }
+        ensures ok { IfOk result
+            (λ outcome. Happens (S.worth self.old.subject) (S.touches self.old.subject) self.old.state event outcome self.new.state) }
         ensures err { OnErr result (self.new.state ≡ self.old.state) }
     {
         match event {

@@ -2,9 +2,8 @@
 
 ghost use Rattle.std.specs.Prelude.{◌≡◌, ◌<◌, ◌↔◌, ◌++◌, ◌∷◌, [], ℕ, List, IsTrue, IfOk};
 
-use std::alloc::Global;
-
 use crate::words::Memory;
+use std::alloc::Global;
 
 /// What the marks are about: numbered places whose worth depends on a list of edits. Each edit is an
 /// entry that touches some of the places, and a place that it doesn't touch keeps its worth.
@@ -22,12 +21,10 @@ pub trait Subject: Drop {
     ghost touches: { Self → List Self.Entry → Self.Entry → ℕ → Type 0 };
 
     /// A place that an entry doesn't touch keeps its worth.
-    ghost untouched: {
-        (subject : Self) (log : List Self.Entry) (entry : Self.Entry) (place : ℕ)
-            → place < places subject
-            → (touches subject log entry place → ⊥)
-            → worth subject (log ++ entry ∷ []) place ≡ worth subject log place
-    };
+    ghost untouched: { (subject : Self) (log : List Self.Entry) (entry : Self.Entry) (place : ℕ)
+        → place < places subject
+        → (touches subject log entry place → ⊥)
+        → worth subject (log ++ entry ∷ []) place ≡ worth subject log place };
 }
 
 /// A subject that can compute what it means. Only `Core::allows` needs one.

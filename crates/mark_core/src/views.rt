@@ -5,10 +5,9 @@ ghost use Rattle.mark_core.specs.State.{View, spent_with, new_view};
 ghost use Rattle.mark_core.specs.View.{saw, split_off, joined_with, floor_of, began, valued, finished, took, missed, hold_with, wrote, gave_back};
 ghost use Rattle.std.specs.Prelude.{filter, not, ◌==◌, if◌then◌else◌};
 
+use crate::words::{Clean, Finished, Half, Held, Known, Lost, Memory};
 use std::alloc::Global;
 use std::marker::Model;
-
-use crate::words::{Clean, Finished, Half, Held, Known, Lost, Memory};
 
 /// What the machine keeps of one view. Of the log it keeps a count: the view knows so many of the first
 /// entries.
@@ -32,20 +31,18 @@ impl Model for Stored {
 
     ghost Value = { View ℕ };
 
-    ghost view = {
-        λ s. record {
-            spent = s.spent;
-            log = s.entries;
-            seen = s.seen;
-            sees = s.sees.items;
-            known = s.known.items;
-            half = s.half;
-            reads = s.reads.items;
-            holds = s.holds.items;
-            done = s.done.items;
-            lost = s.lost.items;
-        }
-    };
+    ghost view = { λ s. record {
+      spent = s.spent;
+      log = s.entries;
+      seen = s.seen;
+      sees = s.sees.items;
+      known = s.known.items;
+      half = s.half;
+      reads = s.reads.items;
+      holds = s.holds.items;
+      done = s.done.items;
+      lost = s.lost.items;
+    } };
 
     ghost invariant = { λ s. All (λ pair. pair.mark + 1 < 2 ^ 64) s.known.items };
 }
@@ -281,7 +278,11 @@ fn floor_by(pair: Known, place: u32) -> u64
     requires { pair.mark + 1 < 2 ^ 64 }
     ensures { result ≡ (if pair.place == place then pair.mark + 1 else 0) }
 {
-    if pair.place == place { pair.mark + 1 } else { 0 }
+    if pair.place == place {
+        pair.mark + 1
+    } else {
+        0
+    }
 }
 
 /// Notes the word at each hold of the place.

@@ -4,15 +4,21 @@ ghost use Rattle.std.specs.Prelude.{◌≡◌, ◌<◌, ◌↔◌, ◌^◌, leng
 ghost use Rattle.mark_core.specs.State.{State, view_at};
 ghost use Rattle.mark_core.specs.Permission.{IsLive, MayRead};
 
-use std::alloc::Global;
-
 use crate::machine::Machine;
 use crate::words::{Finished, Held};
+use std::alloc::Global;
 
 impl<E> Machine<E> {
     /// The allocator of the machine's lists.
     pub fn allocator(&self) -> Global {
         self.alloc
+    }
+
+    /// Whether one more view can have a number.
+    pub fn has_room(&self) -> bool
+        ensures { IsTrue result ↔ (length self.now.views < 4294967295) }
+    {
+        self.views.len() < u32::MAX as usize
     }
 
     /// Whether the view is there and isn't spent.

@@ -37,10 +37,8 @@ impl<E: Drop> Machine<E> {
     pub fn read_mark(&mut self, view: u32, place: u32) -> Result<u64, Memory>
         requires there { view < length self.old.views }
         requires place_there { place < length self.old.places }
-        ensures ok {
-            IfOk result
-            (λ mark. (mark ≡ (place_at self.old.places place).mark) × (self.new ≡ after_read_mark self.old view place))
-        }
+        ensures ok { IfOk result
+            (λ mark. (mark ≡ (place_at self.old.places place).mark) × (self.new ≡ after_read_mark self.old view place)) }
         ensures err { OnErr result (self.new ≡ self.old) }
     {
         let mark = self.places[place as usize].mark;

@@ -4,11 +4,10 @@ ghost use Rattle.std.specs.Prelude.{◌≡◌, ◌≢◌, ◌<◌, length, IfOk,
 ghost use Rattle.mark_core.specs.State.{State, view_at};
 ghost use Rattle.mark_core.specs.Step.{after_split, after_join};
 
-use std::mem;
-
 use crate::machine::Machine;
 use crate::views::Stored;
 use crate::words::Memory;
+use std::mem;
 
 impl<E: Drop> Machine<E> {
     /// A new view comes to stand beside the others. It knows what this one does.

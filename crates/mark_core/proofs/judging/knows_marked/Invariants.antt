@@ -7,5 +7,5 @@ abbrev pub invariant-loop-count : goal.invariant-loop-count
 invariant-loop-count g l =
     (count : ℕ) → count < l.count
     → (g.S.Subject.worth l.subject (take count l.log) l.place ≡ l.word)
-      × IsLastMark (g.S.Subject.touches l.subject) (take count l.log) l.place l.mark
+    × IsLastMark (g.S.Subject.touches l.subject) (take count l.log) l.place l.mark
     → ⊥

@@ -14,5 +14,5 @@ loop-hold-preserved c =
     let within : c.loop-hold.hold-index < length c.loop-hold.holds = omega arith in
     rw c.with_word.ensures
     (map_over_more (hold_with c.args.place c.args.word) c.args.holds.now c.loop-hold.holds c.loop-hold.hold-index here
-      c.loop-hold-test.true c.loop-hold.invariant
-      (get_or_default c.loop-hold.holds c.loop-hold.hold-index blank here within))
+    c.loop-hold-test.true c.loop-hold.invariant
+    (get_or_default c.loop-hold.holds c.loop-hold.hold-index blank here within))

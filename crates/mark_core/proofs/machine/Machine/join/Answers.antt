@@ -8,7 +8,7 @@ pub invariant_of-self : goal.invariant_of-self
 invariant_of-self g c =
     let within = views_within c.self.inside.log.items c.self.inside.pending c.self.inside.marked.items c.self.inside.places.items c.self.inside.views.items c.args.self.now c.self.view_is in
     let at : c.replace-taken.result ≡ get_or c.self.inside.views.items c.args.other c.replace-taken.result =
-        c.replace-taken.ensures.value ∙ c.index_mut.ensures.value ∙ ap (λ d. get_or c.self.inside.views.items c.args.other d) (sym c.replace-taken.ensures.value) in
+    c.replace-taken.ensures.value ∙ c.index_mut.ensures.value ∙ ap (λ d. get_or c.self.inside.views.items c.args.other d) (sym c.replace-taken.ensures.value) in
     kept_joined c.self.inside.log.items c.self.inside.places.items c.self.inside.views.items c.self.invariant c.args.view c.args.other
     c.index_mut-2.result.now c.join.new.self c.replace-taken.result c.replace-taken.new.dest
     (within c.args.view c.requires.there) (within c.args.other c.requires.other_there) c.requires.apart c.requires.not_editor
@@ -18,16 +18,16 @@ pub invariant_of-self-in-Err : goal.invariant_of-self-in-Err
 invariant_of-self-in-Err g c =
     let within = views_within c.self.inside.log.items c.self.inside.pending c.self.inside.marked.items c.self.inside.places.items c.self.inside.views.items c.args.self.now c.self.view_is in
     let at : c.replace-taken.result ≡ get_or c.self.inside.views.items c.args.other c.replace-taken.result =
-        c.replace-taken.ensures.value ∙ c.index_mut.ensures.value ∙ ap (λ d. get_or c.self.inside.views.items c.args.other d) (sym c.replace-taken.ensures.value) in
+    c.replace-taken.ensures.value ∙ c.index_mut.ensures.value ∙ ap (λ d. get_or c.self.inside.views.items c.args.other d) (sym c.replace-taken.ensures.value) in
     subst (λ views. IsKept c.self.inside.log.items c.self.inside.places.items views)
     (sym (put_back c.self.inside.views.items c.args.view c.args.other c.index_mut-2.result.now c.join.new.self c.replace-taken.result c.replace-taken.new.dest
-      c.requires.apart (within c.args.other c.requires.other_there) c.index_mut-2.ensures.value at c.in-Err.ensures.err))
+    c.requires.apart (within c.args.other c.requires.other_there) c.index_mut-2.ensures.value at c.in-Err.ensures.err))
     c.self.invariant
 
 pub returns-in-Ok-clause-ok : goal.returns-in-Ok-clause-ok
 returns-in-Ok-clause-ok g c =
     let at : c.replace-taken.result ≡ get_or c.self.inside.views.items c.args.other c.replace-taken.result =
-        c.replace-taken.ensures.value ∙ c.index_mut.ensures.value ∙ ap (λ d. get_or c.self.inside.views.items c.args.other d) (sym c.replace-taken.ensures.value) in
+    c.replace-taken.ensures.value ∙ c.index_mut.ensures.value ∙ ap (λ d. get_or c.self.inside.views.items c.args.other d) (sym c.replace-taken.ensures.value) in
     kept_join c.self.inside.log.items c.self.inside.pending c.self.inside.marked.items c.self.inside.places.items c.self.inside.views.items
     c.args.self.now c.self.view_is c.args.view c.args.other
     c.index_mut-2.result.now c.join.new.self c.replace-taken.result c.replace-taken.new.dest
@@ -38,8 +38,8 @@ pub returns-in-Err-clause-err : goal.returns-in-Err-clause-err
 returns-in-Err-clause-err g c =
     let within = views_within c.self.inside.log.items c.self.inside.pending c.self.inside.marked.items c.self.inside.places.items c.self.inside.views.items c.args.self.now c.self.view_is in
     let at : c.replace-taken.result ≡ get_or c.self.inside.views.items c.args.other c.replace-taken.result =
-        c.replace-taken.ensures.value ∙ c.index_mut.ensures.value ∙ ap (λ d. get_or c.self.inside.views.items c.args.other d) (sym c.replace-taken.ensures.value) in
+    c.replace-taken.ensures.value ∙ c.index_mut.ensures.value ∙ ap (λ d. get_or c.self.inside.views.items c.args.other d) (sym c.replace-taken.ensures.value) in
     ap (λ views. kept_state c.self.inside.log.items c.self.inside.pending c.self.inside.marked.items c.self.inside.places.items views)
     (put_back c.self.inside.views.items c.args.view c.args.other c.index_mut-2.result.now c.join.new.self c.replace-taken.result c.replace-taken.new.dest
-      c.requires.apart (within c.args.other c.requires.other_there) c.index_mut-2.ensures.value at c.in-Err.ensures.err)
+    c.requires.apart (within c.args.other c.requires.other_there) c.index_mut-2.ensures.value at c.in-Err.ensures.err)
     ∙ c.self.view_is
