@@ -11,3 +11,4 @@ mod Runs
 mod FloorLemmas
 mod KeptLemmas
 mod JudgeLemmas
+mod Remembers

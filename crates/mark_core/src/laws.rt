@@ -1,11 +1,14 @@
 #![tactic(auto)]
 
-ghost use Rattle.std.specs.Prelude.{List, Option, ℕ};
+ghost use Rattle.std.specs.Prelude.{◌≡◌, ◌<◌, ◌⊎◌, List, Option, ℕ};
 ghost use Rattle.mark_core.specs.declared.events.Event.{Event};
+ghost use Rattle.mark_core.specs.declared.words.Finished.{Finished};
+ghost use Rattle.mark_core.specs.Mark.{IsLastMark};
 ghost use Rattle.mark_core.specs.State.{State, opening_state};
 ghost use Rattle.mark_core.specs.Honest.{IsHonest};
-ghost use Rattle.mark_core.specs.Run.{IsOpening, IsCodeless, Runs};
+ghost use Rattle.mark_core.specs.Run.{IsOpening, IsCodeless, Runs, ReadsTwice, ShowsOf};
 
+use crate::answers::Seen;
 use crate::subjects::Subject;
 
 /// The theorem: from an opening state, whatever allowed events happen, the state is honest.
@@ -14,4 +17,24 @@ pub fn stays_honest<S: Subject>(_subject: &S)
         → IsOpening (S.places _subject.now) (S.worth _subject.now) opening
         → Runs (S.worth _subject.now) (S.touches _subject.now) (opening_state opening) events s
         → IsHonest (S.places _subject.now) (S.worth _subject.now) (S.touches _subject.now) (IsCodeless opening) s }
+{}
+
+/// For one view: of two finished reads of a place, the first of which showed the value as current, the
+/// second shows it as stale or newer only for a later edit. Any events may happen between them.
+pub fn goes_stale_for_later_edits_only<S: Subject>(_subject: &S)
+    ensures { (opening : List (Option ℕ)) (events : List (Event S.Entry)) (s : State S.Entry) (view place : ℕ) (first second : Finished) (value edit : ℕ)
+        → IsOpening (S.places _subject.now) (S.worth _subject.now) opening
+        → Runs (S.worth _subject.now) (S.touches _subject.now) (opening_state opening) events s
+        → ReadsTwice (S.worth _subject.now) (S.touches _subject.now) s view place first second
+        → ShowsOf first (Seen.Value value)
+        → ShowsOf second (Seen.Stale edit) ⊎ ShowsOf second (Seen.Newer edit)
+        → first.number < edit }
+{}
+
+/// A place has one last mark in a list of entries.
+pub fn has_one_last_mark<S: Subject>(_subject: &S)
+    ensures { (entries : List S.Entry) (place mark other : ℕ)
+        → IsLastMark (S.touches _subject.now) entries place mark
+        → IsLastMark (S.touches _subject.now) entries place other
+        → mark ≡ other }
 {}

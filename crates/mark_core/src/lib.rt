@@ -24,7 +24,7 @@ mod words;
 
 pub use answers::{Seen, shown};
 pub use events::{Event, Outcome};
-pub use laws::stays_honest;
+pub use laws::{goes_stale_for_later_edits_only, has_one_last_mark, stays_honest};
 pub use protocol::Core;
 pub use subjects::{Judge, Subject};
 pub use two_cells::TwoCells;
