@@ -8,4 +8,5 @@ pub mod Step
 pub mod Honest
 pub mod Run
 pub mod Kept
+pub mod Core
 pub mod TwoCells

@@ -4,6 +4,7 @@ ghost use Rattle.std.specs.Prelude.{◌≡◌, ◌<◌, ◌+◌, ◌↔◌, ◌�
 ghost use Rattle.mark_core.specs.declared.events.Event.{Event};
 ghost use Rattle.mark_core.specs.Mark.{IsTouched, IsLastMark};
 ghost use Rattle.mark_core.specs.State.{State, view_at};
+ghost use Rattle.mark_core.specs.Core.{state_of, subject_of};
 ghost use Rattle.mark_core.specs.Permission.{IsLive, MayMark, MayCommit, MayJoin, MayClaim, MayPut, MayFinish, IsWorthKnown, IsWorthMarked, IsGround, IsMarkedHold, Allowed};
 
 use crate::events::Event;
@@ -240,7 +241,7 @@ impl<S: Judge> Core<S> {
     /// place.
     pub fn allows(&self, event: &Event<S::Entry>) -> Result<bool, Memory>
         ensures { IfOk result
-            (λ allowed. IsTrue allowed ↔ Allowed (S.worth self.now.subject) (S.touches self.now.subject) self.now.state event.now) }
+            (λ allowed. IsTrue allowed ↔ Allowed (S.worth (subject_of self.now)) (S.touches (subject_of self.now)) (state_of self.now) event.now) }
     {
         match event {
             Event::See { view } | Event::Split { view } => Ok(self.state().is_live(*view)),
@@ -259,7 +260,7 @@ impl<S: Judge> Core<S> {
     /// Whether the editor may mark the place for the entry.
     fn allows_mark(&self, view: u32, entry: &S::Entry, place: u32) -> Result<bool, Memory>
         ensures { IfOk result
-            (λ allowed. IsTrue allowed ↔ Allowed (S.worth self.now.subject) (S.touches self.now.subject) self.now.state (Event.Mark view entry.now place)) }
+            (λ allowed. IsTrue allowed ↔ Allowed (S.worth (subject_of self.now)) (S.touches (subject_of self.now)) (state_of self.now) (Event.Mark view entry.now place)) }
     {
         if view != 0 || !self.state().may_read(view, place) || !self.may_pend(entry) {
             return Ok(false);
@@ -271,7 +272,7 @@ impl<S: Judge> Core<S> {
 
     /// Whether nothing is pending, or this entry is.
     fn may_pend(&self, entry: &S::Entry) -> bool
-        ensures { IsTrue result ↔ ((self.now.state.edits.pending ≡ None) ⊎ (self.now.state.edits.pending ≡ Some entry.now)) }
+        ensures { IsTrue result ↔ (((state_of self.now).edits.pending ≡ None) ⊎ ((state_of self.now).edits.pending ≡ Some entry.now)) }
     {
         match self.state().pending() {
             None => true,
@@ -281,7 +282,7 @@ impl<S: Judge> Core<S> {
 
     /// Whether this entry is pending.
     fn is_pending(&self, entry: &S::Entry) -> bool
-        ensures { IsTrue result ↔ (self.now.state.edits.pending ≡ Some entry.now) }
+        ensures { IsTrue result ↔ ((state_of self.now).edits.pending ≡ Some entry.now) }
     {
         match self.state().pending() {
             None => false,
@@ -292,7 +293,7 @@ impl<S: Judge> Core<S> {
     /// Whether the editor may commit the entry.
     fn allows_commit(&self, view: u32, entry: &S::Entry) -> Result<bool, Memory>
         ensures { IfOk result
-            (λ allowed. IsTrue allowed ↔ Allowed (S.worth self.now.subject) (S.touches self.now.subject) self.now.state (Event.Commit view entry.now)) }
+            (λ allowed. IsTrue allowed ↔ Allowed (S.worth (subject_of self.now)) (S.touches (subject_of self.now)) (state_of self.now) (Event.Commit view entry.now)) }
     {
         if view != 0 || !self.state().is_live(view) || !self.is_pending(entry) {
             return Ok(false);
@@ -310,7 +311,7 @@ impl<S: Judge> Core<S> {
 
     /// Whether the other view may be joined into this one.
     fn allows_join(&self, view: u32, other: u32) -> bool
-        ensures { IsTrue result ↔ Allowed (S.worth self.now.subject) (S.touches self.now.subject) self.now.state (Event.Join view other) }
+        ensures { IsTrue result ↔ Allowed (S.worth (subject_of self.now)) (S.touches (subject_of self.now)) (state_of self.now) (Event.Join view other) }
     {
         view != other
             && other != 0
@@ -321,7 +322,7 @@ impl<S: Judge> Core<S> {
 
     /// Whether the view may claim the place from this clean word.
     fn allows_claim(&self, view: u32, place: u32, seen: Clean) -> bool
-        ensures { IsTrue result ↔ Allowed (S.worth self.now.subject) (S.touches self.now.subject) self.now.state (Event.Claim view place seen) }
+        ensures { IsTrue result ↔ Allowed (S.worth (subject_of self.now)) (S.touches (subject_of self.now)) (state_of self.now) (Event.Claim view place seen) }
     {
         self.state().may_read(view, place)
             && !seen.held
@@ -331,7 +332,7 @@ impl<S: Judge> Core<S> {
     /// Whether the view may put the word to the place.
     fn allows_put(&self, view: u32, place: u32, word: u64) -> Result<bool, Memory>
         ensures { IfOk result
-            (λ allowed. IsTrue allowed ↔ Allowed (S.worth self.now.subject) (S.touches self.now.subject) self.now.state (Event.Put view place word)) }
+            (λ allowed. IsTrue allowed ↔ Allowed (S.worth (subject_of self.now)) (S.touches (subject_of self.now)) (state_of self.now) (Event.Put view place word)) }
     {
         let state = self.state();
         if !state.may_read(view, place) || !holds_place(state.holds(view), place) {
@@ -349,7 +350,7 @@ impl<S: Judge> Core<S> {
     /// Whether the view may give the place back for the mark.
     fn allows_finish(&self, view: u32, place: u32, mark: u64) -> Result<bool, Memory>
         ensures { IfOk result
-            (λ allowed. IsTrue allowed ↔ Allowed (S.worth self.now.subject) (S.touches self.now.subject) self.now.state (Event.Finish view place mark)) }
+            (λ allowed. IsTrue allowed ↔ Allowed (S.worth (subject_of self.now)) (S.touches (subject_of self.now)) (state_of self.now) (Event.Finish view place mark)) }
     {
         let state = self.state();
         if !state.may_read(view, place) {

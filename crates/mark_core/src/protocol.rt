@@ -2,6 +2,7 @@
 
 ghost use Rattle.std.specs.Prelude.{◌≡◌, ◌↔◌, IsTrue, ◌<◌, ◌^◌, length, IfOk, OnErr};
 ghost use Rattle.mark_core.specs.State.{State, opening_state};
+ghost use Rattle.mark_core.specs.Core.{state_of, subject_of};
 ghost use Rattle.mark_core.specs.Permission.{Allowed, HasRoom};
 ghost use Rattle.mark_core.specs.Step.{Happens};
 ghost use Rattle.mark_core.specs.Run.{IsOpening};
@@ -25,7 +26,7 @@ impl<S: Subject> Core<S> {
     pub fn open(alloc: Global, subject: S, opening: &[Option<u64>]) -> Result<Core<S>, Memory>
         requires few { length opening.now < 2 ^ 32 }
         requires right { IsOpening (S.places subject) (S.worth subject) opening.now }
-        ensures { IfOk result (λ core. (core.subject ≡ subject) × (core.state ≡ opening_state opening.now)) }
+        ensures { IfOk result (λ core. (subject_of core ≡ subject) × (state_of core ≡ opening_state opening.now)) }
     {
         let state = Machine::open(alloc, opening)?;
         Ok(Core { subject, state })
@@ -33,21 +34,21 @@ impl<S: Subject> Core<S> {
 
     /// The subject.
     pub fn subject(&self) -> &S
-        ensures { result.now ≡ self.now.subject }
+        ensures { result.now ≡ subject_of self.now }
     {
         &self.subject
     }
 
     /// The state.
     pub(crate) fn state(&self) -> &Machine<S::Entry>
-        ensures { result.now ≡ self.now.state }
+        ensures { result.now ≡ state_of self.now }
     {
         &self.state
     }
 
     /// Whether there is room for one more view, where the event makes one.
     pub fn has_room(&self, event: &Event<S::Entry>) -> bool
-        ensures { IsTrue result ↔ HasRoom self.now.state event.now }
+        ensures { IsTrue result ↔ HasRoom (state_of self.now) event.now }
     {
         match event {
             Event::Split { .. } => self.state.has_room(),
@@ -57,12 +58,12 @@ impl<S: Subject> Core<S> {
 
     /// Does the event, which is allowed, and answers its outcome. After `Memory` the state is as before.
     pub fn step(&mut self, event: Event<S::Entry>) -> Result<Outcome, Memory>
-        requires allowed { Allowed (S.worth self.old.subject) (S.touches self.old.subject) self.old.state event }
-        requires room { HasRoom self.old.state event }
-        ensures same_subject { self.new.subject ≡ self.old.subject }
+        requires allowed { Allowed (S.worth (subject_of self.old)) (S.touches (subject_of self.old)) (state_of self.old) event }
+        requires room { HasRoom (state_of self.old) event }
+        ensures same_subject { subject_of self.new ≡ subject_of self.old }
         ensures ok { IfOk result
-            (λ outcome. Happens (S.worth self.old.subject) (S.touches self.old.subject) self.old.state event outcome self.new.state) }
-        ensures err { OnErr result (self.new.state ≡ self.old.state) }
+            (λ outcome. Happens (S.worth (subject_of self.old)) (S.touches (subject_of self.old)) (state_of self.old) event outcome (state_of self.new)) }
+        ensures err { OnErr result (state_of self.new ≡ state_of self.old) }
     {
         match event {
             Event::See { view } => Ok(Outcome::Count(self.state.see(view)?)),
