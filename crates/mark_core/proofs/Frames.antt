@@ -1,6 +1,6 @@
 -- What no event of another view can take away: how the edits and the words may move, and that what a view
 -- knows, has begun to read and has read stays right through such a move.
-use Rattle.std.proofs.Common.{◌≡◌, ◌<◌, ◌≤◌, ◌+◌, ◌⊎◌, ℕ, List, ◌++◌, Option, Some, length, take, sym, ◌∙◌, ap, subst, inl, inr, arith, length-append}
+use Rattle.std.proofs.Common.{◌≡◌, ◌<◌, ◌≤◌, ◌+◌, ◌⊎◌, ℕ, List, length, take, sym, ◌∙◌, ap, subst, inl, inr, arith, length-append}
 use Rattle.std.specs.Option.{option_to_list}
 use Rattle.mark_core.specs.declared.words.Known.{Known}
 use Rattle.mark_core.specs.declared.words.Half.{Half}
@@ -9,9 +9,9 @@ use Rattle.mark_core.specs.declared.words.Clean.{Clean}
 use Rattle.mark_core.specs.declared.answers.Seen.{Seen}
 use Rattle.mark_core.specs.declared.answers.Seen.TheVariants.{Value, Stale, Newer}
 use Rattle.mark_core.specs.Place.{Words}
-use Rattle.mark_core.specs.Mark.{IsPrefix, IsTouched, IsLastMark}
+use Rattle.mark_core.specs.Mark.{IsPrefix, IsLastMark}
 use Rattle.mark_core.specs.State.{Edits, View, entries_of}
-use Rattle.mark_core.specs.Honest.{IsRightLog, IsComputed, IsRightKnown, IsStillThere, MeetsFloor, IsRightHalf, IsLegalAnswer, IsLegalRead, IsRightRead}
+use Rattle.mark_core.specs.Honest.{IsRightLog, IsComputed, IsRightKnown, IsStillThere, MeetsFloor, IsRightHalf, IsLegalAnswer, IsRightRead}
 use Rattle.mark_core.proofs.Prefixes.{prefix_length, prefix_of_prefix, take-prefix, touched_in_longer}
 
 -- the words of the place stay

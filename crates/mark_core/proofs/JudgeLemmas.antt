@@ -1,5 +1,5 @@
 -- What the judgements of single entries say of last marks and of allowed events.
-use Rattle.std.proofs.Common.{◌≡◌, ◌<◌, ◌≤◌, ◌+◌, ◌-◌, ◌↔◌, ◌⊎◌, ℕ, List, Bool, length, refl, sym, ap, subst, inl, inr, arith}
+use Rattle.std.proofs.Common.{◌≡◌, ◌<◌, ◌≤◌, ◌+◌, ◌-◌, ◌↔◌, ℕ, List, Bool, length, sym, subst, arith}
 use Rattle.std.specs.Prelude.{IsTrue}
 use Rattle.mark_core.specs.declared.events.Event.{Event}
 use Rattle.mark_core.specs.Mark.{IsTouched, IsLastMark}

@@ -1,8 +1,8 @@
 -- The state that the machine keeps, through each event.
-use Rattle.std.proofs.Common.{◌≡◌, ◌≢◌, ◌<◌, ◌≤◌, ◌+◌, ◌==◌, ℕ, zero, suc, List, [], ◌∷◌, ◌++◌, Option, Some, None, true, false, ◌⊎◌, inl, inr, max, min, length, map, take, get_or, set, refl, sym, ◌∙◌, ap, subst, arith}
+use Rattle.std.proofs.Common.{◌≡◌, ◌≢◌, ◌<◌, ◌≤◌, ◌+◌, ◌==◌, ℕ, List, [], ◌∷◌, ◌++◌, Option, Some, None, true, false, inl, inr, max, min, length, map, take, get_or, set, refl, sym, ◌∙◌, ap, subst, arith}
 use Rattle.std.specs.Prelude.{All, nat_lt}
-use Rattle.std.proofs.lemmas.List.{get_or-map, map-set, length-map, length-set, length_push, map_push, set-set, set-get_or, set_comm, get_or-set_same, get_or-set_other, get_or_default, get_or_append_left, take_all, take-append-le, length-take}
-use Rattle.std.proofs.lemmas.List.Elements.{All-push, All-set, All-get_or, All-head, All-tail}
+use Rattle.std.proofs.lemmas.List.{get_or-map, map-set, length-map, length-set, length_push, set-set, set-get_or, set_comm, get_or-set_other, get_or_default, get_or_append_left, take_all, take-append-le, length-take}
+use Rattle.std.proofs.lemmas.List.Elements.{All-push, All-set, All-head, All-tail}
 use Rattle.std.proofs.lemmas.Bool.{cond_both, ltb-true, ltb-false}
 use Rattle.mark_core.specs.declared.words.Clean.{Clean}
 use Rattle.mark_core.specs.declared.words.Place.{Place}

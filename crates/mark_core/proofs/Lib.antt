@@ -1,14 +1,15 @@
-mod Prefixes
-mod Frames
-mod Places
-mod Holds
-mod ReadLemmas
-mod ViewLemmas
-mod Lists
-mod Steps
-mod Opening
-mod Runs
-mod FloorLemmas
-mod KeptLemmas
-mod JudgeLemmas
-mod Remembers
+pub mod Prefixes
+pub mod Frames
+pub mod Places
+pub mod Holds
+pub mod ReadLemmas
+pub mod ViewLemmas
+pub mod Lists
+pub mod Steps
+pub mod WorkSteps
+pub mod Opening
+pub mod Runs
+pub mod FloorLemmas
+pub mod KeptLemmas
+pub mod JudgeLemmas
+pub mod Remembers

@@ -1,15 +1,14 @@
 -- The opening state is honest.
-use Rattle.std.proofs.Common.{◌≡◌, ◌<◌, ◌≤◌, ◌+◌, ◌⊎◌, ℕ, zero, suc, List, [], ◌∷◌, Option, Some, None, true, false, length, map, get_or, refl, sym, ◌∙◌, ap, subst, inl, inr, arith}
-use Rattle.std.specs.Prelude.{Contains, Any, slice_get}
+use Rattle.std.proofs.Common.{◌≡◌, ◌<◌, ℕ, zero, suc, List, [], ◌∷◌, Option, Some, None, false, map, get_or, refl, sym, ◌∙◌, ap, subst, inr, arith}
+use Rattle.std.specs.Prelude.{Any, slice_get}
 use Rattle.std.proofs.lemmas.List.{length-map}
 use Rattle.std.proofs.lemmas.Option.{slice_get-get_or, none-some, same_Some}
-use Rattle.mark_core.specs.declared.words.Clean.{Clean}
 use Rattle.mark_core.specs.declared.words.Place.{Place}
 use Rattle.mark_core.specs.declared.words.Held.{Held}
 use Rattle.mark_core.specs.Place.{opened, place_at, words_of}
 use Rattle.mark_core.specs.Mark.{IsLastMark}
-use Rattle.mark_core.specs.State.{View, State, view_at, spent_view, opening_state}
-use Rattle.mark_core.specs.Honest.{IsRightValue, IsRightView, HoldsPlace, IsHonest}
+use Rattle.mark_core.specs.State.{view_at, spent_view, opening_state}
+use Rattle.mark_core.specs.Honest.{IsRightValue, IsRightView, IsHonest}
 use Rattle.mark_core.specs.Run.{IsOpening, IsCodeless}
 use Rattle.mark_core.proofs.Prefixes.{last_mark_nothing}
 use Rattle.mark_core.proofs.Holds.{any_none}

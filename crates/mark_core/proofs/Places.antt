@@ -1,21 +1,21 @@
 -- The marks, clean words and values of the places stay right through each event that stores one of them,
 -- and through a commit; and to other views such an event is an advance.
-use Rattle.std.proofs.Common.{◌≡◌, ◌≢◌, ◌<◌, ◌≤◌, ◌+◌, ◌⊎◌, ℕ, List, [], ◌∷◌, ◌++◌, Option, Some, None, true, false, length, take, refl, sym, ◌∙◌, ap, subst, inl, inr, arith, length-append}
+use Rattle.std.proofs.Common.{◌≡◌, ◌<◌, ◌≤◌, ◌+◌, ◌⊎◌, ℕ, List, [], ◌∷◌, ◌++◌, Some, None, true, false, length, take, refl, sym, ◌∙◌, ap, subst, inl, inr, arith, length-append}
 use Rattle.std.specs.Prelude.{Contains}
 use Rattle.std.specs.Option.{option_to_list}
-use Rattle.std.proofs.lemmas.List.{append-nil, append_assoc, length-take}
+use Rattle.std.proofs.lemmas.List.{append-nil}
 use Rattle.std.proofs.lemmas.List.Elements.{Contains-push, Contains-push_cases, Contains-append_left}
 use Rattle.std.proofs.lemmas.Option.{same_Some, none-some}
 use Rattle.std.proofs.lemmas.Bool.{cases_eq}
 use Rattle.mark_core.specs.declared.words.Clean.{Clean}
 use Rattle.mark_core.specs.Place.{Words, StoresMark, StoresClean, StoresValue}
-use Rattle.mark_core.specs.Mark.{IsPrefix, IsTouched, IsLastMark}
+use Rattle.mark_core.specs.Mark.{IsPrefix, IsLastMark}
 use Rattle.mark_core.specs.State.{Edits, entries_of}
 use Rattle.mark_core.specs.Step.{marks_for, commits}
 use Rattle.mark_core.specs.Permission.{IsWorthMarked}
-use Rattle.mark_core.specs.Honest.{IsPendingMark, IsSettledMark, IsRightMark, IsRightValue}
+use Rattle.mark_core.specs.Honest.{IsRightMark, IsRightValue}
 use Rattle.mark_core.proofs.Prefixes.{prefix_itself, prefix_more, prefix_of_prefix, prefix_length, take_is_prefix, touched_in_longer, touched_up_to, last_mark_push, last_mark_push_other, worth-prefix}
-use Rattle.mark_core.proofs.Frames.{Stays, IsRaised, IsReworked, Moves, Same, Raised, Reworked, Advances}
+use Rattle.mark_core.proofs.Frames.{Same, Raised, Reworked, Advances}
 
 nothing_contained : {X : Type 0} (x : X) → Contains {X = X} [] x → ⊥
 nothing_contained x c = absurd (let h : c.0 < 0 = c.1 in omega arith)

@@ -1,7 +1,7 @@
 -- Prefixes of a list of entries, and what a longer list keeps of touched places and last marks.
-use Rattle.std.proofs.Common.{◌≡◌, ◌<◌, ◌≤◌, ◌+◌, ◌-◌, ◌⊎◌, ℕ, zero, suc, List, [], ◌∷◌, ◌++◌, Option, Some, length, take, drop, refl, sym, ◌∙◌, ap, subst, inl, inr, arith, length-append, append_assoc}
+use Rattle.std.proofs.Common.{◌≡◌, ◌<◌, ◌≤◌, ◌+◌, ◌-◌, ℕ, zero, suc, List, [], ◌∷◌, ◌++◌, Some, length, take, drop, refl, sym, ◌∙◌, ap, subst, inl, inr, arith, length-append, append_assoc}
 use Rattle.std.specs.Prelude.{slice_get}
-use Rattle.std.proofs.lemmas.List.{take-append-le, take-append-drop, take_at, append-nil, length-take-le}
+use Rattle.std.proofs.lemmas.List.{take-append-le, take-append-drop, take_at, append-nil}
 use Rattle.std.proofs.lemmas.Option.{slice_get_within, same_Some}
 use Rattle.std.proofs.lemmas.Bool.{cases_lt}
 use Rattle.mark_core.specs.Mark.{IsPrefix, IsTouched, IsLastMark}

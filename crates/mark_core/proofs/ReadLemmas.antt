@@ -1,6 +1,6 @@
 -- A read that begins is right, and one that ends is right and legal.
-use Rattle.std.proofs.Common.{◌≡◌, ◌≢◌, ◌<◌, ◌≤◌, ◌+◌, ◌⊎◌, ℕ, List, [], ◌∷◌, ◌++◌, Option, Some, None, Bool, true, false, ◌==◌, ◌&&◌, max, length, take, refl, sym, ◌∙◌, ap, subst, inl, inr, arith, length-append}
-use Rattle.std.specs.Prelude.{Contains, All, is_some}
+use Rattle.std.proofs.Common.{◌≡◌, ◌≢◌, ◌<◌, ◌≤◌, ◌+◌, ℕ, List, [], ◌∷◌, ◌++◌, Some, None, ◌==◌, ◌&&◌, max, length, take, refl, sym, ◌∙◌, ap, subst, inl, inr, arith}
+use Rattle.std.specs.Prelude.{All, is_some}
 use Rattle.std.specs.Option.{option_to_list}
 use Rattle.std.proofs.lemmas.List.{length-take-le}
 use Rattle.std.proofs.lemmas.List.Elements.{All-nil, All-cons, All-head, All-tail}
@@ -16,8 +16,8 @@ use Rattle.mark_core.specs.Place.{Words}
 use Rattle.mark_core.specs.Mark.{IsPrefix, IsTouched, IsLastMark}
 use Rattle.mark_core.specs.State.{Edits, entries_of}
 use Rattle.mark_core.specs.View.{floor_of, read_of, learned}
-use Rattle.mark_core.specs.Honest.{IsRightMark, IsRightValue, IsRightKnown, IsComputed, IsStillThere, MeetsFloor, IsRightHalf, IsLegalAnswer, IsLegalRead, IsRightRead}
-use Rattle.mark_core.proofs.Prefixes.{prefix_length, take_is_prefix, take-prefix, touched_in_longer, touched_next, last_mark_in_prefix, worth-prefix}
+use Rattle.mark_core.specs.Honest.{IsRightMark, IsRightValue, IsRightKnown, MeetsFloor, IsRightHalf, IsLegalAnswer, IsRightRead}
+use Rattle.mark_core.proofs.Prefixes.{take_is_prefix, take-prefix, touched_in_longer, touched_next, last_mark_in_prefix, worth-prefix}
 
 -- the floor of a place that is known right is met by its mark
 pub floor_met : (count : ℕ) (words : Words) (known : List Known) (place : ℕ) → All (IsRightKnown count words) known

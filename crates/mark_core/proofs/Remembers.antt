@@ -1,11 +1,11 @@
 -- A view that showed a value as current remembers it: what it reads of the place from then on is current or
 -- marked for a later edit.
-use Rattle.std.proofs.Common.{◌≡◌, ◌≢◌, ◌<◌, ◌≤◌, ◌+◌, ◌⊎◌, ◌==◌, ◌&&◌, ℕ, zero, suc, List, [], ◌∷◌, ◌++◌, Option, Some, None, Bool, true, false, max, length, take, get_or, set, refl, sym, ◌∙◌, ap, subst, inl, inr, arith, length-append}
+use Rattle.std.proofs.Common.{◌≡◌, ◌≢◌, ◌<◌, ◌≤◌, ◌+◌, ◌⊎◌, ◌==◌, ◌&&◌, ℕ, zero, suc, List, [], ◌∷◌, ◌++◌, Option, Some, None, true, false, max, length, take, refl, sym, ◌∙◌, ap, subst, inl, inr, arith, length-append}
 use Rattle.std.specs.Prelude.{Contains, is_some}
 use Rattle.std.specs.Option.{option_to_list}
 use Rattle.std.proofs.lemmas.List.{length-set, length-take-le}
-use Rattle.std.proofs.lemmas.List.Elements.{All-contains, Contains-append_left, Contains-append_right, Contains-push}
-use Rattle.std.proofs.lemmas.Bool.{cases_lt, cond_both, eqb-true, eq-eqb, and_from, false_from_ne_true}
+use Rattle.std.proofs.lemmas.List.Elements.{All-contains, Contains-append_left, Contains-push}
+use Rattle.std.proofs.lemmas.Bool.{cases_lt, cond_both, eq-eqb, and_from}
 use Rattle.std.proofs.lemmas.Option.{none-some, same_Some}
 use Rattle.mark_core.specs.declared.events.Event.{Event}
 use Rattle.mark_core.specs.declared.events.Event.TheVariants.{See, Mark, Commit, Split, Join, ReadClean, ReadValue, ReadMark, Claim, Put, Finish}
@@ -13,16 +13,13 @@ use Rattle.mark_core.specs.declared.events.Outcome.{Outcome}
 use Rattle.mark_core.specs.declared.words.Known.{Known}
 use Rattle.mark_core.specs.declared.words.Half.{Half}
 use Rattle.mark_core.specs.declared.words.Finished.{Finished}
-use Rattle.mark_core.specs.declared.answers.Seen.{Seen}
 use Rattle.mark_core.specs.declared.answers.Seen.TheVariants.{Value, Stale, Newer}
-use Rattle.mark_core.specs.Answer.{Shows}
 use Rattle.mark_core.specs.Place.{place_at, words_of}
-use Rattle.mark_core.specs.Mark.{IsPrefix, IsTouched, IsLastMark}
+use Rattle.mark_core.specs.Mark.{IsTouched, IsLastMark}
 use Rattle.mark_core.specs.State.{View, State, view_at, with_view, spent_view, entries_of}
 use Rattle.mark_core.specs.View.{saw, committed, joined, floor_of, began, with_word, valued, read_of, learned, ended, ended_at, finished, took, missed, wrote, gave_back, split_off}
-use Rattle.mark_core.specs.Permission.{IsLive}
-use Rattle.mark_core.specs.Step.{Happens, after_commit, after_join}
-use Rattle.mark_core.specs.Honest.{IsRightHalf, IsRightRead, IsLegalRead, IsLegalAnswer, IsHonest}
+use Rattle.mark_core.specs.Step.{Happens}
+use Rattle.mark_core.specs.Honest.{IsRightHalf, IsRightRead, IsLegalRead, IsHonest}
 use Rattle.mark_core.specs.Run.{Runs, EndsRead, ReadsTwice, ShowsOf}
 use Rattle.mark_core.proofs.Prefixes.{take_is_prefix, take-prefix, touched_in_prefix, touched_up_to}
 use Rattle.mark_core.proofs.Lists.{set_cases, push_cases, live_within}

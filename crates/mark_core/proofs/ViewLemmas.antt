@@ -1,22 +1,20 @@
 -- A view stays right through an event of another view, and through each event of its own.
-use Rattle.std.proofs.Common.{◌≡◌, ◌≢◌, ◌<◌, ◌≤◌, ◌+◌, ◌⊎◌, ℕ, List, [], ◌∷◌, ◌++◌, Option, Some, None, Bool, true, false, not, ◌==◌, cond, max, length, take, drop, map, refl, sym, ◌∙◌, ap, subst, inl, inr, arith, length-append}
-use Rattle.std.specs.Prelude.{Contains, All, filter, nat_lt}
+use Rattle.std.proofs.Common.{◌≡◌, ◌<◌, ◌≤◌, ◌+◌, ℕ, List, [], ◌∷◌, ◌++◌, Option, Some, None, true, false, not, ◌==◌, max, length, take, drop, refl, sym, ◌∙◌, ap, subst, inl, inr, arith, length-append}
+use Rattle.std.specs.Prelude.{Contains, nat_lt}
 use Rattle.std.proofs.lemmas.List.{take-append-drop, take_at}
 use Rattle.std.proofs.lemmas.List.Elements.{All-nil, All-append, All-push, All-map}
-use Rattle.std.proofs.lemmas.Bool.{cases_eq, cond_both, ltb-true, ltb-false, eqb-true}
+use Rattle.std.proofs.lemmas.Bool.{cases_eq, cond_both, ltb-true, eqb-true}
 use Rattle.std.proofs.lemmas.Option.{none-some, same_Some}
 use Rattle.mark_core.specs.declared.words.Clean.{Clean}
-use Rattle.mark_core.specs.declared.words.Known.{Known}
 use Rattle.mark_core.specs.declared.words.Half.{Half}
-use Rattle.mark_core.specs.declared.words.Finished.{Finished}
 use Rattle.mark_core.specs.declared.words.Held.{Held}
-use Rattle.mark_core.specs.Place.{Words, StoresMark, StoresClean, StoresValue}
-use Rattle.mark_core.specs.Mark.{IsPrefix, IsLastMark}
-use Rattle.mark_core.specs.State.{Edits, View, spent_view, entries_of}
+use Rattle.mark_core.specs.Place.{Words, StoresClean, StoresValue}
+use Rattle.mark_core.specs.Mark.{IsPrefix}
+use Rattle.mark_core.specs.State.{Edits, View, spent_view}
 use Rattle.mark_core.specs.View.{saw, committed, split_off, longer, joined, floor_of, began, with_word, valued, ended, ended_at, finished, took, missed, hold_with, wrote, gave_back, learned, read_of}
 use Rattle.mark_core.specs.Permission.{IsWorthKnown, IsWorthMarked}
 use Rattle.mark_core.specs.Step.{commits}
-use Rattle.mark_core.specs.Honest.{IsRightMark, IsRightValue, IsRightLog, IsRightKnown, IsComputed, IsRightHalf, IsRightRead, IsRightHold, IsRightView}
+use Rattle.mark_core.specs.Honest.{IsRightMark, IsRightValue, IsRightKnown, IsRightHalf, IsRightRead, IsRightHold, IsRightView}
 use Rattle.mark_core.proofs.Prefixes.{prefix_itself, prefix_more, prefix_of_nothing, prefix_length, take-prefix}
 use Rattle.mark_core.proofs.Frames.{Advances, log_stays, known_stays, half_stays, read_stays}
 use Rattle.mark_core.proofs.Places.{commit_advances, claim_advances, put_advances, finish_advances, finish_below}

@@ -1,5 +1,5 @@
 -- Which entry of a list last touched a place.
-use Rattle.std.specs.Prelude.{◌≡◌, ◌<◌, ◌≤◌, ◌+◌, ◌-◌, ℕ, List, ◌++◌, Option, Some, length, take, slice_get}
+use Rattle.std.specs.Prelude.{◌≡◌, ◌<◌, ◌≤◌, ◌-◌, ℕ, List, ◌++◌, Some, length, take, slice_get}
 
 -- the second list goes on from the first
 pub record IsPrefix {X : Type 0} (xs ys : List X) : Type 0 where

@@ -1,5 +1,5 @@
 -- Where each event is allowed, by what the acting view knows.
-use Rattle.std.specs.Prelude.{◌≡◌, ◌≢◌, ◌<◌, ◌≤◌, ◌⊎◌, ℕ, List, [], Option, Some, None, false, length, take, Contains}
+use Rattle.std.specs.Prelude.{◌≡◌, ◌≢◌, ◌<◌, ◌≤◌, ◌⊎◌, ℕ, List, [], Some, None, false, length, take, Contains}
 use Rattle.mark_core.specs.declared.words.Clean.{Clean}
 use Rattle.mark_core.specs.declared.words.Finished.{Finished}
 use Rattle.mark_core.specs.declared.words.Held.{Held}

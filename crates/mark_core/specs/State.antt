@@ -1,5 +1,5 @@
 -- The state of the machine: the edits, the places and the views.
-use Rattle.std.specs.Prelude.{ℕ, ◌+◌, List, [], ◌∷◌, ◌++◌, Option, Some, None, Bool, true, false, map, slice_index_or, slice_set}
+use Rattle.std.specs.Prelude.{ℕ, List, [], ◌∷◌, ◌++◌, Option, None, Bool, true, false, map, slice_index_or, slice_set}
 use Rattle.std.specs.Option.{option_to_list}
 use Rattle.mark_core.specs.declared.words.Place.{Place}
 use Rattle.mark_core.specs.declared.words.Known.{Known}

@@ -1,15 +1,14 @@
 -- What each event does to the state, and what it answers.
-use Rattle.std.specs.Prelude.{◌≡◌, ◌≢◌, ◌<◌, ◌⊎◌, ◌+◌, ℕ, List, [], ◌∷◌, ◌++◌, Option, Some, None, Bool, true, false, length, slice_set}
+use Rattle.std.specs.Prelude.{◌≡◌, ◌≢◌, ◌⊎◌, ◌+◌, ℕ, List, [], ◌∷◌, ◌++◌, Some, None, true, false, length, slice_set}
 use Rattle.mark_core.specs.declared.words.Clean.{Clean}
 use Rattle.mark_core.specs.declared.words.Place.{Place}
 use Rattle.mark_core.specs.declared.events.Event.{Event}
 use Rattle.mark_core.specs.declared.events.Event.TheVariants.{See, Mark, Commit, Split, Join, ReadClean, ReadValue, ReadMark, Claim, Put, Finish}
-use Rattle.mark_core.specs.declared.events.Outcome as outcome
 use Rattle.mark_core.specs.declared.events.Outcome.{Outcome}
 use Rattle.mark_core.specs.declared.events.Outcome.TheVariants.{Done, Count, Word, Claimed, Seat}
 use Rattle.mark_core.specs.declared.events.Outcome.TheVariants.{Clean as AnswersClean, Mark as AnswersMark}
 use Rattle.mark_core.specs.Place.{place_at}
-use Rattle.mark_core.specs.State.{Edits, View, State, view_at, with_view, spent_view}
+use Rattle.mark_core.specs.State.{Edits, State, view_at, with_view, spent_view}
 use Rattle.mark_core.specs.View.{saw, committed, split_off, joined, began, valued, finished, took, missed, wrote, gave_back}
 use Rattle.mark_core.specs.Permission.{Allowed}
 

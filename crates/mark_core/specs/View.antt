@@ -1,5 +1,5 @@
 -- How each event changes a view.
-use Rattle.std.specs.Prelude.{ℕ, ◌+◌, max, List, [], ◌∷◌, ◌++◌, Option, Some, None, Bool, true, not, ◌&&◌, ◌==◌, if◌then◌else◌, is_some, length, map, filter}
+use Rattle.std.specs.Prelude.{ℕ, ◌+◌, max, List, [], ◌∷◌, ◌++◌, Option, Some, None, not, ◌&&◌, ◌==◌, if◌then◌else◌, is_some, length, map, filter}
 use Rattle.std.specs.Prelude.{nat_lt}
 use Rattle.mark_core.specs.declared.words.Clean.{Clean}
 use Rattle.mark_core.specs.declared.words.Known.{Known}

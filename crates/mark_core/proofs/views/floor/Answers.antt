@@ -1,5 +1,4 @@
 use Rattle.std.proofs.Common.{◌≡◌, max, rules}
-use Rattle.mark_core.specs.declared.words.Known.{Known}
 use Rattle.mark_core.proofs.FloorLemmas.{floor_more}
 use Rattle.mark_core.proofs.views.floor.Goals as goal
 

@@ -1,5 +1,4 @@
-use Rattle.std.proofs.Common.{◌≡◌, ◌<◌, ◌∙◌, length, get_or, subst, sym, ap}
-use Rattle.mark_core.specs.State.{View, spent_with}
+use Rattle.std.proofs.Common.{◌≡◌, ◌∙◌, get_or, subst, sym, ap}
 use Rattle.mark_core.specs.Kept.{kept_state, IsKept}
 use Rattle.mark_core.proofs.KeptLemmas.{views_within, kept_join, kept_joined, put_back}
 use Rattle.mark_core.proofs.machine.Machine.join.Goals as goal

@@ -1,5 +1,4 @@
-use Rattle.std.proofs.Common.{◌≡◌, map, ◌++◌, ◌∷◌, [], List, ℕ, ap, ◌∙◌, rules}
-use Rattle.mark_core.specs.Place.{opened}
+use Rattle.std.proofs.Common.{◌++◌, ◌∷◌, [], List, ℕ, ap, ◌∙◌}
 use Rattle.mark_core.specs.State.{View}
 use Rattle.mark_core.proofs.KeptLemmas.{kept_opening}
 use Rattle.mark_core.proofs.machine.Machine.open.Goals as goal
