@@ -1,12 +1,11 @@
 -- What the words and the texts ask for is one thing: no two of the texts and refusals stand side by side.
-use Rattle.std.proofs.Common.{◌≡◌, ◌≢◌, ℕ, ◌+◌, ◌<◌, ◌≤◌, ◌⊎◌, inl, inr, List, ◌∷◌, length, refl, sym, ◌∙◌, ap, subst, arith, IsTrue}
-use Rattle.std.specs.Prelude.{Option, Some, None, slice_index_or, [], String, string_bytes}
+use Rattle.std.proofs.Common.{◌≡◌, ℕ, ◌<◌, ◌≤◌, inl, inr, List, length, refl, sym, ◌∙◌, ap, subst, arith}
+use Rattle.std.specs.Prelude.{Option, Some, slice_index_or, [], String, string_bytes}
 use Rattle.std.proofs.lemmas.Option.{same_Some}
-use Rattle.sheet_refs.specs.Cells.{Position, Corners, IsIn}
-use Rattle.sheet_refs.specs.Names.{IsRangeName}
+use Rattle.sheet_refs.specs.Cells.{Corners}
 use Rattle.sheet_refs.proofs.UniqueNames.{range_unique}
 use Rattle.sheet_model.specs.Plain.{IsPlainSheet, IsFirstUnread, IsPlainRecord, records_of, longest}
-use Rattle.sheet_model.specs.Sheets.{SheetValue, is_inside}
+use Rattle.sheet_model.specs.Sheets.{SheetValue}
 use Rattle.antifreeze.specs.Replies.{IsWithinSheet, Writes, Refuses, Tells}
 use Rattle.antifreeze.specs.Replies.Writes.{shows}
 use Rattle.antifreeze.specs.Replies.Refuses.{usage, outside, too_long, not_yet}

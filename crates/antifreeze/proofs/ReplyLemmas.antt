@@ -1,22 +1,17 @@
 -- From the reply to a range and a text to the reply to the words, over a shelf.
-use Rattle.std.proofs.Common.{◌≡◌, ℕ, ◌<◌, ◌≤◌, ◌⊎◌, inl, inr, List, [], ◌∷◌, ◌++◌, length, refl, sym, ◌∙◌, ap, subst, arith}
-use Rattle.std.specs.Prelude.{Option, Some, None, IfSome, string_bytes, Result, Ok, Err, IfOk}
-use Rattle.std.proofs.lemmas.Option.{same_Some, MatchOption-at_some}
+use Rattle.std.proofs.Common.{◌≡◌, ℕ, ◌<◌, ◌≤◌, inl, inr, List, length, subst}
+use Rattle.std.specs.Prelude.{Option, Some, IfSome, Result, Ok, Err, IfOk}
+use Rattle.std.proofs.lemmas.Option.{MatchOption-at_some}
 use Rattle.sheet_refs.specs.Cells.{Corners}
-use Rattle.sheet_io.specs.Faults.{Rose}
 use Rattle.sheet_model.specs.Plain.{IsPlainSheet, IsFirstUnread}
 use Rattle.antifreeze.specs.declared.reply.Reply.{Reply}
 use Rattle.antifreeze.specs.declared.reply.Reply.TheVariants.{Output, Refusal}
 use Rattle.antifreeze.specs.Lines.{usage_line, too_long_line}
-use Rattle.antifreeze.specs.Outcomes.{IsShown, IsOutside, IsUnread, RepliesTo, IsReadFailure, IsRefusal, IsRefusalOf, IsOwed}
-use Rattle.antifreeze.specs.Replies.{Writes, Refuses, Tells}
+use Rattle.antifreeze.specs.Outcomes.{RepliesTo, IsRefusalOf, IsOwed}
+use Rattle.antifreeze.specs.Replies.{Tells}
 use Rattle.antifreeze.specs.Replies.Writes.{shows}
 use Rattle.antifreeze.specs.Replies.Refuses.{usage, outside, too_long, not_yet}
-use Rattle.antifreeze.specs.Words.{AsksToShow, Asks}
-
--- the words name one sheet and one range word
-pub same_name : (words : List (List ℕ)) (name other : List ℕ) (range window : Corners) → AsksToShow words name range → AsksToShow words other window → name ≡ other
-same_name words name other range window asked again = cc (asked.words_are, again.words_are)
+use Rattle.antifreeze.specs.Words.{AsksToShow}
 
 module _ (words : List (List ℕ)) (holds : List ℕ → Option (List ℕ)) (name : List ℕ) (range : Corners) (asked : AsksToShow words name range) where
   -- the text that the shelf tells under the name

@@ -3,14 +3,14 @@ use Rattle.std.proofs.Common.{◌≡◌, ℕ, zero, suc, ◌+◌, ◌-◌, ◌<�
 use Rattle.std.specs.List.{join_with_byte, range_with_len, flat_map}
 use Rattle.std.specs.Prelude.{if◌then◌else◌, eqb, Option, Some, IfSome}
 use Rattle.std.proofs.lemmas.Option.{MatchOption-at_some}
-use Rattle.std.proofs.Common.{inl, inr, ◌⊎◌}
+use Rattle.std.proofs.Common.{inl, inr}
 use Rattle.std.proofs.lemmas.Bool.Decides.{eqb_tells}
 use Rattle.std.proofs.lemmas.List.{append-nil}
 use Rattle.std.proofs.lemmas.List.FromFn.{map-range_with_len_more, length-map-range_with_len}
-use Rattle.sheet_refs.specs.Cells.{Position, Corners, row_cells, rows_of, width, height}
+use Rattle.sheet_refs.specs.Cells.{Position, Corners, width}
 use Rattle.formula_syntax.specs.declared.value.Value.{Value}
 use Rattle.formula_syntax.specs.Values.{value_text}
-use Rattle.antifreeze.specs.Texts.{row_text, rows_text}
+use Rattle.antifreeze.specs.Texts.{row_text}
 
 -- the value in a row and a column, printed
 abbrev pub printed : (Position → Value) → ℕ → ℕ → List ℕ
@@ -27,9 +27,6 @@ join_more first (x ∷ xs) last = ap (λ rest. first ++ (44 ∷ rest)) (join_mor
 join_snoc : (pieces : List (List ℕ)) (last : List ℕ) → 0 < length pieces → join_with_byte 44 (pieces ++ last ∷ []) ≡ join_with_byte 44 pieces ++ (44 ∷ last)
 join_snoc [] last some = absurd (omega (arith, some))
 join_snoc (x ∷ xs) last some = join_more x xs last
-
-pub first_cell : (shown : Position → Value) (row first : ℕ) → cells_text shown row first 1 ≡ printed shown row first
-first_cell shown row first = refl
 
 -- one more cell
 pub next_cell : (shown : Position → Value) (row first count : ℕ) → 0 < count → cells_text shown row first (count + 1) ≡ cells_text shown row first count ++ (44 ∷ printed shown row (first + count))

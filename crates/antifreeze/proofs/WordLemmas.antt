@@ -1,5 +1,5 @@
 -- Three words of a command line.
-use Rattle.std.proofs.Common.{◌≡◌, ◌≢◌, ℕ, zero, suc, ◌≤◌, ◌<◌, List, [], ◌∷◌, length, map, get_or, refl, sym, ◌∙◌, ap, arith}
+use Rattle.std.proofs.Common.{◌≡◌, ◌≢◌, ℕ, ◌≤◌, ◌<◌, List, [], ◌∷◌, length, map, get_or, refl, sym, ◌∙◌, ap, arith}
 use Rattle.std.specs.Prelude.{Option, Some, None, slice_get, slice_index, option_copied, Bool, true, false, not, nat_eq, eqb}
 use Rattle.std.specs.Option.{option_eq}
 use Rattle.std.specs.Borrow.{Bor}

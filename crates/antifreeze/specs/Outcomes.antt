@@ -1,5 +1,5 @@
 -- Replies, before a byte is written, and the ends of a run.
-use Rattle.std.specs.Prelude.{◌≡◌, ℕ, List, Some, string_bytes, ◌⊎◌}
+use Rattle.std.specs.Prelude.{◌≡◌, ℕ, List, string_bytes, ◌⊎◌}
 use Rattle.std.specs.declared.option.Option.{Option}
 use Rattle.sheet_refs.specs.Cells.{Corners}
 use Rattle.sheet_io.specs.Faults.{Rose}

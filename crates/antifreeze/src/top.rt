@@ -1,7 +1,7 @@
 ghost use Rattle.std.specs.Prelude.{◌≡◌, ◌≢◌, ◌⊎◌, ℕ, List, map, string_bytes};
 ghost use Rattle.sheet_io.specs.Faults.{Rose};
 ghost use Rattle.antifreeze.specs.Lines.{write_failed_line, no_memory_line};
-ghost use Rattle.antifreeze.specs.Replies.{Writes, Refuses, Tells};
+ghost use Rattle.antifreeze.specs.Replies.{Writes, Refuses};
 ghost use Rattle.antifreeze.specs.Runs.{IsStatus, IsDone, IsCut, IsRefused, IsUnfetched, TakesLine};
 
 use super::reply::{Reply, reply_to};

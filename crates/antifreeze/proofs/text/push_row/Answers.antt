@@ -1,4 +1,4 @@
-use Rattle.std.proofs.Common.{◌≡◌, ◌+◌, ◌-◌, ◌++◌, arith, ◌∙◌, ap, sym, append_assoc, lit<}
+use Rattle.std.proofs.Common.{◌≡◌, ◌-◌, ◌++◌, arith, ◌∙◌, ap, sym, append_assoc, lit<}
 use Rattle.std.specs.Prelude.{string_bytes}
 use Rattle.sheet_refs.specs.Cells.{Position, width}
 use Rattle.sheet_model.specs.Values.{value_of}

@@ -1,6 +1,5 @@
-use Rattle.std.proofs.Common.{◌≡◌, ◌≢◌, ℕ, rules, arith, sym, ◌∙◌, lit<}
-use Rattle.std.specs.Prelude.{codes, string_bytes, slice_get, Some, map, ◌∷◌, [], List}
-use Rattle.std.proofs.lemmas.Grind.{common_steps}
+use Rattle.std.proofs.Common.{◌≡◌, ◌≢◌, lit<}
+use Rattle.std.specs.Prelude.{codes, string_bytes, slice_get, Some}
 use Rattle.antifreeze.proofs.WordLemmas.{three, other_first, same_word, other_byte}
 use Rattle.antifreeze.proofs.words.read_words.Goals as goal
 
