@@ -28,9 +28,6 @@ join_snoc : (pieces : List (List ℕ)) (last : List ℕ) → 0 < length pieces �
 join_snoc [] last some = absurd (omega (arith, some))
 join_snoc (x ∷ xs) last some = join_more x xs last
 
-pub first_cell : (shown : Position → Value) (row first : ℕ) → cells_text shown row first 1 ≡ printed shown row first
-first_cell shown row first = refl
-
 -- one more cell
 pub next_cell : (shown : Position → Value) (row first count : ℕ) → 0 < count → cells_text shown row first (count + 1) ≡ cells_text shown row first count ++ (44 ∷ printed shown row (first + count))
 next_cell shown row first count some =

@@ -1,5 +1,4 @@
-ghost use Rattle.std.specs.Prelude.{◌≡◌, ◌<◌, ◌≤◌, ◌++◌, IsTrue, IfOk, OnOk, string_bytes, ◌∷◌, if◌then◌else◌};
-ghost use Rattle.sheet_refs.specs.Cells.{Position, IsIn};
+ghost use Rattle.std.specs.Prelude.{◌≡◌, ◌≤◌, ◌++◌, IsTrue, IfOk, OnOk, string_bytes, ◌∷◌, if◌then◌else◌};
 ghost use Rattle.formula_syntax.specs.Values.{value_text};
 ghost use Rattle.sheet_model.specs.Sheets.{is_inside};
 ghost use Rattle.sheet_model.specs.Values.{AreValues, value_of};

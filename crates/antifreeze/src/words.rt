@@ -1,4 +1,4 @@
-ghost use Rattle.std.specs.Prelude.{◌≡◌, ℕ, List, map, string_bytes, MatchOption};
+ghost use Rattle.std.specs.Prelude.{ℕ, List, map, string_bytes, MatchOption};
 ghost use Rattle.sheet_refs.specs.Cells.{Corners};
 ghost use Rattle.antifreeze.specs.Words.{AsksToShow};
 

@@ -185,3 +185,6 @@ fn first_fields<'a>(alloc: Global, line: &'a [u8]) -> Result<Vec<&'a [u8]>, Allo
         .take(MAX_FIELDS + 1)
         .collect(alloc)
 }
+
+#[cfg(test)]
+mod tests;

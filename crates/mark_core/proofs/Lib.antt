@@ -1,0 +1,15 @@
+pub mod Prefixes
+pub mod Frames
+pub mod Places
+pub mod Holds
+pub mod ReadLemmas
+pub mod ViewLemmas
+pub mod Lists
+pub mod Steps
+pub mod WorkSteps
+pub mod Opening
+pub mod Runs
+pub mod FloorLemmas
+pub mod KeptLemmas
+pub mod JudgeLemmas
+pub mod Remembers

@@ -1,0 +1,6 @@
+-- The word isn't the worth after fewer entries.
+use Rattle.std.proofs.Common.{◌≡◌, ◌<◌, ℕ, take}
+use Rattle.mark_core.proofs.judging.knows_worth.Given as goal
+
+abbrev pub invariant-loop-count : goal.invariant-loop-count
+invariant-loop-count g l = (count : ℕ) → count < l.count → g.S.Subject.worth l.subject (take count l.log) l.place ≡ l.word → ⊥

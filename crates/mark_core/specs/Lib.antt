@@ -1,0 +1,12 @@
+pub mod Answer
+pub mod Place
+pub mod Mark
+pub mod State
+pub mod View
+pub mod Permission
+pub mod Step
+pub mod Honest
+pub mod Run
+pub mod Kept
+pub mod Core
+pub mod TwoCells

@@ -1,0 +1,34 @@
+// The marks protocol as a pure machine: which marks and values an actor may read, and why a value that
+// is out of date is never shown as current. Each place has three words: the number of the last edit
+// that marked it, the clean word (for which mark its value was computed, and whether a worker holds
+// it), and the value. Actors are views. An editor marks each place that an edit touches and then
+// commits it; workers claim a place, put its value and finish; readers load the clean word, the value
+// and the mark, in this order.
+//
+// `Core` is the machine over one subject, one event at a time; `specs/` says what each event needs and
+// does, and what an honest state is. `laws` has the theorem: every list of allowed events keeps the
+// state honest, so each finished read is legal. No thread and no table is here: a crate that runs the
+// protocol over atomic words proves that each of its steps is one of these events.
+#![tactic(auto)]
+
+mod answers;
+mod events;
+mod judging;
+mod laws;
+mod machine;
+mod protocol;
+mod subjects;
+mod two_cells;
+mod views;
+mod words;
+
+pub use answers::{Seen, shown};
+pub use events::{Event, Outcome};
+pub use laws::{goes_stale_for_later_edits_only, has_one_last_mark, stays_honest};
+pub use protocol::Core;
+pub use subjects::{Judge, Subject};
+pub use two_cells::TwoCells;
+pub use words::{Clean, Finished, Half, Held, Known, Lost, Memory, Place};
+
+#[cfg(test)]
+mod tests;
