@@ -1,6 +1,6 @@
 ghost use Rattle.std.specs.Prelude.{◌≡◌, ℕ, ◌*◌, ◌≤◌, ◌↔◌, length, Contains, IsTrue};
 
-use super::cell::Cell;
+use crate::Cell;
 use std::fmt;
 use std::marker::Model;
 
