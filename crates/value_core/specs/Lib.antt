@@ -1,2 +1,5 @@
+pub mod Conversions
+pub mod Operators
+pub mod Powers
 pub mod Values
 pub mod Wholes
