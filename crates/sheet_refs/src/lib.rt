@@ -9,6 +9,7 @@
 #![tactic(auto)]
 
 mod cell;
+mod ends;
 mod laws;
 mod memory;
 mod names;
@@ -17,6 +18,7 @@ mod range;
 mod tests;
 
 pub use cell::Cell;
+pub use ends::{End, Ref};
 pub use laws::name_laws;
 pub use memory::Memory;
 pub use names::{cell_of, decimal_of, range_of};
