@@ -2,7 +2,7 @@
 use Rattle.std.proofs.Common.{◌≡◌, ℕ, ◌<◌, eqb, Bool, true, false, cond, List, [], ◌∷◌, ◌++◌, length, get_or, refl, subst, sym, ◌∙◌, ap, append_assoc, arith, zero, suc}
 use Rattle.std.specs.List.{slice_split, onto_first, join_with_byte}
 use Rattle.std.proofs.lemmas.List.Splits.{slice_split_none, length-slice_split, join_with_byte-slice_split}
-use Rattle.formula_syntax.specs.declared.tree.BinaryOp.TheVariants.{Add}
+use Rattle.value_core.specs.declared.operators.BinaryOp.TheVariants.{Add}
 use Rattle.formula_syntax.specs.Grammar.{IsItem, IsSum, Spells}
 use Rattle.formula_syntax.specs.Grammar.IsSum.{one, more}
 use Rattle.formula_syntax.specs.Tree.{Tree, tree_of, binary}

@@ -2,7 +2,7 @@
 use Rattle.std.specs.Prelude.{◌≡◌, ℕ, pos, List, ◌∷◌, ◌++◌}
 use Rattle.sheet_refs.specs.Cells.{Position}
 use Rattle.sheet_refs.specs.Names.{IsDecimal, IsCellName}
-use Rattle.formula_syntax.specs.declared.tree.BinaryOp.TheVariants.{Add}
+use Rattle.value_core.specs.declared.operators.BinaryOp.TheVariants.{Add}
 use Rattle.formula_syntax.specs.Tree.{Tree, number, reference, binary}
 
 -- item = number | cell

@@ -2,5 +2,3 @@ pub mod Formula
 pub mod Grammar
 pub mod Tree
 pub mod TreeCode
-pub mod Values
-pub mod Wholes

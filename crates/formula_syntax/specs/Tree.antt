@@ -1,7 +1,7 @@
 -- A formula as a tree.
 use Rattle.std.specs.Prelude.{ℤ, List, [], ◌∷◌, ◌++◌}
 use Rattle.sheet_refs.specs.Cells.{Position}
-use Rattle.formula_syntax.specs.declared.tree.BinaryOp.{BinaryOp}
+use Rattle.value_core.specs.declared.operators.BinaryOp.{BinaryOp}
 use Rattle.formula_syntax.specs.declared.tree.Node.{Node, Number, Reference, Binary'}
 
 -- a number, a reference to a cell, or two trees under an operator

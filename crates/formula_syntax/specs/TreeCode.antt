@@ -1,10 +1,10 @@
 -- A code for trees, by which a proof tells them apart: a tree in postfix order.
-use Rattle.std.specs.Prelude.{◌≡◌, ℕ, ℤ, pos, ◌⊎◌, List, [], ◌∷◌, ◌++◌, refl}
+use Rattle.std.specs.Prelude.{◌≡◌, ℕ, zero, suc, ℤ, pos, ◌⊎◌, List, [], ◌∷◌, ◌++◌, refl}
 use Rattle.std.proofs.Common.{inl, inr, ap, ◌∙◌, append_assoc}
 use Rattle.std.proofs.lemmas.List.{append-nil}
 use Rattle.std.specs.Coded.{Coded, code_by, coded×, coded⊎, coded_ℕ, coded_ℤ, coded_list}
-use Rattle.formula_syntax.specs.declared.tree.BinaryOp.{BinaryOp}
-use Rattle.formula_syntax.specs.declared.tree.BinaryOp.TheVariants.{Add}
+use Rattle.value_core.specs.declared.operators.BinaryOp.{BinaryOp}
+use Rattle.value_core.specs.declared.operators.BinaryOp.TheVariants.{Add, Sub, Mul, Div, Power, Equal, Unequal, Less, LessEqual, Greater, GreaterEqual}
 use Rattle.formula_syntax.specs.Tree.{Tree, number, reference, binary}
 
 -- a number, a reference's row and column, or the place of an operator
@@ -13,9 +13,29 @@ Token = ℤ ⊎ (ℕ × ℕ) ⊎ ℕ
 
 abbrev pub operator_place : BinaryOp → ℕ
 operator_place Add = 0
+operator_place Sub = 1
+operator_place Mul = 2
+operator_place Div = 3
+operator_place Power = 4
+operator_place Equal = 5
+operator_place Unequal = 6
+operator_place Less = 7
+operator_place LessEqual = 8
+operator_place Greater = 9
+operator_place GreaterEqual = 10
 
 abbrev pub operator_at : ℕ → BinaryOp
-operator_at place = Add
+operator_at zero = Add
+operator_at (suc zero) = Sub
+operator_at (suc (suc zero)) = Mul
+operator_at (suc (suc (suc zero))) = Div
+operator_at (suc (suc (suc (suc zero)))) = Power
+operator_at (suc (suc (suc (suc (suc zero))))) = Equal
+operator_at (suc (suc (suc (suc (suc (suc zero)))))) = Unequal
+operator_at (suc (suc (suc (suc (suc (suc (suc zero))))))) = Less
+operator_at (suc (suc (suc (suc (suc (suc (suc (suc zero)))))))) = LessEqual
+operator_at (suc (suc (suc (suc (suc (suc (suc (suc (suc zero))))))))) = Greater
+operator_at (suc (suc (suc (suc (suc (suc (suc (suc (suc (suc _)))))))))) = GreaterEqual
 
 abbrev pub postfix_of : Tree → List Token
 postfix_of (number n) = inl n ∷ []
@@ -41,6 +61,16 @@ top_of (tree ∷ _) = tree
 
 same_operator : (op : BinaryOp) → operator_at (operator_place op) ≡ op
 same_operator Add = refl
+same_operator Sub = refl
+same_operator Mul = refl
+same_operator Div = refl
+same_operator Power = refl
+same_operator Equal = refl
+same_operator Unequal = refl
+same_operator Less = refl
+same_operator LessEqual = refl
+same_operator Greater = refl
+same_operator GreaterEqual = refl
 
 pub rebuilt-postfix : (tree : Tree) (rest : List Token) (trees : List Tree) → rebuilt (postfix_of tree ++ rest) trees ≡ rebuilt rest (tree ∷ trees)
 rebuilt-postfix (number n) rest trees = refl

@@ -4,10 +4,10 @@ ghost use Rattle.formula_syntax.specs.Grammar.{IsItem, IsSum, Spells};
 ghost use Rattle.formula_syntax.specs.Tree.{Tree, tree_of, references_of, binary};
 ghost use Rattle.formula_syntax.specs.declared.reader.TheConstants.{MAX_TEXT, MAX_REFERENCES};
 
-use super::tree::{BinaryOp, Formula, Node};
-use super::value::{MAX_WHOLE, Whole};
+use super::tree::{Formula, Node};
 use sheet_refs::{Cell, cell_of, decimal_of};
 use std::alloc::{AllocError, AllocFailed, Global};
+use value_core::{BinaryOp, MAX_WHOLE, Whole};
 
 /// The longest text that is read as a formula, in bytes.
 pub const MAX_TEXT: usize = 8_192;

@@ -1,5 +1,5 @@
-// What no clause says: that the grammar, the codes and the printed forms mean what they should, and that
-// memory is left for a formula. The expected values were worked out by hand.
+// What no clause says: that the grammar means what it should, and that memory is left for a formula. The
+// expected values were worked out by hand.
 use super::*;
 use std::alloc::Global;
 use std::fmt::Write;
@@ -10,7 +10,7 @@ fn write_tree(node: &Node, text: &mut String) -> Result<(), Fail> {
     match node {
         Node::Number(number) => write!(text, "{number}")?,
         Node::Reference(cell) => write!(text, "{cell}")?,
-        Node::Binary(BinaryOp::Add, left, right) => {
+        Node::Binary(_, left, right) => {
             text.push_str("(")?;
             write_tree(left, text)?;
             text.push_str("+")?;
@@ -116,67 +116,4 @@ fn long_sums_are_read(rt: HostRuntime) -> Result<(), Fail> {
     assert_eq!(rt; longest.len(), 8_192);
     assert_eq!(rt; references_read(alloc, longest.as_str()), Ok(0));
     Ok(())
-}
-
-fn number(n: i64) -> Result<Value, Fail> {
-    let whole = Whole::new(n).ok_or("a number out of range")?;
-    Ok(Value::Number(whole))
-}
-
-#[test]
-fn values_have_codes_and_texts(rt: HostRuntime) -> Result<(), Fail> {
-    for (value, word, text) in [
-        (Value::Empty, 0, ""),
-        (number(0)?, 72_057_594_037_927_937, "0"),
-        (number(1)?, 72_057_594_037_927_945, "1"),
-        (number(-1)?, 72_057_594_037_927_929, "-1"),
-        (
-            number(9_007_199_254_740_991)?,
-            144_115_188_075_855_865,
-            "9007199254740991",
-        ),
-        (number(-9_007_199_254_740_991)?, 9, "-9007199254740991"),
-        (Value::Error(ErrorKind::Num), 43, "#NUM!"),
-        (Value::Error(ErrorKind::Circ), 59, "#CIRC!"),
-    ] {
-        assert_eq!(rt; code(value), word);
-        assert_eq!(rt; decode(word), Some(value));
-        assert_eq!(rt; format!(in rt.alloc(); "{value}")?.as_str(), text);
-    }
-    Ok(())
-}
-
-#[test]
-fn other_words_stand_for_no_value(rt: HostRuntime) {
-    for word in [
-        1,
-        2,
-        3,
-        4,
-        8,
-        10,
-        11,
-        51,
-        67,
-        72_057_594_037_927_936,
-        144_115_188_075_855_864,
-        144_115_188_075_855_873,
-        u64::MAX,
-    ] {
-        assert_eq!(rt; decode(word), None, "{word}");
-    }
-}
-
-#[test]
-fn whole_numbers_have_ends(rt: HostRuntime) {
-    for (n, inside) in [
-        (9_007_199_254_740_991, true),
-        (9_007_199_254_740_992, false),
-        (-9_007_199_254_740_991, true),
-        (-9_007_199_254_740_992, false),
-        (i64::MAX, false),
-        (i64::MIN, false),
-    ] {
-        assert_eq!(rt; Whole::new(n).is_some(), inside, "{n}");
-    }
 }

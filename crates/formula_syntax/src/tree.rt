@@ -1,16 +1,9 @@
 ghost use Rattle.std.specs.Prelude.{◌≡◌, ◌≤◌, length};
 ghost use Rattle.formula_syntax.specs.Tree.{Tree, tree_of, references_of};
 
-use super::value::Whole;
 use sheet_refs::Cell;
 use std::marker::Model;
-
-/// An operator between two operands.
-#[derive(Clone, Copy, Debug, PartialEq, Eq)]
-pub enum BinaryOp {
-    /// The sum, written `+`.
-    Add,
-}
+use value_core::{BinaryOp, Whole};
 
 /// A formula's tree, or a part of it.
 #[derive(Drop)]

@@ -2,8 +2,8 @@
 use Rattle.std.specs.Prelude.{◌≡◌, ℕ, ◌+◌, ◌-◌, ◌*◌, ◌≤◌, ◌&&◌, Bool, nat_le, if◌then◌else◌, List, length, map, replicate, slice_index_or, slice_set}
 use Rattle.sheet_refs.specs.Cells.{Position}
 use Rattle.formula_syntax.specs.Tree.{Tree}
-use Rattle.formula_syntax.specs.declared.value.Value.{Value}
-use Rattle.formula_syntax.specs.declared.value.Value.TheVariants as value
+use Rattle.value_core.specs.declared.value.Value.{Value}
+use Rattle.value_core.specs.declared.value.Value.TheVariants as value
 use Rattle.sheet_model.specs.declared.content.Content.{Content}
 use Rattle.sheet_model.specs.declared.content.Content.TheVariants.{Empty, Number, Formula}
 
