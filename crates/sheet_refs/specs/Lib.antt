@@ -2,3 +2,5 @@ pub mod Cells
 pub mod Ends
 pub mod NameLaws
 pub mod Names
+pub mod Rectangles
+pub mod Refs

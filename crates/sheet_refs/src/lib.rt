@@ -14,6 +14,7 @@ mod laws;
 mod memory;
 mod names;
 mod range;
+mod refs;
 #[cfg(test)]
 mod tests;
 
@@ -23,3 +24,4 @@ pub use laws::name_laws;
 pub use memory::Memory;
 pub use names::{cell_of, decimal_of, range_of};
 pub use range::Range;
+pub use refs::Refs;
