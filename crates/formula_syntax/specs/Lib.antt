@@ -1,4 +1,4 @@
 pub mod Formula
-pub mod Grammar
+pub mod Functions
 pub mod Tree
 pub mod TreeCode

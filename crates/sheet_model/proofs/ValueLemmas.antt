@@ -5,7 +5,7 @@ use Rattle.sheet_refs.specs.Cells.{Position}
 use Rattle.value_core.specs.declared.value.ErrorKind.TheVariants.{Circ}
 use Rattle.value_core.specs.declared.value.Value.{Value}
 use Rattle.value_core.specs.declared.value.Value.TheVariants.{Empty, Error}
-use Rattle.formula_syntax.specs.Tree.{Tree, number, reference, binary, references_of}
+use Rattle.sum_syntax.specs.Tree.{Tree, number, reference, binary, references_of}
 use Rattle.sheet_model.specs.Budget.{IsLocal, IsStrict, StandsIn}
 use Rattle.sheet_model.specs.Sheets.{SheetValue, ContentValue, Constant, Computed, is_inside, content_of}
 use Rattle.sheet_model.specs.Values.{as_number, sum_of, meaning, never_empty, is_circular, values_within, step_content, step, content_references, IsInput}

@@ -6,7 +6,7 @@ use Rattle.value_core.specs.declared.operators.BinaryOp.TheVariants.{Add}
 use Rattle.value_core.specs.declared.value.ErrorKind.TheVariants.{Num, Circ}
 use Rattle.value_core.specs.declared.value.Value.{Value}
 use Rattle.value_core.specs.declared.value.Value.TheVariants.{Empty, Number, Error}
-use Rattle.formula_syntax.specs.Tree.{Tree, number, reference, binary}
+use Rattle.sum_syntax.specs.Tree.{Tree, number, reference, binary}
 use Rattle.sheet_model.specs.Budget.{ev}
 use Rattle.sheet_model.specs.Sheets.{SheetValue, ContentValue, Constant, Computed}
 use Rattle.sheet_model.specs.Values.{value_of}

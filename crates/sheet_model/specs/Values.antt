@@ -7,7 +7,7 @@ use Rattle.value_core.specs.declared.value.ErrorKind.{ErrorKind}
 use Rattle.value_core.specs.declared.value.ErrorKind.TheVariants as error
 use Rattle.value_core.specs.declared.value.Value.{Value}
 use Rattle.value_core.specs.declared.value.Value.TheVariants.{Empty, Number, Truth, Error, Label}
-use Rattle.formula_syntax.specs.Tree.{Tree, number, reference, binary, references_of}
+use Rattle.sum_syntax.specs.Tree.{Tree, number, reference, binary, references_of}
 use Rattle.value_core.specs.Values.{IsValue, code_of}
 use Rattle.sheet_model.specs.Budget.{ev, StandsIn, IsJustified}
 use Rattle.sheet_model.specs.Sheets.{SheetValue, ContentValue, Constant, Computed, is_inside, cell_count, place_of, content_of}

@@ -1,4 +1,4 @@
-use formula_syntax::Formula;
+use sum_syntax::Formula;
 use std::sync::Arc;
 use value_core::Whole;
 

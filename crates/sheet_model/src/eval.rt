@@ -2,14 +2,14 @@ ghost use Rattle.std.specs.Prelude.{◌≡◌, ◌<◌, ◌≤◌, ℕ, length, 
 ghost use Rattle.std.specs.Result.{ForOk};
 ghost use Rattle.value_core.specs.Wholes.{IsWhole};
 ghost use Rattle.sheet_refs.specs.Cells.{Position};
-ghost use Rattle.formula_syntax.specs.Tree.{tree_of};
+ghost use Rattle.sum_syntax.specs.Tree.{tree_of};
 ghost use Rattle.sheet_model.specs.Sheets.{cell_count, content_value};
 ghost use Rattle.sheet_model.specs.Values.{as_number as number_of, in_range as ranged, sum_of, meaning as meaning_of, never_empty as value_or_zero, values_within, step_content, content_references};
 ghost use Rattle.sheet_model.specs.Walks.{first_state, known_values, known_value, is_plain as plain};
 
 use super::content::Content;
 use super::sheet::Sheet;
-use formula_syntax::{Formula, Node};
+use sum_syntax::{Formula, Node};
 use sheet_refs::Cell;
 use std::alloc::{AllocError, Global};
 use value_core::{ErrorKind, Value, Whole};

@@ -6,7 +6,7 @@ ghost use Rattle.sheet_model.specs.PlainRows.{AppendsFields, AppendsRow};
 
 use super::content::Content;
 use super::sheet::Sheet;
-use formula_syntax::{MAX_TEXT, ReadRefused, read_formula};
+use sum_syntax::{MAX_TEXT, ReadRefused, read_formula};
 use sheet_refs::{Memory, decimal_of};
 use std::alloc::{AllocError, Global};
 use std::sync::Arc;

@@ -4,7 +4,7 @@ ghost use Rattle.sheet_model.specs.Sheets.{IsSheetSize};
 use super::content::Content;
 use super::sheet::Sheet;
 use super::walk::all_values;
-use formula_syntax::{MAX_TEXT, read_formula};
+use sum_syntax::{MAX_TEXT, read_formula};
 use sheet_refs::Cell;
 use std::alloc::Global;
 use std::fmt::Write;

@@ -1,3 +1,6 @@
 pub mod Cells
+pub mod Ends
 pub mod NameLaws
 pub mod Names
+pub mod Rectangles
+pub mod Refs

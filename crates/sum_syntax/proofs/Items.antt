@@ -5,9 +5,9 @@ use Rattle.sheet_refs.specs.Cells.{Position}
 use Rattle.sheet_refs.specs.Names.{IsDecimal, IsCellName, IsLetter, IsDigit}
 use Rattle.sheet_refs.proofs.NameLemmas.{one_cell, name_bytes}
 use Rattle.std.proofs.lemmas.Bool.Decides.{nat_tests}
-use Rattle.formula_syntax.specs.Grammar.{IsItem}
-use Rattle.formula_syntax.specs.Grammar.IsItem.{a_number, a_cell}
-use Rattle.formula_syntax.specs.Tree.{Tree, number, reference}
+use Rattle.sum_syntax.specs.Grammar.{IsItem}
+use Rattle.sum_syntax.specs.Grammar.IsItem.{a_number, a_cell}
+use Rattle.sum_syntax.specs.Tree.{Tree, number, reference}
 
 letter_no_digit : (b : ℕ) → IsLetter b → IsDigit b → ⊥
 letter_no_digit b (inl h) d = omega arith

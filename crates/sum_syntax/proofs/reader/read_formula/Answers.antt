@@ -1,8 +1,8 @@
 use Rattle.std.proofs.Common.{◌≡◌, ◌∷◌, rules, arith}
 use Rattle.std.proofs.lemmas.Grind.{common_steps}
-use Rattle.formula_syntax.specs.Tree.{tree_of}
-use Rattle.formula_syntax.proofs.Sums.{spelt_unique}
-use Rattle.formula_syntax.proofs.reader.read_formula.Goals as goal
+use Rattle.sum_syntax.specs.Tree.{tree_of}
+use Rattle.sum_syntax.proofs.Sums.{spelt_unique}
+use Rattle.sum_syntax.proofs.reader.read_formula.Goals as goal
 
 pub returns-then-len-gt-MAX_REFERENCES-clause-not_formula : goal.returns-then-len-gt-MAX_REFERENCES-clause-not_formula
 returns-then-len-gt-MAX_REFERENCES-clause-not_formula c =

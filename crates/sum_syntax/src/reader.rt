@@ -1,8 +1,8 @@
 ghost use Rattle.std.specs.Prelude.{◌≡◌, ℕ, ◌<◌, ◌≤◌, length, List, IfOk, OnErr, MatchOption, OnOk, ◌++◌};
 ghost use Rattle.std.specs.Option.{option_map_or};
-ghost use Rattle.formula_syntax.specs.Grammar.{IsItem, IsSum, Spells};
-ghost use Rattle.formula_syntax.specs.Tree.{Tree, tree_of, references_of, binary};
-ghost use Rattle.formula_syntax.specs.declared.reader.TheConstants.{MAX_TEXT, MAX_REFERENCES};
+ghost use Rattle.sum_syntax.specs.Grammar.{IsItem, IsSum, Spells};
+ghost use Rattle.sum_syntax.specs.Tree.{Tree, tree_of, references_of, binary};
+ghost use Rattle.sum_syntax.specs.declared.reader.TheConstants.{MAX_TEXT, MAX_REFERENCES};
 
 use super::tree::{Formula, Node};
 use sheet_refs::{Cell, cell_of, decimal_of};
@@ -25,7 +25,7 @@ pub enum ReadRefused {
 }
 
 impl From<AllocError> for ReadRefused {
-    ghost use Rattle.formula_syntax.specs.declared.reader.ReadRefused.TheVariants.{Memory};
+    ghost use Rattle.sum_syntax.specs.declared.reader.ReadRefused.TheVariants.{Memory};
 
     ghost from_gives = { λ _ refused. refused ≡ Memory };
 
@@ -35,7 +35,7 @@ impl From<AllocError> for ReadRefused {
 }
 
 impl<T: Drop> From<AllocFailed<T>> for ReadRefused {
-    ghost use Rattle.formula_syntax.specs.declared.reader.ReadRefused.TheVariants.{Memory};
+    ghost use Rattle.sum_syntax.specs.declared.reader.ReadRefused.TheVariants.{Memory};
 
     ghost from_gives = { λ _ refused. refused ≡ Memory };
 

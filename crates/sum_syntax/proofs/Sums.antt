@@ -3,13 +3,13 @@ use Rattle.std.proofs.Common.{◌≡◌, ℕ, ◌<◌, eqb, Bool, true, false, c
 use Rattle.std.specs.List.{slice_split, onto_first, join_with_byte}
 use Rattle.std.proofs.lemmas.List.Splits.{slice_split_none, length-slice_split, join_with_byte-slice_split}
 use Rattle.value_core.specs.declared.operators.BinaryOp.TheVariants.{Add}
-use Rattle.formula_syntax.specs.Grammar.{IsItem, IsSum, Spells}
-use Rattle.formula_syntax.specs.Grammar.IsSum.{one, more}
-use Rattle.formula_syntax.specs.Tree.{Tree, tree_of, binary}
+use Rattle.sum_syntax.specs.Grammar.{IsItem, IsSum, Spells}
+use Rattle.sum_syntax.specs.Grammar.IsSum.{one, more}
+use Rattle.sum_syntax.specs.Tree.{Tree, tree_of, binary}
 use Rattle.std.specs.Prelude.{Option, Some, None, MatchOption, IfOk, ok_or}
 use Rattle.std.specs.Option.{option_map_or}
-use Rattle.formula_syntax.specs.declared.tree.Node.{Node}
-use Rattle.formula_syntax.proofs.Items.{item_unique, item_no_plus}
+use Rattle.sum_syntax.specs.declared.tree.Node.{Node}
+use Rattle.sum_syntax.proofs.Items.{item_unique, item_no_plus}
 
 -- the pieces, read as items and added one by one to a tree, give another tree
 abbrev pub Adds : Tree → List (List ℕ) → Tree → Type 0

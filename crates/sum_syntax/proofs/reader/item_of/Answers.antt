@@ -2,8 +2,8 @@ use Rattle.std.proofs.Common.{◌≡◌, pos, arith, ◌≤◌}
 use Rattle.std.proofs.lemmas.Int.{ints}
 use Rattle.std.proofs.lemmas.Grind.{common_steps}
 use Rattle.sheet_refs.specs.Names.{IsDecimal}
-use Rattle.formula_syntax.specs.Grammar.IsItem.{a_number, a_cell}
-use Rattle.formula_syntax.proofs.reader.item_of.Goals as goal
+use Rattle.sum_syntax.specs.Grammar.IsItem.{a_number, a_cell}
+use Rattle.sum_syntax.proofs.reader.item_of.Goals as goal
 
 pub returns-in-Some : goal.returns-in-Some
 returns-in-Some c =

@@ -3,7 +3,7 @@ use Rattle.std.specs.Prelude.{◌≡◌, ℕ, pos, List, ◌∷◌, ◌++◌}
 use Rattle.sheet_refs.specs.Cells.{Position}
 use Rattle.sheet_refs.specs.Names.{IsDecimal, IsCellName}
 use Rattle.value_core.specs.declared.operators.BinaryOp.TheVariants.{Add}
-use Rattle.formula_syntax.specs.Tree.{Tree, number, reference, binary}
+use Rattle.sum_syntax.specs.Tree.{Tree, number, reference, binary}
 
 -- item = number | cell
 pub data IsItem : List ℕ → Tree → Type 0 where

@@ -2,10 +2,10 @@ use Rattle.std.proofs.Common.{◌≡◌, length, rules, tests}
 use Rattle.std.proofs.lemmas.List.{map-append}
 use Rattle.std.proofs.lemmas.Iterator.Splits.{YieldsList-from_slice_split}
 use Rattle.std.proofs.lemmas.Iterator.Consumers.{YieldsList-turn, YieldsList-end}
-use Rattle.formula_syntax.proofs.Sums.{is_plus, read_step, no_sum, finished}
+use Rattle.sum_syntax.proofs.Sums.{is_plus, read_step, no_sum, finished}
 use Rattle.std.specs.Prelude.{Some, None}
 use Rattle.std.proofs.lemmas.Option.{MatchOption-at_none, MatchOption-at_some}
-use Rattle.formula_syntax.proofs.reader.sum_of.Goals as goal
+use Rattle.sum_syntax.proofs.reader.sum_of.Goals as goal
 
 pub returns-in_err-item-clause-not_sum : goal.returns-in_err-item-clause-not_sum
 returns-in_err-item-clause-not_sum c =

@@ -1,6 +1,6 @@
 use Rattle.std.proofs.Common.{map}
-use Rattle.formula_syntax.proofs.Sums.{HasRead}
-use Rattle.formula_syntax.proofs.reader.sum_of.Given as goal
+use Rattle.sum_syntax.proofs.Sums.{HasRead}
+use Rattle.sum_syntax.proofs.reader.sum_of.Given as goal
 
 abbrev pub invariant-loop-item : goal.invariant-loop-item
 invariant-loop-item l =
