@@ -3,4 +3,5 @@ pub mod Ends
 pub mod NameLaws
 pub mod Names
 pub mod Rectangles
+pub mod Sizes
 pub mod Refs

@@ -15,6 +15,7 @@ mod memory;
 mod names;
 mod range;
 mod refs;
+mod sizes;
 #[cfg(test)]
 mod tests;
 
@@ -25,3 +26,4 @@ pub use memory::Memory;
 pub use names::{cell_of, decimal_of, range_of};
 pub use range::Range;
 pub use refs::Refs;
+pub use sizes::Sizes;
