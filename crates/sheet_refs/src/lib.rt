@@ -15,6 +15,8 @@ mod memory;
 mod names;
 mod range;
 mod refs;
+#[cfg(test)]
+mod size_tests;
 mod sizes;
 #[cfg(test)]
 mod tests;

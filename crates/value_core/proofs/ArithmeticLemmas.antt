@@ -58,14 +58,14 @@ size_of_neg (pos zero) = refl
 size_of_neg (pos (suc n)) = refl
 size_of_neg (negsuc n) = refl
 
-size_of_product : (a b : ℤ) → nat_abs (a *ℤ b) ≡ nat_abs a * nat_abs b
+pub size_of_product : (a b : ℤ) → nat_abs (a *ℤ b) ≡ nat_abs a * nat_abs b
 size_of_product (pos a) (pos b) = refl
 size_of_product (pos a) (negsuc b) = size_of_neg (pos (a * suc b))
 size_of_product (negsuc a) (pos b) = size_of_neg (pos (suc a * b))
 size_of_product (negsuc a) (negsuc b) = refl
 
 -- a product with a number other than 0 is no smaller
-grows : (base z : ℤ) → 2 ≤ nat_abs base → nat_abs z ≤ nat_abs (base *ℤ z)
+pub grows : (base z : ℤ) → 2 ≤ nat_abs base → nat_abs z ≤ nat_abs (base *ℤ z)
 grows base z large = rw (size_of_product base z) (grind arith)
 
 pub power_grows : (base : ℤ) (n k : ℕ) → 2 ≤ nat_abs base → nat_abs (power base n) ≤ nat_abs (power base (k + n))

@@ -1,4 +1,5 @@
 pub mod Conversions
+pub mod Decoding
 pub mod Operators
 pub mod Powers
 pub mod Values

@@ -19,7 +19,7 @@ pub fn as_number(value: Value) -> Result<Whole, ErrorKind>
 }
 
 /// A truth as a number: 0 for FALSE and 1 for TRUE.
-pub(crate) fn truth_number(truth: bool) -> Whole
+pub fn truth_number(truth: bool) -> Whole
     ensures { result ≡ truth_as_number truth }
 {
     if truth { Whole::ONE } else { Whole::ZERO }

@@ -19,7 +19,7 @@ mod value;
 mod whole;
 
 pub use codes::{code, decode};
-pub use convert::{as_number, as_truth, in_range, never_empty};
+pub use convert::{as_number, as_truth, in_range, never_empty, truth_number};
 pub use operators::{BinaryOp, PrefixOp, binary, prefix};
 pub use value::{ErrorKind, Value};
 pub use whole::{MAX_WHOLE, Whole};

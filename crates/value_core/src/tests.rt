@@ -247,5 +247,7 @@ fn values_are_truths(rt: HostRuntime) -> Result<(), Fail> {
     ] {
         assert_eq!(rt; as_truth(value), wanted, "{value:?}");
     }
+    assert_eq!(rt; Value::Number(truth_number(true)), number(1)?);
+    assert_eq!(rt; Value::Number(truth_number(false)), number(0)?);
     Ok(())
 }
