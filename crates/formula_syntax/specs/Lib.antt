@@ -1,6 +1,4 @@
 pub mod Formula
-pub mod Grammar
+pub mod Functions
 pub mod Tree
 pub mod TreeCode
-pub mod Values
-pub mod Wholes

@@ -1,6 +1,6 @@
 ghost use Rattle.std.specs.Prelude.{◌≡◌, ◌≢◌, ◌≤◌, ◌⊎◌, ℕ, Bool, List, IsTrue};
 ghost use Rattle.sheet_refs.specs.Cells.{Position};
-ghost use Rattle.formula_syntax.specs.declared.value.Value.{Value as CellValue};
+ghost use Rattle.value_core.specs.declared.value.Value.{Value as CellValue};
 ghost use Rattle.sheet_model.specs.Budget.{StandsIn};
 ghost use Rattle.sheet_model.specs.Sheets.{SheetValue};
 ghost use Rattle.sheet_model.specs.Values.{budget_value, value_of, step, circular_value, IsOrderOf, IsSettledBy};

@@ -1,3 +1,5 @@
 pub mod Grid
 pub mod NameLemmas
+pub mod Overlaps
+pub mod Places
 pub mod PrintLemmas

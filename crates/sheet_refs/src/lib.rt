@@ -9,15 +9,23 @@
 #![tactic(auto)]
 
 mod cell;
+mod ends;
 mod laws;
 mod memory;
 mod names;
 mod range;
+mod refs;
+#[cfg(test)]
+mod size_tests;
+mod sizes;
 #[cfg(test)]
 mod tests;
 
 pub use cell::Cell;
+pub use ends::{End, Ref};
 pub use laws::name_laws;
 pub use memory::Memory;
 pub use names::{cell_of, decimal_of, range_of};
 pub use range::Range;
+pub use refs::Refs;
+pub use sizes::Sizes;
