@@ -8,7 +8,10 @@
 #![tactic(auto)]
 
 mod functions;
+mod reading;
+mod tokens;
 mod tree;
 
 pub use functions::{Function, Place};
+pub use tokens::Token;
 pub use tree::{Formula, Node, Nodes};
