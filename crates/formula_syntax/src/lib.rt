@@ -8,9 +8,11 @@
 #![tactic(auto)]
 
 mod functions;
+mod lexer;
 mod reading;
 mod tokens;
 mod tree;
+mod words;
 
 pub use functions::{Function, Place};
 pub use tokens::Token;

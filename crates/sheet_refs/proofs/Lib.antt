@@ -2,3 +2,4 @@ pub mod Grid
 pub mod NameLemmas
 pub mod Overlaps
 pub mod PrintLemmas
+pub mod EndLemmas

@@ -9,6 +9,7 @@
 #![tactic(auto)]
 
 mod cell;
+mod end_names;
 mod ends;
 mod laws;
 mod memory;
@@ -19,6 +20,7 @@ mod refs;
 mod tests;
 
 pub use cell::Cell;
+pub use end_names::ref_of;
 pub use ends::{End, Ref};
 pub use laws::name_laws;
 pub use memory::Memory;

@@ -36,7 +36,7 @@ fn place_in_alphabet(letter: u8) -> u32
     u32::from(letter - first) + 1
 }
 
-fn column_of(text: &[u8]) -> Option<u32>
+pub(crate) fn column_of(text: &[u8]) -> Option<u32>
     ensures { MatchOption result ((col : ℕ) → ¬ IsColumnName text.now col) (IsColumnName text.now) }
 {
     if text.is_empty() || text.len() > 3 || !text.iter().all(|byte| byte.is_ascii_alphabetic()) {
@@ -49,7 +49,7 @@ fn column_of(text: &[u8]) -> Option<u32>
     (column <= MAX_COLS).then_some(column)
 }
 
-fn row_of(text: &[u8]) -> Option<u32>
+pub(crate) fn row_of(text: &[u8]) -> Option<u32>
     ensures { MatchOption result ((row : ℕ) → ¬ IsRowName text.now row) (IsRowName text.now) }
 {
     if text.len() > 7 || text.first() == Some(&b'0') {
@@ -59,7 +59,7 @@ fn row_of(text: &[u8]) -> Option<u32>
     Some(row as u32)
 }
 
-fn letters_in_front(text: &[u8]) -> usize
+pub(crate) fn letters_in_front(text: &[u8]) -> usize
     ensures count { result ≡ prefix_len is_ascii_alphabetic text.now }
     ensures within { result ≤ length text.now }
 {
@@ -79,7 +79,7 @@ pub fn cell_of(text: &[u8]) -> Option<Cell>
     Cell::new(row, col)
 }
 
-fn colon_in(text: &[u8]) -> Option<usize>
+pub(crate) fn colon_in(text: &[u8]) -> Option<usize>
     ensures { result ≡ position (λ byte. byte == 58) text.now }
 {
     text.iter().position(|byte| *byte == b':')
