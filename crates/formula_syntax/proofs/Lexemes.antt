@@ -106,9 +106,9 @@ pub goes_on : (text rest after : List ℕ) (read longer : List Token) (t : Token
 goes_on text rest after read longer t n is past plain front at = record {
   there = λ us h. rw (is, append_assoc read (t ∷ []) us) (at.there (t ∷ us) (with_token rest t n us front (with_blanks (drop n rest) us (subst (λ (l : List ℕ). HasTokens l us) past h))));
   back = λ ts h.
-    let (us, left) = at.back ts h in
-    let (vs, behind) = without_token rest t n us plain front left in
-    (vs, subst (λ (l : List ℕ). HasTokens l vs) (sym past) (without_blanks (drop n rest) vs behind));
+      let (us, left) = at.back ts h in
+      let (vs, behind) = without_token rest t n us plain front left in
+      (vs, subst (λ (l : List ℕ). HasTokens l vs) (sym past) (without_blanks (drop n rest) vs behind));
   few = omega (arith, ap length is, length-append read (t ∷ []), ap length past, past_within (drop n rest), length-drop n rest, at.few, front.some, front.within);
 }
 

@@ -141,8 +141,8 @@ anchor_mixed text end name =
     let some : 0 < length name.digits = name.row.number.some in
     rw name.text_is (record {
       words = all_append is_word (dollar end.col_fixed) (name.letters ++ tail) (dollar_words end.col_fixed)
-        (all_append is_word name.letters tail (all_from IsLetter is_word letter_word name.letters name.column.letters)
-        (all_append is_word (dollar end.row_fixed) name.digits (dollar_words end.row_fixed) (all_from IsDigit is_word digit_word name.digits name.row.number.digits)));
+          (all_append is_word name.letters tail (all_from IsLetter is_word letter_word name.letters name.column.letters)
+          (all_append is_word (dollar end.row_fixed) name.digits (dollar_words end.row_fixed) (all_from IsDigit is_word digit_word name.digits name.row.number.digits)));
       digit = some_right is_digit (dollar end.col_fixed) (name.letters ++ tail) (some_right is_digit name.letters tail (some_right is_digit (dollar end.row_fixed) name.digits (some_from IsDigit is_digit digit_tests name.digits some name.row.number.digits)));
       letter = some_right is_ascii_alphabetic (dollar end.col_fixed) (name.letters ++ tail) (some_left is_ascii_alphabetic name.letters tail (some_from IsLetter is_ascii_alphabetic letter_tests name.letters name.column.some name.column.letters));
     })
