@@ -1,5 +1,5 @@
 -- The table of functions: what each is called, and what parameters it takes.
-use Rattle.std.specs.Prelude.{ℕ, List, codes, Option, Some, None}
+use Rattle.std.specs.Prelude.{ℕ, List, ◌∷◌, [], codes, Option, Some, None}
 use Rattle.formula_syntax.specs.declared.functions.Function.{Function}
 use Rattle.formula_syntax.specs.declared.functions.Function.TheVariants.{Sum, Product, Min, Max, Count, Counta, Countblank, If, Iferror, And, Or, Not, Abs, Sign, Mod, Quotient, Iserror, Isnumber, Islogical, Istext, Isblank, Na}
 use Rattle.formula_syntax.specs.declared.functions.Place.{Place}
@@ -63,3 +63,7 @@ function_name Islogical = codes "ISLOGICAL"
 function_name Istext = codes "ISTEXT"
 function_name Isblank = codes "ISBLANK"
 function_name Na = codes "NA"
+
+-- all functions
+abbrev pub all_functions : List Function
+all_functions = Sum ∷ Product ∷ Min ∷ Max ∷ Count ∷ Counta ∷ Countblank ∷ If ∷ Iferror ∷ And ∷ Or ∷ Not ∷ Abs ∷ Sign ∷ Mod ∷ Quotient ∷ Iserror ∷ Isnumber ∷ Islogical ∷ Istext ∷ Isblank ∷ Na ∷ []

@@ -29,7 +29,7 @@ pub enum Node {
 #[cycle(tree)]
 #[derive(Drop)]
 pub struct Nodes {
-    nodes: Vec<Node>,
+    pub(crate) nodes: Vec<Node>,
 }
 
 /// Goes down the left operands by a loop, so that long sums and chains of signs need no deep stack. Right

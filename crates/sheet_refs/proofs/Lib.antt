@@ -3,3 +3,4 @@ pub mod NameLemmas
 pub mod Overlaps
 pub mod Places
 pub mod PrintLemmas
+pub mod EndLemmas

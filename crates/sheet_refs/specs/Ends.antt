@@ -1,5 +1,5 @@
 -- References as they are written: ends with fixed parts, one alone or two joined.
-use Rattle.std.specs.Prelude.{◌≡◌, ℕ, List, ◌∷◌, [], ◌++◌, Bool, true, false, min, max, nat_le, if◌then◌else◌, refl}
+use Rattle.std.specs.Prelude.{◌≡◌, ℕ, List, ◌∷◌, [], ◌++◌, Bool, true, false, min, max, nat_le, if◌then◌else◌, ◌==◌, refl}
 use Rattle.std.specs.Coded.{Coded, code_by, coded×, coded_ℕ, coded_bool}
 use Rattle.std.specs.Fmt.{decimal}
 use Rattle.sheet_refs.specs.Cells.{Position, Corners, IsNamed, IsOrdered}
@@ -65,10 +65,24 @@ pub record IsAnchorName (text : List ℕ) (end : Anchor) : Type 0 where
   pub column : IsColumnName letters end.cell.col
   pub row : IsRowName digits end.cell.row
 
--- the plain spelling of a reference: an end, or two joined by a colon
-pub data IsReferenceName : List ℕ → Reference → Type 0 where
-  alone : (text : List ℕ) (a : Anchor) → IsAnchorName text a → IsReferenceName text (one_end a)
-  joined : (text first second : List ℕ) (a b : Anchor) → text ≡ first ++ 58 ∷ second → IsAnchorName first a → IsAnchorName second b → IsReferenceName text (two_ends a b)
+-- an end within brackets stands behind a dot
+abbrev pub IsEndName : Bool → List ℕ → Anchor → Type 0
+IsEndName false text end = IsAnchorName text end
+IsEndName true text end = (name : List ℕ) × (text ≡ 46 ∷ name) × IsAnchorName name end
+
+-- the spelling of a reference, plain or within brackets: an end, or two joined by a colon
+pub data IsReferenceName : Bool → List ℕ → Reference → Type 0 where
+  alone : (dotted : Bool) (text : List ℕ) (a : Anchor) → IsEndName dotted text a → IsReferenceName dotted text (one_end a)
+  joined : (dotted : Bool) (text first second : List ℕ) (a b : Anchor) → text ≡ first ++ 58 ∷ second → IsEndName dotted first a → IsEndName dotted second b → IsReferenceName dotted text (two_ends a b)
+
+-- the first byte, where it is a `$`, and what stands behind it
+abbrev pub has_dollar : List ℕ → Bool
+has_dollar [] = false
+has_dollar (b ∷ bs) = b == 36
+
+abbrev pub past_dollar : List ℕ → List ℕ
+past_dollar [] = []
+past_dollar (b ∷ bs) = if b == 36 then bs else (b ∷ bs)
 
 -- how an end is printed
 abbrev pub anchor_text : Anchor → List ℕ

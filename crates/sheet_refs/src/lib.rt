@@ -9,6 +9,7 @@
 #![tactic(auto)]
 
 mod cell;
+mod end_names;
 mod ends;
 mod laws;
 mod memory;
@@ -22,6 +23,7 @@ mod sizes;
 mod tests;
 
 pub use cell::Cell;
+pub use end_names::ref_of;
 pub use ends::{End, Ref};
 pub use laws::name_laws;
 pub use memory::Memory;

@@ -1,6 +1,6 @@
 // What no clause says: that places and parts of ranges are what a reader expects. The expected values were
 // worked out by hand.
-use super::{Cell, Range, Sizes};
+use crate::{Cell, Range, Sizes};
 use std::test::Fail;
 
 fn cell(row: u32, col: u32) -> Result<Cell, Fail> {

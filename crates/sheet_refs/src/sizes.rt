@@ -1,8 +1,8 @@
 ghost use Rattle.std.specs.Prelude.{◌≡◌, ◌↔◌, ℕ, ◌<◌, length, IsTrue, IsFalse, IsSome, IsNone, IfSome};
 ghost use Rattle.sheet_refs.specs.Cells.{Position, IsIn};
 
-use super::cell::Cell;
-use super::range::Range;
+use crate::cell::Cell;
+use crate::range::Range;
 
 /// A rectangle of cells that begins at A1, by its two sizes.
 #[derive(Clone, Copy, Debug, PartialEq, Eq)]
