@@ -68,7 +68,7 @@ parts text end name =
     let second = dollar_tells end.row_fixed name.digits (digits_first name.digits end.cell.row name.row) in
     let past : past_dollar text ≡ name.letters ++ behind = ap past_dollar name.text_is ∙ first.1 in
     let front : prefix_len is_ascii_alphabetic (name.letters ++ behind) ≡ length name.letters =
-        front_len is_ascii_alphabetic name.letters behind (λ k d h. letter_passes _ (name.column.letters k d h)) (behind_letters end.row_fixed name.digits end.cell.row name.row) in
+    front_len is_ascii_alphabetic name.letters behind (λ k d h. letter_passes _ (name.column.letters k d h)) (behind_letters end.row_fixed name.digits end.cell.row name.row) in
     let letters : column_part text ≡ name.letters = rw (past, front) (take_front name.letters behind) in
     let digits : row_part text ≡ behind = rw (past, front) (drop-append_seam name.letters behind) in
     record {

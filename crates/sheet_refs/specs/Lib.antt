@@ -1,7 +1,9 @@
 pub mod Cells
+pub mod Columns
 pub mod Ends
 pub mod NameLaws
 pub mod Names
 pub mod Rectangles
-pub mod Sizes
 pub mod Refs
+pub mod Runs
+pub mod Sizes
