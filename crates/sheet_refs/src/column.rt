@@ -5,9 +5,9 @@ ghost use Rattle.std.specs.BTreeMap.{get, IsOrdered, IsUnchanged};
 ghost use Rattle.sheet_refs.specs.Runs.{IsColumn, Holds, IsLastUpTo, IsNextFrom, IsRunAt, IsStart, IsEnd, HasRoom, SameRows, RowsJoin, HasRow, AreGaps, column_ranges, last_from, strip};
 ghost use Rattle.sheet_refs.specs.Rectangles.{IsBefore, IsVertical, AreMaximalRuns};
 
-use super::cell::Cell;
-use super::memory::Memory;
-use super::range::Range;
+use crate::cell::Cell;
+use crate::memory::Memory;
+use crate::range::Range;
 use std::alloc::Global;
 use std::collections::BTreeMap;
 use std::marker::Model;

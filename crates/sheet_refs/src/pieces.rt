@@ -2,8 +2,8 @@ ghost use Rattle.std.specs.Prelude.{◌≡◌, ℕ, ◌+◌, ◌≤◌, ◌<◌,
 ghost use Rattle.std.specs.Option.{option_to_list};
 ghost use Rattle.sheet_refs.specs.Rectangles.{Tile, IsLeft, IsBetween};
 
-use super::cell::Cell;
-use super::range::Range;
+use crate::cell::Cell;
+use crate::range::Range;
 use std::marker::Model;
 
 /// At most four disjoint ranges: what is left of a range without another.

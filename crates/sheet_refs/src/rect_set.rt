@@ -3,10 +3,10 @@ ghost use Rattle.sheet_refs.specs.Columns.{column_at, HaveRoom, AreFilled, LackR
 ghost use Rattle.sheet_refs.specs.Rectangles.{IsAmong, IsNew, Joins, Tile, AreMaximalRuns};
 ghost use Rattle.sheet_refs.specs.Runs.{AreGaps, HasRow, ranges_from, strip};
 
-use super::cell::Cell;
-use super::column::{Column, strip};
-use super::memory::Memory;
-use super::range::Range;
+use crate::cell::Cell;
+use crate::column::{Column, strip};
+use crate::memory::Memory;
+use crate::range::Range;
 use std::alloc::Global;
 use std::marker::Model;
 

@@ -1,8 +1,8 @@
 ghost use Rattle.std.specs.Prelude.{◌≡◌};
 ghost use Rattle.value_core.specs.Conversions.{as_number as number_of, as_truth as truth_of, in_range as ranged, never_empty as value_or_zero, truth_number as truth_as_number};
 
-use super::value::{ErrorKind, Value};
-use super::whole::Whole;
+use crate::value::{ErrorKind, Value};
+use crate::whole::Whole;
 
 /// A value as a number: Empty and FALSE are 0, and TRUE is 1. A label gives `#VALUE!`, and an error
 /// itself.

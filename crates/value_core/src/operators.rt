@@ -4,9 +4,9 @@ ghost use Rattle.value_core.specs.Conversions.{in_range as ranged};
 ghost use Rattle.value_core.specs.Operators.{binary_of, prefix_of, calculated, compared, by_kind as by_kind_of, beside as beside_of, unordered as unordered_of, on_numbers as on_numbers_of, quotient as quotient_of, power_value, is_comparison as is_comparing, negated};
 ghost use Rattle.value_core.specs.Powers.{power as power_of};
 
-use super::convert::{as_number, in_range, never_empty, truth_number};
-use super::value::{ErrorKind, Value};
-use super::whole::Whole;
+use crate::convert::{as_number, in_range, never_empty, truth_number};
+use crate::value::{ErrorKind, Value};
+use crate::whole::Whole;
 
 /// An operator between two operands.
 #[derive(Clone, Copy, Debug, PartialEq, Eq)]
