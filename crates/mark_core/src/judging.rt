@@ -4,8 +4,8 @@ ghost use Rattle.std.specs.Prelude.{◌≡◌, ◌<◌, ◌+◌, ◌↔◌, ◌�
 ghost use Rattle.mark_core.specs.declared.events.Event.{Event};
 ghost use Rattle.mark_core.specs.Mark.{IsTouched, IsLastMark};
 ghost use Rattle.mark_core.specs.State.{State, view_at};
-ghost use Rattle.mark_core.specs.Core.{state_of, subject_of};
-ghost use Rattle.mark_core.specs.Permission.{IsLive, MayMark, MayCommit, MayJoin, MayClaim, MayPut, MayFinish, IsWorthKnown, IsWorthMarked, IsGround, IsMarkedHold, Allowed};
+ghost use Rattle.mark_core.specs.Core.{state_of, Allows};
+ghost use Rattle.mark_core.specs.Permission.{IsLive, MayMark, MayCommit, MayJoin, MayClaim, MayPut, MayFinish, IsWorthKnown, IsWorthMarked, IsGround, IsMarkedHold};
 
 use crate::events::Event;
 use crate::protocol::Core;
@@ -240,8 +240,7 @@ impl<S: Judge> Core<S> {
     /// entry that the view knows, and a finish one for each pair of them; a commit takes one for each
     /// place.
     pub fn allows(&self, event: &Event<S::Entry>) -> Result<bool, Memory>
-        ensures { IfOk result
-            (λ allowed. IsTrue allowed ↔ Allowed (S.worth (subject_of self.now)) (S.touches (subject_of self.now)) (state_of self.now) event.now) }
+        ensures { IfOk result (λ allowed. IsTrue allowed ↔ Allows S.worth S.touches self.now event.now) }
     {
         match event {
             Event::See { view } | Event::Split { view } => Ok(self.state().is_live(*view)),
@@ -250,7 +249,7 @@ impl<S: Judge> Core<S> {
             Event::Join { view, other } => Ok(self.allows_join(*view, *other)),
             Event::ReadClean { view, place }
             | Event::ReadValue { view, place }
-            | Event::ReadMark { view, place } => Ok(self.state().may_read(*view, *place)),
+            | Event::ReadMark { view, place } => Ok(self.state().may_step_at(*view, *place)),
             Event::Claim { view, place, seen } => Ok(self.allows_claim(*view, *place, *seen)),
             Event::Put { view, place, word } => self.allows_put(*view, *place, *word),
             Event::Finish { view, place, mark } => self.allows_finish(*view, *place, *mark),
@@ -259,10 +258,9 @@ impl<S: Judge> Core<S> {
 
     /// Whether the editor may mark the place for the entry.
     fn allows_mark(&self, view: u32, entry: &S::Entry, place: u32) -> Result<bool, Memory>
-        ensures { IfOk result
-            (λ allowed. IsTrue allowed ↔ Allowed (S.worth (subject_of self.now)) (S.touches (subject_of self.now)) (state_of self.now) (Event.Mark view entry.now place)) }
+        ensures { IfOk result (λ allowed. IsTrue allowed ↔ Allows S.worth S.touches self.now (Event.Mark view entry.now place)) }
     {
-        if view != 0 || !self.state().may_read(view, place) || !self.may_pend(entry) {
+        if view != 0 || !self.state().may_step_at(view, place) || !self.may_pend(entry) {
             return Ok(false);
         }
         let alloc = self.state().allocator();
@@ -292,8 +290,7 @@ impl<S: Judge> Core<S> {
 
     /// Whether the editor may commit the entry.
     fn allows_commit(&self, view: u32, entry: &S::Entry) -> Result<bool, Memory>
-        ensures { IfOk result
-            (λ allowed. IsTrue allowed ↔ Allowed (S.worth (subject_of self.now)) (S.touches (subject_of self.now)) (state_of self.now) (Event.Commit view entry.now)) }
+        ensures { IfOk result (λ allowed. IsTrue allowed ↔ Allows S.worth S.touches self.now (Event.Commit view entry.now)) }
     {
         if view != 0 || !self.state().is_live(view) || !self.is_pending(entry) {
             return Ok(false);
@@ -311,7 +308,7 @@ impl<S: Judge> Core<S> {
 
     /// Whether the other view may be joined into this one.
     fn allows_join(&self, view: u32, other: u32) -> bool
-        ensures { IsTrue result ↔ Allowed (S.worth (subject_of self.now)) (S.touches (subject_of self.now)) (state_of self.now) (Event.Join view other) }
+        ensures { IsTrue result ↔ Allows S.worth S.touches self.now (Event.Join view other) }
     {
         view != other
             && other != 0
@@ -322,20 +319,19 @@ impl<S: Judge> Core<S> {
 
     /// Whether the view may claim the place from this clean word.
     fn allows_claim(&self, view: u32, place: u32, seen: Clean) -> bool
-        ensures { IsTrue result ↔ Allowed (S.worth (subject_of self.now)) (S.touches (subject_of self.now)) (state_of self.now) (Event.Claim view place seen) }
+        ensures { IsTrue result ↔ Allows S.worth S.touches self.now (Event.Claim view place seen) }
     {
-        self.state().may_read(view, place)
+        self.state().may_step_at(view, place)
             && !seen.held
             && has_ground(self.state().reads(view), place, seen)
     }
 
     /// Whether the view may put the word to the place.
     fn allows_put(&self, view: u32, place: u32, word: u64) -> Result<bool, Memory>
-        ensures { IfOk result
-            (λ allowed. IsTrue allowed ↔ Allowed (S.worth (subject_of self.now)) (S.touches (subject_of self.now)) (state_of self.now) (Event.Put view place word)) }
+        ensures { IfOk result (λ allowed. IsTrue allowed ↔ Allows S.worth S.touches self.now (Event.Put view place word)) }
     {
         let state = self.state();
-        if !state.may_read(view, place) || !holds_place(state.holds(view), place) {
+        if !state.may_step_at(view, place) || !holds_place(state.holds(view), place) {
             return Ok(false);
         }
         knows_worth(
@@ -349,11 +345,10 @@ impl<S: Judge> Core<S> {
 
     /// Whether the view may give the place back for the mark.
     fn allows_finish(&self, view: u32, place: u32, mark: u64) -> Result<bool, Memory>
-        ensures { IfOk result
-            (λ allowed. IsTrue allowed ↔ Allowed (S.worth (subject_of self.now)) (S.touches (subject_of self.now)) (state_of self.now) (Event.Finish view place mark)) }
+        ensures { IfOk result (λ allowed. IsTrue allowed ↔ Allows S.worth S.touches self.now (Event.Finish view place mark)) }
     {
         let state = self.state();
-        if !state.may_read(view, place) {
+        if !state.may_step_at(view, place) {
             return Ok(false);
         }
         any_marked(

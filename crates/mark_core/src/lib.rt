@@ -11,6 +11,7 @@
 // protocol over atomic words proves that each of its steps is one of these events.
 #![tactic(auto)]
 
+mod actors;
 mod answers;
 mod events;
 mod judging;
@@ -22,9 +23,13 @@ mod two_cells;
 mod views;
 mod words;
 
+pub use actors::{Edits, View};
 pub use answers::{Seen, shown};
 pub use events::{Event, Outcome};
-pub use laws::{goes_stale_for_later_edits_only, has_one_last_mark, stays_honest};
+pub use laws::{
+    goes_stale_for_later_edits_only, hands_on, has_one_last_mark, keeps_honest,
+    reads_in_three_loads, shows_what_is_right, stays_honest,
+};
 pub use protocol::Core;
 pub use subjects::{Judge, Subject};
 pub use two_cells::TwoCells;
