@@ -20,26 +20,34 @@ use Rattle.mark_core.specs.Honest.{IsHonest}
 use Rattle.mark_core.specs.Run.{IsOpening, IsCodeless, Runs}
 use Rattle.mark_core.specs.Growth.{counts_of, finishes_of, losses_of, Grows, IsCopy, IsUnion, BeginsRead, EndsRead}
 
-module _ {E : Type 0} (places : ℕ) (worth : List E → ℕ → ℕ) (touches : List E → E → ℕ → Type 0) where
+module _ {S E : Type 0} (places : S → ℕ) (worth : S → List E → ℕ → ℕ) (touches : S → List E → E → ℕ → Type 0) (subject : S) where
+  -- the state is honest, with the codes that this opening gave
+  abbrev pub IsHonestFrom : List (Option ℕ) → State E → Type 0
+  IsHonestFrom opening s = IsHonest (places subject) (worth subject) (touches subject) (IsCodeless opening) s
+
+  -- the event happens: it is allowed, and answer and state are its own
+  abbrev pub HappensIn : State E → Event E → Outcome → State E → Type 0
+  HappensIn s event outcome after = Happens (worth subject) (touches subject) s event outcome after
+
   -- each opening state is honest
   abbrev pub OpeningsAreHonest : Type 0
   OpeningsAreHonest =
-      (opening : List (Option ℕ)) → IsOpening places worth opening
-      → IsHonest places worth touches (IsCodeless opening) (opening_state opening)
+      (opening : List (Option ℕ)) → IsOpening (places subject) (worth subject) opening
+      → IsHonestFrom opening (opening_state opening)
 
   -- each event that happens leaves an honest state honest
   abbrev pub EventsKeepHonest : Type 0
   EventsKeepHonest =
       (opening : List (Option ℕ)) (s : State E) (event : Event E) (outcome : Outcome) (after : State E)
-      → Happens worth touches s event outcome after
-      → IsHonest places worth touches (IsCodeless opening) s
-      → IsHonest places worth touches (IsCodeless opening) after
+      → HappensIn s event outcome after
+      → IsHonestFrom opening s
+      → IsHonestFrom opening after
 
   -- what is said of each read of a view in an honest state that shows something
   abbrev pub EachRead : (List (Option ℕ) → State E → Finished → Seen → Type 0) → Type 0
   EachRead Holds =
       (opening : List (Option ℕ)) (s : State E) (view : ℕ) (read : Finished) (shown : Seen)
-      → IsHonest places worth touches (IsCodeless opening) s
+      → IsHonestFrom opening s
       → Contains (view_at s view).reads read
       → ShowsOf read shown
       → Holds opening s read shown
@@ -47,41 +55,41 @@ module _ {E : Type 0} (places : ℕ) (worth : List E → ℕ → ℕ) (touches :
   -- a value is shown with a number within the log, and is the worth after that many entries
   abbrev pub ValuesAreWorths : Type 0
   ValuesAreWorths = EachRead (λ opening s read shown. ((value : ℕ) → shown ≡ Value value
-      → (read.number ≤ length s.edits.log) × (value ≡ worth (take read.number s.edits.log) read.place)
-      × IsLastMark touches (take read.number s.edits.log) read.place read.mark))
+      → (read.number ≤ length s.edits.log) × (value ≡ worth subject (take read.number s.edits.log) read.place)
+      × IsLastMark (touches subject) (take read.number s.edits.log) read.place read.mark))
 
   -- a newer mark is past the number, and its entry of the log touches the place
   abbrev pub NewerMarksTouch : Type 0
   NewerMarksTouch = EachRead (λ opening s read shown. ((mark : ℕ) → shown ≡ Newer mark
-      → (read.number < mark) × IsTouched touches s.edits.log read.place mark))
+      → (read.number < mark) × IsTouched (touches subject) s.edits.log read.place mark))
 
   -- a stale mark is 0 where the opening gave no code, or its entry touches the place, and no entry after it
   -- that the number covers does
   abbrev pub StaleMarksTouch : Type 0
   StaleMarksTouch = EachRead (λ opening s read shown. ((mark : ℕ) → shown ≡ Stale mark
       → (mark ≡ 0 → IsCodeless opening read.place)
-      × (0 < mark → IsTouched touches (entries_of s.edits) read.place mark)
-      × ((later : ℕ) → mark < later → later ≤ read.number → IsTouched touches s.edits.log read.place later → ⊥)))
+      × (0 < mark → IsTouched (touches subject) (entries_of s.edits) read.place mark)
+      × ((later : ℕ) → mark < later → later ≤ read.number → IsTouched (touches subject) s.edits.log read.place later → ⊥)))
 
   -- a cell of a look that shows what a read shows is legal at the read's number
   abbrev pub CellsAreLegal : Type 0
   CellsAreLegal = EachRead (λ opening s read shown.
-      IsLegalCell worth touches (IsCodeless opening) s.edits read.number read.place shown)
+      IsLegalCell (worth subject) (touches subject) (IsCodeless opening) s.edits read.number read.place shown)
 
   -- each read of a view in an honest state met its floor, and is legal where it has a word
   abbrev pub ReadsAreLegal : Type 0
   ReadsAreLegal =
       (opening : List (Option ℕ)) (s : State E) (view : ℕ) (read : Finished)
-      → IsHonest places worth touches (IsCodeless opening) s
+      → IsHonestFrom opening s
       → Contains (view_at s view).reads read
       → MeetsFloor read.mark read.floor read.clean.upto
-      × ((word : ℕ) → read.word ≡ Some word → IsLegalRead worth touches (IsCodeless opening) s.edits read word)
+      × ((word : ℕ) → read.word ≡ Some word → IsLegalRead (worth subject) (touches subject) (IsCodeless opening) s.edits read word)
 
   -- a load of a clean word begins a read
   abbrev pub ReadsBegin : Type 0
   ReadsBegin =
       (s : State E) (view place : ℕ) (outcome : Outcome) (after : State E)
-      → Happens worth touches s (ReadClean view place) outcome after
+      → HappensIn s (ReadClean view place) outcome after
       → (half : Half) × ((view_at after view).half ≡ Some half)
       × (half.clean ≡ (place_at s.places place).clean) × (outcome ≡ AnswersClean half.clean)
       × BeginsRead (view_at s view) place half
@@ -90,7 +98,7 @@ module _ {E : Type 0} (places : ℕ) (worth : List E → ℕ → ℕ) (touches :
   abbrev pub ReadsGoOn : Type 0
   ReadsGoOn =
       (s : State E) (view place : ℕ) (outcome : Outcome) (after : State E) (half : Half)
-      → Happens worth touches s (ReadValue view place) outcome after
+      → HappensIn s (ReadValue view place) outcome after
       → (view_at s view).half ≡ Some half → half.place ≡ place
       → (word : ℕ) × (outcome ≡ Word word) × (word ≡ (place_at s.places place).value)
       × ((view_at after view).half ≡ Some (record half { word = Some word }))
@@ -99,8 +107,8 @@ module _ {E : Type 0} (places : ℕ) (worth : List E → ℕ → ℕ) (touches :
   abbrev pub ReadsEnd : Type 0
   ReadsEnd =
       (opening : List (Option ℕ)) (s : State E) (view place : ℕ) (outcome : Outcome) (after : State E) (half : Half)
-      → IsHonest places worth touches (IsCodeless opening) s
-      → Happens worth touches s (ReadMark view place) outcome after
+      → IsHonestFrom opening s
+      → HappensIn s (ReadMark view place) outcome after
       → (view_at s view).half ≡ Some half → half.place ≡ place
       → (mark : ℕ) × (outcome ≡ AnswersMark mark) × (mark ≡ (place_at s.places place).mark)
       × ((read : Finished) × EndsRead (view_at s view) half mark read (view_at after view))
@@ -109,14 +117,14 @@ module _ {E : Type 0} (places : ℕ) (worth : List E → ℕ → ℕ) (touches :
   abbrev pub SeesAnswerTheCount : Type 0
   SeesAnswerTheCount =
       (s : State E) (view : ℕ) (outcome : Outcome) (after : State E)
-      → Happens worth touches s (See view) outcome after
+      → HappensIn s (See view) outcome after
       → (outcome ≡ Count (length s.edits.log)) × ((view_at after view).seen ≡ length s.edits.log)
 
   -- a split hands on what the view knows to the view that it answers, and leaves the others
   abbrev pub SplitsHandOn : Type 0
   SplitsHandOn =
       (s : State E) (view : ℕ) (outcome : Outcome) (after : State E)
-      → Happens worth touches s (Split view) outcome after
+      → HappensIn s (Split view) outcome after
       → (new : ℕ) × (outcome ≡ Seat new) × (new ≡ length s.views)
       × IsCopy (view_at s view) (view_at after new)
       × ((other : ℕ) → other ≢ new → view_at after other ≡ view_at s other)
@@ -125,8 +133,8 @@ module _ {E : Type 0} (places : ℕ) (worth : List E → ℕ → ℕ) (touches :
   abbrev pub JoinsHandOn : Type 0
   JoinsHandOn =
       (opening : List (Option ℕ)) (s : State E) (view other : ℕ) (outcome : Outcome) (after : State E)
-      → IsHonest places worth touches (IsCodeless opening) s
-      → Happens worth touches s (Join view other) outcome after
+      → IsHonestFrom opening s
+      → HappensIn s (Join view other) outcome after
       → IsUnion (view_at s view) (view_at s other) (view_at after view)
       × ((view_at after other).spent ≡ true)
       × ((third : ℕ) → third ≢ view → third ≢ other → view_at after third ≡ view_at s third)
@@ -135,8 +143,8 @@ module _ {E : Type 0} (places : ℕ) (worth : List E → ℕ → ℕ) (touches :
   abbrev pub ViewsGrow : Type 0
   ViewsGrow =
       (opening : List (Option ℕ)) (s : State E) (event : Event E) (outcome : Outcome) (after : State E) (view : ℕ)
-      → IsHonest places worth touches (IsCodeless opening) s
-      → Happens worth touches s event outcome after
+      → IsHonestFrom opening s
+      → HappensIn s event outcome after
       → IsLive (view_at after view)
       → Grows (counts_of s event view) (finishes_of s event view) (losses_of s event outcome view)
       (view_at s view) (view_at after view)
@@ -145,18 +153,18 @@ module _ {E : Type 0} (places : ℕ) (worth : List E → ℕ → ℕ) (touches :
   -- does and the others do from there
   abbrev pub EventsHappenInOrder : Type 0
   EventsHappenInOrder =
-      ((s after : State E) → Runs worth touches s [] after ↔ (after ≡ s))
+      ((s after : State E) → Runs (worth subject) (touches subject) s [] after ↔ (after ≡ s))
       × ((s : State E) (event : Event E) (events : List (Event E)) (after : State E)
-      → Runs worth touches s (event ∷ events) after
-      ↔ ((next : State E) × (outcome : Outcome) × Happens worth touches s event outcome next × Runs worth touches next events after))
+      → Runs (worth subject) (touches subject) s (event ∷ events) after
+      ↔ ((next : State E) × (outcome : Outcome) × HappensIn s event outcome next × Runs (worth subject) (touches subject) next events after))
 
   -- whatever events happen from an opening state, the state is honest
   abbrev pub RunsStayHonest : Type 0
   RunsStayHonest =
       (opening : List (Option ℕ)) (events : List (Event E)) (s : State E)
-      → IsOpening places worth opening
-      → Runs worth touches (opening_state opening) events s
-      → IsHonest places worth touches (IsCodeless opening) s
+      → IsOpening (places subject) (worth subject) opening
+      → Runs (worth subject) (touches subject) (opening_state opening) events s
+      → IsHonestFrom opening s
 
 -- Two reads of a place by one view, the later one begun when the view knew the place as computed for the
 -- mark of the first.
@@ -165,10 +173,10 @@ pub record AreInOrder (first second : Finished) : Type 0 where
   pub numbers : first.number ≤ second.number
   pub floor : first.mark < second.floor
 
-module _ {E : Type 0} (worth : List E → ℕ → ℕ) (touches : List E → E → ℕ → Type 0) where
+module _ {S E : Type 0} (worth : S → List E → ℕ → ℕ) (touches : S → List E → E → ℕ → Type 0) (subject : S) where
   -- the read is legal where it has a word
   abbrev pub IsLegal : List (Option ℕ) → Edits E → Finished → Type 0
-  IsLegal opening edits read = (word : ℕ) → read.word ≡ Some word → IsLegalRead worth touches (IsCodeless opening) edits read word
+  IsLegal opening edits read = (word : ℕ) → read.word ≡ Some word → IsLegalRead (worth subject) (touches subject) (IsCodeless opening) edits read word
 
   -- Of two legal reads in order, the first of which showed a value, the second shows a mark only of an edit
   -- above the first one's number.
@@ -186,6 +194,6 @@ module _ {E : Type 0} (worth : List E → ℕ → ℕ) (touches : List E → E �
   abbrev pub LastMarksAreUnique : Type 0
   LastMarksAreUnique =
       (entries : List E) (place mark other : ℕ)
-      → IsLastMark touches entries place mark
-      → IsLastMark touches entries place other
+      → IsLastMark (touches subject) entries place mark
+      → IsLastMark (touches subject) entries place other
       → mark ≡ other
