@@ -18,7 +18,8 @@ use Rattle.mark_core.specs.Mark.{IsTouched, IsLastMark}
 use Rattle.mark_core.specs.State.{State, view_at, spent_view, entries_of}
 use Rattle.mark_core.specs.View.{floor_of, new_half, with_half, with_word, with_value, read_of, known_from, with_read, with_read_at, with_read_end}
 use Rattle.mark_core.specs.Step.{Happens}
-use Rattle.mark_core.specs.Legal.{IsLegalRead, IsLegalCell, ShowsOf}
+use Rattle.mark_core.specs.Answer.{Shows}
+use Rattle.mark_core.specs.Legal.{IsLegalRead, IsLegalCell}
 use Rattle.mark_core.specs.Honest.{IsRightRead, IsHonest}
 use Rattle.mark_core.specs.Growth.{BeginsRead, EndsRead}
 use Rattle.mark_core.proofs.Prefixes.{take_is_prefix, prefix_of_prefix, touched_in_prefix, touched_in_longer}
@@ -130,33 +131,36 @@ ends_right view half mark below =
           subst (λ (l : List Known). Contains (view.known ++ l) pair) (sym learns) (Contains-push view.known pair);
     }
 
-module _ {E : Type 0} (places : ℕ) (worth : List E → ℕ → ℕ) (touches : List E → E → ℕ → Type 0) (codeless : ℕ → Type 0)
-    (s : State E) (view : ℕ) (read : Finished) (honest : IsHonest places worth touches codeless s) (among : Contains (view_at s view).reads read) where
-  pub read_right : IsRightRead worth touches codeless s.edits (words_of s.places) read
-  read_right =
-      All-contains (IsRightRead worth touches codeless s.edits (words_of s.places)) (view_at s view).reads read (honest.views view).reads among
+pub read_right : {E : Type 0} (places : ℕ) (worth : List E → ℕ → ℕ) (touches : List E → E → ℕ → Type 0) (codeless : ℕ → Type 0)
+    (s : State E) (view : ℕ) (read : Finished) → IsHonest places worth touches codeless s → Contains (view_at s view).reads read
+    → IsRightRead worth touches codeless s.edits (words_of s.places) read
+read_right places worth touches codeless s view read honest among =
+    All-contains (IsRightRead worth touches codeless s.edits (words_of s.places)) (view_at s view).reads read (honest.views view).reads among
 
-  pub value_shown : (value : ℕ) → ShowsOf read (Value value)
+module _ {E : Type 0} (places : ℕ) (worth : List E → ℕ → ℕ) (touches : List E → E → ℕ → Type 0) (codeless : ℕ → Type 0)
+    (s : State E) (view : ℕ) (read : Finished) (word : ℕ) (honest : IsHonest places worth touches codeless s) (among : Contains (view_at s view).reads read)
+    (had : read.word ≡ Some word) where
+  pub value_shown : (value : ℕ) → Shows read.number read.clean word read.mark (Value value)
       → (read.number ≤ length s.edits.log) × (value ≡ worth (take read.number s.edits.log) read.place)
       × IsLastMark touches (take read.number s.edits.log) read.place read.mark
   value_shown value shows =
-      let legal : IsLegalRead worth touches codeless s.edits read shows.word = read_right.legal shows.word shows.had in
-      (legal.within, legal.answer (Value value) shows.shows, legal.last value shows.shows)
+      let legal : IsLegalRead worth touches codeless s.edits read word = (read_right places worth touches codeless s view read honest among).legal word had in
+      (legal.within, legal.answer (Value value) shows, legal.last value shows)
 
-  pub newer_shown : (mark : ℕ) → ShowsOf read (Newer mark) → (read.number < mark) × IsTouched touches s.edits.log read.place mark
+  pub newer_shown : (mark : ℕ) → Shows read.number read.clean word read.mark (Newer mark) → (read.number < mark) × IsTouched touches s.edits.log read.place mark
   newer_shown mark shows =
-      let legal : IsLegalRead worth touches codeless s.edits read shows.word = read_right.legal shows.word shows.had in
-      legal.answer (Newer mark) shows.shows
+      let legal : IsLegalRead worth touches codeless s.edits read word = (read_right places worth touches codeless s view read honest among).legal word had in
+      legal.answer (Newer mark) shows
 
-  pub stale_shown : (mark : ℕ) → ShowsOf read (Stale mark)
+  pub stale_shown : (mark : ℕ) → Shows read.number read.clean word read.mark (Stale mark)
       → (mark ≡ 0 → codeless read.place)
       × (0 < mark → IsTouched touches (entries_of s.edits) read.place mark)
       × ((later : ℕ) → mark < later → later ≤ read.number → IsTouched touches s.edits.log read.place later → ⊥)
   stale_shown mark shows =
-      let legal : IsLegalRead worth touches codeless s.edits read shows.word = read_right.legal shows.word shows.had in
+      let legal : IsLegalRead worth touches codeless s.edits read word = (read_right places worth touches codeless s view read honest among).legal word had in
       let front : List E = take read.number s.edits.log in
       let long : length front ≡ read.number = length-take-le read.number s.edits.log legal.within in
-      elim (legal.answer (Stale mark) shows.shows) [
+      elim (legal.answer (Stale mark) shows) [
         | inl a ↦ (
           a.2,
           λ some.
@@ -176,7 +180,7 @@ module _ {E : Type 0} (places : ℕ) (worth : List E → ℕ → ℕ) (touches :
         )
       ]
 
-  pub cell_shown : (shown : Seen) → ShowsOf read shown → IsLegalCell worth touches codeless s.edits read.number read.place shown
+  pub cell_shown : (shown : Seen) → Shows read.number read.clean word read.mark shown → IsLegalCell worth touches codeless s.edits read.number read.place shown
   cell_shown shown shows =
-      let legal : IsLegalRead worth touches codeless s.edits read shows.word = read_right.legal shows.word shows.had in
-      record { within = legal.within; answer = legal.answer shown shows.shows }
+      let legal : IsLegalRead worth touches codeless s.edits read word = (read_right places worth touches codeless s view read honest among).legal word had in
+      record { within = legal.within; answer = legal.answer shown shows }

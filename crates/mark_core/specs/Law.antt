@@ -15,7 +15,8 @@ use Rattle.mark_core.specs.Mark.{IsTouched, IsLastMark}
 use Rattle.mark_core.specs.State.{State, view_at, entries_of, opening_state}
 use Rattle.mark_core.specs.Permission.{IsLive}
 use Rattle.mark_core.specs.Step.{Happens}
-use Rattle.mark_core.specs.Legal.{MeetsFloor, IsLegalCell, IsLegalRead, ShowsOf}
+use Rattle.mark_core.specs.Answer.{Shows}
+use Rattle.mark_core.specs.Legal.{MeetsFloor, IsLegalCell, IsLegalRead}
 use Rattle.mark_core.specs.Honest.{IsHonest}
 use Rattle.mark_core.specs.Run.{IsOpening, IsCodeless, Runs}
 use Rattle.mark_core.specs.Growth.{counts_of, finishes_of, losses_of, Grows, IsCopy, IsUnion, BeginsRead, EndsRead}
@@ -46,10 +47,11 @@ module _ {S E : Type 0} (places : S → ℕ) (worth : S → List E → ℕ → �
   -- what is said of each read of a view in an honest state that shows something
   abbrev pub EachRead : (List (Option ℕ) → State E → Finished → Seen → Type 0) → Type 0
   EachRead Holds =
-      (opening : List (Option ℕ)) (s : State E) (view : ℕ) (read : Finished) (shown : Seen)
+      (opening : List (Option ℕ)) (s : State E) (view : ℕ) (read : Finished) (word : ℕ) (shown : Seen)
       → IsHonestFrom opening s
       → Contains (view_at s view).reads read
-      → ShowsOf read shown
+      → read.word ≡ Some word
+      → Shows read.number read.clean word read.mark shown
       → Holds opening s read shown
 
   -- a value is shown with a number within the log, and is the worth after that many entries
@@ -166,28 +168,27 @@ module _ {S E : Type 0} (places : S → ℕ) (worth : S → List E → ℕ → �
       → Runs (worth subject) (touches subject) (opening_state opening) events s
       → IsHonestFrom opening s
 
--- Two reads of a place by one view, the later one begun when the view knew the place as computed for the
--- mark of the first.
-pub record AreInOrder (first second : Finished) : Type 0 where
-  pub same_place : second.place ≡ first.place
-  pub numbers : first.number ≤ second.number
-  pub floor : first.mark < second.floor
-
 module _ {S E : Type 0} (worth : S → List E → ℕ → ℕ) (touches : S → List E → E → ℕ → Type 0) (subject : S) where
   -- the read is legal where it has a word
   abbrev pub IsLegal : List (Option ℕ) → Edits E → Finished → Type 0
   IsLegal opening edits read = (word : ℕ) → read.word ≡ Some word → IsLegalRead (worth subject) (touches subject) (IsCodeless opening) edits read word
 
-  -- Of two legal reads in order, the first of which showed a value, the second shows a mark only of an edit
-  -- above the first one's number.
+  -- Two legal reads of a place, their numbers in order, the first with a word that showed as a value, and the
+  -- second with a floor above the mark of the first: then the second shows a mark only of an edit above the
+  -- first one's number.
   abbrev pub StaleForLaterEdits : Type 0
   StaleForLaterEdits =
-      (opening : List (Option ℕ)) (edits : Edits E) (first second : Finished) (value edit : ℕ)
-      → AreInOrder first second
+      (opening : List (Option ℕ)) (edits : Edits E) (first second : Finished) (word value word' edit : ℕ)
+      → second.place ≡ first.place
+      → first.number ≤ second.number
+      → first.mark < second.floor
       → IsLegal opening edits first
       → IsLegal opening edits second
-      → ShowsOf first (Value value)
-      → ShowsOf second (Stale edit) ⊎ ShowsOf second (Newer edit)
+      → first.word ≡ Some word
+      → Shows first.number first.clean word first.mark (Value value)
+      → second.word ≡ Some word'
+      → Shows second.number second.clean word' second.mark (Stale edit)
+      ⊎ Shows second.number second.clean word' second.mark (Newer edit)
       → first.number < edit
 
   -- a place has one last mark in a list of entries

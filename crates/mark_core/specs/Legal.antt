@@ -1,5 +1,5 @@
 -- What may be shown of a place: to a reader, and in a cell of a look.
-use Rattle.std.specs.Prelude.{◌≡◌, ◌<◌, ◌≤◌, ◌+◌, ◌⊎◌, ℕ, List, Some, length, take}
+use Rattle.std.specs.Prelude.{◌≡◌, ◌<◌, ◌≤◌, ◌+◌, ◌⊎◌, ℕ, List, length, take}
 use Rattle.mark_core.specs.declared.actors.Edits.{Edits}
 use Rattle.mark_core.specs.declared.words.Finished.{Finished}
 use Rattle.mark_core.specs.declared.answers.Seen.{Seen}
@@ -40,9 +40,3 @@ pub record IsLegalRead {E : Type 0} (worth : List E → ℕ → ℕ) (touches : 
   pub last :
       (value : ℕ) → Shows read.number read.clean word read.mark (Value value)
       → IsLastMark touches (take read.number edits.log) read.place read.mark
-
--- the read had a word, and shows this
-pub record ShowsOf (read : Finished) (shown : Seen) : Type 0 where
-  pub word : ℕ
-  pub had : read.word ≡ Some word
-  pub shows : Shows read.number read.clean word read.mark shown
