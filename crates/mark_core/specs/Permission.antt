@@ -56,6 +56,11 @@ pub record MayPut {E : Type 0} (worth : List E → ℕ → ℕ) (view : View (Li
   pub same_place : hold.place ≡ place
   pub known : IsWorthKnown worth view.log place word
 
+-- the word is the worth of the place after these entries, and the mark is its last one in them
+abbrev pub Belong : {S E : Type 0} → (S → List E → ℕ → ℕ) → (S → List E → E → ℕ → Type 0) → S → List E → ℕ → ℕ → ℕ → Type 0
+Belong worth touches subject entries place word mark =
+    (worth subject entries place ≡ word) × IsLastMark (touches subject) entries place mark
+
 -- a worth that the view put, with the last mark over the same entries
 pub record IsWorthMarked {E : Type 0} (worth : List E → ℕ → ℕ) (touches : List E → E → ℕ → Type 0) (log : List E) (place word mark : ℕ) : Type 0 where
   pub known : IsWorthKnown worth log place word

@@ -6,9 +6,10 @@
 // and the mark, in this order.
 //
 // `Core` is the machine over one subject, one event at a time; `specs/` says what each event needs and
-// does, and what an honest state is. `laws` has the theorem: every list of allowed events keeps the
-// state honest, so each finished read is legal. No thread and no table is here: a crate that runs the
-// protocol over atomic words proves that each of its steps is one of these events.
+// does, and what an honest state is. `laws` says what holds: an opening is honest and each event keeps a
+// state so; what a read of an honest state may show, alone and after another read; what views hand on.
+// No thread and no table is here: a crate that runs the protocol over atomic words proves that each of
+// its steps is one of these events. `View` and `Edits` are what its tokens hold in proofs.
 #![tactic(auto)]
 
 mod actors;

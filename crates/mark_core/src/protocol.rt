@@ -25,7 +25,8 @@ impl<S: Subject> Core<S> {
     pub fn open(alloc: Global, subject: S, opening: &[Option<u64>]) -> Result<Core<S>, Memory>
         requires few { length opening.now < 2 ^ 32 }
         requires right { IsOpening (S.places subject) (S.worth subject) opening.now }
-        ensures { IfOk result (λ core. (subject_of core ≡ subject) × (state_of core ≡ opening_state opening.now)) }
+        ensures { IfOk result
+            (λ core. (subject_of core ≡ subject) × (state_of core ≡ opening_state opening.now)) }
     {
         let state = Machine::open(alloc, opening)?;
         Ok(Core { subject, state })
@@ -60,7 +61,8 @@ impl<S: Subject> Core<S> {
         requires allowed { Allows S.worth S.touches self.old event }
         requires room { HasRoom (state_of self.old) event }
         ensures same_subject { subject_of self.new ≡ subject_of self.old }
-        ensures ok { IfOk result (λ outcome. Steps S.worth S.touches self.old event outcome (state_of self.new)) }
+        ensures ok { IfOk result
+            (λ outcome. Steps S.worth S.touches self.old event outcome (state_of self.new)) }
         ensures err { OnErr result (state_of self.new ≡ state_of self.old) }
     {
         match event {

@@ -152,7 +152,8 @@ impl Stored {
 
     /// Takes over all that the other view knows and has done.
     pub fn join(&mut self, other: &Stored) -> Result<(), Memory>
-        ensures ok { OnOk result (self.new ≡ union_with (max self.old.log other.now.log) self.old other.now) }
+        ensures ok { OnOk result
+            (self.new ≡ union_with (max self.old.log other.now.log) self.old other.now) }
         ensures err { OnErr result (self.new ≡ self.old) }
     {
         self.sees.try_reserve(other.sees.len())?;

@@ -57,7 +57,8 @@ impl<E> Machine<E> {
 
     /// The pending entry.
     pub fn pending(&self) -> Option<&E>
-        ensures { MatchOption result (self.now.edits.pending ≡ None) (λ entry. self.now.edits.pending ≡ Some entry.now) }
+        ensures { MatchOption result
+            (self.now.edits.pending ≡ None) (λ entry. self.now.edits.pending ≡ Some entry.now) }
     {
         self.pending.as_ref()
     }

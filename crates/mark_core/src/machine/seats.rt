@@ -14,7 +14,8 @@ impl<E: Drop> Machine<E> {
     pub fn split(&mut self, view: u32) -> Result<u32, Memory>
         requires there { view < length self.old.views }
         requires room { length self.old.views < 2 ^ 32 - 1 }
-        ensures ok { IfOk result (λ seat. (seat ≡ length self.old.views) × (self.new ≡ after_split self.old view)) }
+        ensures ok { IfOk result
+            (λ seat. (seat ≡ length self.old.views) × (self.new ≡ after_split self.old view)) }
         ensures err { OnErr result (self.new ≡ self.old) }
     {
         let new = self.views[view as usize].split(self.alloc)?;
