@@ -16,13 +16,12 @@ use Rattle.sheet_model.proofs.ValueLemmas.{StandsIn-left, StandsIn-right, is_cir
 -- where a list has an element that passes, one is found
 any_found : {A : Type 0} (p : A → Bool) (xs : List A) → list_any p xs ≡ true → (x : A) × StandsIn xs x × (p x ≡ true)
 any_found p [] some = absurd (cc)
-any_found {A} p (x ∷ xs) some = by_test (p x) refl
+any_found {A} p (x ∷ xs) some = by_test (p x) refl (any_found p xs)
   where
-    by_test : (test : Bool) → p x ≡ test → (y : A) × StandsIn (x ∷ xs) y × (p y ≡ true)
-    by_test true same = (x, (zero, refl), same)
-    by_test false same =
-        let rest : list_any p xs ≡ true = rw same at some in
-        let (y, stands, passes) = any_found p xs rest in
+    by_test : (test : Bool) → p x ≡ test → (list_any p xs ≡ true → (y : A) × StandsIn xs y × (p y ≡ true)) → (y : A) × StandsIn (x ∷ xs) y × (p y ≡ true)
+    by_test true same later = (x, (zero, refl), same)
+    by_test false same later =
+        let (y, stands, passes) = later (rw same at some) in
         (y, (suc stands.0, stands.1), passes)
 
 -- a number in range, or out of it, is not circular
@@ -48,14 +47,15 @@ circular_sum (Ok a) (Ok b) same = absurd (number_or_num _ (a +ℤ b) same)
 meaning_honest : (values : Position → Value) (formula : Tree) → meaning values formula ≡ Error Circ → (cell : Position) × StandsIn (references_of formula) cell × (values cell ≡ Error Circ)
 meaning_honest values (number n) same = absurd (cc)
 meaning_honest values (reference cell) same = (cell, (zero, refl), same)
-meaning_honest values (binary op left right) same = either (circular_sum (as_number (meaning values left)) (as_number (meaning values right)) same)
+meaning_honest values (binary op left right) same =
+    either (circular_sum (as_number (meaning values left)) (as_number (meaning values right)) same) (meaning_honest values left) (meaning_honest values right)
   where
-    either : (as_number (meaning values left) ≡ Err Circ) ⊎ (as_number (meaning values right) ≡ Err Circ) → (cell : Position) × StandsIn (references_of (binary op left right)) cell × (values cell ≡ Error Circ)
-    either (inl on_left) =
-        let (cell, stands, circular) = meaning_honest values left (circular_operand (meaning values left) on_left) in
+    either : (as_number (meaning values left) ≡ Err Circ) ⊎ (as_number (meaning values right) ≡ Err Circ) → (meaning values left ≡ Error Circ → (cell : Position) × StandsIn (references_of left) cell × (values cell ≡ Error Circ)) → (meaning values right ≡ Error Circ → (cell : Position) × StandsIn (references_of right) cell × (values cell ≡ Error Circ)) → (cell : Position) × StandsIn (references_of (binary op left right)) cell × (values cell ≡ Error Circ)
+    either (inl on_left) in_left in_right =
+        let (cell, stands, circular) = in_left (circular_operand (meaning values left) on_left) in
         (cell, StandsIn-left (references_of left) (references_of right) cell stands, circular)
-    either (inr on_right) =
-        let (cell, stands, circular) = meaning_honest values right (circular_operand (meaning values right) on_right) in
+    either (inr on_right) in_left in_right =
+        let (cell, stands, circular) = in_right (circular_operand (meaning values right) on_right) in
         (cell, StandsIn-right (references_of left) (references_of right) cell stands, circular)
 
 not_made_circular : (value : Value) → never_empty value ≡ Error Circ → value ≡ Error Circ

@@ -43,7 +43,7 @@ find_number {C} number [] n = inr (λ i c at. absurd (nothing i c at))
   where
     nothing : (i : ℕ) (c : C) → slice_get [] i ≡ Some c → ⊥
     nothing i c at = cc
-find_number {C} number (cell ∷ cells) n = by_test (number cell == n) refl
+find_number {C} number (cell ∷ cells) n = by_test (number cell == n) refl (find_number number cells n)
   where
     later : ((i : ℕ) × (c : C) × (slice_get cells i ≡ Some c) × (number c ≡ n)) ⊎ ((i : ℕ) (c : C) → slice_get cells i ≡ Some c → number c ≢ n) → number cell ≢ n → ((i : ℕ) × (c : C) × (slice_get (cell ∷ cells) i ≡ Some c) × (number c ≡ n)) ⊎ ((i : ℕ) (c : C) → slice_get (cell ∷ cells) i ≡ Some c → number c ≢ n)
     later (inl (i, c, at, same)) differs = inl (suc i, c, at, same)
@@ -52,9 +52,9 @@ find_number {C} number (cell ∷ cells) n = by_test (number cell == n) refl
         other : (i : ℕ) (c : C) → slice_get (cell ∷ cells) i ≡ Some c → number c ≢ n
         other zero c at = let same : cell ≡ c = cc in subst (λ (d : C). number d ≢ n) same differs
         other (suc i) c at = none i c at
-    by_test : (test : Bool) → (number cell == n) ≡ test → ((i : ℕ) × (c : C) × (slice_get (cell ∷ cells) i ≡ Some c) × (number c ≡ n)) ⊎ ((i : ℕ) (c : C) → slice_get (cell ∷ cells) i ≡ Some c → number c ≢ n)
-    by_test true same = inl (0, cell, refl, grind (arith, nat_tests))
-    by_test false same = later (find_number number cells n) (let differs : number cell ≢ n = grind (arith, nat_tests) in differs)
+    by_test : (test : Bool) → (number cell == n) ≡ test → ((i : ℕ) × (c : C) × (slice_get cells i ≡ Some c) × (number c ≡ n)) ⊎ ((i : ℕ) (c : C) → slice_get cells i ≡ Some c → number c ≢ n) → ((i : ℕ) × (c : C) × (slice_get (cell ∷ cells) i ≡ Some c) × (number c ≡ n)) ⊎ ((i : ℕ) (c : C) → slice_get (cell ∷ cells) i ≡ Some c → number c ≢ n)
+    by_test true same rest = inl (0, cell, refl, grind (arith, nat_tests))
+    by_test false same rest = later rest (let differs : number cell ≢ n = grind (arith, nat_tests) in differs)
 
 -- over inputs with numbers below a count, which tell them apart, each cell that is circular with one more step leads into a cycle
 module _ {C V : Type 0} (Input : C → C → Type 0) (circ : V) (step : C → (C → V) → V) (honest : IsHonest Input circ step) (number : C → ℕ) (count : ℕ) (below : (c d : C) → Input c d → number d < count) (apart : (c d e f : C) → Input c d → Input e f → number d ≡ number f → d ≡ f) where
@@ -77,7 +77,7 @@ module _ {C V : Type 0} (Input : C → C → Type 0) (circ : V) (step : C → (C
       absurd (omega (arith, most, more))
   follow start now passed path (suc n) circular more =
       let (input, is_input, still) = honest now (ev circ step n) circular in
-      either input is_input still (find_number number passed (number input))
+      either input is_input still (find_number number passed (number input)) (λ extended path_on. follow start input extended path_on n still)
     where
       reach : (d : C) → Input now d → Leads Input start d
       reach d is_input = arrive path.arrived
@@ -94,6 +94,11 @@ module _ {C V : Type 0} (Input : C → C → Type 0) (circ : V) (step : C → (C
           onward : (v ≡ now) ⊎ Leads Input v now → Leads Input v d
           onward (inl same) = subst (λ (from : C). Leads Input from d) (sym same) (one_step now d is_input)
           onward (inr leads) = leads_on v now d leads is_input
+      here : (d : C) → Input now d → Passed start d d
+      here d is_input = record { from = now; entered = is_input; reached = reach d is_input; goes_on = inl refl }
+      stands : (d : C) → Input now d → (i : ℕ) (v : C) → (slice_get passed i ≡ Some v) ⊎ ((i ≡ length passed) × (d ≡ v)) → Passed start d v
+      stands d is_input i v (inl old) = move d is_input v (path.each i v old)
+      stands d is_input i v (inr last) = subst (λ (w : C). Passed start d w) last.1 (here d is_input)
       apart_still : (d : C) → ((i : ℕ) (v : C) → slice_get passed i ≡ Some v → number v ≢ number d) → (i j : ℕ) (v w : C) → i < j → (slice_get passed i ≡ Some v) ⊎ ((i ≡ length passed) × (d ≡ v)) → (slice_get passed j ≡ Some w) ⊎ ((j ≡ length passed) × (d ≡ w)) → number v ≢ number w
       apart_still d new i j v w less (inl at_i) (inl at_j) = path.differ i j v w less at_i at_j
       apart_still d new i j v w less (inl at_i) (inr last) = subst (λ (x : C). number v ≢ number x) last.1 (new i v at_i)
@@ -108,18 +113,15 @@ module _ {C V : Type 0} (Input : C → C → Type 0) (circ : V) (step : C → (C
       extend : (d : C) → Input now d → ((i : ℕ) (v : C) → slice_get passed i ≡ Some v → number v ≢ number d) → Path start d (passed ++ d ∷ [])
       extend d is_input new = record {
         arrived = inr (reach d is_input);
-        each = λ i v at. elim (slice_get-pushed passed d i v at) [
-            inl old ↦ move d is_input v (path.each i v old)
-          | inr last ↦ subst (Passed start d) (sym last.1) (record { from = now; entered = is_input; reached = reach d is_input; goes_on = inl refl })
-          ];
+        each = λ i v at. stands d is_input i v (slice_get-pushed passed d i v at);
         differ = λ i j v w less at_i at_j. apart_still d new i j v w less (slice_get-pushed passed d i v at_i) (slice_get-pushed passed d j w at_j);
       }
-      either : (d : C) → Input now d → ev circ step n d ≡ circ → ((i : ℕ) × (c : C) × (slice_get passed i ≡ Some c) × (number c ≡ number d)) ⊎ ((i : ℕ) (c : C) → slice_get passed i ≡ Some c → number c ≢ number d) → LeadsIntoCycle Input start
-      either d is_input still (inl (i, v, at, same)) =
+      either : (d : C) → Input now d → ev circ step n d ≡ circ → ((i : ℕ) × (c : C) × (slice_get passed i ≡ Some c) × (number c ≡ number d)) ⊎ ((i : ℕ) (c : C) → slice_get passed i ≡ Some c → number c ≢ number d) → ((extended : List C) → Path start d extended → count < length extended + n → LeadsIntoCycle Input start) → LeadsIntoCycle Input start
+      either d is_input still (inl (i, v, at, same)) onward =
           let p = path.each i v at in
           record { turn = v; there = inr p.reached; back = return v d is_input (apart p.from v now d p.entered is_input same) p.goes_on }
-      either d is_input still (inr new) =
-          follow start d (passed ++ d ∷ []) (extend d is_input new) n still (rw length-append (omega (arith, more)))
+      either d is_input still (inr new) onward =
+          onward (passed ++ d ∷ []) (extend d is_input new) (rw length-append (omega (arith, more)))
 
   pub leads_into_cycle : (c : C) → ev circ step (suc count) c ≡ circ → LeadsIntoCycle Input c
   leads_into_cycle c circular = follow c c [] start (suc count) circular (omega arith)

@@ -1,6 +1,6 @@
 -- What a cell's value is: the meaning of a formula over the values of the cells that it refers to, and from that the value of each cell
 -- of a sheet, by a budget of steps.
-use Rattle.std.specs.Prelude.{◌≡◌, ℕ, suc, ℤ, pos, negsuc, ◌+ℤ◌, int_le, Bool, true, false, ◌&&◌, if◌then◌else◌, IsTrue, List, [], length, slice_get, Some, Result, Ok, Err}
+use Rattle.std.specs.Prelude.{◌≡◌, ◌≢◌, ◌↔◌, ℕ, suc, ℤ, pos, negsuc, ◌+ℤ◌, int_le, Bool, true, false, ◌&&◌, if◌then◌else◌, IsTrue, List, [], length, slice_get, Some, Result, Ok, Err}
 use Rattle.std.specs.List.{list_any}
 use Rattle.sheet_refs.specs.Cells.{Position}
 use Rattle.value_core.specs.declared.value.ErrorKind.{ErrorKind}
