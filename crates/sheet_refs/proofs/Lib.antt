@@ -1,3 +1,4 @@
 pub mod Grid
 pub mod NameLemmas
+pub mod Overlaps
 pub mod PrintLemmas

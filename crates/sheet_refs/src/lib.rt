@@ -13,6 +13,7 @@ mod laws;
 mod memory;
 mod names;
 mod range;
+mod refs;
 #[cfg(test)]
 mod tests;
 
@@ -21,3 +22,4 @@ pub use laws::name_laws;
 pub use memory::Memory;
 pub use names::{cell_of, decimal_of, range_of};
 pub use range::Range;
+pub use refs::Refs;

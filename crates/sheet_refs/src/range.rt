@@ -1,4 +1,4 @@
-ghost use Rattle.std.specs.Prelude.{◌≡◌, ℕ, ◌*◌, ◌≤◌, ◌↔◌, length, Contains, IsTrue};
+ghost use Rattle.std.specs.Prelude.{◌≡◌, ℕ, ◌*◌, ◌≤◌, ◌↔◌, length, Contains, IsTrue, IsSome, IfSome};
 
 use crate::Cell;
 use std::fmt;
@@ -25,6 +25,7 @@ impl Model for Range {
 
 impl Range {
     ghost use Rattle.sheet_refs.specs.Cells.{Position, Corners, IsIn, IsOrdered, IsWithin, spanned, height, width, cells_of};
+    ghost use Rattle.sheet_refs.specs.Rectangles.{IsShared, Overlap};
 
     /// The smallest rectangle with both cells.
     pub fn of(a: Cell, b: Cell) -> Range
@@ -70,6 +71,32 @@ impl Range {
     {
         let rows = self.head.row() <= cell.row() && cell.row() <= self.tail.row();
         rows && self.head.col() <= cell.col() && cell.col() <= self.tail.col()
+    }
+
+    /// Whether the two ranges share a cell.
+    pub fn overlaps(&self, other: &Range) -> bool
+        ensures { IsTrue result ↔ Overlap self.now other.now }
+    {
+        let rows = self.head.row().max(other.head.row()) <= self.tail.row().min(other.tail.row());
+        let cols = self.head.col().max(other.head.col()) <= self.tail.col().min(other.tail.col());
+        rows && cols
+    }
+
+    /// The range of the cells that the two ranges share; None exactly where they share none.
+    pub fn meet(&self, other: &Range) -> Option<Range>
+        ensures some { IsSome result ↔ Overlap self.now other.now }
+        ensures shared { IfSome result (λ range. (cell : Position) → IsIn cell range ↔ IsShared self.now other.now cell) }
+    {
+        if !self.overlaps(other) {
+            return None;
+        }
+        let top = self.head.row().max(other.head.row());
+        let left = self.head.col().max(other.head.col());
+        let bottom = self.tail.row().min(other.tail.row());
+        let right = self.tail.col().min(other.tail.col());
+        let head = Cell::new(top, left).unwrap();
+        let tail = Cell::new(bottom, right).unwrap();
+        Some(Range { head, tail })
     }
 }
 
