@@ -8,13 +8,12 @@ use Rattle.std.proofs.lemmas.Bool.Decides.{eqb_tells}
 use Rattle.std.proofs.lemmas.List.{append-nil}
 use Rattle.std.proofs.lemmas.List.FromFn.{map-range_with_len_more, length-map-range_with_len}
 use Rattle.sheet_refs.specs.Cells.{Position, Corners, width}
-use Rattle.formula_syntax.specs.declared.value.Value.{Value}
-use Rattle.formula_syntax.specs.Values.{value_text}
-use Rattle.antifreeze.specs.Texts.{row_text}
+use Rattle.value_core.specs.declared.value.Value.{Value}
+use Rattle.antifreeze.specs.Texts.{row_text, shown_value}
 
 -- the value in a row and a column, printed
 abbrev pub printed : (Position → Value) → ℕ → ℕ → List ℕ
-printed shown row col = value_text (shown (record { row = row; col = col }))
+printed shown row col = shown_value (shown (record { row = row; col = col }))
 
 -- so many cells of a row from a column on, with commas between them
 abbrev pub cells_text : (Position → Value) → ℕ → ℕ → ℕ → List ℕ
@@ -42,7 +41,7 @@ map_twice f g (x ∷ xs) = ap (λ ys. g (f x) ∷ ys) (map_twice f g xs)
 -- a whole row
 pub row_whole : (shown : Position → Value) (window : Corners) (row : ℕ) → row_text shown window row ≡ cells_text shown row window.head.col (width window) ++ 10 ∷ []
 row_whole shown window row =
-    ap (λ pieces. join_with_byte 44 pieces ++ 10 ∷ []) (map_twice (λ col. record { row = row; col = col }) (λ (cell : Position). value_text (shown cell)) (range_with_len window.head.col (width window)))
+    ap (λ pieces. join_with_byte 44 pieces ++ 10 ∷ []) (map_twice (λ col. record { row = row; col = col }) (λ (cell : Position). shown_value (shown cell)) (range_with_len window.head.col (width window)))
 
 -- one more cell behind a text that ends with the cells before it
 pub cell_step : (shown : Position → Value) (row first col : ℕ) (old mid new : List ℕ) → first ≤ col → mid ≡ old ++ cells_text shown row first (col - first) → new ≡ mid ++ (if eqb col first then printed shown row col else (44 ∷ printed shown row col)) → new ≡ old ++ cells_text shown row first (col + 1 - first)

@@ -1,15 +1,14 @@
 ghost use Rattle.std.specs.Prelude.{◌≡◌, ◌≤◌, ◌++◌, IsTrue, IfOk, OnOk, string_bytes, ◌∷◌, if◌then◌else◌};
-ghost use Rattle.formula_syntax.specs.Values.{value_text};
 ghost use Rattle.sheet_model.specs.Sheets.{is_inside};
 ghost use Rattle.sheet_model.specs.Values.{AreValues, value_of};
 ghost use Rattle.antifreeze.specs.Replies.{IsWithinSheet};
-ghost use Rattle.antifreeze.specs.Texts.{row_text, show_text};
+ghost use Rattle.antifreeze.specs.Texts.{row_text, show_text, shown_value};
 
-use formula_syntax::{Value, decode};
 use sheet_model::Sheet;
 use sheet_refs::{Cell, Range};
 use std::alloc::{AllocError, Global};
 use std::fmt::Write;
+use value_core::{Value, decode};
 
 /// What `show` writes of a range of the sheet, given the codes of all its cells' values, row by row. It
 /// takes time and memory in proportion to the cells of the range.
@@ -55,12 +54,25 @@ fn push_row(
 
 // Appends a value, with a comma before it unless it is the first of its row.
 fn push_value(text: &mut String, value: Value, first: bool) -> Result<(), AllocError>
-    ensures { OnOk result (string_bytes text.new ≡ string_bytes text.old ++ (if first then value_text value else (44 ∷ value_text value))) }
+    ensures { OnOk result (string_bytes text.new ≡ string_bytes text.old ++ (if first then shown_value value else (44 ∷ shown_value value))) }
 {
-    if first {
-        write!(text, "{value}")
-    } else {
-        write!(text, ",{value}")
+    if !first {
+        text.push(',')?;
+    }
+    push_text(text, value)
+}
+
+// Appends a value as a sheet shows it.
+fn push_text(text: &mut String, value: Value) -> Result<(), AllocError>
+    ensures { OnOk result (string_bytes text.new ≡ string_bytes text.old ++ shown_value value) }
+{
+    match &value {
+        Value::Empty => Ok(()),
+        Value::Number(number) => write!(text, "{number}"),
+        Value::Truth(true) => text.push_str("TRUE"),
+        Value::Truth(false) => text.push_str("FALSE"),
+        Value::Error(kind) => write!(text, "{kind}"),
+        Value::Label(_) => text.push_str("\"\""),
     }
 }
 

@@ -1,10 +1,9 @@
 -- What every formula keeps.
-use Rattle.std.specs.Prelude.{◌≡◌, ◌≤◌, List, length}
-use Rattle.sheet_refs.specs.Cells.{Position}
-use Rattle.formula_syntax.specs.declared.tree.Node.{Node}
-use Rattle.formula_syntax.specs.Tree.{tree_of, references_of}
+use Rattle.std.specs.Prelude.{◌≤◌, length}
+use Rattle.formula_syntax.specs.Tree.{Tree, references_of, node_count, IsFitting}
 
--- a list of a tree's references beside the tree, of which there are at most 255
-pub record HasReferences (root : Node) (references : List Position) : Type 0 where
-  pub same : references ≡ references_of (tree_of root)
-  pub few : length references ≤ 255
+-- a tree within the limits, in which each call fits its function
+pub record IsFormula (tree : Tree) : Type 0 where
+  pub few_nodes : node_count tree ≤ 8192
+  pub few_references : length (references_of tree) ≤ 255
+  pub fitting : IsFitting tree

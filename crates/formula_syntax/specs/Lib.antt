@@ -1,6 +1,9 @@
+pub mod Fixed
 pub mod Formula
+pub mod Functions
 pub mod Grammar
+pub mod Lexing
+pub mod Reading
+pub mod Spelling
 pub mod Tree
 pub mod TreeCode
-pub mod Values
-pub mod Wholes

@@ -1,58 +1,100 @@
--- A code for trees, by which a proof tells them apart: a tree in postfix order.
-use Rattle.std.specs.Prelude.{◌≡◌, ℕ, ℤ, pos, ◌⊎◌, List, [], ◌∷◌, ◌++◌, refl}
-use Rattle.std.proofs.Common.{inl, inr, ap, ◌∙◌, append_assoc}
+-- A code for trees, by which a proof tells them apart: a tree in postfix order, and lists of trees with it.
+use Rattle.std.specs.Prelude.{◌≡◌, ℤ, pos, Bool, List, [], ◌∷◌, ◌++◌, refl}
+use Rattle.std.proofs.Common.{ap, ◌∙◌, append_assoc}
+use Rattle.std.specs.Coded.{Coded, code_by, coded_list}
+use Rattle.sheet_refs.specs.Ends.{Reference}
 use Rattle.std.proofs.lemmas.List.{append-nil}
-use Rattle.std.specs.Coded.{Coded, code_by, coded×, coded⊎, coded_ℕ, coded_ℤ, coded_list}
-use Rattle.formula_syntax.specs.declared.tree.BinaryOp.{BinaryOp}
-use Rattle.formula_syntax.specs.declared.tree.BinaryOp.TheVariants.{Add}
-use Rattle.formula_syntax.specs.Tree.{Tree, number, reference, binary}
+use Rattle.value_core.specs.declared.value.ErrorKind.{ErrorKind}
+use Rattle.value_core.specs.declared.operators.BinaryOp.{BinaryOp}
+use Rattle.value_core.specs.declared.operators.PrefixOp.{PrefixOp}
+use Rattle.formula_syntax.specs.declared.functions.Function.{Function}
+use Rattle.formula_syntax.specs.Tree.{Tree, Trees, number, truth, error as error_tree, reference, prefix, binary, call, no_trees, and_trees}
 
--- a number, a reference's row and column, or the place of an operator
-abbrev pub Token : Type 0
-Token = ℤ ⊎ (ℕ × ℕ) ⊎ ℕ
+-- what stands at the top of a tree, without the trees below it
+pub data Head : Type 0 where
+  number_head : ℤ → Head
+  truth_head : Bool → Head
+  error_head : ErrorKind → Head
+  reference_head : Reference → Head
+  prefix_head : PrefixOp → Head
+  binary_head : BinaryOp → Head
+  call_head : Function → Head
+  end_head : Head
+  pair_head : Head
 
-abbrev pub operator_place : BinaryOp → ℕ
-operator_place Add = 0
+-- the heads of a tree, each behind those of the trees below it
+abbrev mutual
+  pub postfix_of : Tree → List Head
+  postfix_of (number n) = number_head n ∷ []
+  postfix_of (truth b) = truth_head b ∷ []
+  postfix_of (error_tree kind) = error_head kind ∷ []
+  postfix_of (reference r) = reference_head r ∷ []
+  postfix_of (prefix op operand) = postfix_of operand ++ (prefix_head op ∷ [])
+  postfix_of (binary op left right) = postfix_of left ++ (postfix_of right ++ (binary_head op ∷ []))
+  postfix_of (call f parameters) = postfix_all parameters ++ (call_head f ∷ [])
 
-abbrev pub operator_at : ℕ → BinaryOp
-operator_at place = Add
+  pub postfix_all : Trees → List Head
+  postfix_all no_trees = end_head ∷ []
+  postfix_all (and_trees tree rest) = postfix_of tree ++ (postfix_all rest ++ (pair_head ∷ []))
 
-abbrev pub postfix_of : Tree → List Token
-postfix_of (number n) = inl n ∷ []
-postfix_of (reference cell) = inr (inl (cell.row, cell.col)) ∷ []
-postfix_of (binary op left right) = postfix_of left ++ (postfix_of right ++ (inr (inr (operator_place op)) ∷ []))
+-- an operator or a function over what is on top
+abbrev pub over_one : (Tree → Tree) → List Tree → List Tree
+over_one f [] = []
+over_one f (tree ∷ below) = f tree ∷ below
 
--- joins the two trees on top
-abbrev pub joined : BinaryOp → List Tree → List Tree
-joined op [] = []
-joined op (right ∷ []) = []
-joined op (right ∷ left ∷ below) = binary op left right ∷ below
+abbrev pub over_two : (Tree → Tree → Tree) → List Tree → List Tree
+over_two f [] = []
+over_two f (right ∷ []) = []
+over_two f (right ∷ left ∷ below) = f left right ∷ below
 
--- the trees that tokens leave, the last on top
-abbrev pub rebuilt : List Token → List Tree → List Tree
-rebuilt [] trees = trees
-rebuilt (inl n ∷ rest) trees = rebuilt rest (number n ∷ trees)
-rebuilt (inr (inl (row, col)) ∷ rest) trees = rebuilt rest (reference (record { row = row; col = col }) ∷ trees)
-rebuilt (inr (inr place) ∷ rest) trees = rebuilt rest (joined (operator_at place) trees)
+abbrev pub first_tree : List Tree → Tree
+first_tree [] = number (pos 0)
+first_tree (tree ∷ below) = tree
 
-abbrev pub top_of : List Tree → Tree
-top_of [] = number (pos 0)
-top_of (tree ∷ _) = tree
+abbrev pub first_trees : List Trees → Trees
+first_trees [] = no_trees
+first_trees (trees ∷ below) = trees
 
-same_operator : (op : BinaryOp) → operator_at (operator_place op) ≡ op
-same_operator Add = refl
+abbrev pub others : {A : Type 0} → List A → List A
+others [] = []
+others (x ∷ below) = below
 
-pub rebuilt-postfix : (tree : Tree) (rest : List Token) (trees : List Tree) → rebuilt (postfix_of tree ++ rest) trees ≡ rebuilt rest (tree ∷ trees)
-rebuilt-postfix (number n) rest trees = refl
-rebuilt-postfix (reference cell) rest trees = refl
-rebuilt-postfix (binary op left right) rest trees =
-    let mark : List Token = inr (inr (operator_place op)) ∷ [] in
-    let first = rebuilt-postfix left (postfix_of right ++ (mark ++ rest)) trees in
-    let second = rebuilt-postfix right (mark ++ rest) (left ∷ trees) in
-    rw (append_assoc, append_assoc) (first ∙ second ∙ ap (λ o. rebuilt rest (binary o left right ∷ trees)) (same_operator op))
+-- the trees, and the lists of trees, that heads leave, the last on top
+abbrev pub rebuilt : List Head → List Tree → List Trees → List Tree
+rebuilt [] trees lists = trees
+rebuilt (number_head n ∷ rest) trees lists = rebuilt rest (number n ∷ trees) lists
+rebuilt (truth_head b ∷ rest) trees lists = rebuilt rest (truth b ∷ trees) lists
+rebuilt (error_head kind ∷ rest) trees lists = rebuilt rest (error_tree kind ∷ trees) lists
+rebuilt (reference_head r ∷ rest) trees lists = rebuilt rest (reference r ∷ trees) lists
+rebuilt (prefix_head op ∷ rest) trees lists = rebuilt rest (over_one (prefix op) trees) lists
+rebuilt (binary_head op ∷ rest) trees lists = rebuilt rest (over_two (binary op) trees) lists
+rebuilt (call_head f ∷ rest) trees lists = rebuilt rest (call f (first_trees lists) ∷ trees) (others lists)
+rebuilt (end_head ∷ rest) trees lists = rebuilt rest trees (no_trees ∷ lists)
+rebuilt (pair_head ∷ rest) trees lists = rebuilt rest (others trees) (and_trees (first_tree trees) (first_trees lists) ∷ others lists)
 
-pub same_tree : (tree : Tree) → top_of (rebuilt (postfix_of tree) []) ≡ tree
-same_tree tree = rw append-nil at (ap top_of (rebuilt-postfix tree [] []))
+mutual
+  pub rebuilt_one : (tree : Tree) (rest : List Head) (trees : List Tree) (lists : List Trees) → rebuilt (postfix_of tree ++ rest) trees lists ≡ rebuilt rest (tree ∷ trees) lists
+  rebuilt_one (number n) rest trees lists = refl
+  rebuilt_one (truth b) rest trees lists = refl
+  rebuilt_one (error_tree kind) rest trees lists = refl
+  rebuilt_one (reference r) rest trees lists = refl
+  rebuilt_one (prefix op operand) rest trees lists =
+      rw append_assoc (rebuilt_one operand (prefix_head op ∷ rest) trees lists)
+  rebuilt_one (binary op left right) rest trees lists =
+      rw (append_assoc, append_assoc)
+      (rebuilt_one left (postfix_of right ++ (binary_head op ∷ rest)) trees lists ∙ rebuilt_one right (binary_head op ∷ rest) (left ∷ trees) lists)
+  rebuilt_one (call f parameters) rest trees lists =
+      rw append_assoc (rebuilt_all parameters (call_head f ∷ rest) trees lists)
 
-abbrev pub tree_code : Coded Tree
-tree_code = code_by (List Token) (coded_list (coded⊎ coded_ℤ (coded⊎ (coded× coded_ℕ coded_ℕ) coded_ℕ))) postfix_of (λ tokens. top_of (rebuilt tokens [])) same_tree
+  pub rebuilt_all : (all : Trees) (rest : List Head) (trees : List Tree) (lists : List Trees) → rebuilt (postfix_all all ++ rest) trees lists ≡ rebuilt rest trees (all ∷ lists)
+  rebuilt_all no_trees rest trees lists = refl
+  rebuilt_all (and_trees tree others) rest trees lists =
+      rw (append_assoc, append_assoc)
+      (rebuilt_one tree (postfix_all others ++ (pair_head ∷ rest)) trees lists ∙ rebuilt_all others (pair_head ∷ rest) (tree ∷ trees) lists)
+
+pub same_tree : (tree : Tree) → first_tree (rebuilt (postfix_of tree) [] []) ≡ tree
+same_tree tree = rw append-nil at (ap first_tree (rebuilt_one tree [] [] []))
+
+-- a code of trees from one of heads
+abbrev pub tree_code : Coded Head → Coded Tree
+tree_code head_code = code_by (List Head) (coded_list head_code) postfix_of (λ heads. first_tree (rebuilt heads [] [])) same_tree

@@ -1,22 +1,23 @@
-//! Values of cells, and formulas as trees read from their text.
+//! Formulas as trees.
 //!
-//! A text is a formula exactly where the grammar spells a tree with it (`specs/Grammar.antt`); the reader
-//! gives that tree, which is the only one. Contracts see a formula as its tree (`specs/Tree.antt`) and a
-//! value as what it is, with the word that stands for it (`specs/Values.antt`).
+//! A formula is a tree of at most 8,192 nodes with at most 255 references (`specs/Formula.antt`). Contracts
+//! see it as a tree of the specs (`specs/Tree.antt`), without where its nodes lie in memory. One table says
+//! what parameters each function takes (`specs/Functions.antt`).
 //!
-//! The grammar is a first, narrow one: numbers and references joined by `+`.
-//!
-//! Below stands `sheet_refs`; sheets and their evaluation stand above.
+//! Below stand `sheet_refs` and `value_core`; evaluation stands above.
 #![tactic(auto)]
 
-mod codes;
+mod functions;
+mod laws;
+mod lexer;
 mod reader;
-#[cfg(test)]
-mod tests;
+mod reading;
+mod tokens;
 mod tree;
-mod value;
+mod words;
 
-pub use codes::{code, decode};
-pub use reader::{MAX_REFERENCES, MAX_TEXT, ReadRefused, read_formula};
-pub use tree::{BinaryOp, Formula, Node};
-pub use value::{ErrorKind, MAX_WHOLE, Value, Whole};
+pub use functions::{Function, Place};
+pub use laws::formula_laws;
+pub use reader::{MAX_DEPTH, MAX_REFERENCES, MAX_TEXT, ReadRefused, read_formula};
+pub use tokens::Token;
+pub use tree::{Formula, Node, Nodes};

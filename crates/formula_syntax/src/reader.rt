@@ -1,16 +1,20 @@
-ghost use Rattle.std.specs.Prelude.{◌≡◌, ℕ, ◌<◌, ◌≤◌, length, List, IfOk, OnErr, MatchOption, OnOk, ◌++◌};
-ghost use Rattle.std.specs.Option.{option_map_or};
-ghost use Rattle.formula_syntax.specs.Grammar.{IsItem, IsSum, Spells};
-ghost use Rattle.formula_syntax.specs.Tree.{Tree, tree_of, references_of, binary};
-ghost use Rattle.formula_syntax.specs.declared.reader.TheConstants.{MAX_TEXT, MAX_REFERENCES};
+ghost use Rattle.std.specs.Prelude.{◌≡◌, ◌≢◌, ℕ, ◌+◌, ◌∷◌, ◌<◌, ◌≤◌, ◌↔◌, ◌==◌, ◌^◌, List, length, count_by, IsTrue, MatchOption, IfOk, cond};
+ghost use Rattle.formula_syntax.specs.Spelling.{IsIntroduced, IsTooDeep, IsNoFormula, HasTooManyRefs, IsRead, IsAnswer, is_reference_token};
+ghost use Rattle.formula_syntax.specs.Grammar.{Derives};
+ghost use Rattle.formula_syntax.specs.Tree.{Tree, tree_of};
+ghost use Rattle.formula_syntax.specs.declared.reader.TheConstants.{MAX_TEXT};
 
-use super::tree::{BinaryOp, Formula, Node};
-use super::value::{MAX_WHOLE, Whole};
-use sheet_refs::{Cell, cell_of, decimal_of};
-use std::alloc::{AllocError, AllocFailed, Global};
+use crate::lexer::tokens;
+use crate::reading::{Unread, expression};
+use crate::tokens::Token;
+use crate::tree::{Formula, Node};
+use std::alloc::{AllocError, Global};
 
 /// The longest text that is read as a formula, in bytes.
 pub const MAX_TEXT: usize = 8_192;
+
+/// The most parentheses that may be open at a place of a formula.
+pub const MAX_DEPTH: usize = 64;
 
 /// The most references that one formula may write.
 pub const MAX_REFERENCES: usize = 255;
@@ -18,10 +22,80 @@ pub const MAX_REFERENCES: usize = 255;
 /// Why a text was not read as a formula.
 #[derive(Clone, Copy, Debug, PartialEq, Eq, Drop)]
 pub enum ReadRefused {
-    /// The text is no formula with at most 255 references.
+    /// The text is outside the grammar.
     NotFormula,
+    /// Somewhere more than 64 parentheses are open.
+    TooDeep,
+    /// The text is a formula with more than 255 references.
+    TooManyRefs,
     /// There was no memory for the tree.
     Memory,
+}
+
+// Whether some front of the text opens more than 64 parentheses that it doesn't close.
+fn too_deep(text: &[u8]) -> bool
+    requires { length text.now ≤ MAX_TEXT }
+    ensures { IsTrue result ↔ IsTooDeep text.now }
+{
+    let mut opened = 0;
+    let mut closed = 0;
+    for byte in text {
+        (opened, closed) = counted(*byte, opened, closed);
+        if opened > closed + MAX_DEPTH {
+            return true;
+        }
+    }
+    false
+}
+
+// The numbers of opening and of closing parentheses, with one byte more.
+fn counted(byte: u8, opened: usize, closed: usize) -> (usize, usize)
+    requires opened { opened < 2 ^ 32 }
+    requires closed { closed < 2 ^ 32 }
+    ensures opened { result.0 ≡ opened + cond (byte == 40) 1 0 }
+    ensures closed { result.1 ≡ closed + cond (byte == 41) 1 0 }
+{
+    match byte {
+        b'(' => (opened + 1, closed),
+        b')' => (opened, closed + 1),
+        _ => (opened, closed),
+    }
+}
+
+// What is behind the equals sign at the front.
+fn behind_equals(text: &[u8]) -> Option<&[u8]>
+    ensures { MatchOption result ((rest : List ℕ) → text.now ≢ 61 ∷ rest) (λ rest. text.now ≡ 61 ∷ rest.now) }
+{
+    match text.split_first() {
+        Some((b'=', rest)) => Some(rest),
+        _ => None,
+    }
+}
+
+// What is behind the introduction of a formula.
+fn introduced(text: &[u8]) -> Option<&[u8]>
+    ensures { MatchOption result ((rest : List ℕ) → ¬ IsIntroduced text.now rest) (λ rest. IsIntroduced text.now rest.now) }
+{
+    if let Some(rest) = behind_equals(text) {
+        return Some(rest);
+    }
+    if text.starts_with(b"of:=") {
+        return Some(&text[4..]);
+    }
+    None
+}
+
+// How many references there are among tokens.
+fn reference_count(tokens: &[Token]) -> usize
+    ensures { result ≡ count_by is_reference_token tokens.now }
+{
+    tokens.iter().filter(|token| is_reference(token)).count()
+}
+
+fn is_reference(token: &Token) -> bool
+    ensures { result ≡ is_reference_token token.now }
+{
+    matches!(token, Token::Reference(_))
 }
 
 impl From<AllocError> for ReadRefused {
@@ -34,87 +108,65 @@ impl From<AllocError> for ReadRefused {
     }
 }
 
-impl<T: Drop> From<AllocFailed<T>> for ReadRefused {
-    ghost use Rattle.formula_syntax.specs.declared.reader.ReadRefused.TheVariants.{Memory};
+impl From<Unread> for ReadRefused {
+    ghost use Rattle.formula_syntax.specs.Spelling.{refusal_of};
 
-    ghost from_gives = { λ _ refused. refused ≡ Memory };
+    ghost from_gives = { λ unread refused. refused ≡ refusal_of unread };
 
-    fn from(_: AllocFailed<T>) -> Self {
-        ReadRefused::Memory
-    }
-}
-
-/// Reads a formula: `=`, then numbers and references to cells, joined by `+`. A number has digits alone
-/// and is at most 2^53 - 1. The text has at most 8,192 bytes.
-///
-/// Refuses with NotFormula exactly where the text is no such formula with at most 255 references, and
-/// with Memory where memory ran out. The time is in proportion to the length of the text.
-pub fn read_formula(alloc: Global, text: &[u8]) -> Result<Formula, ReadRefused>
-    requires { length text.now ≤ MAX_TEXT }
-    ensures read { IfOk result (Spells text.now) }
-    ensures few { IfOk result (λ formula. length (references_of formula) ≤ MAX_REFERENCES) }
-    ensures not_formula { result ≡ Err ReadRefused.NotFormula
-        → (tree : Tree) → Spells text.now tree → 255 < length (references_of tree) }
-{
-    let Some((b'=', sum)) = text.split_first() else {
-        return Err(ReadRefused::NotFormula);
-    };
-    let root = sum_of(alloc, sum)?;
-    let mut references = Vec::new(alloc);
-    list_references(&root, &mut references)?;
-    if references.len() > MAX_REFERENCES {
-        return Err(ReadRefused::NotFormula);
-    }
-    Ok(Formula { root, references })
-}
-
-// Reads the items between the plus signs, and groups them from the left.
-fn sum_of(alloc: Global, text: &[u8]) -> Result<Node, ReadRefused>
-    ensures read { IfOk result (λ node. IsSum text.now (tree_of node)) }
-    ensures not_sum { result ≡ Err ReadRefused.NotFormula → (tree : Tree) → ¬ IsSum text.now tree }
-{
-    let mut sum: Option<Node> = None;
-    for item in text.split(|byte| *byte == b'+') {
-        let item = item_of(item).ok_or(ReadRefused::NotFormula)?;
-        sum = Some(added(alloc, sum, item)?);
-    }
-    sum.ok_or(ReadRefused::NotFormula)
-}
-
-// The sum with one more item; the item itself, where there is no sum yet.
-fn added(alloc: Global, sum: Option<Node>, item: Node) -> Result<Node, AllocError>
-    ensures { IfOk result (λ node. tree_of node ≡ option_map_or (λ left. binary BinaryOp.Add (tree_of left) (tree_of item)) sum (tree_of item)) }
-{
-    let Some(left) = sum else {
-        return Ok(item);
-    };
-    let left = Box::new(alloc, left)?;
-    let item = Box::new(alloc, item)?;
-    Ok(Node::Binary(BinaryOp::Add, left, item))
-}
-
-// Adds the references of a tree to the list, from left to right.
-fn list_references(node: &Node, references: &mut Vec<Cell>) -> Result<(), AllocError>
-    ensures { OnOk result (references.new.items ≡ references.old.items ++ references_of (tree_of node.now)) }
-{
-    match node {
-        Node::Number(_) => Ok(()),
-        Node::Reference(cell) => Ok(references.push(*cell)?),
-        Node::Binary(_, left, right) => {
-            list_references(left, references)?;
-            list_references(right, references)
+    fn from(unread: Unread) -> Self {
+        match unread {
+            Unread::NotFormula => ReadRefused::NotFormula,
+            Unread::Memory => ReadRefused::Memory,
         }
     }
 }
 
-#[tactic(auto, using(crate::proofs::Items::no_item))]
-fn item_of(text: &[u8]) -> Option<Node>
-    ensures { MatchOption result ((tree : Tree) → ¬ IsItem text.now tree) (λ node. IsItem text.now (tree_of node)) }
+// The tree that all tokens derive.
+fn derived(alloc: Global, tokens: &[Token]) -> Result<Node, Unread>
+    ensures read { IfOk result (λ node. Derives 0 tokens.now (tree_of node)) }
+    ensures not { result ≡ Err Unread.NotFormula → (t : Tree) → ¬ Derives 0 tokens.now t }
 {
-    if let Some(number) = decimal_of(text, MAX_WHOLE as u64) {
-        let number = Whole::new(number as i64).unwrap();
-        return Some(Node::Number(number));
+    let (node, rest) = expression(alloc, 0, tokens)?;
+    if !rest.is_empty() {
+        return Err(Unread::NotFormula);
     }
-    let cell = cell_of(text)?;
-    Some(Node::Reference(cell))
+    Ok(node)
+}
+
+// Reads a formula, with the cause of each answer.
+fn read(alloc: Global, text: &[u8]) -> Result<Formula, ReadRefused>
+    requires { length text.now ≤ MAX_TEXT }
+    ensures { IsAnswer text.now result }
+{
+    if too_deep(text) {
+        return Err(ReadRefused::TooDeep);
+    }
+    let Some(rest) = introduced(text) else {
+        return Err(ReadRefused::NotFormula);
+    };
+    let tokens = tokens(alloc, rest)?;
+    let root = derived(alloc, &tokens)?;
+    if reference_count(&tokens) > MAX_REFERENCES {
+        return Err(ReadRefused::TooManyRefs);
+    }
+    Ok(Formula { root })
+}
+
+/// Reads a formula, a text of at most 8,192 bytes. The tree is the only one that the text spells.
+///
+/// Refuses with TooDeep exactly where some front of the text has more than 64 more `(` than `)`; else with
+/// NotFormula exactly where the text is outside the grammar; else with TooManyRefs exactly where it writes
+/// more than 255 references. Memory may come before any of them. The time is in proportion to the length of
+/// the text, but for the table of functions, which is gone through for each name.
+pub fn read_formula(alloc: Global, text: &[u8]) -> Result<Formula, ReadRefused>
+    requires { length text.now ≤ MAX_TEXT }
+    ensures read { IfOk result (IsRead text.now) }
+    ensures too_deep { result ≢ Err ReadRefused.Memory
+        → (result ≡ Err ReadRefused.TooDeep ↔ IsTooDeep text.now) }
+    ensures not_formula { result ≢ Err ReadRefused.Memory
+        → (result ≡ Err ReadRefused.NotFormula ↔ IsNoFormula text.now) }
+    ensures too_many_refs { result ≢ Err ReadRefused.Memory
+        → (result ≡ Err ReadRefused.TooManyRefs ↔ HasTooManyRefs text.now) }
+{
+    read(alloc, text)
 }

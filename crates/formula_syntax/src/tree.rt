@@ -1,65 +1,100 @@
-ghost use Rattle.std.specs.Prelude.{◌≡◌, ◌≤◌, length};
-ghost use Rattle.formula_syntax.specs.Tree.{Tree, tree_of, references_of};
+ghost use Rattle.std.specs.Prelude.{◌≡◌};
+ghost use Rattle.formula_syntax.specs.Tree.{tree_of, trees_of, parameters_of};
 
-use super::value::Whole;
-use sheet_refs::Cell;
+use crate::functions::Function;
+use sheet_refs::Ref;
 use std::marker::Model;
-
-/// An operator between two operands.
-#[derive(Clone, Copy, Debug, PartialEq, Eq)]
-pub enum BinaryOp {
-    /// The sum, written `+`.
-    Add,
-}
+use value_core::{BinaryOp, ErrorKind, PrefixOp, Whole};
 
 /// A formula's tree, or a part of it.
-#[derive(Drop)]
+#[cycle(tree)]
 pub enum Node {
     /// A number, which is never negative in a formula that was read.
     Number(Whole),
-    /// The value of a cell.
-    Reference(Cell),
+    /// TRUE or FALSE.
+    Truth(bool),
+    /// An error, which is never `#CIRC!` in a formula that was read.
+    Error(ErrorKind),
+    /// The cells of a range, or the value of a cell.
+    Reference(Ref),
+    /// An operator before its operand.
+    Prefix(PrefixOp, Box<Node>),
     /// An operator between its left and its right operand.
     Binary(BinaryOp, Box<Node>, Box<Node>),
+    /// A function of its parameters.
+    Call(Function, Nodes),
 }
 
-/// A formula: its tree, with at most 255 references.
+/// The parameters of a call, in their order.
+#[cycle(tree)]
+#[derive(Drop)]
+pub struct Nodes {
+    pub(crate) nodes: Vec<Node>,
+}
+
+/// Goes down the left operands by a loop, so that long sums and chains of signs need no deep stack. Right
+/// operands and parameters nest no deeper than parentheses and levels of operators do.
+impl Drop for Node {
+    #[cycle(tree)]
+    fn drop(mut self) {
+        loop {
+            match self {
+                Node::Number(_) | Node::Truth(_) | Node::Error(_) | Node::Reference(_) => return,
+                Node::Prefix(_, operand) => self = Box::into_inner(operand),
+                Node::Binary(_, left, right) => {
+                    drop(right);
+                    self = Box::into_inner(left);
+                }
+                Node::Call(_, parameters) => {
+                    drop(parameters);
+                    return;
+                }
+            }
+        }
+    }
+}
+
+impl Nodes {
+    /// The parameters, in their order.
+    pub fn items(&self) -> &[Node]
+        ensures { trees_of result.now ≡ parameters_of self.now }
+    {
+        &self.nodes
+    }
+}
+
+/// A formula: a tree of at most 8,192 nodes with at most 255 references, in which each call has parameters
+/// that fit its function.
 #[derive(Drop)]
 pub struct Formula {
     pub(crate) root: Node,
-    pub(crate) references: Vec<Cell>,
 }
 
 impl Model for Formula {
-    ghost use Rattle.std.specs.Prelude.{◌≤◌, length, vec_items};
+    ghost use Rattle.std.specs.Coded.{codes};
     ghost use Rattle.formula_syntax.specs.Tree.{Tree};
     ghost use Rattle.formula_syntax.specs.TreeCode.{tree_code};
 
     ghost Value = { Tree };
 
-    ghost coded = { tree_code };
+    ghost coded = { tree_code (Prim.hlevel codes) };
 
     ghost use Rattle.formula_syntax.specs.Tree.{tree_of};
-    ghost use Rattle.formula_syntax.specs.Formula.{HasReferences};
+    ghost use Rattle.formula_syntax.specs.Formula.{IsFormula};
 
     ghost view = { λ f. tree_of f.root };
 
-    ghost invariant = { λ f. HasReferences f.root f.references.items };
+    ghost invariant = { λ f. IsFormula (tree_of f.root) };
 }
 
 impl Formula {
+    ghost use Rattle.formula_syntax.specs.Formula.{IsFormula};
+
     /// The tree.
     pub fn root(&self) -> &Node
-        ensures { tree_of result.now ≡ self.now }
+        ensures tree { tree_of result.now ≡ self.now }
+        ensures kept { IsFormula self.now }
     {
         &self.root
-    }
-
-    /// All references of the tree as they are written, from left to right: at most 255.
-    pub fn references(&self) -> &[Cell]
-        ensures references { result.now ≡ references_of self.now }
-        ensures few { length (references_of self.now) ≤ 255 }
-    {
-        &self.references
     }
 }

@@ -3,9 +3,9 @@ use Rattle.std.proofs.Common.{◌≡◌, ◌≢◌, ℕ, suc, ◌<◌, ◌≤◌
 use Rattle.std.proofs.lemmas.Option.{slice_get_within, slice_get_cases, get_or_from_slice_get, slice_get-map}
 use Rattle.std.proofs.lemmas.List.{length-map, map-set}
 use Rattle.sheet_refs.specs.Cells.{Position}
-use Rattle.formula_syntax.specs.declared.value.ErrorKind.TheVariants.{Circ}
-use Rattle.formula_syntax.specs.declared.value.Value.{Value}
-use Rattle.formula_syntax.specs.declared.value.Value.TheVariants.{Error}
+use Rattle.value_core.specs.declared.value.ErrorKind.TheVariants.{Circ}
+use Rattle.value_core.specs.declared.value.Value.{Value}
+use Rattle.value_core.specs.declared.value.Value.TheVariants.{Error}
 use Rattle.sheet_model.specs.Budget.{SettlesAt, IsCircular}
 use Rattle.sheet_model.specs.Sheets.{SheetValue, is_inside, place_of, cell_count}
 use Rattle.sheet_model.specs.Values.{is_circular, step, IsInput}

@@ -1,8 +1,8 @@
 -- Which fields are read, and as what.
 use Rattle.std.proofs.Common.{◌≡◌, ◌≢◌, ℕ, ◌<◌, ◌≤◌, ℤ, List, [], ◌∷◌, length, get_or, refl, sym, ◌∙◌, subst, arith}
 use Rattle.sheet_refs.specs.Names.{IsDecimal, IsDigit}
-use Rattle.formula_syntax.specs.Grammar.{Spells}
-use Rattle.formula_syntax.specs.Tree.{Tree, references_of}
+use Rattle.sum_syntax.specs.Grammar.{Spells}
+use Rattle.sum_syntax.specs.Tree.{Tree, references_of}
 use Rattle.sheet_model.specs.Plain.{IsNumberField, IsField}
 use Rattle.sheet_model.specs.Plain.IsNumberField.{unsigned, plus, minus}
 use Rattle.sheet_model.specs.Plain.IsField.{no_bytes, a_number, a_formula}

@@ -13,7 +13,7 @@ use Rattle.sheet_model.specs.declared.content.Content.{Content}
 use Rattle.sheet_model.specs.declared.content.Content.TheVariants.{Empty}
 use Rattle.sheet_model.specs.Plain.{IsField, HasFields, IsPlainRecord, IsPlainSheet, IsFirstUnread, records_of, fields_of, longest}
 use Rattle.sheet_model.specs.PlainRows.{AppendsRow}
-use Rattle.formula_syntax.specs.declared.value.Value.TheVariants as value
+use Rattle.value_core.specs.declared.value.Value.TheVariants as value
 use Rattle.sheet_model.specs.Sheets.{Constant, IsSheetSize, content_value, content_of, sheet_value}
 use Rattle.sheet_model.proofs.SheetLemmas.{inside_from}
 

@@ -5,8 +5,8 @@ use Rattle.std.proofs.lemmas.List.Sums.{count_by-le-length}
 use Rattle.std.proofs.lemmas.Option.{slice_get-map, slice_get_cases, slice_get_within, get_or_from_slice_get}
 use Rattle.std.specs.List.{All}
 use Rattle.sheet_refs.specs.Cells.{Position}
-use Rattle.formula_syntax.specs.declared.value.Value.{Value}
-use Rattle.formula_syntax.specs.Values.{IsValue, code_of}
+use Rattle.value_core.specs.declared.value.Value.{Value}
+use Rattle.value_core.specs.Values.{IsValue, code_of}
 use Rattle.sheet_model.specs.Sheets.{SheetValue, is_inside, place_of, cell_count}
 use Rattle.sheet_model.specs.Values.{value_of, AreValues}
 use Rattle.sheet_model.specs.declared.eval.State.{State}

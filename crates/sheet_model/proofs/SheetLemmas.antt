@@ -4,7 +4,7 @@ use Rattle.std.proofs.lemmas.List.{length-replicate}
 use Rattle.std.proofs.lemmas.Bool.Decides.{nat_tests}
 use Rattle.std.proofs.lemmas.Nat.{rows, same_from_place}
 use Rattle.sheet_refs.specs.Cells.{Position}
-use Rattle.formula_syntax.specs.declared.value.Value.TheVariants.{Empty}
+use Rattle.value_core.specs.declared.value.Value.TheVariants.{Empty}
 use Rattle.sheet_model.specs.Sheets.{SheetValue, ContentValue, Constant, IsSheetSize, IsFilled, is_inside, place_of, cell_count, content_of, with_content, blank_sheet}
 
 -- where a position in the rectangle lies

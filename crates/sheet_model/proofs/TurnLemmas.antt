@@ -4,9 +4,9 @@ use Rattle.std.proofs.lemmas.Bool.Decides.{eqb_tells}
 use native.Mathlib.Decide.{dec_lt}
 use Rattle.std.proofs.lemmas.Option.{slice_get_within, get_or_from_slice_get}
 use Rattle.sheet_refs.specs.Cells.{Position}
-use Rattle.formula_syntax.specs.declared.value.ErrorKind.TheVariants.{Circ}
-use Rattle.formula_syntax.specs.declared.value.Value.{Value}
-use Rattle.formula_syntax.specs.declared.value.Value.TheVariants.{Error}
+use Rattle.value_core.specs.declared.value.ErrorKind.TheVariants.{Circ}
+use Rattle.value_core.specs.declared.value.Value.{Value}
+use Rattle.value_core.specs.declared.value.Value.TheVariants.{Error}
 use Rattle.sheet_model.specs.Budget.{SettlesAt}
 use Rattle.sheet_model.specs.Sheets.{SheetValue, is_inside, content_of, place_of}
 use Rattle.sheet_model.specs.Values.{step, content_references, IsInput}

@@ -2,11 +2,10 @@
 use Rattle.std.proofs.Common.{◌≡◌, ◌≢◌, ℕ, zero, suc, ◌⊎◌, inl, inr, List, [], ◌∷◌, ◌++◌, slice_get, Some, Bool, true, false, cond, ◌||◌, IsTrue, refl, ap, ap₂}
 use Rattle.std.specs.List.{list_any}
 use Rattle.sheet_refs.specs.Cells.{Position}
-use Rattle.formula_syntax.specs.declared.tree.BinaryOp.TheVariants.{Add}
-use Rattle.formula_syntax.specs.declared.value.ErrorKind.TheVariants.{Num, Circ}
-use Rattle.formula_syntax.specs.declared.value.Value.{Value}
-use Rattle.formula_syntax.specs.declared.value.Value.TheVariants.{Empty, Number, Error}
-use Rattle.formula_syntax.specs.Tree.{Tree, number, reference, binary, references_of}
+use Rattle.value_core.specs.declared.value.ErrorKind.TheVariants.{Circ}
+use Rattle.value_core.specs.declared.value.Value.{Value}
+use Rattle.value_core.specs.declared.value.Value.TheVariants.{Empty, Error}
+use Rattle.sum_syntax.specs.Tree.{Tree, number, reference, binary, references_of}
 use Rattle.sheet_model.specs.Budget.{IsLocal, IsStrict, StandsIn}
 use Rattle.sheet_model.specs.Sheets.{SheetValue, ContentValue, Constant, Computed, is_inside, content_of}
 use Rattle.sheet_model.specs.Values.{as_number, sum_of, meaning, never_empty, is_circular, values_within, step_content, step, content_references, IsInput}
@@ -46,7 +45,7 @@ list_any_stands {A} p xs x stands passes = go xs stands.0 stands.1
 meaning_same : (f g : Position → Value) (formula : Tree) → ((cell : Position) → StandsIn (references_of formula) cell → f cell ≡ g cell) → meaning f formula ≡ meaning g formula
 meaning_same f g (number n) same = refl
 meaning_same f g (reference cell) same = same cell (zero, refl)
-meaning_same f g (binary Add left right) same =
+meaning_same f g (binary op left right) same =
     ap₂ (λ x y. sum_of (as_number x) (as_number y))
     (meaning_same f g left (λ cell stands. same cell (StandsIn-left (references_of left) (references_of right) cell stands)))
     (meaning_same f g right (λ cell stands. same cell (StandsIn-right (references_of left) (references_of right) cell stands)))
@@ -83,13 +82,9 @@ module _ (sheet : SheetValue) where
 
 -- being circular can be tested
 pub circular_or_not : (v : Value) → (v ≡ Error Circ) ⊎ (v ≢ Error Circ)
-circular_or_not Empty = inr (λ same. cc)
-circular_or_not (Number n) = inr (λ same. cc)
-circular_or_not (Error Num) = inr (λ same. cc)
 circular_or_not (Error Circ) = inl refl
+circular_or_not _ = inr (λ same. cc)
 
 pub is_circular-true : (v : Value) → is_circular v ≡ true → v ≡ Error Circ
-is_circular-true Empty test = cc
-is_circular-true (Number n) test = cc
-is_circular-true (Error Num) test = cc
 is_circular-true (Error Circ) test = refl
+is_circular-true _ test = cc

@@ -9,10 +9,10 @@ use Rattle.sheet_model.proofs.ListLemmas.{slice_get-last, count_by-pos}
 use Rattle.sheet_model.proofs.SheetLemmas.{place-lt}
 use Rattle.sheet_model.proofs.ValueLemmas.{step_local, step_strict}
 use Rattle.sheet_refs.specs.Cells.{Position}
-use Rattle.formula_syntax.specs.declared.value.ErrorKind.TheVariants.{Circ}
-use Rattle.formula_syntax.specs.declared.value.Value.{Value}
-use Rattle.formula_syntax.specs.declared.value.Value.TheVariants.{Empty, Error}
-use Rattle.formula_syntax.specs.Tree.{Tree, references_of}
+use Rattle.value_core.specs.declared.value.ErrorKind.TheVariants.{Circ}
+use Rattle.value_core.specs.declared.value.Value.{Value}
+use Rattle.value_core.specs.declared.value.Value.TheVariants.{Empty, Error}
+use Rattle.sum_syntax.specs.Tree.{Tree, references_of}
 use Rattle.sheet_model.specs.Budget.{StandsIn, SettlesAt}
 use Rattle.sheet_model.specs.Sheets.{SheetValue, ContentValue, Constant, Computed, IsFilled, is_inside, content_of, place_of, cell_count}
 use Rattle.sheet_model.specs.Values.{meaning, never_empty, is_circular, values_within, formula_value, step_content, step, content_references, IsInput}

@@ -2,11 +2,11 @@
 use Rattle.std.proofs.Common.{◌≡◌, ℕ, pos, List, [], ◌∷◌, map, refl}
 use Rattle.std.specs.Prelude.{negsuc}
 use Rattle.sheet_refs.specs.Cells.{Position}
-use Rattle.formula_syntax.specs.declared.tree.BinaryOp.TheVariants.{Add}
-use Rattle.formula_syntax.specs.declared.value.ErrorKind.TheVariants.{Num, Circ}
-use Rattle.formula_syntax.specs.declared.value.Value.{Value}
-use Rattle.formula_syntax.specs.declared.value.Value.TheVariants.{Empty, Number, Error}
-use Rattle.formula_syntax.specs.Tree.{Tree, number, reference, binary}
+use Rattle.value_core.specs.declared.operators.BinaryOp.TheVariants.{Add}
+use Rattle.value_core.specs.declared.value.ErrorKind.TheVariants.{Num, Circ}
+use Rattle.value_core.specs.declared.value.Value.{Value}
+use Rattle.value_core.specs.declared.value.Value.TheVariants.{Empty, Number, Error}
+use Rattle.sum_syntax.specs.Tree.{Tree, number, reference, binary}
 use Rattle.sheet_model.specs.Budget.{ev}
 use Rattle.sheet_model.specs.Sheets.{SheetValue, ContentValue, Constant, Computed}
 use Rattle.sheet_model.specs.Values.{value_of}

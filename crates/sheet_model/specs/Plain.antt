@@ -2,9 +2,9 @@
 use Rattle.std.specs.Prelude.{◌≡◌, ℕ, ◌+◌, ◌<◌, ◌≤◌, max, ℤ, pos, neg_ℤ, not, ◌==◌, List, [], ◌∷◌, length, fold, filter, slice_index_or}
 use Rattle.std.specs.List.{slice_split}
 use Rattle.sheet_refs.specs.Names.{IsDecimal}
-use Rattle.formula_syntax.specs.declared.value.Value.TheVariants.{Empty, Number}
-use Rattle.formula_syntax.specs.Grammar.{Spells}
-use Rattle.formula_syntax.specs.Tree.{Tree, references_of}
+use Rattle.value_core.specs.declared.value.Value.TheVariants.{Empty, Number}
+use Rattle.sum_syntax.specs.Grammar.{Spells}
+use Rattle.sum_syntax.specs.Tree.{Tree, references_of}
 use Rattle.sheet_model.specs.Sheets.{SheetValue, ContentValue, Constant, Computed, content_of}
 
 -- the records of a text: its lines, without the empty ones

@@ -1,9 +1,9 @@
 -- Sheets: a rectangle of cells that begins at A1, and what stands in each cell.
 use Rattle.std.specs.Prelude.{◌≡◌, ℕ, ◌+◌, ◌-◌, ◌*◌, ◌≤◌, ◌&&◌, Bool, nat_le, if◌then◌else◌, List, length, map, replicate, slice_index_or, slice_set}
 use Rattle.sheet_refs.specs.Cells.{Position}
-use Rattle.formula_syntax.specs.Tree.{Tree}
-use Rattle.formula_syntax.specs.declared.value.Value.{Value}
-use Rattle.formula_syntax.specs.declared.value.Value.TheVariants as value
+use Rattle.sum_syntax.specs.Tree.{Tree}
+use Rattle.value_core.specs.declared.value.Value.{Value}
+use Rattle.value_core.specs.declared.value.Value.TheVariants as value
 use Rattle.sheet_model.specs.declared.content.Content.{Content}
 use Rattle.sheet_model.specs.declared.content.Content.TheVariants.{Empty, Number, Formula}
 

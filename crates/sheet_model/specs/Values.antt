@@ -3,25 +3,27 @@
 use Rattle.std.specs.Prelude.{◌≡◌, ℕ, suc, ℤ, pos, negsuc, ◌+ℤ◌, int_le, Bool, true, false, ◌&&◌, if◌then◌else◌, IsTrue, List, [], length, slice_get, Some, Result, Ok, Err}
 use Rattle.std.specs.List.{list_any}
 use Rattle.sheet_refs.specs.Cells.{Position}
-use Rattle.formula_syntax.specs.declared.tree.BinaryOp.TheVariants.{Add}
-use Rattle.formula_syntax.specs.declared.value.ErrorKind.{ErrorKind}
-use Rattle.formula_syntax.specs.declared.value.ErrorKind.TheVariants.{Num, Circ}
-use Rattle.formula_syntax.specs.declared.value.Value.{Value}
-use Rattle.formula_syntax.specs.declared.value.Value.TheVariants.{Empty, Number, Error}
-use Rattle.formula_syntax.specs.Tree.{Tree, number, reference, binary, references_of}
-use Rattle.formula_syntax.specs.Values.{IsValue, code_of}
-use Rattle.sheet_model.specs.Budget.{ev, StandsIn, IsJustified}
+use Rattle.value_core.specs.declared.value.ErrorKind.{ErrorKind}
+use Rattle.value_core.specs.declared.value.ErrorKind.TheVariants as error
+use Rattle.value_core.specs.declared.value.Value.{Value}
+use Rattle.value_core.specs.declared.value.Value.TheVariants.{Empty, Number, Truth, Error, Label}
+use Rattle.sum_syntax.specs.Tree.{Tree, number, reference, binary, references_of}
+use Rattle.value_core.specs.Values.{IsValue, code_of}
+use Rattle.sheet_model.specs.Budget.{ev, StandsIn, IsJustified, LeadsIntoCycle, AgreeOn}
 use Rattle.sheet_model.specs.Sheets.{SheetValue, ContentValue, Constant, Computed, is_inside, cell_count, place_of, content_of}
 
--- a value as a number: an empty cell counts as 0, and an error stays itself
+-- a value as a number: an empty cell counts as 0, FALSE as 0 and TRUE as 1; a label is none, and an error stays itself
 abbrev pub as_number : Value → Result ℤ ErrorKind
 as_number Empty = Ok (pos 0)
 as_number (Number n) = Ok n
+as_number (Truth false) = Ok (pos 0)
+as_number (Truth true) = Ok (pos 1)
 as_number (Error kind) = Err kind
+as_number (Label place) = Err error.Value
 
 -- a number of the range as a value, and #NUM! for one outside it
 abbrev pub in_range : ℤ → Value
-in_range n = if int_le (negsuc 9007199254740990) n && int_le n (pos 9007199254740991) then Number n else Error Num
+in_range n = if int_le (negsuc 9007199254740990) n && int_le n (pos 9007199254740991) then Number n else Error error.Num
 
 -- the exact sum; the left operand's error wins, and then the right one's
 abbrev pub sum_of : Result ℤ ErrorKind → Result ℤ ErrorKind → Value
@@ -29,24 +31,24 @@ sum_of (Err kind) right = Error kind
 sum_of (Ok left) (Err kind) = Error kind
 sum_of (Ok left) (Ok right) = in_range (left +ℤ right)
 
--- what a formula means where its references have these values
+-- what a formula means where its references have these values; the grammar writes no operator but the sum
 abbrev pub meaning : (Position → Value) → Tree → Value
 meaning values (number n) = Number n
 meaning values (reference cell) = values cell
-meaning values (binary Add left right) = sum_of (as_number (meaning values left)) (as_number (meaning values right))
+meaning values (binary op left right) = sum_of (as_number (meaning values left)) (as_number (meaning values right))
 
 -- a formula's own value is never empty: it is 0 instead
 abbrev pub never_empty : Value → Value
 never_empty Empty = Number (pos 0)
 never_empty (Number n) = Number n
+never_empty (Truth truth) = Truth truth
 never_empty (Error kind) = Error kind
+never_empty (Label place) = Label place
 
 -- whether the value is #CIRC!
 abbrev pub is_circular : Value → Bool
-is_circular Empty = false
-is_circular (Number n) = false
-is_circular (Error Num) = false
-is_circular (Error Circ) = true
+is_circular (Error error.Circ) = true
+is_circular _ = false
 
 -- the values of the cells of the sheet; a cell past the rectangle is empty
 abbrev pub values_within : SheetValue → (Position → Value) → Position → Value
@@ -54,7 +56,7 @@ values_within sheet values cell = if is_inside sheet cell then values cell else 
 
 -- a formula's value: #CIRC! where a referenced cell has it, and else what the formula means
 abbrev pub formula_value : (Position → Value) → Tree → Value
-formula_value values formula = if list_any (λ cell. is_circular (values cell)) (references_of formula) then Error Circ else never_empty (meaning values formula)
+formula_value values formula = if list_any (λ cell. is_circular (values cell)) (references_of formula) then Error error.Circ else never_empty (meaning values formula)
 
 -- one step: a cell's value from the values of the cells
 abbrev pub step_content : SheetValue → (Position → Value) → ContentValue → Value
@@ -66,7 +68,7 @@ step sheet cell values = step_content sheet values (content_of sheet cell)
 
 -- the value of a cell that leads into a cycle
 abbrev pub circular_value : Value
-circular_value = Error Circ
+circular_value = Error error.Circ
 
 -- the value of a cell with a budget of steps
 abbrev pub budget_value : SheetValue → ℕ → Position → Value
@@ -100,3 +102,22 @@ pub record AreValues (sheet : SheetValue) (codes : List ℕ) : Type 0 where
   pub count : length codes ≡ cell_count sheet
   pub each : (cell : Position) → IsTrue (is_inside sheet cell) → slice_get codes (place_of sheet cell) ≡ Some (code_of (value_of sheet cell))
   pub values : (cell : Position) → IsTrue (is_inside sheet cell) → IsValue (value_of sheet cell)
+
+-- no cell of the sheet holds #CIRC! as a constant
+abbrev pub HasNoCircularConstant : SheetValue → Type 0
+HasNoCircularConstant sheet = (cell : Position) → content_of sheet cell ≢ Constant circular_value
+
+-- a cell's value is #CIRC! exactly where its references lead into a cycle
+abbrev pub CyclesTellCircularCells : Type 0
+CyclesTellCircularCells = (sheet : SheetValue) (cell : Position) → HasNoCircularConstant sheet → (value_of sheet cell ≡ circular_value) ↔ LeadsIntoCycle (IsInput sheet) cell
+
+-- the cells that a map gives a cell as its inputs
+abbrev pub IsMapped : (Position → List Position) → Position → Position → Type 0
+IsMapped inputs cell input = StandsIn (inputs cell) input
+
+-- over any map from cells to inputs, steps that agree on a set of cells that has their inputs give them the same values
+abbrev pub AgreeingStepsGiveOneValue : Type 0
+AgreeingStepsGiveOneValue =
+    (inputs : Position → List Position) (kept : Position → Bool) (a b : Position → (Position → Value) → Value)
+    → AgreeOn (IsMapped inputs) (λ cell. IsTrue (kept cell)) a b
+    → (n : ℕ) (cell : Position) → IsTrue (kept cell) → ev circular_value a n cell ≡ ev circular_value b n cell

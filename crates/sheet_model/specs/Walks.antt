@@ -1,10 +1,10 @@
 -- The walk over a sheet: what is known of each cell, and the cells that are open.
 use Rattle.std.specs.Prelude.{◌≡◌, ◌≢◌, ℕ, suc, ◌+◌, ◌*◌, ◌<◌, Bool, true, false, not, if◌then◌else◌, IsTrue, IsFalse, List, [], length, map, slice_get, slice_index_or, count_by, Some}
 use Rattle.sheet_refs.specs.Cells.{Position}
-use Rattle.formula_syntax.specs.declared.value.ErrorKind.TheVariants.{Circ}
-use Rattle.formula_syntax.specs.declared.value.Value.{Value}
-use Rattle.formula_syntax.specs.declared.value.Value.TheVariants as value
-use Rattle.formula_syntax.specs.Values.{code_of}
+use Rattle.value_core.specs.declared.value.ErrorKind.TheVariants.{Circ}
+use Rattle.value_core.specs.declared.value.Value.{Value}
+use Rattle.value_core.specs.declared.value.Value.TheVariants as value
+use Rattle.value_core.specs.Values.{code_of}
 use Rattle.sheet_model.specs.Budget.{SettlesAt}
 use Rattle.sheet_model.specs.Sheets.{SheetValue, ContentValue, Constant, Computed, is_inside, cell_count, place_of, content_of}
 use Rattle.sheet_model.specs.Values.{is_circular, step, content_references, IsInput}

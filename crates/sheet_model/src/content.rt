@@ -1,5 +1,6 @@
-use formula_syntax::{Formula, Whole};
+use sum_syntax::Formula;
 use std::sync::Arc;
+use value_core::Whole;
 
 /// What stands in a cell.
 #[derive(Drop)]

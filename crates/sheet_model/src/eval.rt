@@ -1,17 +1,18 @@
 ghost use Rattle.std.specs.Prelude.{◌≡◌, ◌<◌, ◌≤◌, ℕ, length, map, slice_get, IfOk, IsTrue};
 ghost use Rattle.std.specs.Result.{ForOk};
-ghost use Rattle.formula_syntax.specs.Wholes.{IsWhole};
+ghost use Rattle.value_core.specs.Wholes.{IsWhole};
 ghost use Rattle.sheet_refs.specs.Cells.{Position};
-ghost use Rattle.formula_syntax.specs.Tree.{tree_of};
+ghost use Rattle.sum_syntax.specs.Tree.{tree_of};
 ghost use Rattle.sheet_model.specs.Sheets.{cell_count, content_value};
 ghost use Rattle.sheet_model.specs.Values.{as_number as number_of, in_range as ranged, sum_of, meaning as meaning_of, never_empty as value_or_zero, values_within, step_content, content_references};
 ghost use Rattle.sheet_model.specs.Walks.{first_state, known_values, known_value, is_plain as plain};
 
 use super::content::Content;
 use super::sheet::Sheet;
-use formula_syntax::{BinaryOp, ErrorKind, Formula, Node, Value, Whole};
+use sum_syntax::{Formula, Node};
 use sheet_refs::Cell;
 use std::alloc::{AllocError, Global};
+use value_core::{ErrorKind, Value, Whole};
 
 /// What is known of a cell in a walk.
 #[derive(Clone, Copy)]
@@ -47,7 +48,10 @@ fn as_number(value: &Value) -> Result<i64, ErrorKind>
     match value {
         Value::Empty => Ok(0),
         Value::Number(number) => Ok(number.get()),
+        Value::Truth(false) => Ok(0),
+        Value::Truth(true) => Ok(1),
         Value::Error(kind) => Err(*kind),
+        Value::Label(_) => Err(ErrorKind::Value),
     }
 }
 
@@ -95,7 +99,7 @@ fn meaning(sheet: &Sheet, states: &[State], node: &Node) -> Value
     match node {
         Node::Number(number) => Value::Number(*number),
         Node::Reference(cell) => value_at(sheet, states, *cell),
-        Node::Binary(BinaryOp::Add, left, right) => {
+        Node::Binary(_, left, right) => {
             let left = meaning(sheet, states, left);
             let right = meaning(sheet, states, right);
             sum(as_number(&left), as_number(&right))

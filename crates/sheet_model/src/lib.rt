@@ -9,7 +9,7 @@
 //! What is true of values in general stands over any cells and any step in `specs/Budget.antt` and
 //! `proofs/BudgetLemmas.antt`, with no formula in sight, and `value_laws` states it of sheets.
 //!
-//! Below stand `sheet_refs` and `formula_syntax`.
+//! Below stand `sheet_refs` and `sum_syntax`.
 #![tactic(auto)]
 
 mod content;

@@ -6,10 +6,11 @@ ghost use Rattle.sheet_model.specs.PlainRows.{AppendsFields, AppendsRow};
 
 use super::content::Content;
 use super::sheet::Sheet;
-use formula_syntax::{MAX_TEXT, MAX_WHOLE, ReadRefused, Whole, read_formula};
+use sum_syntax::{MAX_TEXT, ReadRefused, read_formula};
 use sheet_refs::{Memory, decimal_of};
 use std::alloc::{AllocError, Global};
 use std::sync::Arc;
+use value_core::{MAX_WHOLE, Whole};
 
 /// The most records of a text that is read.
 pub const MAX_RECORDS: usize = 1_024;

@@ -21,7 +21,7 @@ pub struct Sheet {
 
 impl Model for Sheet {
     ghost use Rattle.std.specs.Coded.{codes};
-    ghost use Rattle.formula_syntax.specs.TreeCode.{tree_code};
+    ghost use Rattle.sum_syntax.specs.TreeCode.{tree_code};
     ghost use Rattle.sheet_model.specs.Sheets.{SheetValue, IsSheet, sheet_value};
 
     ghost Value = { SheetValue };

@@ -4,12 +4,13 @@ ghost use Rattle.sheet_model.specs.Sheets.{IsSheetSize};
 use super::content::Content;
 use super::sheet::Sheet;
 use super::walk::all_values;
-use formula_syntax::{MAX_TEXT, Whole, decode, read_formula};
+use sum_syntax::{MAX_TEXT, read_formula};
 use sheet_refs::Cell;
 use std::alloc::Global;
 use std::fmt::Write;
 use std::sync::Arc;
 use std::test::Fail;
+use value_core::{Value, Whole, decode};
 
 /// What a field writes: nothing, a number, or a formula.
 fn content_of(alloc: Global, field: &str) -> Result<Content, Fail> {
@@ -41,8 +42,11 @@ fn put(alloc: Global, sheet: &mut Sheet, row: u32, col: u32, field: &str) -> Res
 fn shown(alloc: Global, sheet: &Sheet, count: usize) -> Result<String, Fail> {
     let mut text = String::new(alloc);
     for code in all_values(alloc, sheet)?.iter().take(count) {
-        let value = decode(*code).ok_or("no value has this code")?;
-        write!(text, "{value},")?;
+        match decode(*code).ok_or("no value has this code")? {
+            Value::Number(number) => write!(text, "{number},")?,
+            Value::Error(kind) => write!(text, "{kind},")?,
+            _ => text.push(',')?,
+        }
     }
     Ok(text)
 }

@@ -1,15 +1,15 @@
 ghost use Rattle.std.specs.Prelude.{◌≡◌, ◌≢◌, ◌<◌, ◌≤◌, ℕ, [], ◌∷◌, ◌++◌, length, map, set, slice_get, All, IfOk, OnOk, IsTrue, IsFalse};
 ghost use Rattle.sheet_refs.specs.Cells.{Position};
-ghost use Rattle.formula_syntax.specs.Values.{IsValue};
+ghost use Rattle.value_core.specs.Values.{IsValue};
 ghost use Rattle.sheet_model.specs.Sheets.{cell_count, place_of, is_inside};
 ghost use Rattle.sheet_model.specs.Values.{AreValues};
 ghost use Rattle.sheet_model.specs.Walks.{IsSound, IsIdle, StaysSeen, SeenBelow, IsWaiting, IsClosing, cells_left, closed_state, is_plain as plain, known_code, known_value};
 
 use super::eval::{State, evaluate, first_states, is_plain, references_of};
 use super::sheet::Sheet;
-use formula_syntax::{ErrorKind, Value, code};
 use sheet_refs::{Cell, Memory};
 use std::alloc::{AllocError, Global};
+use value_core::{ErrorKind, Value, code};
 
 /// An open cell, and the place of the next of its references to look at.
 #[derive(Clone, Copy)]

@@ -54,14 +54,14 @@ positive : (f : ℕ → ℕ → ℕ) → ((n b : ℕ) → 1 ≤ n → 1 ≤ f n 
 positive f stays n [] h = h
 positive f stays n (b ∷ bs) h = positive f stays (f n b) bs (stays n b h)
 
-first_row : (digits : List ℕ) (row : ℕ) → IsRowName digits row → 1 ≤ row
+pub first_row : (digits : List ℕ) (row : ℕ) → IsRowName digits row → 1 ≤ row
 first_row [] row name = absurd (omega (arith, name.number.some))
 first_row (d ∷ ds) row name =
     let digit = name.number.digits 0 0 name.number.some in
     let first : d ≢ 48 = name.first in
     rw name.number.value (positive (λ n b. 10 * n + (b - 48)) (λ n b h. omega arith) _ ds (omega arith))
 
-first_col : (letters : List ℕ) (col : ℕ) → IsColumnName letters col → 1 ≤ col
+pub first_col : (letters : List ℕ) (col : ℕ) → IsColumnName letters col → 1 ≤ col
 first_col [] col name = absurd (omega (arith, name.some))
 first_col (b ∷ bs) col name =
     rw name.value (positive (λ n b. 26 * n + letter_number b) (λ n b h. omega arith) _ bs (place_from_one b (name.letters 0 0 name.some)))
@@ -99,10 +99,10 @@ no_colon_byte byte (inr h) = grind (arith, nat_tests)
 no_colon : (text : List ℕ) (cell : Position) → IsCellName text cell → All (λ byte. not (is_colon byte) ≡ true) text
 no_colon text cell name k d h = no_colon_byte _ (name_bytes text cell name k d h)
 
-at_place : (at len : ℕ) → at < len → cond (nat_lt at len) (Some at) None ≡ Some at
+pub at_place : (at len : ℕ) → at < len → cond (nat_lt at len) (Some at) None ≡ Some at
 at_place at len h = grind (arith, nat_tests)
 
-no_place : (len : ℕ) → cond (nat_lt len len) (Some len) None ≡ None
+pub no_place : (len : ℕ) → cond (nat_lt len len) (Some len) None ≡ None
 no_place len = grind (arith, nat_tests)
 
 -- one cell's name has no colon

@@ -37,7 +37,7 @@ fn number_of_letter(letter: u8) -> u32
 }
 
 // The column that a text names, A to XFD.
-fn column_of(text: &[u8]) -> Option<u32>
+pub(crate) fn column_of(text: &[u8]) -> Option<u32>
     ensures { Finds result (IsColumnName text.now) }
 {
     if text.is_empty() || text.len() > 3 || !text.iter().all(|byte| byte.is_ascii_alphabetic()) {
@@ -51,7 +51,7 @@ fn column_of(text: &[u8]) -> Option<u32>
 }
 
 // The row that a text names, without a leading zero.
-fn row_of(text: &[u8]) -> Option<u32>
+pub(crate) fn row_of(text: &[u8]) -> Option<u32>
     ensures { Finds result (IsRowName text.now) }
 {
     if text.len() > 7 || text.first() == Some(&b'0') {
@@ -62,7 +62,7 @@ fn row_of(text: &[u8]) -> Option<u32>
 }
 
 // How many letters stand before the first other byte.
-fn letters_in_front(text: &[u8]) -> usize
+pub(crate) fn letters_in_front(text: &[u8]) -> usize
     ensures count { result ≡ prefix_len is_ascii_alphabetic text.now }
     ensures within { result ≤ length text.now }
 {
@@ -83,7 +83,7 @@ pub fn cell_of(text: &[u8]) -> Option<Cell>
 }
 
 // The place of the first colon.
-fn colon_in(text: &[u8]) -> Option<usize>
+pub(crate) fn colon_in(text: &[u8]) -> Option<usize>
     ensures { result ≡ position (λ byte. byte == 58) text.now }
 {
     text.iter().position(|byte| *byte == b':')

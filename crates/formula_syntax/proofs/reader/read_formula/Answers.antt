@@ -1,12 +1,11 @@
-use Rattle.std.proofs.Common.{◌≡◌, ◌∷◌, rules, arith}
-use Rattle.std.proofs.lemmas.Grind.{common_steps}
-use Rattle.formula_syntax.specs.Tree.{tree_of}
-use Rattle.formula_syntax.proofs.Sums.{spelt_unique}
+use Rattle.formula_syntax.proofs.Spells.{exactly_deep, exactly_none, exactly_many}
 use Rattle.formula_syntax.proofs.reader.read_formula.Goals as goal
 
-pub returns-then-len-gt-MAX_REFERENCES-clause-not_formula : goal.returns-then-len-gt-MAX_REFERENCES-clause-not_formula
-returns-then-len-gt-MAX_REFERENCES-clause-not_formula c =
-    λ _ tree spells.
-    let split : c.args.text.now ≡ 61 ∷ c.in-Some-eq61-default.sum.now = search rules in
-    let same = spelt_unique c.args.text.now _ (tree_of c.in_ok-root.root) tree split c.in_ok-root.ensures.read spells in
-    rw same (grind (arith, common_steps, c.in_ok-list_references.ensures))
+pub returns-clause-too_deep : goal.returns-clause-too_deep
+returns-clause-too_deep c = λ m. exactly_deep c.args.text.now c.read.result m c.read.ensures
+
+pub returns-clause-not_formula : goal.returns-clause-not_formula
+returns-clause-not_formula c = λ m. exactly_none c.args.text.now c.read.result m c.read.ensures
+
+pub returns-clause-too_many_refs : goal.returns-clause-too_many_refs
+returns-clause-too_many_refs c = λ m. exactly_many c.args.text.now c.read.result m c.read.ensures

@@ -1,6 +1,6 @@
 use Rattle.std.proofs.Common.{◌≡◌, ℕ, ◌<◌, get_or, map, take}
 use Rattle.sheet_model.specs.declared.eval.State.{State}
-use Rattle.formula_syntax.specs.Values.{IsValue, code_of}
+use Rattle.value_core.specs.Values.{IsValue, code_of}
 use Rattle.sheet_model.specs.Walks.{known_value}
 use Rattle.sheet_model.proofs.walk.codes.Given as goal
 

@@ -1,0 +1,29 @@
+use Rattle.std.proofs.Common.{◌≡◌, pos, arith, ◌≤◌, rules, true, false}
+use Rattle.std.proofs.lemmas.Int.{ints}
+use Rattle.std.proofs.lemmas.Grind.{common_steps}
+use Rattle.sheet_refs.specs.Names.{IsDecimal}
+use Rattle.formula_syntax.specs.Lexing.IsWord.{number, truth, function, reference}
+use Rattle.formula_syntax.proofs.WordLemmas.{no_word}
+use Rattle.formula_syntax.proofs.words.word_of.Goals as goal
+
+pub returns-in-Some : goal.returns-in-Some
+returns-in-Some c =
+    let decimal : IsDecimal c.args.word.now 9007199254740991 c.in-Some.number = c.in-Some.ensures in
+    let small : c.in-Some.number ≤ 9007199254740991 = decimal.within in
+    let same : c.unwrap-number.result ≡ pos c.in-Some.number = grind (arith, common_steps, ints) in
+    rw same (number c.args.word.now c.in-Some.number decimal)
+
+pub returns-then-eq_ignore_ascii_case : goal.returns-then-eq_ignore_ascii_case
+returns-then-eq_ignore_ascii_case c = truth c.args.word.now true (search rules)
+
+pub returns-then-eq_ignore_ascii_case-2 : goal.returns-then-eq_ignore_ascii_case-2
+returns-then-eq_ignore_ascii_case-2 c = truth c.args.word.now false (search rules)
+
+pub returns-in-Some-function_of : goal.returns-in-Some-function_of
+returns-in-Some-function_of c = function c.args.word.now c.in-Some-function_of.function c.in-Some-function_of.ensures
+
+pub returns-in_err-reference : goal.returns-in_err-reference
+returns-in_err-reference c = rw c.from_residual.ensures (no_word c.args.word.now (search rules) (search rules) (search rules) (search rules) c.in_err-reference.ensures)
+
+pub returns : goal.returns
+returns c = reference c.args.word.now c.in_ok-reference.reference c.in_ok-reference.ensures

@@ -1,0 +1,162 @@
+ghost use Rattle.std.specs.Prelude.{◌≡◌, option_map};
+ghost use Rattle.formula_syntax.specs.Functions.{function_name, shape_of};
+
+/// How a function reads its parameters.
+#[derive(Clone, Copy, Debug, PartialEq, Eq)]
+pub enum Place {
+    /// Each parameter is a sequence: a reference gives the values of its cells, any other parameter one.
+    Sequence,
+    /// Each parameter is one value.
+    Scalar,
+    /// The parameter is a reference.
+    OnlyReference,
+}
+
+/// A function of formulas. TRUE and FALSE are no functions here: a call of them is a truth.
+#[derive(Clone, Copy, Debug, PartialEq, Eq)]
+pub enum Function {
+    /// The sum.
+    Sum,
+    /// The product.
+    Product,
+    /// The least number.
+    Min,
+    /// The greatest number.
+    Max,
+    /// How many numbers there are.
+    Count,
+    /// How many cells aren't empty.
+    Counta,
+    /// How many cells are empty.
+    Countblank,
+    /// The second parameter where the first is true, and else the third.
+    If,
+    /// The first parameter, or the second where that is an error.
+    Iferror,
+    /// Whether all are true.
+    And,
+    /// Whether some are true.
+    Or,
+    /// The other truth.
+    Not,
+    /// The magnitude.
+    Abs,
+    /// -1, 0 or 1.
+    Sign,
+    /// The remainder of a division, with the divisor's sign.
+    Mod,
+    /// The quotient, cut towards zero.
+    Quotient,
+    /// Whether it is an error.
+    Iserror,
+    /// Whether it is a number.
+    Isnumber,
+    /// Whether it is a truth.
+    Islogical,
+    /// Whether it is a label.
+    Istext,
+    /// Whether it is a reference to one empty cell.
+    Isblank,
+    /// The error `#N/A`.
+    Na,
+}
+
+impl Function {
+    /// All functions.
+    pub const ALL: [Function; 22] = [
+        Function::Sum,
+        Function::Product,
+        Function::Min,
+        Function::Max,
+        Function::Count,
+        Function::Counta,
+        Function::Countblank,
+        Function::If,
+        Function::Iferror,
+        Function::And,
+        Function::Or,
+        Function::Not,
+        Function::Abs,
+        Function::Sign,
+        Function::Mod,
+        Function::Quotient,
+        Function::Iserror,
+        Function::Isnumber,
+        Function::Islogical,
+        Function::Istext,
+        Function::Isblank,
+        Function::Na,
+    ];
+
+    /// The name in upper case.
+    pub fn name(self) -> &'static str
+        ensures { result.now ≡ function_name self }
+    {
+        match self {
+            Function::Sum => "SUM",
+            Function::Product => "PRODUCT",
+            Function::Min => "MIN",
+            Function::Max => "MAX",
+            Function::Count => "COUNT",
+            Function::Counta => "COUNTA",
+            Function::Countblank => "COUNTBLANK",
+            Function::If => "IF",
+            Function::Iferror => "IFERROR",
+            Function::And => "AND",
+            Function::Or => "OR",
+            Function::Not => "NOT",
+            Function::Abs => "ABS",
+            Function::Sign => "SIGN",
+            Function::Mod => "MOD",
+            Function::Quotient => "QUOTIENT",
+            Function::Iserror => "ISERROR",
+            Function::Isnumber => "ISNUMBER",
+            Function::Islogical => "ISLOGICAL",
+            Function::Istext => "ISTEXT",
+            Function::Isblank => "ISBLANK",
+            Function::Na => "NA",
+        }
+    }
+
+    /// The least number of parameters.
+    pub fn least(self) -> usize
+        ensures { result ≡ (shape_of self).least }
+    {
+        match self {
+            Function::Na => 0,
+            Function::If | Function::Iferror | Function::Mod | Function::Quotient => 2,
+            _ => 1,
+        }
+    }
+
+    /// The greatest number of parameters; None where only the length of a text limits it.
+    pub fn most(self) -> Option<usize>
+        ensures { result ≡ (shape_of self).most }
+    {
+        match self {
+            Function::Na => Some(0),
+            Function::If => Some(3),
+            Function::Iferror | Function::Mod | Function::Quotient => Some(2),
+            _ if self.place() == Place::Sequence => None,
+            _ => Some(1),
+        }
+    }
+
+    /// How the parameters are read.
+    pub fn place(self) -> Place
+        ensures { result ≡ (shape_of self).place }
+    {
+        match self {
+            Function::Sum
+            | Function::Product
+            | Function::Min
+            | Function::Max
+            | Function::Count
+            | Function::Counta
+            | Function::And
+            | Function::Or => Place::Sequence,
+            Function::Countblank => Place::OnlyReference,
+            _ => Place::Scalar,
+        }
+    }
+}

@@ -1,0 +1,66 @@
+ghost use Rattle.std.specs.Prelude.{◌≡◌, ◌≢◌, ◌<◌, ◌≤◌, ◌↔◌, ℕ, length, take, drop, MatchOption, IsTrue};
+ghost use Rattle.std.specs.List.{prefix_len};
+ghost use Rattle.formula_syntax.specs.Lexing.{is_blank, is_word, IsWord, IsSpelt};
+ghost use Rattle.formula_syntax.specs.Functions.{function_name};
+ghost use Rattle.formula_syntax.specs.declared.functions.Function.{Function as FunctionName};
+ghost use Rattle.formula_syntax.specs.declared.tokens.Token.{Token as AToken};
+
+use crate::functions::Function;
+use crate::tokens::Token;
+use sheet_refs::{decimal_of, ref_of};
+use value_core::{MAX_WHOLE, Whole};
+
+/// Whether a byte is white space.
+pub(crate) fn blank(byte: u8) -> bool
+    ensures { result ≡ is_blank byte }
+{
+    byte == b' ' || byte == b'\t' || byte == b'\n' || byte == b'\r'
+}
+
+/// Whether a byte goes on with a word.
+pub(crate) fn in_word(byte: u8) -> bool
+    ensures { result ≡ is_word byte }
+{
+    byte.is_ascii_alphanumeric() || byte == b'$' || byte == b'_' || byte == b'.' || byte == b':'
+}
+
+/// How many bytes the word at the front has.
+pub(crate) fn word_length(text: &[u8]) -> usize
+    ensures count { result ≡ prefix_len is_word text.now }
+    ensures within { result ≤ length text.now }
+{
+    text.iter().take_while(|byte| in_word(**byte)).count()
+}
+
+/// What a word stands for; None exactly where it stands for nothing.
+pub(crate) fn word_of(word: &[u8]) -> Option<Token>
+    ensures { MatchOption result ((t : AToken) → ¬ IsWord word.now t) (IsWord word.now) }
+{
+    if let Some(number) = decimal_of(word, MAX_WHOLE as u64) {
+        let number = Whole::new(number as i64).unwrap();
+        return Some(Token::Number(number));
+    }
+    if word.eq_ignore_ascii_case(b"TRUE") {
+        return Some(Token::Truth(true));
+    }
+    if word.eq_ignore_ascii_case(b"FALSE") {
+        return Some(Token::Truth(false));
+    }
+    if let Some(function) = function_of(word) {
+        return Some(Token::Function(function));
+    }
+    let reference = ref_of(false, word)?;
+    Some(Token::Reference(reference))
+}
+
+// The function of this name, in either case.
+fn function_of(word: &[u8]) -> Option<Function>
+    ensures { MatchOption result ((f : FunctionName) → ¬ IsSpelt word.now (function_name f)) (λ f. IsSpelt word.now (function_name f)) }
+{
+    for function in Function::ALL {
+        if word.eq_ignore_ascii_case(function.name().as_bytes()) {
+            return Some(function);
+        }
+    }
+    None
+}

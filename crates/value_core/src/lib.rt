@@ -1,0 +1,25 @@
+//! Values of cells, the words that stand for them, and the operators between them.
+//!
+//! A value is nothing, a whole number, a truth, an error or a label (`specs/Values.antt`). Each has a
+//! code, a word of 64 bits that no other value has; `decode` gives the value of a code back, and nothing
+//! at any other word.
+//!
+//! The text of a label stands in a table of the sheet's, so a value doesn't print itself: `value_text` of
+//! the specs takes the texts of labels.
+//!
+//! Below stands only the standard library; formulas, sheets and all that computes stand above.
+#![tactic(auto)]
+
+mod codes;
+mod convert;
+mod operators;
+#[cfg(test)]
+mod tests;
+mod value;
+mod whole;
+
+pub use codes::{code, decode};
+pub use convert::{as_number, as_truth, in_range, never_empty, truth_number};
+pub use operators::{BinaryOp, PrefixOp, binary, prefix};
+pub use value::{ErrorKind, Value};
+pub use whole::{MAX_WHOLE, Whole};
