@@ -1,15 +1,15 @@
 -- An edge's pairs by any direction in which its run is a line. A run of one cell is a line in both.
-use Rattle.std.proofs.Common.{◌≡◌, ◌≢◌, ℕ, ◌+◌, ◌-◌, ◌≤◌, ◌<◌, ◌⊎◌, inl, inr, arith, refl, sym, ◌∙◌, ap, subst}
-use Rattle.std.specs.Prelude.{◌↔◌, ◌==◌, Bool, true, false, if◌then◌else◌}
+use Rattle.std.proofs.Common.{◌≡◌, ℕ, ◌+◌, ◌-◌, ◌<◌, ◌⊎◌, inl, inr, arith, refl, sym, ◌∙◌, ap, subst}
+use Rattle.std.specs.Prelude.{◌==◌, Bool, true, false}
 use Rattle.std.proofs.lemmas.Bool.Decides.{nat_tests}
-use Rattle.sheet_refs.specs.Cells.{Position, Corners, IsIn, IsOrdered}
+use Rattle.sheet_refs.specs.Cells.{Position, Corners}
 use Rattle.edge_patterns.specs.declared.axis.Axis.{Axis}
 use Rattle.edge_patterns.specs.declared.axis.Axis.TheVariants.{Down, Right}
 use Rattle.edge_patterns.specs.declared.edge.Pattern.{Pattern}
 use Rattle.edge_patterns.specs.declared.edge.Pattern.TheVariants.{Single, Rr, Rf, Fr, Ff, Chain}
-use Rattle.edge_patterns.specs.Axes.{along, across, cell_of, slice_of, IsLine, axis_of, count_along, cell_along}
-use Rattle.edge_patterns.specs.Edges.{EdgeValue, IsEdge, IsShapeOf, IsPair, run_length, cell_at, range_at, first_along, last_along, range_along}
-use Rattle.edge_patterns.proofs.Crossings.{ordered, cell_again}
+use Rattle.edge_patterns.specs.Axes.{along, IsLine, axis_of, count_along, cell_along}
+use Rattle.edge_patterns.specs.Edges.{EdgeValue, IsEdge, IsShapeOf, IsPair, cell_at, range_at, range_along}
+use Rattle.edge_patterns.proofs.Crossings.{cell_again}
 
 -- the pairs of an edge by a direction
 pub record IsPairAlong (axis : Axis) (edge : EdgeValue) (range : Corners) (cell : Position) : Type 0 where

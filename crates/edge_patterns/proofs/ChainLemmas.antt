@@ -1,14 +1,14 @@
 -- Chains: each cell refers to its neighbour in the line, so that the edge's own pairs lead from cell to cell.
-use Rattle.std.proofs.Common.{◌≡◌, ◌≢◌, ℕ, zero, suc, ◌+◌, ◌-◌, ◌≤◌, ◌<◌, ◌⊎◌, inl, inr, arith, refl, sym, ◌∙◌, ap, subst}
+use Rattle.std.proofs.Common.{◌≡◌, ℕ, zero, suc, ◌+◌, ◌-◌, ◌≤◌, ◌<◌, ◌⊎◌, inl, inr, arith, refl, sym, ◌∙◌, ap, subst}
 use Rattle.std.specs.Prelude.{◌↔◌, IsTrue, true, false}
 use Rattle.sheet_refs.specs.Cells.{Position, Corners, IsIn}
 use Rattle.edge_patterns.specs.declared.edge.Pattern.{Pattern}
 use Rattle.edge_patterns.specs.declared.edge.Pattern.TheVariants.{Chain}
 use Rattle.edge_patterns.specs.declared.queries.Places.{Places}
-use Rattle.edge_patterns.specs.Axes.{along, across, cell_of, slice_of, IsLine, axis_of, count_along}
-use Rattle.edge_patterns.specs.Edges.{EdgeValue, IsEdge, IsShapeOf, IsSpread, IsBeside, IsPair, run_length, cell_at, range_at, first_along, last_along, part_of_run, part_of_prec}
+use Rattle.edge_patterns.specs.Axes.{along, across, cell_of, IsLine, axis_of}
+use Rattle.edge_patterns.specs.Edges.{EdgeValue, IsEdge, IsShapeOf, IsPair, run_length, cell_at, range_at, first_along, last_along, part_of_run, part_of_prec}
 use Rattle.edge_patterns.specs.Places.{AreMeant, IsHit, IsAsked}
-use Rattle.edge_patterns.specs.Queries.{IsDirect, IsReached, IsReferred, IsLedTo}
+use Rattle.edge_patterns.specs.Queries.{IsReached, IsReferred, IsLedTo}
 use Rattle.edge_patterns.specs.Queries.IsReached.{at_once as reach_at_once, onward as reach_onward}
 use Rattle.edge_patterns.specs.Queries.IsLedTo.{at_once as led_at_once, onward as led_onward}
 use Rattle.edge_patterns.proofs.Crossings.{ordered, along_of}

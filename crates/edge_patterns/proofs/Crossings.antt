@@ -1,11 +1,11 @@
 -- Ranges, their overlaps and their cells, by coordinates along and across a direction.
-use Rattle.std.proofs.Common.{◌≡◌, ℕ, ◌≤◌, ◌<◌, arith, refl}
+use Rattle.std.proofs.Common.{◌≡◌, ℕ, ◌≤◌, refl}
 use Rattle.sheet_refs.specs.Cells.{Position, Corners, IsIn, IsOrdered}
 use Rattle.sheet_refs.specs.Rectangles.{Overlap}
-use Rattle.sheet_refs.proofs.Overlaps.{AreCrossed, overlap_from, crossed_from}
+use Rattle.sheet_refs.proofs.Overlaps.{overlap_from, crossed_from}
 use Rattle.edge_patterns.specs.declared.axis.Axis.{Axis}
 use Rattle.edge_patterns.specs.declared.axis.Axis.TheVariants.{Down, Right}
-use Rattle.edge_patterns.specs.Axes.{along, across, cell_of, slice_of}
+use Rattle.edge_patterns.specs.Axes.{along, across, cell_of}
 
 -- a cell lies between the coordinates of a range's corners
 pub record Lies (axis : Axis) (cell : Position) (range : Corners) : Type 0 where

@@ -1,17 +1,17 @@
 -- The ranges of an edge's cells, by coordinates.
-use Rattle.std.proofs.Common.{◌≡◌, ◌≢◌, ℕ, ◌+◌, ◌-◌, ◌≤◌, ◌<◌, ◌⊎◌, inl, inr, arith, refl, sym, ◌∙◌, ap, subst}
-use Rattle.std.specs.Prelude.{◌↔◌, Option, Some, None, MatchOption}
-use Rattle.sheet_refs.specs.Cells.{Position, Corners, IsIn, IsOrdered}
+use Rattle.std.proofs.Common.{◌≡◌, ℕ, ◌≤◌, ◌<◌, arith, refl}
+use Rattle.std.specs.Prelude.{◌↔◌}
+use Rattle.sheet_refs.specs.Cells.{Corners, IsOrdered}
 use Rattle.sheet_refs.specs.Rectangles.{Overlap}
 use Rattle.edge_patterns.specs.declared.axis.Axis.{Axis}
 use Rattle.edge_patterns.specs.declared.axis.Axis.TheVariants.{Down, Right}
 use Rattle.edge_patterns.specs.declared.edge.Pattern.{Pattern}
 use Rattle.edge_patterns.specs.declared.edge.Pattern.TheVariants.{Single, Rr, Rf, Fr, Ff, Chain}
 use Rattle.edge_patterns.specs.declared.queries.Places.{Places}
-use Rattle.edge_patterns.specs.Axes.{along, across, cell_of, slice_of, IsLine, axis_of, count_along, cell_along}
-use Rattle.edge_patterns.specs.Edges.{EdgeValue, IsEdge, IsRange, IsShapeOf, IsSpread, IsPair, run_length, cell_at, range_at, first_along, last_along, range_along}
-use Rattle.edge_patterns.specs.Places.{IsFirst, IsLast, AreMeant, Marks, IsHit}
-use Rattle.edge_patterns.proofs.Crossings.{Lies, lies, is_in, Ordered, ordered, is_ordered, Crossed, crossed, overlap, along_of, across_of}
+use Rattle.edge_patterns.specs.Axes.{along, across, axis_of, count_along}
+use Rattle.edge_patterns.specs.Edges.{EdgeValue, IsEdge, IsShapeOf, run_length, range_at, first_along, last_along, range_along}
+use Rattle.edge_patterns.specs.Places.{IsFirst, IsLast, IsHit}
+use Rattle.edge_patterns.proofs.Crossings.{ordered, is_ordered, Crossed, crossed, overlap}
 
 -- over a run of this shape no range has its head past its tail
 pub ends_ordered : (axis : Axis) (pattern : Pattern) (edge : EdgeValue) → edge.pattern ≡ pattern → IsShapeOf axis pattern edge → along axis edge.prec.head ≤ along axis edge.prec.tail → (place : ℕ) → place < count_along axis edge.dep → first_along axis edge place ≤ last_along axis edge place

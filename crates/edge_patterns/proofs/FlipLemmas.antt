@@ -1,11 +1,9 @@
 -- The order in which two edges are joined doesn't matter.
-use Rattle.std.proofs.Common.{◌≡◌, ◌⊎◌, inl, inr}
-use Rattle.std.specs.Prelude.{◌↔◌, Option, Some, None}
-use Rattle.sheet_refs.specs.Cells.{Position, Corners}
+use Rattle.std.proofs.Common.{◌⊎◌, inl, inr}
+use Rattle.std.specs.Prelude.{Option, Some, None}
 use Rattle.sheet_refs.specs.Names.{Finds}
-use Rattle.edge_patterns.specs.declared.axis.Axis.{Axis}
-use Rattle.edge_patterns.specs.Edges.{EdgeValue, IsPair}
-use Rattle.edge_patterns.specs.Joins.{Follows, AreNeighbours, IsUnion, IsJoin}
+use Rattle.edge_patterns.specs.Edges.{EdgeValue}
+use Rattle.edge_patterns.specs.Joins.{AreNeighbours, IsUnion, IsJoin}
 
 flip : {A B : Type 0} → A ⊎ B → B ⊎ A
 flip (inl a) = inr a

@@ -1,16 +1,16 @@
 -- Edges by the ranges at their ends: two edges that move alike and agree at two cells agree at all between them.
-use Rattle.std.proofs.Common.{◌≡◌, ◌≢◌, ℕ, ◌+◌, ◌-◌, ◌≤◌, ◌<◌, ◌⊎◌, inl, inr, arith, refl, sym, ◌∙◌, ap, subst}
-use Rattle.std.specs.Prelude.{◌↔◌, ◌==◌, Bool, true, false, if◌then◌else◌, min, max}
-use Rattle.sheet_refs.specs.Cells.{Position, Corners, IsIn, IsOrdered, spanned}
+use Rattle.std.proofs.Common.{◌≡◌, ℕ, ◌+◌, ◌-◌, ◌≤◌, ◌<◌, ◌⊎◌, inl, inr, arith, refl, sym, ◌∙◌, ap, subst}
+use Rattle.std.specs.Prelude.{Bool, true, false, min, max}
+use Rattle.sheet_refs.specs.Cells.{Position, Corners, IsOrdered, spanned}
 use Rattle.edge_patterns.specs.declared.axis.Axis.{Axis}
 use Rattle.edge_patterns.specs.declared.edge.Pattern.{Pattern}
 use Rattle.edge_patterns.specs.declared.edge.Pattern.TheVariants.{Single, Rr, Rf, Fr, Ff, Chain}
-use Rattle.edge_patterns.specs.Axes.{along, across, cell_of, slice_of, IsLine, axis_of, count_along, cell_along}
-use Rattle.edge_patterns.specs.Edges.{EdgeValue, IsEdge, IsShapeOf, IsSpread, IsBeside, IsPair, run_length, cell_at, range_at, first_along, last_along, range_along, steps, head_moves, tail_moves, edge_of}
+use Rattle.edge_patterns.specs.Axes.{along, across, IsLine, axis_of, count_along}
+use Rattle.edge_patterns.specs.Edges.{EdgeValue, IsEdge, IsShapeOf, run_length, range_at, range_along, steps, head_moves, tail_moves, edge_of}
 use Rattle.edge_patterns.specs.Joins.{HasEnds, IsAsWide, Moves}
-use Rattle.edge_patterns.proofs.Crossings.{Ordered, ordered, is_ordered, cell_again}
-use Rattle.edge_patterns.proofs.EdgeLemmas.{Spans, spans}
-use Rattle.edge_patterns.proofs.AxisLemmas.{line_or_cell, one_cell, count_one, single_range, same_position}
+use Rattle.edge_patterns.proofs.Crossings.{ordered, is_ordered, cell_again}
+use Rattle.edge_patterns.proofs.EdgeLemmas.{spans}
+use Rattle.edge_patterns.proofs.AxisLemmas.{line_or_cell, one_cell, count_one, single_range}
 use Rattle.edge_patterns.proofs.PartLemmas.{no_steps}
 
 -- ranges with the same coordinates are the same

@@ -1,19 +1,18 @@
 -- The edge between the outer ranges of two neighbours is their union, or they have none.
-use Rattle.std.proofs.Common.{◌≡◌, ◌≢◌, ℕ, ◌+◌, ◌-◌, ◌≤◌, ◌<◌, ◌⊎◌, inl, inr, arith, refl, sym, ◌∙◌, ap, subst}
+use Rattle.std.proofs.Common.{◌≡◌, ℕ, ◌+◌, ◌-◌, ◌≤◌, ◌<◌, ◌⊎◌, inl, inr, arith, refl, sym, ◌∙◌, ap, subst}
 use Rattle.std.proofs.lemmas.Bool.{cases_lt}
-use Rattle.std.specs.Prelude.{◌↔◌, Bool, true, false}
+use Rattle.std.specs.Prelude.{Bool, true, false}
 use Rattle.sheet_refs.specs.Cells.{Position, Corners, IsIn, IsOrdered, spanned}
 use Rattle.edge_patterns.specs.declared.axis.Axis.{Axis}
 use Rattle.edge_patterns.specs.declared.edge.Pattern.{Pattern}
 use Rattle.edge_patterns.specs.declared.edge.Pattern.TheVariants.{Single, Rr, Rf, Fr, Ff, Chain}
-use Rattle.edge_patterns.specs.Axes.{along, across, cell_of, IsLine, axis_of, count_along, cell_along}
-use Rattle.edge_patterns.specs.Edges.{EdgeValue, IsEdge, IsShapeOf, IsPair, run_length, cell_at, range_at, range_along, steps, head_moves, tail_moves, edge_of}
+use Rattle.edge_patterns.specs.Axes.{along, IsLine, count_along, cell_along}
+use Rattle.edge_patterns.specs.Edges.{EdgeValue, IsEdge, IsShapeOf, IsPair, run_length, range_at, range_along, head_moves, tail_moves, edge_of}
 use Rattle.edge_patterns.specs.Joins.{Follows, IsUnion, HasEnds, HasInnerRanges, Moves}
-use Rattle.edge_patterns.specs.Laws.{SamePairs}
-use Rattle.edge_patterns.proofs.Crossings.{Lies, lies, is_in, ordered, is_ordered, along_of, across_of, cell_again}
-use Rattle.edge_patterns.proofs.AxisLemmas.{IsPairAlong, to_along, from_along, one_cell}
-use Rattle.edge_patterns.proofs.JoinLemmas.{same_range, shape_along, length_either, range_either, spanned_ordered, Ends, ends_at, ends_of, head_goes, tail_goes}
-use Rattle.edge_patterns.proofs.UnionLemmas.{agree, same_cells, run_has_ranges, one_range, same_run}
+use Rattle.edge_patterns.proofs.Crossings.{lies, is_in, ordered, is_ordered}
+use Rattle.edge_patterns.proofs.AxisLemmas.{to_along, from_along}
+use Rattle.edge_patterns.proofs.JoinLemmas.{same_range, shape_along, length_either, range_either, spanned_ordered, ends_at, head_goes, tail_goes}
+use Rattle.edge_patterns.proofs.UnionLemmas.{agree, same_cells, run_has_ranges, one_range}
 
 -- whether a coordinate moves is told by its ends
 moves_one : (m k : Bool) (first last count : ℕ) → 0 < count → Moves first last count m → Moves first last count k → m ≡ k

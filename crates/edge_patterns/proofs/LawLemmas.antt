@@ -1,13 +1,11 @@
 -- Edges with the same pairs are the same.
-use Rattle.std.proofs.Common.{◌≡◌, ◌≢◌, ℕ, ◌+◌, ◌-◌, ◌≤◌, ◌<◌, ◌⊎◌, inl, inr, arith, refl, sym, ◌∙◌, ap, subst}
+use Rattle.std.proofs.Common.{◌≡◌, ℕ, ◌-◌, ◌<◌, inl, inr, arith, refl, sym, ◌∙◌, ap}
 use Rattle.std.proofs.lemmas.Bool.{cases_lt}
-use Rattle.std.specs.Prelude.{◌↔◌}
-use Rattle.sheet_refs.specs.Cells.{Position, Corners}
+use Rattle.sheet_refs.specs.Cells.{Corners}
 use Rattle.edge_patterns.specs.declared.axis.Axis.{Axis}
-use Rattle.edge_patterns.specs.declared.edge.Pattern.TheVariants.{Single}
-use Rattle.edge_patterns.specs.Axes.{along, IsLine, axis_of, count_along}
-use Rattle.edge_patterns.specs.Edges.{EdgeValue, IsEdge, IsPair, run_length, cell_at, range_at, range_along, edge_of}
-use Rattle.edge_patterns.specs.Joins.{IsUnion, HasEnds}
+use Rattle.edge_patterns.specs.Axes.{axis_of, count_along}
+use Rattle.edge_patterns.specs.Edges.{EdgeValue, IsEdge, run_length, cell_at, range_at, range_along, edge_of}
+use Rattle.edge_patterns.specs.Joins.{IsUnion}
 use Rattle.edge_patterns.specs.Laws.{SamePairs}
 use Rattle.edge_patterns.proofs.Crossings.{ordered}
 use Rattle.edge_patterns.proofs.AxisLemmas.{one_cell, single_range}

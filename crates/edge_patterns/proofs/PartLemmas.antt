@@ -1,18 +1,15 @@
 -- The pairs of a part of an edge.
-use Rattle.std.proofs.Common.{◌≡◌, ◌≢◌, ℕ, ◌+◌, ◌-◌, ◌≤◌, ◌<◌, ◌⊎◌, inl, inr, arith, refl, sym, ◌∙◌, ap, subst}
-use Rattle.std.specs.Prelude.{Option, Some, None, ◌↔◌, ◌==◌, Bool, true, false, if◌then◌else◌}
+use Rattle.std.proofs.Common.{◌≡◌, ℕ, ◌+◌, ◌-◌, ◌≤◌, ◌<◌, arith, refl, sym, ◌∙◌, ap}
+use Rattle.std.specs.Prelude.{Option, Some, None, ◌↔◌, ◌==◌, Bool, true, false}
 use Rattle.std.proofs.lemmas.Bool.Decides.{nat_tests}
-use Rattle.sheet_refs.specs.Cells.{Position, Corners, IsIn, IsOrdered}
-use Rattle.edge_patterns.specs.declared.axis.Axis.{Axis}
-use Rattle.edge_patterns.specs.declared.edge.Pattern.{Pattern}
-use Rattle.edge_patterns.specs.declared.edge.Pattern.TheVariants.{Single, Rr, Rf, Fr, Ff, Chain}
-use Rattle.edge_patterns.specs.Axes.{along, across, cell_of, slice_of, IsLine, axis_of, count_along, cell_along}
-use Rattle.edge_patterns.specs.Edges.{EdgeValue, IsEdge, IsShapeOf, IsPair, run_length, cell_at, range_at, first_along, last_along, range_along, part_of, steps, head_moves, tail_moves}
+use Rattle.sheet_refs.specs.Cells.{Position, Corners, IsIn}
+use Rattle.edge_patterns.specs.Axes.{along, IsLine, axis_of, count_along, cell_along}
+use Rattle.edge_patterns.specs.Edges.{EdgeValue, IsEdge, IsPair, run_length, cell_at, range_at, first_along, last_along, range_along, part_of, steps, head_moves, tail_moves}
 use Rattle.edge_patterns.specs.Joins.{IsPart, IsBefore, Keeps}
 use Rattle.edge_patterns.specs.Places.{StandsBetween}
-use Rattle.edge_patterns.proofs.Crossings.{ordered, along_of, lies}
+use Rattle.edge_patterns.proofs.Crossings.{along_of, lies}
 use Rattle.edge_patterns.proofs.QueryLemmas.{Cuts, cuts}
-use Rattle.edge_patterns.proofs.AxisLemmas.{IsPairAlong, to_along, from_along}
+use Rattle.edge_patterns.proofs.AxisLemmas.{to_along, from_along}
 
 -- each cell of a run has one number
 pub one_place : (edge : EdgeValue) (a b : ℕ) → cell_at edge a ≡ cell_at edge b → a ≡ b

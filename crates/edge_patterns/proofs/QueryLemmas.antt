@@ -1,21 +1,18 @@
 -- The cells that the queries cover, by their numbers in the run.
-use Rattle.std.proofs.Common.{◌≡◌, ◌≢◌, ℕ, zero, suc, ◌+◌, ◌-◌, ◌≤◌, ◌<◌, ◌⊎◌, inl, inr, arith, refl, sym, ◌∙◌, ap, subst}
+use Rattle.std.proofs.Common.{◌≡◌, ℕ, ◌+◌, ◌-◌, ◌≤◌, ◌<◌, arith, refl, sym, ◌∙◌, ap, subst}
 use Rattle.std.specs.Prelude.{◌↔◌}
-use Rattle.sheet_refs.specs.Cells.{Position, Corners, IsIn, IsOrdered}
+use Rattle.sheet_refs.specs.Cells.{Position, Corners, IsIn}
 use Rattle.sheet_refs.specs.Rectangles.{Overlap}
 use Rattle.edge_patterns.specs.declared.axis.Axis.{Axis}
 use Rattle.edge_patterns.specs.declared.axis.Axis.TheVariants.{Down, Right}
-use Rattle.edge_patterns.specs.declared.edge.Pattern.{Pattern}
-use Rattle.edge_patterns.specs.declared.edge.Pattern.TheVariants.{Single, Rr, Rf, Fr, Ff, Chain}
 use Rattle.edge_patterns.specs.declared.queries.Places.{Places}
-use Rattle.edge_patterns.specs.Axes.{along, across, cell_of, slice_of, IsLine, axis_of, count_along, cell_along}
-use Rattle.edge_patterns.specs.Edges.{EdgeValue, IsEdge, IsRange, IsShapeOf, IsSpread, IsBeside, IsPair, run_length, cell_at, range_at, first_along, last_along, range_along, part_of_run, part_of_prec}
+use Rattle.edge_patterns.specs.Axes.{along, across, cell_of, slice_of, IsLine, axis_of}
+use Rattle.edge_patterns.specs.Edges.{EdgeValue, IsEdge, run_length, cell_at, range_at, part_of_run}
 use Rattle.edge_patterns.specs.Places.{AreMeant, IsHit, IsAsked}
 use Rattle.edge_patterns.specs.Queries.{IsDirect, IsReached, IsReferred, IsLedTo}
 use Rattle.edge_patterns.specs.Queries.IsReached.{at_once as reach_at_once, onward as reach_onward}
 use Rattle.edge_patterns.specs.Queries.IsLedTo.{at_once as led_at_once, onward as led_onward}
-use Rattle.edge_patterns.proofs.Crossings.{Lies, lies, is_in, Ordered, ordered, along_of, across_of, cell_again}
-use Rattle.edge_patterns.proofs.EdgeLemmas.{Spans, spans, range_ordered}
+use Rattle.edge_patterns.proofs.Crossings.{lies, is_in, along_of, across_of, cell_again}
 
 -- the corners of a slice, by coordinates
 pub record Cuts (axis : Axis) (range : Corners) (first last : ℕ) (slice : Corners) : Type 0 where

@@ -1,5 +1,5 @@
 -- The ranges of neighbouring cells leave no gap between them, so that together they are one range.
-use Rattle.std.proofs.Common.{◌≡◌, ℕ, ◌+◌, ◌-◌, ◌≤◌, ◌<◌, ◌⊎◌, inl, inr, arith, refl, sym, ◌∙◌, subst}
+use Rattle.std.proofs.Common.{◌≡◌, ℕ, ◌+◌, ◌-◌, ◌≤◌, ◌<◌, inl, inr, arith, refl, subst}
 use Rattle.std.proofs.lemmas.Bool.{cases_lt}
 use Rattle.std.specs.Prelude.{◌↔◌}
 use Rattle.sheet_refs.specs.Cells.{Position, Corners, IsIn}
@@ -7,12 +7,12 @@ use Rattle.edge_patterns.specs.declared.axis.Axis.{Axis}
 use Rattle.edge_patterns.specs.declared.edge.Pattern.{Pattern}
 use Rattle.edge_patterns.specs.declared.edge.Pattern.TheVariants.{Single, Rr, Rf, Fr, Ff, Chain}
 use Rattle.edge_patterns.specs.declared.queries.Places.{Places}
-use Rattle.edge_patterns.specs.Axes.{along, across, axis_of, count_along}
-use Rattle.edge_patterns.specs.Edges.{EdgeValue, IsEdge, IsShapeOf, IsPair, run_length, cell_at, range_at, first_along, last_along, part_of_prec}
+use Rattle.edge_patterns.specs.Axes.{along, axis_of, count_along}
+use Rattle.edge_patterns.specs.Edges.{EdgeValue, IsEdge, IsShapeOf, run_length, cell_at, range_at, first_along, last_along, part_of_prec}
 use Rattle.edge_patterns.specs.Places.{AreMeant, IsAsked}
 use Rattle.edge_patterns.specs.Queries.{IsReferred}
-use Rattle.edge_patterns.proofs.Crossings.{Lies, lies, is_in, ordered}
-use Rattle.edge_patterns.proofs.EdgeLemmas.{ends_ordered, spans}
+use Rattle.edge_patterns.proofs.Crossings.{lies, is_in, ordered}
+use Rattle.edge_patterns.proofs.EdgeLemmas.{spans}
 use Rattle.edge_patterns.proofs.QueryLemmas.{cuts}
 
 -- between the first place and the last, ranges begin no earlier than the first one and end no later than the last one

@@ -1,21 +1,16 @@
 -- The edge with the pairs of two edges whose runs are neighbours.
-use Rattle.std.proofs.Common.{◌≡◌, ◌≢◌, ℕ, ◌+◌, ◌-◌, ◌≤◌, ◌<◌, ◌⊎◌, inl, inr, arith, refl, sym, ◌∙◌, ap, subst}
-use Rattle.std.proofs.lemmas.Bool.{cases_lt}
+use Rattle.std.proofs.Common.{◌≡◌, ℕ, ◌+◌, ◌-◌, ◌≤◌, ◌<◌, arith, refl, sym, ◌∙◌, ap}
 use Rattle.std.specs.Prelude.{◌↔◌, Bool, true, false}
-use Rattle.sheet_refs.specs.Cells.{Position, Corners, IsIn, IsOrdered, spanned}
+use Rattle.sheet_refs.specs.Cells.{Position, Corners, IsIn, IsOrdered}
 use Rattle.edge_patterns.specs.declared.axis.Axis.{Axis}
-use Rattle.edge_patterns.specs.declared.axis.Axis.TheVariants.{Down, Right}
-use Rattle.edge_patterns.specs.declared.edge.Pattern.{Pattern}
-use Rattle.edge_patterns.specs.declared.edge.Pattern.TheVariants.{Single, Rr, Rf, Fr, Ff, Chain}
-use Rattle.edge_patterns.specs.Axes.{along, across, cell_of, IsLine, axis_of, count_along, cell_along}
-use Rattle.edge_patterns.specs.Edges.{EdgeValue, IsEdge, IsShapeOf, IsPair, run_length, cell_at, range_at, first_along, last_along, range_along, steps, head_moves, tail_moves, edge_of}
-use Rattle.edge_patterns.specs.Joins.{Follows, AreNeighbours, IsUnion, IsJoin, HasEnds, Moves}
+use Rattle.edge_patterns.specs.declared.axis.Axis.TheVariants.{Down}
+use Rattle.edge_patterns.specs.Axes.{along, across, cell_of, axis_of, count_along}
+use Rattle.edge_patterns.specs.Edges.{EdgeValue, IsEdge, IsShapeOf, IsPair, cell_at, range_at, range_along, steps, head_moves, tail_moves}
 use Rattle.edge_patterns.specs.Laws.{SamePairs}
-use Rattle.edge_patterns.proofs.Crossings.{Lies, lies, is_in, ordered, is_ordered, along_of, across_of, cell_again}
+use Rattle.edge_patterns.proofs.Crossings.{lies, is_in, along_of, across_of, cell_again}
 use Rattle.edge_patterns.proofs.EdgeLemmas.{spans}
-use Rattle.edge_patterns.proofs.AxisLemmas.{IsPairAlong, to_along, from_along}
 use Rattle.edge_patterns.proofs.PartLemmas.{one_place, place_in_run}
-use Rattle.edge_patterns.proofs.JoinLemmas.{same_range, shape_along, tail_room, spanned_ordered, Ends, ends_at, head_goes, tail_goes}
+use Rattle.edge_patterns.proofs.JoinLemmas.{same_range, tail_room}
 
 -- coordinates that move alike and agree at two places agree between them
 heads_agree : (m k : Bool) (first other offset count place : ℕ) → first + steps m offset ≡ other + steps k 0 → first + steps m (offset + (count - 1)) ≡ other + steps k (count - 1) → place < count → first + steps m (offset + place) ≡ other + steps k place

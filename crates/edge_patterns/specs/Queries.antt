@@ -1,5 +1,5 @@
 -- What an edge tells of its dependents and precedents.
-use Rattle.std.specs.Prelude.{◌≡◌, ℕ, ◌↔◌, MatchOption}
+use Rattle.std.specs.Prelude.{◌↔◌, MatchOption}
 use Rattle.std.specs.declared.option.Option.{Option}
 use Rattle.sheet_refs.specs.Cells.{Position, Corners, IsIn}
 use Rattle.sheet_refs.specs.Rectangles.{Overlap}

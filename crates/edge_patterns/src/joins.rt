@@ -17,16 +17,16 @@ pub fn join(a: &Edge, b: &Edge) -> Option<Edge>
     ensures either_order { Finds result (IsJoin b.now a.now) }
 {
     if follows(Axis::Down, a, b) {
-        return joined(Axis::Down, a, b);
+        return union_of(Axis::Down, a, b);
     }
     if follows(Axis::Down, b, a) {
-        return joined(Axis::Down, b, a);
+        return union_of(Axis::Down, b, a);
     }
     if follows(Axis::Right, a, b) {
-        return joined(Axis::Right, a, b);
+        return union_of(Axis::Right, a, b);
     }
     if follows(Axis::Right, b, a) {
-        return joined(Axis::Right, b, a);
+        return union_of(Axis::Right, b, a);
     }
     None
 }
@@ -45,7 +45,7 @@ fn follows(axis: Axis, front: &Edge, back: &Edge) -> bool
 
 // The edge with the pairs of both: the one with their outer ranges at its ends, if it has their inner ranges too, since
 // ranges that move alike and agree at two cells agree at all between them.
-fn joined(axis: Axis, front: &Edge, back: &Edge) -> Option<Edge>
+fn union_of(axis: Axis, front: &Edge, back: &Edge) -> Option<Edge>
     requires { Follows axis front.now.dep back.now.dep }
     ensures { Finds result (IsUnion front.now back.now) }
 {

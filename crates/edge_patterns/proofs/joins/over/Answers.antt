@@ -1,7 +1,7 @@
 use Rattle.std.proofs.Common.{◌≡◌, refl, subst, sym, ◌∙◌}
 use Rattle.sheet_refs.specs.Cells.{Corners}
-use Rattle.edge_patterns.specs.Edges.{EdgeValue, IsEdge, edge_of, head_moves, tail_moves}
-use Rattle.edge_patterns.specs.Joins.{HasEnds, Moves}
+use Rattle.edge_patterns.specs.Edges.{IsEdge, edge_of, head_moves, tail_moves}
+use Rattle.edge_patterns.specs.Joins.{HasEnds}
 use Rattle.edge_patterns.proofs.ChainLemmas.{refuted}
 use Rattle.edge_patterns.proofs.JoinLemmas.{as_wide, head_goes, tail_goes, outer_corners, has_ends}
 use Rattle.edge_patterns.proofs.joins.over.Goals as goal

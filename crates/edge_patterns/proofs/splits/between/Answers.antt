@@ -1,7 +1,5 @@
-use Rattle.std.proofs.Common.{◌≡◌, ◌≤◌, ◌<◌, ◌+◌, ◌-◌, arith, subst}
-use Rattle.edge_patterns.specs.Edges.{EdgeValue, run_length}
-use Rattle.edge_patterns.specs.Joins.{IsPart}
-use Rattle.edge_patterns.specs.Places.{StandsBetween}
+use Rattle.std.proofs.Common.{◌≡◌, ◌≤◌, ◌<◌, ◌+◌, ◌-◌, arith}
+use Rattle.edge_patterns.specs.Edges.{run_length}
 use Rattle.edge_patterns.proofs.PartLemmas.{part_is_part}
 use Rattle.edge_patterns.proofs.splits.between.Goals as goal
 

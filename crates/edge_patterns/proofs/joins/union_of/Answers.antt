@@ -1,10 +1,10 @@
-use Rattle.std.proofs.Common.{◌≡◌, ℕ, ◌-◌, refl, subst}
-use Rattle.sheet_refs.specs.Cells.{Corners, spanned}
+use Rattle.std.proofs.Common.{◌≡◌, ◌-◌, refl, subst}
+use Rattle.sheet_refs.specs.Cells.{spanned}
 use Rattle.edge_patterns.specs.Edges.{EdgeValue, range_at, run_length}
 use Rattle.edge_patterns.specs.Joins.{HasEnds, HasInnerRanges}
 use Rattle.edge_patterns.proofs.ChainLemmas.{refuted}
 use Rattle.edge_patterns.proofs.JoinedLemmas.{outer, has_pairs, union_ends, union_inner, ends_tell, whole, whole_line, whole_several}
-use Rattle.edge_patterns.proofs.joins.joined.Goals as goal
+use Rattle.edge_patterns.proofs.joins.union_of.Goals as goal
 
 pub returns-in_default : goal.returns-in_default
 returns-in_default c = λ edge union.
