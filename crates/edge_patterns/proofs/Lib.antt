@@ -1,0 +1,12 @@
+pub mod AxisLemmas
+pub mod ChainLemmas
+pub mod Crossings
+pub mod EdgeLemmas
+pub mod FlipLemmas
+pub mod JoinLemmas
+pub mod JoinedLemmas
+pub mod LawLemmas
+pub mod PartLemmas
+pub mod QueryLemmas
+pub mod ReferredLemmas
+pub mod UnionLemmas

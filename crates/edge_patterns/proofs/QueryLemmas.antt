@@ -1,0 +1,106 @@
+-- The cells that the queries cover, by their numbers in the run.
+use Rattle.std.proofs.Common.{◌≡◌, ℕ, ◌+◌, ◌-◌, ◌≤◌, ◌<◌, arith, refl, sym, ◌∙◌, ap, subst}
+use Rattle.std.specs.Prelude.{◌↔◌}
+use Rattle.sheet_refs.specs.Cells.{Position, Corners, IsIn}
+use Rattle.sheet_refs.specs.Rectangles.{Overlap}
+use Rattle.edge_patterns.specs.declared.axis.Axis.{Axis}
+use Rattle.edge_patterns.specs.declared.axis.Axis.TheVariants.{Down, Right}
+use Rattle.edge_patterns.specs.declared.queries.Places.{Places}
+use Rattle.edge_patterns.specs.Axes.{along, across, cell_of, slice_of, IsLine, axis_of}
+use Rattle.edge_patterns.specs.Edges.{EdgeValue, IsEdge, run_length, cell_at, range_at, part_of_run}
+use Rattle.edge_patterns.specs.Places.{AreMeant, IsHit, IsAsked}
+use Rattle.edge_patterns.specs.Queries.{IsDirect, IsReached, IsReferred, IsLedTo}
+use Rattle.edge_patterns.specs.Queries.IsReached.{at_once as reach_at_once, onward as reach_onward}
+use Rattle.edge_patterns.specs.Queries.IsLedTo.{at_once as led_at_once, onward as led_onward}
+use Rattle.edge_patterns.proofs.Crossings.{lies, is_in, along_of, across_of, cell_again}
+
+-- the corners of a slice, by coordinates
+pub record Cuts (axis : Axis) (range : Corners) (first last : ℕ) (slice : Corners) : Type 0 where
+  pub head : along axis slice.head ≡ first
+  pub tail : along axis slice.tail ≡ last
+  pub left : across axis slice.head ≡ across axis range.head
+  pub right : across axis slice.tail ≡ across axis range.tail
+
+pub cuts : (axis : Axis) (range : Corners) (first last : ℕ) → Cuts axis range first last (slice_of axis range first last)
+cuts Down range first last = record { head = refl; tail = refl; left = refl; right = refl }
+cuts Right range first last = record { head = refl; tail = refl; left = refl; right = refl }
+
+-- a cell between two coordinates of a line is the one at its own coordinate
+pub on_line : (axis : Axis) (range : Corners) (first last : ℕ) (cell : Position) → IsLine axis range → IsIn cell (slice_of axis range first last) → (first ≤ along axis cell) × (along axis cell ≤ last) × (cell ≡ cell_of axis (along axis cell) (across axis range.head))
+on_line axis range first last cell line inside =
+    let at = cuts axis range first last in
+    let is = lies axis cell (slice_of axis range first last) inside in
+    let from = rw at.head at is.from in
+    let to = rw at.tail at is.to in
+    let left = rw at.left at is.left in
+    let right = rw at.right at is.right in
+    let same : across axis cell ≡ across axis range.head = omega (arith, left, right, line) in
+    (from, to, rw (← same) (sym (cell_again axis cell)))
+
+pub in_line : (axis : Axis) (range : Corners) (first last coordinate : ℕ) → IsLine axis range → first ≤ coordinate → coordinate ≤ last → IsIn (cell_of axis coordinate (across axis range.head)) (slice_of axis range first last)
+in_line axis range first last coordinate line from to =
+    let at = cuts axis range first last in
+    let along_is = along_of axis coordinate (across axis range.head) in
+    let across_is = across_of axis coordinate (across axis range.head) in
+    is_in axis _ (slice_of axis range first last) (record {
+      from = rw (at.head, along_is) from;
+      to = rw (at.tail, along_is) to;
+      left = rw (at.left, across_is) (omega arith);
+      right = rw (at.right, across_is) (omega (arith, line));
+    })
+
+-- the cells of a part of a run, by their numbers
+pub cells_in : (edge : EdgeValue) → IsEdge edge → (from to : ℕ) (cell : Position) → IsIn cell (part_of_run edge from to) → (place : ℕ) × (from ≤ place) × (place ≤ to) × (cell ≡ cell_at edge place)
+cells_in edge is from to cell inside =
+    let axis = axis_of edge.dep in
+    let head = along axis edge.dep.head in
+    let at = on_line axis edge.dep (head + from) (head + to) cell is.line inside in
+    let begins = at.0 in
+    let ends = at.1 in
+    let same : along axis cell ≡ head + (along axis cell - head) = omega (arith, begins) in
+    (along axis cell - head, omega (arith, begins), omega (arith, ends), at.2 ∙ ap (λ (coordinate : ℕ). cell_of axis coordinate (across axis edge.dep.head)) same)
+
+pub cell_in : (edge : EdgeValue) → IsEdge edge → (from to place : ℕ) → from ≤ place → place ≤ to → IsIn (cell_at edge place) (part_of_run edge from to)
+cell_in edge is from to place begins ends =
+    let axis = axis_of edge.dep in
+    let head = along axis edge.dep.head in
+    in_line axis edge.dep (head + from) (head + to) (head + place) is.line (omega (arith, begins)) (omega (arith, ends))
+
+-- the cells with a range that overlaps the query are those whose numbers are hit
+pub direct_place : (edge : EdgeValue) (query : Corners) (cell : Position) → IsDirect edge query cell → (place : ℕ) × (place < run_length edge) × (cell ≡ cell_at edge place) × IsHit edge query place
+direct_place edge query cell direct =
+    (direct.pair.place, direct.pair.within, direct.pair.cell_is, subst (λ (range : Corners). Overlap range query) direct.pair.range_is direct.overlaps)
+
+pub hit_direct : (edge : EdgeValue) (query : Corners) (place : ℕ) → place < run_length edge → IsHit edge query place → IsDirect edge query (cell_at edge place)
+hit_direct edge query place within hit =
+    record { range = range_at edge place; pair = record { place = place; within = within; cell_is = refl; range_is = refl }; overlaps = hit }
+
+pub direct_covers : (edge : EdgeValue) → IsEdge edge → (query : Corners) (places : Places) → AreMeant (run_length edge) (IsHit edge query) places → (cell : Position) → IsIn cell (part_of_run edge places.from places.to) ↔ IsDirect edge query cell
+direct_covers edge is query places meant cell = (
+  λ inside.
+      let (place, from, to, same) = cells_in edge is places.from places.to cell inside in
+      let within : place < run_length edge = omega (arith, to, meant.within) in
+      subst (λ (c : Position). IsDirect edge query c) (sym same) (hit_direct edge query place within ((meant.meant place within).0 (from, to))),
+  λ direct.
+      let (place, within, same, hit) = direct_place edge query cell direct in
+      let (from, to) = (meant.meant place within).1 hit in
+      subst (λ (c : Position). IsIn c (part_of_run edge places.from places.to)) (sym same) (cell_in edge is places.from places.to place from to),
+)
+
+pub no_direct : (edge : EdgeValue) (query : Corners) → ((place : ℕ) → place < run_length edge → ¬ IsHit edge query place) → (cell : Position) → ¬ IsDirect edge query cell
+no_direct edge query none cell direct =
+    let (place, within, same, hit) = direct_place edge query cell direct in
+    none place within hit
+
+-- nothing is reached where nothing is hit
+pub no_reached : (edge : EdgeValue) (query : Corners) → ((place : ℕ) → place < run_length edge → ¬ IsHit edge query place) → (cell : Position) → ¬ IsReached edge query cell
+no_reached edge query none cell (reach_at_once _ direct) = no_direct edge query none cell direct
+no_reached edge query none cell (reach_onward from _ range before pair inside) = no_reached edge query none from before
+
+pub no_referred : (edge : EdgeValue) (query : Corners) → ((place : ℕ) → place < run_length edge → ¬ IsAsked edge query place) → (cell : Position) → ¬ IsReferred edge query cell
+no_referred edge query none cell referred =
+    none referred.pair.place referred.pair.within (subst (λ (c : Position). IsIn c query) referred.pair.cell_is referred.asked)
+
+pub no_led : (edge : EdgeValue) (query : Corners) → ((place : ℕ) → place < run_length edge → ¬ IsAsked edge query place) → (cell : Position) → ¬ IsLedTo edge query cell
+no_led edge query none cell (led_at_once _ referred) = no_referred edge query none cell referred
+no_led edge query none cell (led_onward from _ range before pair inside) = no_led edge query none from before
