@@ -265,9 +265,9 @@ operated op front last l r rest left (k, f) from = (c.0, step)
 
 by_level : (level : ℕ) (ts : List Token) (t : Tree) → level < 5 → Derives (suc level) ts t → (rest : List Token) → IsLooser level rest → (left : ℕ) → Comes (suc level) ts t rest 1 → Comes level ts t rest left
 by_level level ts t small d rest loose left c = elim (cases_lt level 4) [
-    | inl below ↦ chained level ts t rest left below (ends_from (suc level) ts t rest (looser_none level rest loose) c)
-    | inr from ↦ subst (λ (l : ℕ). Derives (suc l) ts t → Comes (suc l) ts t rest 1 → Comes l ts t rest left) (same from) at_four d c
-  ]
+  | inl below ↦ chained level ts t rest left below (ends_from (suc level) ts t rest (looser_none level rest loose) c)
+  | inr from ↦ subst (λ (l : ℕ). Derives (suc l) ts t → Comes (suc l) ts t rest 1 → Comes l ts t rest left) (same from) at_four d c
+]
   where
     same : 4 ≤ level → 4 ≡ level
     same h = omega (arith, h, small)

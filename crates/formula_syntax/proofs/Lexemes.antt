@@ -1,11 +1,11 @@
 -- A text has one list of tokens, and how it is read piece by piece.
-use Rattle.std.proofs.Common.{◌≡◌, ◌≢◌, ℕ, zero, suc, ◌+◌, ◌<◌, ◌≤◌, Bool, true, false, List, [], ◌∷◌, ◌++◌, length, take, drop, refl, sym, ◌∙◌, ap, subst, arith, cond}
+use Rattle.std.proofs.Common.{◌≡◌, ℕ, ◌+◌, ◌<◌, ◌≤◌, Bool, true, false, List, [], ◌∷◌, ◌++◌, length, take, drop, refl, sym, ◌∙◌, ap, subst, arith}
 use Rattle.std.proofs.lemmas.Bool.{false≢true}
 use Rattle.std.proofs.lemmas.List.{length-append, take-append-drop, append-nil, append_assoc, length-drop}
 use Rattle.formula_syntax.specs.declared.tokens.Token.{Token}
 use Rattle.formula_syntax.specs.Lexing.{is_blank, IsToken, IsFront, HasNoToken, HasTokens, past_blanks}
 use Rattle.formula_syntax.specs.Lexing.HasTokens.{nothing, blank, next}
-use Rattle.formula_syntax.proofs.TokenLemmas.{token_some, token_unique, blank_no_token, IsSame}
+use Rattle.formula_syntax.proofs.TokenLemmas.{token_some, token_unique, blank_no_token}
 
 no_piece : (piece rest : List ℕ) (t : Token) → [] ≡ piece ++ rest → IsToken piece rest t → ⊥
 no_piece piece rest t split is = omega (arith, token_some piece rest t is, ap length split, length-append piece rest)
@@ -106,9 +106,9 @@ pub goes_on : (text rest after : List ℕ) (read longer : List Token) (t : Token
 goes_on text rest after read longer t n is past plain front at = record {
   there = λ us h. rw (is, append_assoc read (t ∷ []) us) (at.there (t ∷ us) (with_token rest t n us front (with_blanks (drop n rest) us (subst (λ (l : List ℕ). HasTokens l us) past h))));
   back = λ ts h.
-    let (us, left) = at.back ts h in
-    let (vs, behind) = without_token rest t n us plain front left in
-    (vs, subst (λ (l : List ℕ). HasTokens l vs) (sym past) (without_blanks (drop n rest) vs behind));
+      let (us, left) = at.back ts h in
+      let (vs, behind) = without_token rest t n us plain front left in
+      (vs, subst (λ (l : List ℕ). HasTokens l vs) (sym past) (without_blanks (drop n rest) vs behind));
   few = omega (arith, ap length is, length-append read (t ∷ []), ap length past, past_within (drop n rest), length-drop n rest, at.few, front.some, front.within);
 }
 

@@ -1,8 +1,10 @@
 pub mod Fitting
 pub mod Complete
+pub mod Measures
 pub mod Signs
 pub mod TokenLemmas
 pub mod Lexemes
 pub mod Sound
+pub mod Spells
 pub mod Steps
 pub mod WordLemmas

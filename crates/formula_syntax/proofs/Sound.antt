@@ -236,12 +236,12 @@ primary_sound n reads severals (token.Open ∷ ts) t rest e = open_sound n reads
 
 read_step : (n : ℕ) → ReadSound n → GoSound n → SeveralSound n → ReadSound (suc n)
 read_step n reads goes severals level small ts t rest e = elim (cases_lt level 4) [
-    | inl below ↦ chain_sound n reads goes level below ts t rest e
-    | inr from ↦ elim (cases_lt level 5) [
-      | inl four ↦ subst (λ (l : ℕ). read (suc n) l ts ≡ Some (t, rest) → Taken l ts t rest) (is_four from four) (λ f. signed_sound n reads ts t rest f) e
-      | inr five ↦ subst (λ (l : ℕ). read (suc n) l ts ≡ Some (t, rest) → Taken l ts t rest) (is_five five) (λ f. primary_sound n reads severals ts t rest (sym (read_primary n ts) ∙ f)) e
-    ]
+  | inl below ↦ chain_sound n reads goes level below ts t rest e
+  | inr from ↦ elim (cases_lt level 5) [
+    | inl four ↦ subst (λ (l : ℕ). read (suc n) l ts ≡ Some (t, rest) → Taken l ts t rest) (is_four from four) (λ f. signed_sound n reads ts t rest f) e
+    | inr five ↦ subst (λ (l : ℕ). read (suc n) l ts ≡ Some (t, rest) → Taken l ts t rest) (is_five five) (λ f. primary_sound n reads severals ts t rest (sym (read_primary n ts) ∙ f)) e
   ]
+]
   where
     is_four : 4 ≤ level → level < 5 → 4 ≡ level
     is_four h k = omega (arith, h, k)
@@ -258,7 +258,7 @@ goes_on n reads goes level below op at left front ts t rest d e =
     let (p, e1, e2) = bind_some (λ p. go n level (binary op left p.0) p.1) (read n (suc level) ts) (t, rest) e in
     let k = reads (suc level) (omega arith) ts p.0 p.1 e1 in
     let both : Derives level (front ++ token.Operator op ∷ k.taken) (binary op left p.0) =
-        subst (λ (l : ℕ). Derives l front left → Derives (suc l) k.taken p.0 → Derives l (front ++ token.Operator op ∷ k.taken) (binary op left p.0)) at (λ a b. operator op front k.taken left p.0 a b) d k.derived in
+    subst (λ (l : ℕ). Derives l front left → Derives (suc l) k.taken p.0 → Derives l (front ++ token.Operator op ∷ k.taken) (binary op left p.0)) at (λ a b. operator op front k.taken left p.0 a b) d k.derived in
     let g = goes level below (binary op left p.0) (front ++ token.Operator op ∷ k.taken) p.1 t rest both e2 in
     record {
       taken = token.Operator op ∷ (k.taken ++ g.taken);

@@ -61,7 +61,7 @@ chain_more at next op ts rest behind after left right joined is small level spli
         let longer = ap length split in
         let read_right : read m (suc (level_of op)) behind ≡ Some (right, after) = subst (λ (l : ℕ). read m l behind ≡ Some (right, after)) (is ∙ ap suc (sym level)) (reads m (omega (arith, some, longer, is, small))) in
         let on : go (suc m) at left rest ≡ go m at (binary op left right) after =
-            subst (λ (l : ℕ). go (suc m) l left rest ≡ go m l (binary op left right) after) level (rw split (go_on m op left right behind after read_right)) in
+        subst (λ (l : ℕ). go (suc m) l left rest ≡ go m l (binary op left right) after) level (rw split (go_on m op left right behind after read_right)) in
         (m, omega (arith, some, longer, shorter), e ∙ (on ∙ ap (λ v. go m at v after) (sym join)))
 
 go_fails : (m : ℕ) (op : BinaryOp) (left : Tree) (ts : List Token) → read m (suc (level_of op)) ts ≡ None → go (suc m) (level_of op) left (token.Operator op ∷ ts) ≡ None
@@ -182,7 +182,6 @@ group_fails ts NotFormula a = λ n h. rw (a n h) refl
 
 abbrev pub ReadsAll : List Token → List Tree → List Token → Type 0
 ReadsAll ts all rest = (n : ℕ) → steps 0 ts + 1 ≤ n → several n [] ts ≡ Some (all, rest)
-
 
 pub call_reads : (f : Function) (ts inner rest : List Token) (all : List Tree) (t : Tree) → ts ≡ token.Open ∷ inner → is_fitting (shape_of f) all ≡ true → t ≡ call f (trees_from all) → ((n : ℕ) → steps 0 inner + 1 ≤ n → parameters_at n inner ≡ Some (all, rest)) → (n : ℕ) → steps 0 ts ≤ n → call_at n f ts ≡ Some (t, rest)
 call_reads f ts inner rest all t split fits is reads n h =

@@ -1,6 +1,6 @@
 -- Tokens at the front of a text: what they are by their first bytes, and that they are one.
-use Rattle.std.proofs.Common.{◌≡◌, ◌≢◌, ℕ, zero, suc, ◌-◌, ◌+◌, ◌<◌, ◌≤◌, ◌⊎◌, Bool, true, false, List, [], ◌∷◌, ◌++◌, length, get_or, take, drop, map, refl, sym, ◌∙◌, ap, subst, arith, inl, inr}
-use Rattle.std.specs.Prelude.{Option, Some, None, IfSome, MatchOption, ◌&&◌, ◌||◌, ◌==◌, nat_eq, cond, codes, option_map, if◌then◌else◌}
+use Rattle.std.proofs.Common.{◌≡◌, ◌≢◌, ℕ, suc, ◌+◌, ◌<◌, ◌≤◌, ◌⊎◌, Bool, true, false, List, [], ◌∷◌, ◌++◌, length, take, drop, refl, sym, ◌∙◌, ap, subst, arith, inl, inr}
+use Rattle.std.specs.Prelude.{Option, Some, None, IfSome, MatchOption, ◌||◌, ◌==◌, nat_eq, cond, codes, option_map}
 use Rattle.std.specs.List.{prefix_len, starts_with}
 use Rattle.std.specs.Cmp.Lexicographic.{pointwise}
 use Rattle.std.proofs.lemmas.Option.{none-some, same_Some}
@@ -51,7 +51,7 @@ same_cons : {x y : ℕ} {xs ys : List ℕ} → y ≡ x → ys ≡ xs → y ∷ y
 same_cons e f = cc
 
 -- a text that begins with others
-begins : (p bs : List ℕ) → pointwise nat_eq p (take (length p) bs) ≡ true → (r : List ℕ) × (bs ≡ p ++ r)
+pub begins : (p bs : List ℕ) → pointwise nat_eq p (take (length p) bs) ≡ true → (r : List ℕ) × (bs ≡ p ++ r)
 begins [] bs e = (bs, refl)
 begins (x ∷ xs) [] e = absurd (false≢true e)
 begins (x ∷ xs) (y ∷ ys) e =
@@ -87,8 +87,8 @@ less_sound (b ∷ bs) =
     either (IsFront (60 ∷ b ∷ bs)) (b == 61) _ _
     (λ e. let same : b ≡ 61 = grind (arith, nat_tests) in at_front (60 ∷ b ∷ bs) 2 (token.Operator LessEqual) (60 ∷ 61 ∷ []) bs (rw same refl) refl (omega arith) (operator bs LessEqual tt))
     (λ n. either (IsFront (60 ∷ b ∷ bs)) (b == 62) _ _
-      (λ e. let same : b ≡ 62 = grind (arith, nat_tests) in at_front (60 ∷ b ∷ bs) 2 (token.Operator Unequal) (60 ∷ 62 ∷ []) bs (rw same refl) refl (omega arith) (operator bs Unequal tt))
-      (λ m. at_front (60 ∷ b ∷ bs) 1 (token.Operator Less) (60 ∷ []) (b ∷ bs) refl refl (omega arith) (operator (b ∷ bs) Less ((λ more e. differs 61 n more e), (λ more e. differs 62 m more e)))))
+    (λ e. let same : b ≡ 62 = grind (arith, nat_tests) in at_front (60 ∷ b ∷ bs) 2 (token.Operator Unequal) (60 ∷ 62 ∷ []) bs (rw same refl) refl (omega arith) (operator bs Unequal tt))
+    (λ m. at_front (60 ∷ b ∷ bs) 1 (token.Operator Less) (60 ∷ []) (b ∷ bs) refl refl (omega arith) (operator (b ∷ bs) Less ((λ more e. differs 61 n more e), (λ more e. differs 62 m more e)))))
   where
     differs : (c : ℕ) → (b == c) ≡ false → (more : List ℕ) → (b ∷ bs) ≡ c ∷ more → ⊥
     differs c n more e = let same : b ≡ c = cc in false≢true (sym n ∙ (grind (arith, nat_tests)))
@@ -319,9 +319,9 @@ token_unique (b ∷ bs) piece rest other after t u split apart is also = by_word
     by_word : (w : Bool) → is_word b ≡ w → IsSame piece rest t other after u
     by_word true e = words_same (b ∷ bs) piece rest other after t u split apart (word_only (b ∷ bs) piece rest t e split is) (word_only (b ∷ bs) other after u e apart also)
     by_word false e = elim (cases_eq b 91) [
-        | inl bracket ↦ brackets_same bs piece rest other after t u (bracket_only bs piece rest t (rw bracket at split) is) (bracket_only bs other after u (rw bracket at apart) also)
-        | inr no_bracket ↦ fixed_same (b ∷ bs) piece rest other after t u (fixed_of b bs) split apart (fixed_only b bs piece rest t e no_bracket split is) (fixed_only b bs other after u e no_bracket apart also)
-      ]
+      | inl bracket ↦ brackets_same bs piece rest other after t u (bracket_only bs piece rest t (rw bracket at split) is) (bracket_only bs other after u (rw bracket at apart) also)
+      | inr no_bracket ↦ fixed_same (b ∷ bs) piece rest other after t u (fixed_of b bs) split apart (fixed_only b bs piece rest t e no_bracket split is) (fixed_only b bs other after u e no_bracket apart also)
+    ]
 
 or_cases : (p q : Bool) → (p || q) ≡ true → (p ≡ true) ⊎ (q ≡ true)
 or_cases true q e = inl refl

@@ -1,14 +1,19 @@
 -- The grammar of formulas: which text spells which tree.
-use Rattle.std.specs.Prelude.{◌≡◌, ℕ, ◌+◌, ◌<◌, ◌⊎◌, List, ◌∷◌, ◌++◌, codes, count_by, take, ◌==◌}
+use Rattle.std.specs.Prelude.{◌≡◌, ℕ, ◌+◌, ◌<◌, ◌≤◌, List, ◌∷◌, ◌++◌, codes, count_by, length, take, ◌==◌, Bool, true, false, Result, Ok, Err}
 use Rattle.formula_syntax.specs.declared.tokens.Token.{Token}
 use Rattle.formula_syntax.specs.Lexing.{HasTokens}
 use Rattle.formula_syntax.specs.Grammar.{Derives}
-use Rattle.formula_syntax.specs.Tree.{Tree}
+use Rattle.formula_syntax.specs.Tree.{Tree, references_of}
+use Rattle.formula_syntax.specs.declared.tokens.Token.TheVariants as token
+use Rattle.formula_syntax.specs.declared.reading.Unread.{Unread}
+use Rattle.formula_syntax.specs.declared.reading.Unread.TheVariants as unread
+use Rattle.formula_syntax.specs.declared.reader.ReadRefused.{ReadRefused}
+use Rattle.formula_syntax.specs.declared.reader.ReadRefused.TheVariants.{NotFormula, TooDeep, TooManyRefs, Memory}
 
 -- what a formula begins with: `=`, or `of:=`
 pub data IsIntroduced : List ℕ → List ℕ → Type 0 where
-  plain : (rest : List ℕ) → IsIntroduced (61 ∷ rest) rest
-  prefixed : (rest : List ℕ) → IsIntroduced (codes "of:=" ++ rest) rest
+  plain : (text rest : List ℕ) → text ≡ 61 ∷ rest → IsIntroduced text rest
+  prefixed : (text rest : List ℕ) → text ≡ codes "of:=" ++ rest → IsIntroduced text rest
 
 -- a text spells a tree where the tokens behind its introduction derive the tree
 pub record Spells (text : List ℕ) (tree : Tree) : Type 0 where
@@ -20,4 +25,40 @@ pub record Spells (text : List ℕ) (tree : Tree) : Type 0 where
 
 -- some front of the text opens more than 64 parentheses that it doesn't close
 abbrev pub IsTooDeep : List ℕ → Type 0
-IsTooDeep text = (length : ℕ) × (count_by (λ b. b == 41) (take length text) + 64 < count_by (λ b. b == 40) (take length text))
+IsTooDeep text = (front : ℕ) × (count_by (λ b. b == 41) (take front text) + 64 < count_by (λ b. b == 40) (take front text))
+
+-- a text that isn't too deep and spells no tree
+abbrev pub IsNoFormula : List ℕ → Type 0
+IsNoFormula text = (¬ IsTooDeep text) × ((tree : Tree) → ¬ Spells text tree)
+
+-- a text that isn't too deep and spells a tree with more than 255 references
+abbrev pub HasTooManyRefs : List ℕ → Type 0
+HasTooManyRefs text = (¬ IsTooDeep text) × (tree : Tree) × Spells text tree × (255 < length (references_of tree))
+
+-- a tree that a text spells, within the limits
+pub record IsRead (text : List ℕ) (tree : Tree) : Type 0 where
+  pub shallow : ¬ IsTooDeep text
+  pub spelt : Spells text tree
+  pub few : length (references_of tree) ≤ 255
+
+-- what a reader answers, by its cause
+abbrev pub IsAnswer : List ℕ → Result Tree ReadRefused → Type 0
+IsAnswer text (Ok tree) = IsRead text tree
+IsAnswer text (Err NotFormula) = IsNoFormula text
+IsAnswer text (Err TooDeep) = IsTooDeep text
+IsAnswer text (Err TooManyRefs) = HasTooManyRefs text
+IsAnswer text (Err Memory) = Unit {0}
+
+-- a reference among tokens
+abbrev pub is_reference_token : Token → Bool
+is_reference_token (token.Reference r) = true
+is_reference_token _ = false
+
+-- how a refusal of the tokens is handed on
+abbrev pub refusal_of : Unread → ReadRefused
+refusal_of unread.NotFormula = NotFormula
+refusal_of unread.Memory = Memory
+
+-- no text spells two trees
+abbrev pub SpellsOneTree : Type 0
+SpellsOneTree = (text : List ℕ) (a b : Tree) → Spells text a → Spells text b → a ≡ b

@@ -8,12 +8,16 @@
 #![tactic(auto)]
 
 mod functions;
+mod laws;
 mod lexer;
+mod reader;
 mod reading;
 mod tokens;
 mod tree;
 mod words;
 
 pub use functions::{Function, Place};
+pub use laws::formula_laws;
+pub use reader::{MAX_DEPTH, MAX_REFERENCES, MAX_TEXT, ReadRefused, read_formula};
 pub use tokens::Token;
 pub use tree::{Formula, Node, Nodes};

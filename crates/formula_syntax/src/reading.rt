@@ -9,8 +9,8 @@ ghost use Rattle.formula_syntax.specs.declared.tokens.Token.TheVariants as token
 use super::functions::{Function, Place};
 use super::tokens::Token;
 use super::tree::{Node, Nodes};
-use std::alloc::{AllocError, AllocFailed, Global};
 use sheet_refs::Ref;
+use std::alloc::{AllocError, AllocFailed, Global};
 use value_core::{BinaryOp, ErrorKind, PrefixOp, Whole};
 
 /// Why tokens were not read.
@@ -206,11 +206,7 @@ fn signs(alloc: Global, tokens: &[Token]) -> Result<(Vec<PrefixOp>, &[Token]), A
 }
 
 // A tree under signs, of which the last is the innermost.
-fn under_signs(
-    alloc: Global,
-    mut signs: Vec<PrefixOp>,
-    operand: Node,
-) -> Result<Node, AllocError>
+fn under_signs(alloc: Global, mut signs: Vec<PrefixOp>, operand: Node) -> Result<Node, AllocError>
     ensures { IfOk result (λ signed. tree_of signed ≡ under_all signs.items (tree_of operand)) }
 {
     let mut node = operand;
@@ -308,11 +304,7 @@ fn grouped(alloc: Global, tokens: &[Token]) -> Result<(Node, &[Token]), Unread>
 
 // Reads the parameters of a call, with their parentheses.
 #[cycle(reading)]
-fn call(
-    alloc: Global,
-    function: Function,
-    tokens: &[Token],
-) -> Result<(Node, &[Token]), Unread>
+fn call(alloc: Global, function: Function, tokens: &[Token]) -> Result<(Node, &[Token]), Unread>
     ensures read { Answers (λ n. call_at n function tokens.now) (steps 0 tokens.now) result }
     ensures shorter { IfOk result (λ found. length found.1.now < length tokens.now) }
 {

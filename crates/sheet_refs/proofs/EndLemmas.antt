@@ -10,7 +10,7 @@ use Rattle.std.proofs.lemmas.Option.{none-some, same_Some}
 use Rattle.std.proofs.lemmas.Bool.Decides.{nat_tests}
 use Rattle.sheet_refs.specs.Cells.{Position, IsNamed}
 use Rattle.sheet_refs.specs.Names.{IsLetter, IsDigit, IsColumnName, IsRowName}
-use Rattle.sheet_refs.specs.Ends.{Anchor, Reference, IsAnchorName, IsEndName, IsReferenceName, has_dollar, past_dollar, dollar, one_end, two_ends}
+use Rattle.sheet_refs.specs.Ends.{Anchor, Reference, IsReference, IsAnchorName, IsEndName, IsReferenceName, has_dollar, past_dollar, dollar, one_end, two_ends}
 use Rattle.sheet_refs.specs.Ends.IsReferenceName.{alone, joined}
 use Rattle.sheet_refs.proofs.NameLemmas.{front_len, take_front, is_colon, at_place, no_place, first_row, first_col}
 use Rattle.sheet_refs.proofs.Grid.{same_position}
@@ -68,7 +68,7 @@ parts text end name =
     let second = dollar_tells end.row_fixed name.digits (digits_first name.digits end.cell.row name.row) in
     let past : past_dollar text ≡ name.letters ++ behind = ap past_dollar name.text_is ∙ first.1 in
     let front : prefix_len is_ascii_alphabetic (name.letters ++ behind) ≡ length name.letters =
-        front_len is_ascii_alphabetic name.letters behind (λ k d h. letter_passes _ (name.column.letters k d h)) (behind_letters end.row_fixed name.digits end.cell.row name.row) in
+    front_len is_ascii_alphabetic name.letters behind (λ k d h. letter_passes _ (name.column.letters k d h)) (behind_letters end.row_fixed name.digits end.cell.row name.row) in
     let letters : column_part text ≡ name.letters = rw (past, front) (take_front name.letters behind) in
     let digits : row_part text ≡ behind = rw (past, front) (drop-append_seam name.letters behind) in
     record {
@@ -210,3 +210,22 @@ pub behind_dot : (dotted : Bool) (text name : List ℕ) (o : Option Anchor) → 
 behind_dot false text name o is split m = absurd (cc is)
 behind_dot true text name None is split m = λ end (other, apart, also). let same : other ≡ name = cc in m end (subst (λ (t : List ℕ). IsAnchorName t end) same also)
 behind_dot true text name (Some end) is split m = (name, split, m)
+
+anchor_named : (dotted : Bool) (text : List ℕ) (end : Anchor) → IsEndName dotted text end → IsNamed end.cell.row end.cell.col
+anchor_named false text end name = named_from name.letters name.digits end.cell.col end.cell.row name.column name.row
+anchor_named true text end (_, _, name) = named_from name.letters name.digits end.cell.col end.cell.row name.column name.row
+
+-- what a text spells is a reference, with ends in order
+pub reference_kept : (dotted : Bool) (text : List ℕ) (r : Reference) → IsReferenceName dotted text r → IsReference r.head r.tail r.single
+reference_kept dotted text _ (alone _ _ a name) =
+    let named = anchor_named dotted text a name in
+    record { head_named = named; tail_named = named; ordered = record { rows = omega arith; cols = omega arith }; one_end = λ _. refl }
+reference_kept dotted text _ (joined _ _ first second a b split head tail) =
+    let one = anchor_named dotted first a head in
+    let two = anchor_named dotted second b tail in
+    record {
+      head_named = record { row_from = omega (arith, one.row_from, two.row_from); row_to = omega (arith, one.row_to, two.row_to); col_from = omega (arith, one.col_from, two.col_from); col_to = omega (arith, one.col_to, two.col_to) };
+      tail_named = record { row_from = omega (arith, one.row_from, two.row_from); row_to = omega (arith, one.row_to, two.row_to); col_from = omega (arith, one.col_from, two.col_from); col_to = omega (arith, one.col_to, two.col_to) };
+      ordered = record { rows = omega arith; cols = omega arith };
+      one_end = λ e. absurd (cc);
+    }

@@ -15,5 +15,5 @@ returns-in_err-reference c = rw c.from_residual-in_err-reference.ensures (bracke
 pub returns : goal.returns
 returns c =
     let split : drop (prefix_len is_word c.args.inner.now) c.args.inner.now ≡ 93 ∷ c.in_ok-behind_bracket.field-0.now =
-        sym (ap (λ (k : ℕ). drop k c.args.inner.now) c.word_length-length.ensures.count) ∙ (sym (slice_rest c.args.inner.now c.word_length-length.result) ∙ c.in_ok-behind_bracket.ensures) in
+    sym (ap (λ (k : ℕ). drop k c.args.inner.now) c.word_length-length.ensures.count) ∙ (sym (slice_rest c.args.inner.now c.word_length-length.result) ∙ c.in_ok-behind_bracket.ensures) in
     rw c.word_length-length.ensures.count (bracket_found c.args.inner.now c.in_ok-reference.reference c.in_ok-behind_bracket.field-0.now split (rw c.word_length-length.ensures.count at c.in_ok-reference.ensures))

@@ -1,4 +1,4 @@
-use Rattle.std.proofs.Common.{◌≡◌, ◌^◌, ◌<◌, ◌≤◌, length}
+use Rattle.std.proofs.Common.{◌≤◌, length}
 use Rattle.formula_syntax.proofs.Lexemes.{IsAt, HasNoBlank}
 use Rattle.formula_syntax.proofs.lexer.tokens.Given as goal
 

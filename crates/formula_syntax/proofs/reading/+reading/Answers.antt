@@ -6,7 +6,7 @@ use Rattle.formula_syntax.specs.declared.tokens.Token.TheVariants as token
 use Rattle.formula_syntax.specs.Grammar.{level_of}
 use Rattle.formula_syntax.specs.Reading.{with_signs}
 use Rattle.formula_syntax.specs.Tree.{tree_of, binary}
-use Rattle.formula_syntax.proofs.Steps.{chain_starts, chain_fails, chain_ends, chain_more, chain_breaks, signs_read, signs_fail, primary_answers, nothing_reads,  all_start, all_more, all_end, all_stop, all_fail}
+use Rattle.formula_syntax.proofs.Steps.{chain_starts, chain_fails, chain_ends, chain_more, chain_breaks, signs_read, signs_fail, primary_answers, nothing_reads, all_start, all_more, all_end, all_stop, all_fail}
 use Rattle.formula_syntax.proofs.reading.+reading.Goals as goal
 
 pub expression-returns-in_err-left-clause-read : goal.expression-returns-in_err-left-clause-read

@@ -1,4 +1,4 @@
-use Rattle.std.proofs.Common.{◌≡◌, ℕ, ◌<◌, get_or, arith}
+use Rattle.std.proofs.Common.{arith}
 use Rattle.formula_syntax.specs.Lexing.{IsSpelt}
 use Rattle.formula_syntax.specs.Functions.{function_name}
 use Rattle.formula_syntax.proofs.WordLemmas.{all_apart}

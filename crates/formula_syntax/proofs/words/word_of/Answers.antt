@@ -1,9 +1,7 @@
-use Rattle.std.proofs.Common.{◌≡◌, pos, arith, ◌≤◌, rules, true, false, ℕ}
+use Rattle.std.proofs.Common.{◌≡◌, pos, arith, ◌≤◌, rules, true, false}
 use Rattle.std.proofs.lemmas.Int.{ints}
 use Rattle.std.proofs.lemmas.Grind.{common_steps}
 use Rattle.sheet_refs.specs.Names.{IsDecimal}
-use Rattle.value_core.specs.Values.{truth_text}
-use Rattle.formula_syntax.specs.Lexing.{IsSpelt}
 use Rattle.formula_syntax.specs.Lexing.IsWord.{number, truth, function, reference}
 use Rattle.formula_syntax.proofs.WordLemmas.{no_word}
 use Rattle.formula_syntax.proofs.words.word_of.Goals as goal
