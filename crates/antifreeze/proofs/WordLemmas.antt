@@ -1,11 +1,7 @@
 -- Three words of a command line.
-use Rattle.std.proofs.Common.{◌≡◌, ◌≢◌, ℕ, ◌≤◌, ◌<◌, List, [], ◌∷◌, length, map, get_or, refl, sym, ◌∙◌, ap, arith}
-use Rattle.std.specs.Prelude.{Option, Some, None, slice_get, slice_index, option_copied, Bool, true, false, not, nat_eq, eqb}
-use Rattle.std.specs.Option.{option_eq}
-use Rattle.std.specs.Borrow.{Bor}
+use Rattle.std.proofs.Common.{◌≡◌, ◌≢◌, ℕ, ◌≤◌, ◌<◌, List, [], ◌∷◌, length, map, get_or, refl, ap, arith}
+use Rattle.std.specs.Prelude.{Some, slice_get, slice_index, Bool, true, false, not, nat_eq, IsTrue, ◌↔◌}
 use Rattle.std.specs.Cmp.Lexicographic.{same_text, pointwise}
-use Rattle.std.proofs.lemmas.Option.{none-some, same_Some}
-use Rattle.std.proofs.lemmas.Bool.Decides.{nat_tests}
 
 pub three : {A B : Type 0} (f : A → B) (xs : List A) (a b c : A) → 3 ≤ length xs → length xs < 4 → a ≡ get_or xs 0 a → b ≡ get_or xs 1 b → c ≡ get_or xs 2 c → map f xs ≡ f a ∷ f b ∷ f c ∷ []
 three f [] a b c some few first second third = absurd (omega (arith, some))
@@ -27,10 +23,8 @@ same_word text word told = same_text text word (flip (pointwise nat_eq text word
     flip true h = refl
     flip false h = cc
 
--- what a test of a text's first byte has told
-pub other_byte : (text : List ℕ) (first : Option (Bor ℕ)) (byte : Bor ℕ) → option_copied first ≡ slice_get text 0 → false ≡ option_eq (λ x y. eqb x.now y.now) first (Some byte) → slice_get text 0 ≢ Some byte.now
-other_byte text None byte at told same = none-some _ (at ∙ same)
-other_byte text (Some first) byte at told same =
-    let e : first.now ≡ byte.now = same_Some _ _ (at ∙ same) in
-    let no : eqb first.now byte.now ≡ false = sym told in
-    grind (arith, nat_tests)
+-- what a test that failed has told
+pub refuted : {P : Type 0} (b : Bool) → IsTrue b ↔ P → b ≡ false → ¬ P
+refuted b told failed holds =
+    let absurd_test : false ≡ true = rw failed at (told.1 holds) in
+    cc

@@ -7,7 +7,7 @@ use Rattle.sheet_model.specs.Sheets.{SheetValue, is_inside}
 use Rattle.sheet_model.specs.Values.{value_of}
 use Rattle.antifreeze.specs.Lines.{usage_line, outside_line, too_long_line, not_yet_line}
 use Rattle.antifreeze.specs.Texts.{show_text}
-use Rattle.antifreeze.specs.Words.{AsksToShow}
+use Rattle.antifreeze.specs.Words.{AsksToShow, AsksNothing}
 
 -- each cell of the range is a cell of the sheet
 abbrev pub IsWithinSheet : Corners → SheetValue → Type 0
@@ -26,7 +26,7 @@ pub data Writes (words : List (List ℕ)) (holds : List ℕ → Option (List ℕ
 -- what a command is refused for: a status, and the line that says why
 pub data Refuses (words : List (List ℕ)) (holds : List ℕ → Option (List ℕ)) : ℕ → List ℕ → Type 0 where
   -- the words are no command
-  usage : ((name : List ℕ) (range : Corners) → ¬ AsksToShow words name range) → Refuses words holds 2 usage_line
+  usage : AsksNothing words → Refuses words holds 2 usage_line
   -- the range is not wholly in the sheet
   outside : (name text : List ℕ) (range : Corners) (sheet : SheetValue) → AsksToShow words name range → IsTextOf holds name text → IsPlainSheet text sheet → ¬ IsWithinSheet range sheet → Refuses words holds 2 outside_line
   -- the sheet's text is past the limit

@@ -1,23 +1,24 @@
-ghost use Rattle.std.specs.Prelude.{◌≡◌, ◌≤◌, map, string_bytes, MatchBool, IfOk};
+ghost use Rattle.std.specs.Prelude.{◌≡◌, ◌≤◌, MatchBool, IfOk};
 ghost use Rattle.antifreeze.specs.Replies.{IsWithinSheet};
 ghost use Rattle.antifreeze.specs.Outcomes.{RepliesTo, IsOwed, IsRefusalOf};
+ghost use Rattle.antifreeze.specs.Words.{AsksNothing, bytes_of_words};
 
-use super::text::show_text;
-use super::words::read_words;
+use crate::text::show_text;
+use crate::words::read_words;
 use sheet_io::{Fetch, Shelf};
 use sheet_model::{PlainRefused, Sheet, all_values, load_plain};
 use sheet_refs::{Memory, Range};
 use std::alloc::Global;
 
 /// The longest text of a sheet that is read, in bytes.
-pub const MAX_SHEET: usize = 16_777_216;
+pub(crate) const MAX_SHEET: usize = 16_777_216;
 
 const USAGE: &str =
     "antifreeze: usage: antifreeze show|deps|precs SHEET RANGE; check SHEET; play|live SHEET SCRIPT; gen NUMBER; --workers N with live, gen\n";
 
 /// What a run has found out before it writes a byte.
 #[derive(Drop)]
-pub enum Reply {
+pub(crate) enum Reply {
     /// The text that the command writes.
     Output(String),
     /// Why the command is refused: the status of the run, and the line for the notes.
@@ -26,10 +27,15 @@ pub enum Reply {
 
 /// The reply to the words over the texts of a shelf. The words are read first, then the sheet is fetched
 /// and read, then the range is looked for in it; the first of these that fails gives the refusal.
-pub fn reply_to<F: Shelf>(alloc: Global, words: &[String], shelf: &mut F) -> Result<Reply, Memory>
-    ensures owed { IfOk result (IsOwed (map string_bytes words.now) (F.holds shelf.old) (F.faults shelf.old) (F.faults shelf.new)) }
+pub(crate) fn reply_to<F: Shelf>(
+    alloc: Global,
+    words: &[String],
+    shelf: &mut F,
+) -> Result<Reply, Memory>
+    ensures owed { IfOk result (IsOwed (bytes_of_words words.now) (F.holds shelf.old) (F.faults shelf.old) (F.faults shelf.new)) }
     ensures held { F.holds shelf.new ≡ F.holds shelf.old }
     ensures counted { F.faults shelf.old ≤ F.faults shelf.new }
+    ensures nothing_fetched { AsksNothing (bytes_of_words words.now) → F.faults shelf.new ≡ F.faults shelf.old }
 {
     let Some(show) = read_words(words) else {
         return refusal(alloc, 2, USAGE);
@@ -75,6 +81,7 @@ fn covers(sheet: &Sheet, range: Range) -> bool
     sheet.holds(range.head()) && sheet.holds(range.tail())
 }
 
+// A refusal with this status and this line.
 fn refusal(alloc: Global, status: u8, line: &str) -> Result<Reply, Memory>
     ensures { IfOk result (IsRefusalOf status line.now) }
 {

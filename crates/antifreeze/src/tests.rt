@@ -1,6 +1,6 @@
 // What no clause says: that calls succeed with ample memory, and that the statuses and lines are those meant.
-use super::top::run;
-use sheet_io::{MemoryShelf, MemorySink, Shelf, SureShelf, SureSink};
+use crate::top::run;
+use sheet_io::{Fetch, MemoryShelf, MemorySink, Shelf, SureShelf, SureSink};
 use std::alloc::{AllocError, Global};
 use std::test::Fail;
 
@@ -211,6 +211,26 @@ fn a_run_ends_by_its_first_failing_call(rt: HostRuntime) -> Result<(), Fail> {
             "{line} over {sheet}"
         );
     }
+    Ok(())
+}
+
+#[test]
+fn refused_words_fetch_nothing(rt: HostRuntime) -> Result<(), Fail> {
+    let alloc = rt.alloc();
+    let words = split_words(alloc, "show s A0")?;
+    let mut shelf = MemoryShelf::new(one_text(alloc, WORKED.as_bytes())?, failing(alloc, true)?);
+    let status = run(
+        alloc,
+        &words,
+        &mut shelf,
+        &mut SureSink::new(),
+        &mut SureSink::new(),
+    );
+    assert_eq!(rt; status, 2);
+    // The call that is to fail is the first one, and it is still to come.
+    let mut text = Vec::new(alloc);
+    assert_eq!(rt; shelf.fetch("s", 100, &mut text), Err(Fetch::Failed));
+    assert_eq!(rt; shelf.fetch("s", 100, &mut text), Ok(()));
     Ok(())
 }
 

@@ -1,10 +1,10 @@
-ghost use Rattle.std.specs.Prelude.{◌≡◌, ◌≢◌, ◌⊎◌, ℕ, List, map, string_bytes};
+ghost use Rattle.std.specs.Prelude.{◌≡◌, ◌≢◌, ◌⊎◌};
 ghost use Rattle.sheet_io.specs.Faults.{Rose};
 ghost use Rattle.antifreeze.specs.Lines.{write_failed_line, no_memory_line};
-ghost use Rattle.antifreeze.specs.Replies.{Writes, Refuses, Tells};
-ghost use Rattle.antifreeze.specs.Runs.{IsStatus, HasWritten, HasBegun, IsRefused, IsUnfetched, TakesLine};
+ghost use Rattle.antifreeze.specs.Runs.{IsStatus, HasWritten, HasBegun, IsRefused, IsUnfetched, TakesLine, WritesAll, RefusesAll};
+ghost use Rattle.antifreeze.specs.Words.{AsksNothing, bytes_of_words};
 
-use super::reply::{Reply, reply_to};
+use crate::reply::{Reply, reply_to};
 use sheet_io::{Shelf, Sink};
 use std::alloc::Global;
 
@@ -25,32 +25,27 @@ pub fn run<F: Shelf, K: Sink, N: Sink>(
     ensures status { IsStatus result }
 
     // What each status tells.
-    ensures done { result ≡ 0 → HasWritten (map string_bytes words.now) (F.holds shelf.old) (K.written out.old) (K.written out.new) }
+    ensures done { result ≡ 0
+        → HasWritten (bytes_of_words words.now) (F.holds shelf.old) (K.written out.old) (K.written out.new) }
     ensures refused { (result ≡ 2) ⊎ (result ≡ 3)
-        → IsRefused (map string_bytes words.now) (F.holds shelf.old) result (N.written notes.old) (N.written notes.new) (N.faults notes.old) (N.faults notes.new) }
+        → IsRefused (bytes_of_words words.now) (F.holds shelf.old) result (TakesLine N.written N.faults notes.old notes.new) }
     ensures read_failed { result ≡ 5 → Rose (F.faults shelf.old) (F.faults shelf.new) }
     ensures unfetched { result ≡ 5
-        → IsUnfetched (map string_bytes words.now) (N.written notes.old) (N.written notes.new) (N.faults notes.old) (N.faults notes.new) }
+        → IsUnfetched (bytes_of_words words.now) (TakesLine N.written N.faults notes.old notes.new) }
     ensures write_failed { result ≡ 6 → Rose (K.faults out.old) (K.faults out.new) }
-    ensures cut { result ≡ 6 → HasBegun (map string_bytes words.now) (F.holds shelf.old) (K.written out.old) (K.written out.new) }
-    ensures cut_noted { result ≡ 6
-        → TakesLine (N.written notes.old) (N.written notes.new) (N.faults notes.old) (N.faults notes.new) write_failed_line }
-    ensures no_memory { result ≡ 7
-        → TakesLine (N.written notes.old) (N.written notes.new) (N.faults notes.old) (N.faults notes.new) no_memory_line }
+    ensures cut { result ≡ 6
+        → HasBegun (bytes_of_words words.now) (F.holds shelf.old) (K.written out.old) (K.written out.new) }
+    ensures cut_noted { result ≡ 6 → TakesLine N.written N.faults notes.old notes.new write_failed_line }
+    ensures no_memory { result ≡ 7 → TakesLine N.written N.faults notes.old notes.new no_memory_line }
     ensures nothing_written { result ≢ 0 → result ≢ 6 → K.written out.new ≡ K.written out.old }
     ensures nothing_noted { result ≡ 0 → N.written notes.new ≡ N.written notes.old }
+    ensures nothing_fetched { AsksNothing (bytes_of_words words.now) → F.faults shelf.new ≡ F.faults shelf.old }
 
-    // Where the shelf tells the texts that the words name and no fault rises, what they ask for is done,
-    // or memory ran out.
-    ensures writes { (text : List ℕ) → Tells (map string_bytes words.now) (F.holds shelf.old)
-        → Writes (map string_bytes words.now) (F.holds shelf.old) text
-        → ¬ Rose (F.faults shelf.old) (F.faults shelf.new)
-        → ¬ Rose (K.faults out.old) (K.faults out.new)
-        → (result ≡ 0) ⊎ (result ≡ 7) }
-    ensures refuses { (status : ℕ) (line : List ℕ) → Tells (map string_bytes words.now) (F.holds shelf.old)
-        → Refuses (map string_bytes words.now) (F.holds shelf.old) status line
-        → ¬ Rose (F.faults shelf.old) (F.faults shelf.new)
-        → (result ≡ status) ⊎ (result ≡ 7) }
+    // Where no fault rises, what the words and the texts that they name ask for is done.
+    ensures writes { ¬ Rose (F.faults shelf.old) (F.faults shelf.new) → ¬ Rose (K.faults out.old) (K.faults out.new)
+        → WritesAll (bytes_of_words words.now) (F.holds shelf.old) result }
+    ensures refuses { ¬ Rose (F.faults shelf.old) (F.faults shelf.new)
+        → RefusesAll (bytes_of_words words.now) (F.holds shelf.old) result }
 {
     match reply_to(alloc, words, shelf) {
         Ok(Reply::Output(text)) => match out.put(text.as_bytes()) {
@@ -71,7 +66,7 @@ pub fn run<F: Shelf, K: Sink, N: Sink>(
 /// Notes the want of memory; the result is the status for it.
 pub fn no_memory<N: Sink>(notes: &mut N) -> u8
     ensures status { result ≡ 7 }
-    ensures noted { TakesLine (N.written notes.old) (N.written notes.new) (N.faults notes.old) (N.faults notes.new) no_memory_line }
+    ensures noted { TakesLine N.written N.faults notes.old notes.new no_memory_line }
 {
     tell(notes, "antifreeze: out of memory\n");
     7
@@ -79,7 +74,7 @@ pub fn no_memory<N: Sink>(notes: &mut N) -> u8
 
 // A line that the notes don't take changes nothing else.
 fn tell<N: Sink>(notes: &mut N, line: &str)
-    ensures { TakesLine (N.written notes.old) (N.written notes.new) (N.faults notes.old) (N.faults notes.new) line.now }
+    ensures { TakesLine N.written N.faults notes.old notes.new line.now }
 {
     let _ = notes.put(line.as_bytes());
 }

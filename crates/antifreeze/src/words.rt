@@ -1,6 +1,5 @@
-ghost use Rattle.std.specs.Prelude.{ℕ, List, map, string_bytes, MatchOption};
-ghost use Rattle.sheet_refs.specs.Cells.{Corners};
-ghost use Rattle.antifreeze.specs.Words.{AsksToShow};
+ghost use Rattle.std.specs.Prelude.{◌≡◌, ◌↔◌, IsTrue, MatchOption, slice_get, Some};
+ghost use Rattle.antifreeze.specs.Words.{AsksToShow, AsksNothing, bytes_of_words};
 
 use sheet_refs::{Range, range_of};
 
@@ -15,14 +14,13 @@ pub struct Show<'a> {
 
 /// What the words after the program's name ask for; None exactly where they are no command.
 pub fn read_words(words: &[String]) -> Option<Show<'_>>
-    ensures { MatchOption result
-        ((name : List ℕ) (range : Corners) → ¬ AsksToShow (map string_bytes words.now) name range)
-        (λ show. AsksToShow (map string_bytes words.now) show.name.now show.range) }
+    ensures { MatchOption result (AsksNothing (bytes_of_words words.now))
+        (λ show. AsksToShow (bytes_of_words words.now) show.name.now show.range) }
 {
     let [command, name, range] = words else {
         return None;
     };
-    if command.as_str() != "show" || name.as_bytes().first() == Some(&b'-') {
+    if command.as_str() != "show" || is_option(name.as_str()) {
         return None;
     }
     let range = range_of(range.as_bytes())?;
@@ -30,4 +28,11 @@ pub fn read_words(words: &[String]) -> Option<Show<'_>>
         name: name.as_str(),
         range,
     })
+}
+
+// Whether a word is written as an option is: it begins with a dash.
+fn is_option(word: &str) -> bool
+    ensures { IsTrue result ↔ slice_get word.now 0 ≡ Some 45 }
+{
+    word.as_bytes().first() == Some(&b'-')
 }

@@ -3,9 +3,9 @@ ghost use Rattle.formula_syntax.specs.Fixed.{single_of, less_of, greater_of, err
 ghost use Rattle.formula_syntax.specs.Lexing.{StartsWord, IsFront, HasNoToken, HasTokens, past_blanks};
 ghost use Rattle.formula_syntax.specs.declared.tokens.Token.{Token as AToken};
 
-use super::reading::Unread;
-use super::tokens::Token;
-use super::words::{blank, in_word, word_length, word_of};
+use crate::reading::Unread;
+use crate::tokens::Token;
+use crate::words::{blank, in_word, word_length, word_of};
 use sheet_refs::ref_of;
 use std::alloc::Global;
 use value_core::{BinaryOp, ErrorKind};

@@ -4,10 +4,10 @@ ghost use Rattle.formula_syntax.specs.Grammar.{Derives};
 ghost use Rattle.formula_syntax.specs.Tree.{Tree, tree_of};
 ghost use Rattle.formula_syntax.specs.declared.reader.TheConstants.{MAX_TEXT};
 
-use super::lexer::tokens;
-use super::reading::{Unread, expression};
-use super::tokens::Token;
-use super::tree::{Formula, Node};
+use crate::lexer::tokens;
+use crate::reading::{Unread, expression};
+use crate::tokens::Token;
+use crate::tree::{Formula, Node};
 use std::alloc::{AllocError, Global};
 
 /// The longest text that is read as a formula, in bytes.

@@ -6,9 +6,9 @@ ghost use Rattle.formula_syntax.specs.Tree.{Tree, tree_of, trees_from, prefix, b
 ghost use Rattle.formula_syntax.specs.Tree as tree;
 ghost use Rattle.formula_syntax.specs.declared.tokens.Token.TheVariants as token;
 
-use super::functions::{Function, Place};
-use super::tokens::Token;
-use super::tree::{Node, Nodes};
+use crate::functions::{Function, Place};
+use crate::tokens::Token;
+use crate::tree::{Node, Nodes};
 use sheet_refs::Ref;
 use std::alloc::{AllocError, AllocFailed, Global};
 use value_core::{BinaryOp, ErrorKind, PrefixOp, Whole};

@@ -1,4 +1,4 @@
-use super::functions::Function;
+use crate::functions::Function;
 use sheet_refs::Ref;
 use value_core::{BinaryOp, ErrorKind, Whole};
 

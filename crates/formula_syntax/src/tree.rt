@@ -1,7 +1,7 @@
 ghost use Rattle.std.specs.Prelude.{◌≡◌};
 ghost use Rattle.formula_syntax.specs.Tree.{tree_of, trees_of, parameters_of};
 
-use super::functions::Function;
+use crate::functions::Function;
 use sheet_refs::Ref;
 use std::marker::Model;
 use value_core::{BinaryOp, ErrorKind, PrefixOp, Whole};

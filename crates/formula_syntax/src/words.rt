@@ -5,8 +5,8 @@ ghost use Rattle.formula_syntax.specs.Functions.{function_name};
 ghost use Rattle.formula_syntax.specs.declared.functions.Function.{Function as FunctionName};
 ghost use Rattle.formula_syntax.specs.declared.tokens.Token.{Token as AToken};
 
-use super::functions::Function;
-use super::tokens::Token;
+use crate::functions::Function;
+use crate::tokens::Token;
 use sheet_refs::{decimal_of, ref_of};
 use value_core::{MAX_WHOLE, Whole};
 

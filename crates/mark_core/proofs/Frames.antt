@@ -1,7 +1,6 @@
 -- What no event of another view can take away: how the edits and the words may move, and that what a view
 -- knows, has begun to read and has read stays right through such a move.
-use Rattle.std.proofs.Common.{◌≡◌, ◌<◌, ◌≤◌, ◌+◌, ◌⊎◌, ℕ, List, length, take, sym, ◌∙◌, ap, subst, inl, inr, arith, length-append}
-use Rattle.std.specs.Option.{option_to_list}
+use Rattle.std.proofs.Common.{◌≡◌, ◌<◌, ◌≤◌, ◌+◌, ◌⊎◌, ℕ, List, length, take, sym, ◌∙◌, ap, subst, inl, inr, arith}
 use Rattle.mark_core.specs.declared.words.Known.{Known}
 use Rattle.mark_core.specs.declared.words.Half.{Half}
 use Rattle.mark_core.specs.declared.words.Finished.{Finished}
@@ -10,8 +9,11 @@ use Rattle.mark_core.specs.declared.answers.Seen.{Seen}
 use Rattle.mark_core.specs.declared.answers.Seen.TheVariants.{Value, Stale, Newer}
 use Rattle.mark_core.specs.Place.{Words}
 use Rattle.mark_core.specs.Mark.{IsPrefix, IsLastMark}
-use Rattle.mark_core.specs.State.{Edits, View, entries_of}
-use Rattle.mark_core.specs.Honest.{IsRightLog, IsComputed, IsRightKnown, IsStillThere, MeetsFloor, IsRightHalf, IsLegalAnswer, IsRightRead}
+use Rattle.mark_core.specs.declared.actors.Edits.{Edits}
+use Rattle.mark_core.specs.declared.actors.View.{View}
+use Rattle.mark_core.specs.State.{entries_of}
+use Rattle.mark_core.specs.Legal.{MeetsFloor, IsLegalAnswer}
+use Rattle.mark_core.specs.Honest.{IsRightLog, IsComputed, IsRightKnown, IsStillThere, IsRightHalf, IsRightRead}
 use Rattle.mark_core.proofs.Prefixes.{prefix_length, prefix_of_prefix, take-prefix, touched_in_longer}
 
 -- the words of the place stay
@@ -68,7 +70,7 @@ half_stale codeless count before after half (Same s) k =
       | inl h ↦ inl (omega (arith, s.mark))
       | inr t ↦ inr (record { clean = s.clean ∙ t.clean; free = t.free; word = λ word is. s.value ∙ t.word word is })
     ]
-half_stale codeless count before after half (Raised r) k = inl (omega (arith, r.mark, k.upto_log))
+half_stale codeless count before after half (Raised r) k = inl (omega (arith, r.mark, k.upto.upto_log))
 half_stale codeless count before after half (Reworked r) k =
     elim k.stale [
       | inl h ↦ inl (omega (arith, r.mark))
@@ -80,29 +82,23 @@ half_floor : (codeless : ℕ → Type 0) (count : ℕ) (before after : Words) (h
 half_floor codeless count before after half (Same s) k =
     elim k.floor [ inl h ↦ inl (omega (arith, s.mark)) | inr e ↦ inr (ap (λ n. n + 1) s.mark ∙ e.0, e.1) ]
 half_floor codeless count before after half (Raised r) k =
-    elim k.floor [ inl h ↦ inl (omega (arith, r.mark, r.below)) | inr e ↦ inl (omega (arith, r.mark, k.upto_log, e.1)) ]
+    elim k.floor [ inl h ↦ inl (omega (arith, r.mark, r.below)) | inr e ↦ inl (omega (arith, r.mark, k.upto.upto_log, e.1)) ]
 half_floor codeless count before after half (Reworked r) k =
     elim k.floor [ inl h ↦ inl (omega (arith, r.mark)) | inr e ↦ inr (ap (λ n. n + 1) r.mark ∙ e.0, e.1) ]
 
 module _ {E : Type 0} (worth : List E → ℕ → ℕ) (touches : List E → E → ℕ → Type 0) (codeless : ℕ → Type 0) where
-  legal_longer : (count count' : ℕ) (entries entries' : List E) (number place mark : ℕ) (shown : Seen)
-      → IsPrefix entries entries' → number ≤ length entries → count ≤ count'
-      → IsLegalAnswer worth touches codeless count entries number place mark shown
-      → IsLegalAnswer worth touches codeless count' entries' number place mark shown
-  legal_longer count count' entries entries' number place mark (Value word) p le grows l =
-      let e : take number entries' ≡ take number entries = take-prefix entries entries' number p le in (
-        l.0 ∙ sym (ap (λ xs. worth xs place) e),
-        subst (λ (xs : List E). IsLastMark touches xs place mark) (sym e) l.1,
-      )
-  legal_longer count count' entries entries' number place mark (Stale shown) p le grows l =
-      let e : take number entries' ≡ take number entries = take-prefix entries entries' number p le in
+  legal_longer : (edits edits' : Edits E) (number place : ℕ) (shown : Seen)
+      → IsPrefix edits.log edits'.log → IsPrefix (entries_of edits) (entries_of edits') → number ≤ length edits.log
+      → IsLegalAnswer worth touches codeless edits number place shown → IsLegalAnswer worth touches codeless edits' number place shown
+  legal_longer edits edits' number place (Value word) p q le l =
+      l ∙ sym (ap (λ xs. worth xs place) (take-prefix edits.log edits'.log number p le))
+  legal_longer edits edits' number place (Stale mark) p q le l =
+      let e : take number edits'.log ≡ take number edits.log = take-prefix edits.log edits'.log number p le in
       elim l [
-        | inl s ↦ inl (s.0, subst (λ (xs : List E). IsLastMark touches xs place shown) (sym e) s.1, s.2)
-        | inr t ↦ inr (t.0, touched_in_longer touches entries entries' place shown p t.1)
+        | inl s ↦ inl (s.0, subst (λ (xs : List E). IsLastMark touches xs place mark) (sym e) s.1, s.2)
+        | inr t ↦ inr (t.0, touched_in_longer touches (entries_of edits) (entries_of edits') place mark q t.1)
       ]
-  legal_longer count count' entries entries' number place mark (Newer shown) p le grows l =
-      let within : shown ≤ count = l.1 in
-      (l.0, omega arith, touched_in_longer touches entries entries' place shown p l.2)
+  legal_longer edits edits' number place (Newer mark) p q le l = (l.0, touched_in_longer touches edits.log edits'.log place mark p l.1)
 
   module _ (edits edits' : Edits E) (words words' : Words) (advances : Advances edits edits' words words') where
     log_grows : length edits.log ≤ length edits'.log
@@ -126,9 +122,7 @@ module _ {E : Type 0} (worth : List E → ℕ → ℕ) (touches : List E → E �
     pub half_stays : (half : Half) → IsRightHalf codeless (length edits.log) words half → IsRightHalf codeless (length edits'.log) words' half
     half_stays half k =
         record {
-          upto_mark = omega (arith, k.upto_mark, mark_grows (length edits.log) words words' half.place (advances.place half.place));
-          upto_log = omega (arith, k.upto_log, log_grows);
-          never = k.never;
+          upto = record { upto_mark = omega (arith, k.upto.upto_mark, mark_grows (length edits.log) words words' half.place (advances.place half.place)); upto_log = omega (arith, k.upto.upto_log, log_grows); never = k.upto.never };
           stale = half_stale codeless (length edits.log) words words' half (advances.place half.place) k;
           floor = half_floor codeless (length edits.log) words words' half (advances.place half.place) k;
         }
@@ -141,12 +135,12 @@ module _ {E : Type 0} (worth : List E → ℕ → ℕ) (touches : List E → E �
           legal = λ word is.
               let old = k.legal word is in
               let within : read.number ≤ length edits.log = old.within in
-              let long : length (entries_of edits) ≡ length edits.log + length (option_to_list edits.pending) =
-              length-append edits.log (option_to_list edits.pending) in
+              let e : take read.number edits'.log ≡ take read.number edits.log = take-prefix edits.log edits'.log read.number advances.log within in
               record {
                 within = omega (arith, log_grows);
-                legal = λ shown shows.
-                    legal_longer (length edits.log) (length edits'.log) (entries_of edits) (entries_of edits')
-                    read.number read.place read.mark shown advances.entries (omega arith) log_grows (old.legal shown shows);
+                floor = old.floor;
+                answer = λ shown shows. legal_longer edits edits' read.number read.place shown advances.log advances.entries within (old.answer shown shows);
+                last = λ value shows.
+                    subst (λ (xs : List E). IsLastMark touches xs read.place read.mark) (sym e) (old.last value shows);
               };
         }

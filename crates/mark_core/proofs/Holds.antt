@@ -6,7 +6,8 @@ use Rattle.std.proofs.lemmas.Bool.{cond_both, eqb-true, eqb-false, not-true, ne_
 use Rattle.std.proofs.lemmas.Option.{none-some, same_Some}
 use Rattle.mark_core.specs.declared.words.Clean.{Clean}
 use Rattle.mark_core.specs.declared.words.Held.{Held}
-use Rattle.mark_core.specs.Place.{Words, StoresValue}
+use Rattle.mark_core.specs.Place.{Words}
+use Rattle.mark_core.proofs.Stores.{StoresValue}
 use Rattle.mark_core.specs.Mark.{IsPrefix}
 use Rattle.mark_core.specs.View.{hold_with}
 use Rattle.mark_core.specs.Permission.{IsWorthKnown}

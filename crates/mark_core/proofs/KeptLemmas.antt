@@ -7,20 +7,21 @@ use Rattle.std.proofs.lemmas.Bool.{cond_both, ltb-true, ltb-false}
 use Rattle.mark_core.specs.declared.words.Clean.{Clean}
 use Rattle.mark_core.specs.declared.words.Place.{Place}
 use Rattle.mark_core.specs.declared.words.Half.{Half}
-use Rattle.mark_core.specs.Place.{place_at, blank_place, opened}
-use Rattle.mark_core.specs.State.{View, State, view_at, with_view, spent_view, spent_with, new_view, opening_state}
-use Rattle.mark_core.specs.View.{saw, committed, split_off, longer, joined_with, joined, began, valued, ended, ended_at, finished, took, missed, wrote, gave_back}
+use Rattle.mark_core.specs.Place.{place_at, blank_place, opening_place}
+use Rattle.mark_core.specs.declared.actors.View.{View}
+use Rattle.mark_core.specs.State.{State, view_at, with_view, spent_view, spent_with, new_view, opening_state}
+use Rattle.mark_core.specs.View.{with_count, with_entry, split_off, longer, union_with, union_of, with_half, with_value, with_read, with_read_at, with_read_end, with_hold, with_loss, with_put, without_hold}
 use Rattle.mark_core.specs.Step.{with_place, after_see, after_commit, after_join, after_read_clean, after_read_value, after_read_mark, after_claim, after_refusal, after_put, after_finish}
 use Rattle.mark_core.specs.Kept.{known_view, kept_state, IsKept}
 use Rattle.mark_core.proofs.Lists.{set_cases}
 
 -- the end of a read is the same whether the log is a list or a count
 ended_known : {E : Type 0} (log : List E) (view : View ℕ) (half : Option Half) (place mark : ℕ)
-    → known_view log (ended_at view half place mark) ≡ ended_at (known_view log view) half place mark
+    → known_view log (with_read_at view half place mark) ≡ with_read_at (known_view log view) half place mark
 ended_known log view None place mark = refl
 ended_known log view (Some half) place mark =
-    cond_both (half.place == place) (ended view half mark) view
-    (λ v. known_view log v ≡ ended_at (known_view log view) (Some half) place mark)
+    cond_both (half.place == place) (with_read view half mark) view
+    (λ v. known_view log v ≡ with_read_at (known_view log view) (Some half) place mark)
     (λ e. rw e refl) (λ e. rw e refl)
 
 -- the longer of two fronts of the log
@@ -54,7 +55,7 @@ known_same log entry (view ∷ views) all =
     ∙ ap (λ vs. known_view log view ∷ vs) (known_same log entry views (All-tail (λ (v : View ℕ). v.log ≤ length log) view views all))
 
 committed_known : {E : Type 0} (log : List E) (entry : E) (view : View ℕ) → view.log ≡ length log
-    → known_view (log ++ entry ∷ []) (record view { log = length log + 1; seen = length log + 1 }) ≡ committed (known_view log view) entry
+    → known_view (log ++ entry ∷ []) (record view { log = length log + 1; seen = length log + 1 }) ≡ with_entry (known_view log view) entry
 committed_known log entry view is =
     let all : take (length log + 1) (log ++ entry ∷ []) ≡ log ++ entry ∷ [] =
     take_all (length log + 1) (log ++ entry ∷ []) (let e : length (log ++ entry ∷ []) ≡ length log + 1 = length_push log entry in omega arith) in
@@ -118,66 +119,66 @@ module _ {E : Type 0} (log : List E) (pending : Option E) (marked : List ℕ) (p
     changes view x x' F lt is makes =
         kept_changes view x x' F (views_within view lt) is makes ∙ ap (λ t. with_view t view (F (view_at t view))) kept
 
-    pub kept_see : (view count : ℕ) (x x' : View ℕ) → view < length s.views → x ≡ get_or views view x → count ≡ length log → x' ≡ saw x count
+    pub kept_see : (view count : ℕ) (x x' : View ℕ) → view < length s.views → x ≡ get_or views view x → count ≡ length log → x' ≡ with_count x count
         → kept_state log pending marked places (set views view x') ≡ after_see s view
     kept_see view count x x' lt is e made =
-        changes view x x' (λ v. saw v count) lt is (ap (known_view log) made)
-        ∙ ap (λ n. with_view s view (saw (view_at s view) n)) (e ∙ ap (λ (t : State E). length t.edits.log) kept)
+        changes view x x' (λ v. with_count v count) lt is (ap (known_view log) made)
+        ∙ ap (λ n. with_view s view (with_count (view_at s view) n)) (e ∙ ap (λ (t : State E). length t.edits.log) kept)
 
     pub kept_read_clean : (view place : ℕ) (x x' : View ℕ) (p : Place) → view < length s.views → x ≡ get_or views view x
-        → place < length s.places → p ≡ get_or places place p → x' ≡ began x place p.clean
+        → place < length s.places → p ≡ get_or places place p → x' ≡ with_half x place p.clean
         → kept_state log pending marked places (set views view x') ≡ after_read_clean s view place
     kept_read_clean view place x x' p lt is there at made =
-        changes view x x' (λ v. began v place p.clean) lt is (ap (known_view log) made)
-        ∙ ap (λ (q : Place). with_view s view (began (view_at s view) place q.clean)) (sym (place_kept place p there at))
+        changes view x x' (λ v. with_half v place p.clean) lt is (ap (known_view log) made)
+        ∙ ap (λ (q : Place). with_view s view (with_half (view_at s view) place q.clean)) (sym (place_kept place p there at))
 
     pub kept_read_value : (view place : ℕ) (x x' : View ℕ) (p : Place) → view < length s.views → x ≡ get_or views view x
-        → place < length s.places → p ≡ get_or places place p → x' ≡ valued x place p.value
+        → place < length s.places → p ≡ get_or places place p → x' ≡ with_value x place p.value
         → kept_state log pending marked places (set views view x') ≡ after_read_value s view place
     kept_read_value view place x x' p lt is there at made =
-        changes view x x' (λ v. valued v place p.value) lt is (ap (known_view log) made)
-        ∙ ap (λ (q : Place). with_view s view (valued (view_at s view) place q.value)) (sym (place_kept place p there at))
+        changes view x x' (λ v. with_value v place p.value) lt is (ap (known_view log) made)
+        ∙ ap (λ (q : Place). with_view s view (with_value (view_at s view) place q.value)) (sym (place_kept place p there at))
 
     pub kept_read_mark : (view place : ℕ) (x x' : View ℕ) (p : Place) → view < length s.views → x ≡ get_or views view x
-        → place < length s.places → p ≡ get_or places place p → x' ≡ finished x place p.mark
+        → place < length s.places → p ≡ get_or places place p → x' ≡ with_read_end x place p.mark
         → kept_state log pending marked places (set views view x') ≡ after_read_mark s view place
     kept_read_mark view place x x' p lt is there at made =
-        changes view x x' (λ v. finished v place p.mark) lt is (ap (known_view log) made ∙ ended_known log x x.half place p.mark)
-        ∙ ap (λ (q : Place). with_view s view (finished (view_at s view) place q.mark)) (sym (place_kept place p there at))
+        changes view x x' (λ v. with_read_end v place p.mark) lt is (ap (known_view log) made ∙ ended_known log x x.half place p.mark)
+        ∙ ap (λ (q : Place). with_view s view (with_read_end (view_at s view) place q.mark)) (sym (place_kept place p there at))
 
     pub kept_refusal : (view place : ℕ) (x x' : View ℕ) (p : Place) → view < length s.views → x ≡ get_or views view x
-        → place < length s.places → p ≡ get_or places place p → x' ≡ missed x place p.clean
+        → place < length s.places → p ≡ get_or places place p → x' ≡ with_loss x place p.clean
         → kept_state log pending marked places (set views view x') ≡ after_refusal s view place
     kept_refusal view place x x' p lt is there at made =
-        changes view x x' (λ v. missed v place p.clean) lt is (ap (known_view log) made)
-        ∙ ap (λ (q : Place). with_view s view (missed (view_at s view) place q.clean)) (sym (place_kept place p there at))
+        changes view x x' (λ v. with_loss v place p.clean) lt is (ap (known_view log) made)
+        ∙ ap (λ (q : Place). with_view s view (with_loss (view_at s view) place q.clean)) (sym (place_kept place p there at))
 
     pub kept_claim : (view place : ℕ) (seen : Clean) (x x' : View ℕ) (p : Place) → view < length s.views → x ≡ get_or views view x
-        → place < length s.places → p ≡ get_or places place p → x' ≡ took x place
+        → place < length s.places → p ≡ get_or places place p → x' ≡ with_hold x place
         → kept_state log pending marked (set places place (record p { clean = record { upto = seen.upto; held = true } })) (set views view x')
         ≡ after_claim s view place seen
     kept_claim view place seen x x' p lt is there at made =
         ap (λ t. with_place t place (record p { clean = record { upto = seen.upto; held = true } }))
-        (changes view x x' (λ v. took v place) lt is (ap (known_view log) made))
-        ∙ ap (λ (q : Place). with_place (with_view s view (took (view_at s view) place)) place (record q { clean = record { upto = seen.upto; held = true } }))
+        (changes view x x' (λ v. with_hold v place) lt is (ap (known_view log) made))
+        ∙ ap (λ (q : Place). with_place (with_view s view (with_hold (view_at s view) place)) place (record q { clean = record { upto = seen.upto; held = true } }))
         (sym (place_kept place p there at))
 
     pub kept_put : (view place word : ℕ) (x x' : View ℕ) (p : Place) → view < length s.views → x ≡ get_or views view x
-        → place < length s.places → p ≡ get_or places place p → x' ≡ wrote x place word
+        → place < length s.places → p ≡ get_or places place p → x' ≡ with_put x place word
         → kept_state log pending marked (set places place (record p { value = word })) (set views view x') ≡ after_put s view place word
     kept_put view place word x x' p lt is there at made =
-        ap (λ t. with_place t place (record p { value = word })) (changes view x x' (λ v. wrote v place word) lt is (ap (known_view log) made))
-        ∙ ap (λ (q : Place). with_place (with_view s view (wrote (view_at s view) place word)) place (record q { value = word }))
+        ap (λ t. with_place t place (record p { value = word })) (changes view x x' (λ v. with_put v place word) lt is (ap (known_view log) made))
+        ∙ ap (λ (q : Place). with_place (with_view s view (with_put (view_at s view) place word)) place (record q { value = word }))
         (sym (place_kept place p there at))
 
     pub kept_finish : (view place mark : ℕ) (x x' : View ℕ) (p : Place) → view < length s.views → x ≡ get_or views view x
-        → place < length s.places → p ≡ get_or places place p → x' ≡ gave_back x place mark
+        → place < length s.places → p ≡ get_or places place p → x' ≡ without_hold x place mark
         → kept_state log pending marked (set places place (record p { clean = record { upto = mark + 1; held = false } })) (set views view x')
         ≡ after_finish s view place mark
     kept_finish view place mark x x' p lt is there at made =
         ap (λ t. with_place t place (record p { clean = record { upto = mark + 1; held = false } }))
-        (changes view x x' (λ v. gave_back v place mark) lt is (ap (known_view log) made))
-        ∙ ap (λ (q : Place). with_place (with_view s view (gave_back (view_at s view) place mark)) place (record q { clean = record { upto = mark + 1; held = false } }))
+        (changes view x x' (λ v. without_hold v place mark) lt is (ap (known_view log) made))
+        ∙ ap (λ (q : Place). with_place (with_view s view (without_hold (view_at s view) place mark)) place (record q { clean = record { upto = mark + 1; held = false } }))
         (sym (place_kept place p there at))
 
     pub kept_commit : (entry : E) (log' : List E) (marked' : List ℕ) (count : ℕ) (x x' : View ℕ) → marked' ≡ [] → 0 < length s.views → IsKept log places views → x ≡ get_or views 0 x
@@ -187,7 +188,7 @@ module _ {E : Type 0} (log : List E) (pending : Option E) (marked : List ℕ) (p
         let lt : 0 < length views = views_within 0 there in
         let whole : x.log ≡ length log =
         ap (λ (v : View ℕ). v.log) (is ∙ get_or_default views 0 x (spent_with 0) lt) ∙ right.editor in
-        let new : known_view (log ++ entry ∷ []) x' ≡ committed (known_view log x) entry =
+        let new : known_view (log ++ entry ∷ []) x' ≡ with_entry (known_view log x) entry =
         ap (known_view (log ++ entry ∷ [])) (made ∙ ap (λ n. (let v : View ℕ = record x { log = n; seen = n } in v)) counted)
         ∙ committed_known log entry x whole in
         ap (λ m. kept_state log' None m places (set views 0 x')) cleared
@@ -195,11 +196,11 @@ module _ {E : Type 0} (log : List E) (pending : Option E) (marked : List ℕ) (p
         ∙ ap (λ vs. (let t : State E = record { edits = record { log = log ++ entry ∷ []; pending = None; marked = [] }; places = places; views = vs } in t))
         (map-set (known_view (log ++ entry ∷ [])) views 0 x'
         ∙ ap (λ vs. set vs 0 (known_view (log ++ entry ∷ []) x')) (known_same log entry views right.counted)
-        ∙ ap (λ v. set (map (known_view log) views) 0 v) (new ∙ ap (λ v. committed v entry) (sym (view_kept 0 x lt is))))
+        ∙ ap (λ v. set (map (known_view log) views) 0 v) (new ∙ ap (λ v. with_entry v entry) (sym (view_kept 0 x lt is))))
         ∙ ap (λ t. after_commit t 0 entry) kept
 
     pub kept_join : (view other : ℕ) (x x' t gone : View ℕ) → view < length s.views → other < length s.views → view ≢ other → IsKept log places views
-        → x ≡ get_or (set views other gone) view x → t ≡ get_or views other t → gone ≡ spent_with 0 → x' ≡ joined_with (max x.log t.log) x t
+        → x ≡ get_or (set views other gone) view x → t ≡ get_or views other t → gone ≡ spent_with 0 → x' ≡ union_with (max x.log t.log) x t
         → kept_state log pending marked places (set (set views other gone) view x') ≡ after_join s view other
     kept_join view other x x' t gone lt lt' apart right is at spends made =
         let there : view < length views = views_within view lt in
@@ -207,8 +208,8 @@ module _ {E : Type 0} (log : List E) (pending : Option E) (marked : List ℕ) (p
         let is' : x ≡ get_or views view x = is ∙ get_or-set_other views other view gone x apart in
         let below : x.log ≤ length log = subst (λ (v : View ℕ). v.log ≤ length log) (sym is') (right.counted view x there) in
         let below' : t.log ≤ length log = subst (λ (v : View ℕ). v.log ≤ length log) (sym at) (right.counted other t there') in
-        let both : known_view log (joined_with (max x.log t.log) x t) ≡ joined (known_view log x) (known_view log t) =
-        ap (λ l. joined_with l (known_view log x) (known_view log t)) (longer_front log x.log t.log below below') in
+        let both : known_view log (union_with (max x.log t.log) x t) ≡ union_of (known_view log x) (known_view log t) =
+        ap (λ l. union_with l (known_view log x) (known_view log t)) (longer_front log x.log t.log below below') in
         ap (λ vs. (let u : State E = record { edits = record { log = log; pending = pending; marked = marked }; places = places; views = vs } in u))
         (ap (map (known_view log)) (set_comm views other view gone x' (λ e. apart (sym e)))
         ∙ map-set (known_view log) (set views view x') other gone
@@ -217,8 +218,8 @@ module _ {E : Type 0} (log : List E) (pending : Option E) (marked : List ℕ) (p
         (map-set (known_view log) views view x'
         ∙ ap (λ v. set (map (known_view log) views) view v)
         (ap (known_view log) made ∙ both
-        ∙ ap (λ v. joined v (known_view log t)) (sym (view_kept view x there is'))
-        ∙ ap (λ v. joined (view_at (kept_state log pending marked places views) view) v) (sym (view_kept other t there' at)))))
+        ∙ ap (λ v. union_of v (known_view log t)) (sym (view_kept view x there is'))
+        ∙ ap (λ v. union_of (view_at (kept_state log pending marked places views) view) v) (sym (view_kept other t there' at)))))
         ∙ ap (λ u. after_join u view other) kept
 
 -- a view that was taken out and put back
@@ -247,7 +248,7 @@ module _ {E : Type 0} (log : List E) (places : List Place) (views : List (View �
 
   -- one view spent, and another that took over what it knew
   pub kept_joined : (view other : ℕ) (x x' t gone : View ℕ) → view < length views → other < length views → view ≢ other → other ≢ 0
-      → x ≡ get_or (set views other gone) view x → t ≡ get_or views other t → gone ≡ spent_with 0 → x' ≡ joined_with (max x.log t.log) x t
+      → x ≡ get_or (set views other gone) view x → t ≡ get_or views other t → gone ≡ spent_with 0 → x' ≡ union_with (max x.log t.log) x t
       → IsKept log places (set (set views other gone) view x')
   kept_joined view other x x' t gone lt lt' apart not_editor is at spends made =
       let is' : x ≡ get_or views view x = is ∙ get_or-set_other views other view gone x apart in
@@ -276,10 +277,10 @@ module _ {E : Type 0} (log : List E) (places : List Place) (views : List (View �
 
 -- the parts of a machine that has just opened
 pub kept_opening : {E : Type 0} (log : List E) (marked : List ℕ) (places : List Place) (views : List (View ℕ)) (opening : List (Option ℕ))
-    → log ≡ [] → marked ≡ [] → places ≡ map opened opening → views ≡ new_view 0 0 [] ∷ []
+    → log ≡ [] → marked ≡ [] → places ≡ map opening_place opening → views ≡ new_view 0 0 [] ∷ []
     → kept_state log None marked places views ≡ opening_state opening
 kept_opening log marked places views opening l m p v =
     ap (λ xs. kept_state xs None marked places views) l
     ∙ ap (λ xs. kept_state [] None xs places views) m
     ∙ ap (λ xs. kept_state [] None [] xs views) p
-    ∙ ap (λ xs. kept_state [] None [] (map opened opening) xs) v
+    ∙ ap (λ xs. kept_state [] None [] (map opening_place opening) xs) v

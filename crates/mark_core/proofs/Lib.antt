@@ -1,4 +1,5 @@
 pub mod Prefixes
+pub mod Stores
 pub mod Frames
 pub mod Places
 pub mod Holds
@@ -12,4 +13,6 @@ pub mod Runs
 pub mod FloorLemmas
 pub mod KeptLemmas
 pub mod JudgeLemmas
-pub mod Remembers
+pub mod ReadLaws
+pub mod TwoReads
+pub mod GrowthLemmas

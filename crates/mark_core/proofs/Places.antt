@@ -8,9 +8,11 @@ use Rattle.std.proofs.lemmas.List.Elements.{Contains-push, Contains-push_cases, 
 use Rattle.std.proofs.lemmas.Option.{same_Some, none-some}
 use Rattle.std.proofs.lemmas.Bool.{cases_eq}
 use Rattle.mark_core.specs.declared.words.Clean.{Clean}
-use Rattle.mark_core.specs.Place.{Words, StoresMark, StoresClean, StoresValue}
+use Rattle.mark_core.specs.Place.{Words}
+use Rattle.mark_core.proofs.Stores.{StoresMark, StoresClean, StoresValue}
 use Rattle.mark_core.specs.Mark.{IsPrefix, IsLastMark}
-use Rattle.mark_core.specs.State.{Edits, entries_of}
+use Rattle.mark_core.specs.declared.actors.Edits.{Edits}
+use Rattle.mark_core.specs.State.{entries_of}
 use Rattle.mark_core.specs.Step.{marks_for, commits}
 use Rattle.mark_core.specs.Permission.{IsWorthMarked}
 use Rattle.mark_core.specs.Honest.{IsRightMark, IsRightValue}
@@ -82,11 +84,9 @@ module _ {E : Type 0} (worth : List E → ℕ → ℕ) (touches : List E → E �
             value_same worth codeless edits.log other (length edits.log + 1) (words'.mark other) (words.clean other) (words'.clean other) (words.value other) (words'.value other)
             number (stores.cleans other) (stores.values other)
             (record {
-              upto_mark = omega (arith, right.upto_log);
-              upto_log = right.upto_log;
-              never = right.never;
-              current = λ e. absurd (omega (arith, right.upto_log));
-              held = λ h. omega (arith, right.upto_log);
+              upto = record { upto_mark = omega (arith, right.upto.upto_log); upto_log = right.upto.upto_log; never = right.upto.never };
+              current = λ e. absurd (omega (arith, right.upto.upto_log));
+              held = λ h. omega (arith, right.upto.upto_log);
             })
         | inr differs ↦
             value_same worth codeless edits.log other (words.mark other) (words'.mark other) (words.clean other) (words'.clean other) (words.value other) (words'.value other)
@@ -148,12 +148,10 @@ module _ {E : Type 0} (worth : List E → ℕ → ℕ) (touches : List E → E �
   values_after_commit place mark clean value all untouched marks right =
       let long : length (edits.log ++ entry ∷ []) ≡ length edits.log + 1 = length-append edits.log (entry ∷ []) in
       record {
-        upto_mark = right.upto_mark;
-        upto_log = omega (arith, right.upto_log);
-        never = right.never;
+        upto = record { upto_mark = right.upto.upto_mark; upto_log = omega (arith, right.upto.upto_log); never = right.upto.never };
         current = λ e.
             elim marks [
-              | inl p ↦ absurd (omega (arith, p.number, right.upto_log))
+              | inl p ↦ absurd (omega (arith, p.number, right.upto.upto_log))
               | inr s ↦ right.current e ∙ sym (untouched (λ t. s.unmarked (all t)))
             ];
         held = right.held;
@@ -184,9 +182,7 @@ module _ {E : Type 0} (worth : List E → ℕ → ℕ) (codeless : ℕ → Type 
             value_same worth codeless edits.log other (words.mark other) (words'.mark other) taken (words'.clean other) (words.value other) (words'.value other)
             (stores.marks other) (ap words'.clean same ∙ stores.stored) (stores.values other)
             (record {
-              upto_mark = omega arith;
-              upto_log = omega (arith, right.upto_log);
-              never = λ e. right.never (upto ∙ e);
+              upto = record { upto_mark = omega arith; upto_log = omega (arith, right.upto.upto_log); never = λ e. right.upto.never (upto ∙ e) };
               current = λ e. absurd (omega arith);
               held = λ h. below;
             })
@@ -225,9 +221,7 @@ module _ {E : Type 0} (worth : List E → ℕ → ℕ) (codeless : ℕ → Type 
             value_same worth codeless edits.log other (words.mark other) (words'.mark other) (words.clean other) (words'.clean other) (words'.value other) (words'.value other)
             (stores.marks other) (stores.cleans other) refl
             (record {
-              upto_mark = right.upto_mark;
-              upto_log = right.upto_log;
-              never = right.never;
+              upto = right.upto;
               current = λ e. absurd (omega arith);
               held = right.held;
             })
@@ -259,13 +253,13 @@ module _ {E : Type 0} (worth : List E → ℕ → ℕ) (touches : List E → E �
     (untouched : (log : List E) (entry : E) → (touches log entry place → ⊥) → worth (log ++ entry ∷ []) place ≡ worth log place)
     (stores : StoresClean words words' place (record { upto = mark + 1; held = false })) where
   front : List E
-  front = take computed.count known
+  front = take computed.known.count known
 
-  front_prefix : IsPrefix (take computed.count known) edits.log
-  front_prefix = prefix_of_prefix (take computed.count known) known edits.log (take_is_prefix computed.count known) below
+  front_prefix : IsPrefix (take computed.known.count known) edits.log
+  front_prefix = prefix_of_prefix (take computed.known.count known) known edits.log (take_is_prefix computed.known.count known) below
 
   mark_within : mark ≤ length edits.log
-  mark_within = omega (arith, computed.last.within, prefix_length (take computed.count known) edits.log front_prefix)
+  mark_within = omega (arith, computed.last.within, prefix_length (take computed.known.count known) edits.log front_prefix)
 
   -- the mark that was computed for is no later than the present one
   pub finish_below : IsRightMark touches edits place (words.mark place) → mark ≤ words.mark place
@@ -277,7 +271,7 @@ module _ {E : Type 0} (worth : List E → ℕ → ℕ) (touches : List E → E �
               | inl zero ↦ omega arith
               | inr some ↦
                   touched_up_to touches edits.log place mark (words.mark place)
-                  (touched_in_longer touches (take computed.count known) edits.log place mark front_prefix (computed.last.touched (omega arith)))
+                  (touched_in_longer touches (take computed.known.count known) edits.log place mark front_prefix (computed.last.touched (omega arith)))
                   s.last
             ]
       ]
@@ -288,8 +282,8 @@ module _ {E : Type 0} (worth : List E → ℕ → ℕ) (touches : List E → E �
       elim right [
         | inl p ↦ absurd (omega (arith, p.number, mark_within))
         | inr s ↦
-            sym computed.worth_is
-            ∙ sym (worth-prefix touches worth place untouched (take computed.count known) edits.log mark front_prefix computed.last.within
+            sym computed.known.worth_is
+            ∙ sym (worth-prefix touches worth place untouched (take computed.known.count known) edits.log mark front_prefix computed.last.within
             (subst (λ (m : ℕ). IsLastMark touches edits.log place m) same s.last))
       ]
 
@@ -305,9 +299,7 @@ module _ {E : Type 0} (worth : List E → ℕ → ℕ) (touches : List E → E �
             (value_same worth codeless edits.log place (words.mark place) (words'.mark place) free (words'.clean place) (words.value place) (words'.value place)
             (stores.marks place) stores.stored (stores.values place)
             (record {
-              upto_mark = omega (arith, finish_below marks');
-              upto_log = omega (arith, mark_within);
-              never = λ e. absurd (omega arith);
+              upto = record { upto_mark = omega (arith, finish_below marks'); upto_log = omega (arith, mark_within); never = λ e. absurd (omega arith) };
               current = λ e. put ∙ worth_kept marks' e;
               held = λ h. absurd (cc);
             }))

@@ -13,11 +13,13 @@ use Rattle.mark_core.specs.declared.answers.Seen.{Seen}
 use Rattle.mark_core.specs.declared.answers.Seen.TheVariants.{Value, Stale, Newer}
 use Rattle.mark_core.specs.Answer.{Shows}
 use Rattle.mark_core.specs.Place.{Words}
-use Rattle.mark_core.specs.Mark.{IsPrefix, IsTouched, IsLastMark}
-use Rattle.mark_core.specs.State.{Edits, entries_of}
-use Rattle.mark_core.specs.View.{floor_of, read_of, learned}
-use Rattle.mark_core.specs.Honest.{IsRightMark, IsRightValue, IsRightKnown, MeetsFloor, IsRightHalf, IsLegalAnswer, IsRightRead}
-use Rattle.mark_core.proofs.Prefixes.{take_is_prefix, take-prefix, touched_in_longer, touched_next, last_mark_in_prefix, worth-prefix}
+use Rattle.mark_core.specs.Mark.{IsTouched, IsLastMark}
+use Rattle.mark_core.specs.declared.actors.Edits.{Edits}
+use Rattle.mark_core.specs.State.{entries_of}
+use Rattle.mark_core.specs.View.{floor_of, read_of, known_from}
+use Rattle.mark_core.specs.Legal.{MeetsFloor, IsLegalAnswer}
+use Rattle.mark_core.specs.Honest.{IsRightMark, IsRightValue, IsRightKnown, IsRightHalf, IsRightRead}
+use Rattle.mark_core.proofs.Prefixes.{take_is_prefix, touched_in_longer, touched_next, last_mark_in_prefix, worth-prefix}
 
 -- the floor of a place that is known right is met by its mark
 pub floor_met : (count : ℕ) (words : Words) (known : List Known) (place : ℕ) → All (IsRightKnown count words) known
@@ -57,9 +59,7 @@ module _ {E : Type 0} (worth : List E → ℕ → ℕ) (touches : List E → E �
       → IsRightHalf codeless (length log) words (record { place = place; clean = words.clean place; floor = floor_of known place; word = None })
   half_begins log words known place right all =
       record {
-        upto_mark = right.upto_mark;
-        upto_log = right.upto_log;
-        never = right.never;
+        upto = right.upto;
         stale =
             elim (cases_Bool (words.clean place).held) [
               | inl held ↦ inl (right.held held)
@@ -73,9 +73,7 @@ module _ {E : Type 0} (worth : List E → ℕ → ℕ) (touches : List E → E �
       → IsRightHalf codeless count words half → IsRightHalf codeless count words (record half { word = Some word })
   half_goes_on count words half word value right =
       record {
-        upto_mark = right.upto_mark;
-        upto_log = right.upto_log;
-        never = right.never;
+        upto = right.upto;
         stale =
             elim right.stale [
               | inl h ↦ inl h
@@ -88,7 +86,7 @@ module _ {E : Type 0} (worth : List E → ℕ → ℕ) (touches : List E → E �
       (right : IsRightHalf codeless (length edits.log) words half)
       (marks : IsRightMark touches edits half.place (words.mark half.place)) where
     -- what a read with a word tells when its mark shows that the value is current
-    pub learned_right : All (IsRightKnown (length edits.log) words) (learned half (words.mark half.place))
+    pub learned_right : All (IsRightKnown (length edits.log) words) (known_from half (words.mark half.place))
     learned_right =
         cond_both (is_some half.word && (half.clean.upto == words.mark half.place + 1))
         (record { place = half.place; mark = words.mark half.place } ∷ []) []
@@ -98,7 +96,7 @@ module _ {E : Type 0} (worth : List E → ℕ → ℕ) (touches : List E → E �
         eqb-true half.clean.upto (words.mark half.place + 1) (and_parts (is_some half.word) (half.clean.upto == words.mark half.place + 1) e).1 in
         All-cons (IsRightKnown (length edits.log) words) (record { place = half.place; mark = words.mark half.place }) []
         (record {
-          within = omega (arith, right.upto_log);
+          within = omega (arith, right.upto.upto_log);
           since =
               elim right.stale [
                 | inl h ↦ absurd (omega arith)
@@ -116,34 +114,26 @@ module _ {E : Type 0} (worth : List E → ℕ → ℕ) (touches : List E → E �
     module _ (value : IsRightValue worth codeless edits.log half.place (words.mark half.place) (words.clean half.place) (words.value half.place))
         (untouched : (log : List E) (entry : E) → (touches log entry half.place → ⊥) → worth (log ++ entry ∷ []) half.place ≡ worth log half.place)
         (number : ℕ) (within : number ≤ length edits.log) where
-      entries_prefix : IsPrefix edits.log (entries_of edits)
-      entries_prefix = record { rest = option_to_list edits.pending; whole = refl }
-
-      front_is : take number (entries_of edits) ≡ take number edits.log
-      front_is = take-prefix edits.log (entries_of edits) number entries_prefix within
-
       front_length : length (take number edits.log) ≡ number
       front_length = length-take-le number edits.log within
 
       -- the mark of the place, where it is within the number, is its last mark in so many entries
-      last_in_front : words.mark half.place ≤ number → IsLastMark touches (take number (entries_of edits)) half.place (words.mark half.place)
+      last_in_front : words.mark half.place ≤ number → IsLastMark touches (take number edits.log) half.place (words.mark half.place)
       last_in_front le =
           elim marks [
             | inl p ↦ absurd (omega (arith, p.number))
             | inr s ↦
-                subst (λ (l : List E). IsLastMark touches l half.place (words.mark half.place)) (sym front_is)
-                (last_mark_in_prefix touches (take number edits.log) edits.log half.place (words.mark half.place)
-                (take_is_prefix number edits.log) (omega (arith, front_length)) s.last)
+                last_mark_in_prefix touches (take number edits.log) edits.log half.place (words.mark half.place)
+                (take_is_prefix number edits.log) (omega (arith, front_length)) s.last
           ]
 
-      worth_in_front : words.mark half.place ≤ number → worth edits.log half.place ≡ worth (take number (entries_of edits)) half.place
+      worth_in_front : words.mark half.place ≤ number → worth edits.log half.place ≡ worth (take number edits.log) half.place
       worth_in_front le =
           elim marks [
             | inl p ↦ absurd (omega (arith, p.number))
             | inr s ↦
                 worth-prefix touches worth half.place untouched (take number edits.log) edits.log (words.mark half.place)
                 (take_is_prefix number edits.log) (omega (arith, front_length)) s.last
-                ∙ sym (ap (λ l. worth l half.place) front_is)
           ]
 
       -- where it is past the number, its entry touches the place
@@ -156,23 +146,27 @@ module _ {E : Type 0} (worth : List E → ℕ → ℕ) (touches : List E → E �
                 (subst (λ (m : ℕ). IsTouched touches (edits.log ++ p.entry ∷ []) half.place m) (sym p.number)
                 (touched_next touches edits.log p.entry [] half.place p.touched))
             | inr s ↦
-                touched_in_longer touches edits.log (entries_of edits) half.place (words.mark half.place) entries_prefix
+                touched_in_longer touches edits.log (entries_of edits) half.place (words.mark half.place)
+                (record { rest = option_to_list edits.pending; whole = refl })
                 (s.last.touched (omega arith))
           ]
 
+      -- where it is one of the log's, the entry of the log touches the place
+      touched_in_log : 0 < words.mark half.place → words.mark half.place ≤ length edits.log → IsTouched touches edits.log half.place (words.mark half.place)
+      touched_in_log some le =
+          elim marks [ inl p ↦ absurd (omega (arith, p.number)) | inr s ↦ s.last.touched some ]
+
       read_legal : (word : ℕ) → half.word ≡ Some word → (shown : Seen) → Shows number half.clean word (words.mark half.place) shown
-          → IsLegalAnswer worth touches codeless (length edits.log) (entries_of edits) number half.place (words.mark half.place) shown
+          → IsLegalAnswer worth touches codeless edits number half.place shown
       read_legal word is (Value shown) s =
           let upto : half.clean.upto ≡ words.mark half.place + 1 = s.0 in
           elim right.stale [
             | inl h ↦ absurd (omega arith)
-            | inr t ↦ (
-              s.2
-                  ∙ sym (t.word word is)
-                  ∙ value.current (ap (λ (x : Clean). x.upto) t.clean ∙ upto)
-                  ∙ worth_in_front s.1,
-              last_in_front s.1,
-            )
+            | inr t ↦
+                s.2
+                ∙ sym (t.word word is)
+                ∙ value.current (ap (λ (x : Clean). x.upto) t.clean ∙ upto)
+                ∙ worth_in_front s.1
           ]
       read_legal word is (Stale shown) s =
           elim (cases_lt number (words.mark half.place)) [
@@ -181,14 +175,14 @@ module _ {E : Type 0} (worth : List E → ℕ → ℕ) (touches : List E → E �
             | inr le ↦
                 inl (
                   omega (arith, s.1),
-                  subst (λ (m : ℕ). IsLastMark touches (take number (entries_of edits)) half.place m) (sym s.1) (last_in_front le),
-                  λ zero. right.never (let ne : half.clean.upto ≢ words.mark half.place + 1 = s.0 in omega (arith, s.1, right.upto_mark)),
+                  subst (λ (m : ℕ). IsLastMark touches (take number edits.log) half.place m) (sym s.1) (last_in_front le),
+                  λ zero. right.upto.never (let ne : half.clean.upto ≢ words.mark half.place + 1 = s.0 in omega (arith, s.1, right.upto.upto_mark)),
                 )
           ]
       read_legal word is (Newer shown) s = (
         omega (arith, s.1, s.2),
-        omega (arith, s.0, s.2, right.upto_log),
-        subst (λ (m : ℕ). IsTouched touches (entries_of edits) half.place m) (sym s.2) (touched_later s.1),
+        subst (λ (m : ℕ). IsTouched touches edits.log half.place m) (sym s.2)
+            (touched_in_log (omega (arith, s.1)) (omega (arith, s.0, right.upto.upto_log))),
       )
 
       -- the read that the load of the mark ends
@@ -197,5 +191,11 @@ module _ {E : Type 0} (worth : List E → ℕ → ℕ) (touches : List E → E �
           record {
             mark_below = omega arith;
             floor = right.floor;
-            legal = λ word is. record { within = within; legal = read_legal word is };
+            legal = λ word is.
+                record {
+                  within = within;
+                  floor = right.floor;
+                  answer = read_legal word is;
+                  last = λ shown s. last_in_front s.1;
+                };
           }

@@ -1,16 +1,12 @@
 -- Whatever allowed events happen, the state stays honest.
-use Rattle.std.proofs.Common.{◌≡◌, ◌<◌, ℕ, List, [], ◌∷◌, ◌++◌, Option, Some, length, sym, subst, inl, inr}
-use Rattle.std.specs.Prelude.{Contains}
-use Rattle.std.proofs.lemmas.List.Elements.{All-contains}
-use Rattle.mark_core.specs.declared.words.Finished.{Finished}
-use Rattle.mark_core.specs.Place.{words_of}
+use Rattle.std.proofs.Common.{◌≡◌, ◌<◌, ℕ, List, [], ◌∷◌, ◌++◌, Option, length, sym, subst, inl, inr}
 use Rattle.mark_core.specs.declared.events.Event.{Event}
 use Rattle.mark_core.specs.declared.events.Event.TheVariants.{See, Mark, Commit, Split, Join, ReadClean, ReadValue, ReadMark, Claim, Put, Finish}
 use Rattle.mark_core.specs.declared.events.Outcome.{Outcome}
 use Rattle.mark_core.specs.State.{State, view_at, opening_state}
 use Rattle.mark_core.specs.Permission.{MayMark, MayCommit}
 use Rattle.mark_core.specs.Step.{Happens, after_commit}
-use Rattle.mark_core.specs.Honest.{MeetsFloor, IsLegalRead, IsRightRead, IsHonest}
+use Rattle.mark_core.specs.Honest.{IsHonest}
 use Rattle.mark_core.specs.Run.{IsOpening, IsCodeless, Runs}
 use Rattle.mark_core.proofs.Steps.{see_keeps, mark_keeps, commit_keeps, split_keeps, join_keeps, read_clean_keeps, read_value_keeps, read_mark_keeps, refusal_keeps}
 use Rattle.mark_core.proofs.WorkSteps.{claim_keeps, put_keeps, finish_keeps}
@@ -75,14 +71,3 @@ module _ {E : Type 0} (places : ℕ) (worth : List E → ℕ → ℕ) (touches :
   honest_from_opening events s runs =
       runs_honest places worth touches untouched (IsCodeless opening) events (opening_state opening) s runs
       (opening_honest places worth touches opening right)
-
-  -- so each finished read is legal where it has a word, and met its floor
-  pub legal_from_opening : (events : List (Event E)) (s : State E) (view : ℕ) (read : Finished) → Runs worth touches (opening_state opening) events s
-      → Contains (view_at s view).reads read
-      → MeetsFloor read.mark read.floor read.clean.upto
-      × ((word : ℕ) → read.word ≡ Some word → IsLegalRead worth touches (IsCodeless opening) s.edits read word)
-  legal_from_opening events s view read runs among =
-      let honest : IsHonest places worth touches (IsCodeless opening) s = honest_from_opening events s runs in
-      let right : IsRightRead worth touches (IsCodeless opening) s.edits (words_of s.places) read =
-      All-contains (IsRightRead worth touches (IsCodeless opening) s.edits (words_of s.places)) (view_at s view).reads read (honest.views view).reads among in
-      (right.floor, right.legal)

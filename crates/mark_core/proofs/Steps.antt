@@ -8,10 +8,12 @@ use Rattle.mark_core.specs.declared.words.Clean.{Clean}
 use Rattle.mark_core.specs.declared.words.Place.{Place}
 use Rattle.mark_core.specs.declared.words.Half.{Half}
 use Rattle.mark_core.specs.declared.words.Held.{Held}
-use Rattle.mark_core.specs.Place.{StoresMark, place_at, words_of}
-use Rattle.mark_core.specs.State.{View, State, view_at, with_view, spent_view}
-use Rattle.mark_core.specs.View.{saw, committed, split_off, longer, joined, began, valued, finished, ended, ended_at, missed}
-use Rattle.mark_core.specs.Permission.{IsLive, MayMark, MayCommit, MayJoin, MayRead}
+use Rattle.mark_core.specs.Place.{place_at, words_of}
+use Rattle.mark_core.proofs.Stores.{StoresMark}
+use Rattle.mark_core.specs.declared.actors.View.{View}
+use Rattle.mark_core.specs.State.{State, view_at, with_view, spent_view}
+use Rattle.mark_core.specs.View.{with_count, with_entry, split_off, longer, union_of, with_half, with_value, with_read_end, with_read, with_read_at, with_loss}
+use Rattle.mark_core.specs.Permission.{IsLive, MayMark, MayCommit, MayJoin, MayStepAt}
 use Rattle.mark_core.specs.Step.{marks_for, commits, after_see, after_mark, after_commit, after_split, after_join, after_read_clean, after_read_value, after_read_mark, after_refusal}
 use Rattle.mark_core.specs.Honest.{IsRightView, HasOneHolder, IsHonest}
 use Rattle.mark_core.proofs.Prefixes.{prefix_length}
@@ -46,20 +48,20 @@ each_after_set P views view changed lt here there other =
       | inr s ↦ subst P (sym s.1) (there other s.0)
     ]
 
-ended_spent : {E : Type 0} (view : View (List E)) (half : Option Half) (place mark : ℕ) → (ended_at view half place mark).spent ≡ view.spent
+ended_spent : {E : Type 0} (view : View (List E)) (half : Option Half) (place mark : ℕ) → (with_read_at view half place mark).spent ≡ view.spent
 ended_spent view None place mark = refl
 ended_spent view (Some half) place mark =
-    cond_both (half.place == place) (ended view half mark) view (λ v. v.spent ≡ view.spent) (λ e. refl) (λ e. refl)
+    cond_both (half.place == place) (with_read view half mark) view (λ v. v.spent ≡ view.spent) (λ e. refl) (λ e. refl)
 
-ended_log : {E : Type 0} (view : View (List E)) (half : Option Half) (place mark : ℕ) → (ended_at view half place mark).log ≡ view.log
+ended_log : {E : Type 0} (view : View (List E)) (half : Option Half) (place mark : ℕ) → (with_read_at view half place mark).log ≡ view.log
 ended_log view None place mark = refl
 ended_log view (Some half) place mark =
-    cond_both (half.place == place) (ended view half mark) view (λ v. v.log ≡ view.log) (λ e. refl) (λ e. refl)
+    cond_both (half.place == place) (with_read view half mark) view (λ v. v.log ≡ view.log) (λ e. refl) (λ e. refl)
 
-ended_holds : {E : Type 0} (view : View (List E)) (half : Option Half) (place mark : ℕ) → (ended_at view half place mark).holds ≡ view.holds
+ended_holds : {E : Type 0} (view : View (List E)) (half : Option Half) (place mark : ℕ) → (with_read_at view half place mark).holds ≡ view.holds
 ended_holds view None place mark = refl
 ended_holds view (Some half) place mark =
-    cond_both (half.place == place) (ended view half mark) view (λ v. v.holds ≡ view.holds) (λ e. refl) (λ e. refl)
+    cond_both (half.place == place) (with_read view half mark) view (λ v. v.holds ≡ view.holds) (λ e. refl) (λ e. refl)
 
 module _ {E : Type 0} (places : ℕ) (worth : List E → ℕ → ℕ) (touches : List E → E → ℕ → Type 0) (codeless : ℕ → Type 0)
     (untouched : (log : List E) (entry : E) (place : ℕ) → place < places → (touches log entry place → ⊥) → worth (log ++ entry ∷ []) place ≡ worth log place)
@@ -92,23 +94,23 @@ module _ {E : Type 0} (places : ℕ) (worth : List E → ℕ → ℕ) (touches :
 
   pub see_keeps : (view : ℕ) → IsLive (view_at s view) → IsHonest places worth touches codeless (after_see s view)
   see_keeps view live =
-      quiet view (saw (view_at s view) (length s.edits.log)) (live_within s.views view live) refl refl refl
+      quiet view (with_count (view_at s view) (length s.edits.log)) (live_within s.views view live) refl refl refl
       (view_saw worth touches codeless s.edits (words_of s.places) (view_at s view) (honest.views view))
 
-  pub read_clean_keeps : (view place : ℕ) → MayRead (length s.places) (view_at s view) place → IsHonest places worth touches codeless (after_read_clean s view place)
+  pub read_clean_keeps : (view place : ℕ) → MayStepAt (length s.places) (view_at s view) place → IsHonest places worth touches codeless (after_read_clean s view place)
   read_clean_keeps view place may =
-      quiet view (began (view_at s view) place (place_at s.places place).clean) (live_within s.views view may.live) refl refl refl
+      quiet view (with_half (view_at s view) place (place_at s.places place).clean) (live_within s.views view may.live) refl refl refl
       (view_began worth touches codeless s.edits (words_of s.places) (view_at s view) (honest.views view) place (honest.values place (within place may.there)))
 
-  pub read_value_keeps : (view place : ℕ) → MayRead (length s.places) (view_at s view) place → IsHonest places worth touches codeless (after_read_value s view place)
+  pub read_value_keeps : (view place : ℕ) → MayStepAt (length s.places) (view_at s view) place → IsHonest places worth touches codeless (after_read_value s view place)
   read_value_keeps view place may =
-      quiet view (valued (view_at s view) place (place_at s.places place).value) (live_within s.views view may.live) refl refl refl
+      quiet view (with_value (view_at s view) place (place_at s.places place).value) (live_within s.views view may.live) refl refl refl
       (view_valued worth touches codeless s.edits (words_of s.places) (view_at s view) (honest.views view) place)
 
-  pub read_mark_keeps : (view place : ℕ) → MayRead (length s.places) (view_at s view) place → IsHonest places worth touches codeless (after_read_mark s view place)
+  pub read_mark_keeps : (view place : ℕ) → MayStepAt (length s.places) (view_at s view) place → IsHonest places worth touches codeless (after_read_mark s view place)
   read_mark_keeps view place may =
       let mark : ℕ = (place_at s.places place).mark in
-      quiet view (finished (view_at s view) place mark) (live_within s.views view may.live)
+      quiet view (with_read_end (view_at s view) place mark) (live_within s.views view may.live)
       (ended_spent (view_at s view) (view_at s view).half place mark)
       (ended_log (view_at s view) (view_at s view).half place mark)
       (ended_holds (view_at s view) (view_at s view).half place mark)
@@ -117,7 +119,7 @@ module _ {E : Type 0} (places : ℕ) (worth : List E → ℕ → ℕ) (touches :
 
   pub refusal_keeps : (view place : ℕ) → IsLive (view_at s view) → IsHonest places worth touches codeless (after_refusal s view place)
   refusal_keeps view place live =
-      quiet view (missed (view_at s view) place (place_at s.places place).clean) (live_within s.views view live) refl refl refl
+      quiet view (with_loss (view_at s view) place (place_at s.places place).clean) (live_within s.views view live) refl refl refl
       (view_missed worth touches codeless s.edits (words_of s.places) (view_at s view) (honest.views view) place (place_at s.places place).clean)
 
   pub split_keeps : (view : ℕ) → IsLive (view_at s view) → IsHonest places worth touches codeless (after_split s view)
@@ -165,7 +167,7 @@ module _ {E : Type 0} (places : ℕ) (worth : List E → ℕ → ℕ) (touches :
   pub join_keeps : (view other : ℕ) → view ≢ other → other ≢ 0 → MayJoin (view_at s view) (view_at s other)
       → IsHonest places worth touches codeless (after_join s view other)
   join_keeps view other apart not_editor may =
-      let both : View (List E) = joined (view_at s view) (view_at s other) in
+      let both : View (List E) = union_of (view_at s view) (view_at s other) in
       let lt : view < length s.views = live_within s.views view may.live in
       let lt_other : other < length s.views = live_within s.views other may.other_live in
       let length_same : length (set s.views view both) ≡ length s.views = length-set s.views view both in
@@ -240,7 +242,7 @@ module _ {E : Type 0} (places : ℕ) (worth : List E → ℕ → ℕ) (touches :
       → IsHonest places worth touches codeless (after_commit s 0 entry)
   commit_keeps entry may =
       let lt : 0 < length s.views = live_within s.views 0 honest.editor_live in
-      let new : View (List E) = committed (view_at s 0) entry in
+      let new : View (List E) = with_entry (view_at s 0) entry in
       let all : (place : ℕ) → place < places → touches s.edits.log entry place → Contains s.edits.marked place =
       λ place there t. may.marked place (omega (arith, honest.count)) (subst (λ (l : List E). touches l entry place) (sym honest.editor_log) t) in
       record {

@@ -8,10 +8,13 @@ use Rattle.std.proofs.lemmas.Option.{none-some, same_Some}
 use Rattle.mark_core.specs.declared.words.Clean.{Clean}
 use Rattle.mark_core.specs.declared.words.Half.{Half}
 use Rattle.mark_core.specs.declared.words.Held.{Held}
-use Rattle.mark_core.specs.Place.{Words, StoresClean, StoresValue}
+use Rattle.mark_core.specs.Place.{Words}
+use Rattle.mark_core.proofs.Stores.{StoresClean, StoresValue}
 use Rattle.mark_core.specs.Mark.{IsPrefix}
-use Rattle.mark_core.specs.State.{Edits, View, spent_view}
-use Rattle.mark_core.specs.View.{saw, committed, split_off, longer, joined, floor_of, began, with_word, valued, ended, ended_at, finished, took, missed, hold_with, wrote, gave_back, learned, read_of}
+use Rattle.mark_core.specs.declared.actors.Edits.{Edits}
+use Rattle.mark_core.specs.declared.actors.View.{View}
+use Rattle.mark_core.specs.State.{spent_view}
+use Rattle.mark_core.specs.View.{with_count, with_entry, split_off, longer, union_of, floor_of, with_half, with_word, with_value, with_read, with_read_at, with_read_end, with_hold, with_loss, hold_with, with_put, without_hold, known_from, read_of}
 use Rattle.mark_core.specs.Permission.{IsWorthKnown, IsWorthMarked}
 use Rattle.mark_core.specs.Step.{commits}
 use Rattle.mark_core.specs.Honest.{IsRightMark, IsRightValue, IsRightKnown, IsRightHalf, IsRightRead, IsRightHold, IsRightView}
@@ -82,7 +85,7 @@ module _ {E : Type 0} (worth : List E → ℕ → ℕ) (touches : List E → E �
       }
 
   module _ (edits : Edits E) (words : Words) (view : View (List E)) (right : IsRightView worth touches codeless edits words view) where
-    pub view_saw : IsRightView worth touches codeless edits words (saw view (length edits.log))
+    pub view_saw : IsRightView worth touches codeless edits words (with_count view (length edits.log))
     view_saw =
         record {
           log = record {
@@ -110,7 +113,7 @@ module _ {E : Type 0} (worth : List E → ℕ → ℕ) (touches : List E → E �
           holds = All-nil (IsRightHold worth words view.log);
         }
 
-    pub view_joined : (other : View (List E)) → IsRightView worth touches codeless edits words other → IsRightView worth touches codeless edits words (joined view other)
+    pub view_joined : (other : View (List E)) → IsRightView worth touches codeless edits words other → IsRightView worth touches codeless edits words (union_of view other)
     view_joined other right' =
         record {
           log = record {
@@ -128,7 +131,7 @@ module _ {E : Type 0} (worth : List E → ℕ → ℕ) (touches : List E → E �
               (prefix_of_longer view.log other.log edits.log right.log.known_prefix right'.log.known_prefix) refl refl h);
         }
 
-    pub view_missed : (place : ℕ) (found : Clean) → IsRightView worth touches codeless edits words (missed view place found)
+    pub view_missed : (place : ℕ) (found : Clean) → IsRightView worth touches codeless edits words (with_loss view place found)
     view_missed place found =
         record {
           log = record {
@@ -143,7 +146,7 @@ module _ {E : Type 0} (worth : List E → ℕ → ℕ) (touches : List E → E �
         }
 
     pub view_began : (place : ℕ) → IsRightValue worth codeless edits.log place (words.mark place) (words.clean place) (words.value place)
-        → IsRightView worth touches codeless edits words (began view place (words.clean place))
+        → IsRightView worth touches codeless edits words (with_half view place (words.clean place))
     view_began place value =
         record {
           log = record {
@@ -172,7 +175,7 @@ module _ {E : Type 0} (worth : List E → ℕ → ℕ) (touches : List E → E �
         (ap words.value (eqb-true begun.place place e)) (rights begun refl)))
         (λ e is. rights half is)
 
-    pub view_valued : (place : ℕ) → IsRightView worth touches codeless edits words (valued view place (words.value place))
+    pub view_valued : (place : ℕ) → IsRightView worth touches codeless edits words (with_value view place (words.value place))
     view_valued place =
         record {
           log = record {
@@ -191,7 +194,7 @@ module _ {E : Type 0} (worth : List E → ℕ → ℕ) (touches : List E → E �
         (value : IsRightValue worth codeless edits.log place (words.mark place) (words.clean place) (words.value place))
         (untouched : (log : List E) (entry : E) → (touches log entry place → ⊥) → worth (log ++ entry ∷ []) place ≡ worth log place) where
       ended_right : (half : Half) → half.place ≡ place → IsRightHalf codeless (length edits.log) words half
-          → IsRightView worth touches codeless edits words (ended view half (words.mark half.place))
+          → IsRightView worth touches codeless edits words (with_read view half (words.mark half.place))
       ended_right half same h =
           let marks' : IsRightMark touches edits half.place (words.mark half.place) =
           subst (λ (p : ℕ). IsRightMark touches edits p (words.mark p)) (sym same) marks in
@@ -206,7 +209,7 @@ module _ {E : Type 0} (worth : List E → ℕ → ℕ) (touches : List E → E �
               seen_below = right.log.seen_below;
             };
             known =
-                All-append (IsRightKnown (length edits.log) words) view.known (learned half (words.mark half.place)) right.known
+                All-append (IsRightKnown (length edits.log) words) view.known (known_from half (words.mark half.place)) right.known
                 (learned_right worth touches codeless edits words half h marks');
             half = λ half is. absurd (none-some half is);
             reads =
@@ -216,23 +219,23 @@ module _ {E : Type 0} (worth : List E → ℕ → ℕ) (touches : List E → E �
           }
 
       ended_at_right : (begun : Option Half) → ((half : Half) → begun ≡ Some half → IsRightHalf codeless (length edits.log) words half)
-          → IsRightView worth touches codeless edits words (ended_at view begun place (words.mark place))
+          → IsRightView worth touches codeless edits words (with_read_at view begun place (words.mark place))
       ended_at_right None rights = right
       ended_at_right (Some half) rights =
-          cond_both (half.place == place) (ended view half (words.mark place)) view
+          cond_both (half.place == place) (with_read view half (words.mark place)) view
           (λ v. IsRightView worth touches codeless edits words v)
           (λ e.
           let same : half.place ≡ place = eqb-true half.place place e in
-          subst (λ (m : ℕ). IsRightView worth touches codeless edits words (ended view half m)) (ap words.mark same)
+          subst (λ (m : ℕ). IsRightView worth touches codeless edits words (with_read view half m)) (ap words.mark same)
           (ended_right half same (rights half refl)))
           (λ e. right)
 
-      pub view_finished : IsRightView worth touches codeless edits words (finished view place (words.mark place))
+      pub view_finished : IsRightView worth touches codeless edits words (with_read_end view place (words.mark place))
       view_finished = ended_at_right view.half right.half
 
     -- the editor's view, whose log is the log
     pub view_committed : (entry : E) → edits.pending ≡ Some entry → view.log ≡ edits.log
-        → IsRightView worth touches codeless (commits edits entry) words (committed view entry)
+        → IsRightView worth touches codeless (commits edits entry) words (with_entry view entry)
     view_committed entry pending same =
         let after : IsRightView worth touches codeless (commits edits entry) words view =
         view_stays edits (commits edits entry) words words view (commit_advances worth touches codeless edits entry pending words)
@@ -271,7 +274,7 @@ module _ {E : Type 0} (worth : List E → ℕ → ℕ) (touches : List E → E �
   pub view_took : (edits : Edits E) (words words' : Words) (view : View (List E)) (place : ℕ) (seen : Clean)
       → words.clean place ≡ seen → seen.held ≡ false → seen.upto ≤ words.mark place
       → StoresClean words words' place (record { upto = seen.upto; held = true })
-      → IsRightView worth touches codeless edits words view → IsRightView worth touches codeless edits words' (took view place)
+      → IsRightView worth touches codeless edits words view → IsRightView worth touches codeless edits words' (with_hold view place)
   view_took edits words words' view place seen found free stale stores right =
       let after : IsRightView worth touches codeless edits words' view =
       view_stays edits edits words words' view (claim_advances worth codeless edits words words' place seen found stale stores)
@@ -293,7 +296,7 @@ module _ {E : Type 0} (worth : List E → ℕ → ℕ) (touches : List E → E �
   -- the putting view
   pub view_wrote : (edits : Edits E) (words words' : Words) (view : View (List E)) (place word : ℕ)
       → (words.clean place).upto ≤ words.mark place → StoresValue words words' place word → IsWorthKnown worth view.log place word
-      → IsRightView worth touches codeless edits words view → IsRightView worth touches codeless edits words' (wrote view place word)
+      → IsRightView worth touches codeless edits words view → IsRightView worth touches codeless edits words' (with_put view place word)
   view_wrote edits words words' view place word stale stores known right =
       let advances : Advances edits edits words words' = put_advances worth codeless edits words words' place word stale stores in
       record {
@@ -322,15 +325,15 @@ module _ {E : Type 0} (worth : List E → ℕ → ℕ) (touches : List E → E �
       → (words.clean place).upto ≤ words.mark place
       → (stores : StoresClean words words' place (record { upto = mark + 1; held = false }))
       → IsRightMark touches edits place (words.mark place)
-      → IsRightView worth touches codeless edits words view → IsRightView worth touches codeless edits words' (gave_back view place mark)
+      → IsRightView worth touches codeless edits words view → IsRightView worth touches codeless edits words' (without_hold view place mark)
   view_gave_back edits words words' view place word mark computed untouched stale stores marks right =
       let advances : Advances edits edits words words' =
       finish_advances worth touches codeless edits words words' view.log place word mark right.log.known_prefix computed untouched stores stale in
       let below : mark ≤ words.mark place =
       finish_below worth touches codeless edits words words' view.log place word mark right.log.known_prefix computed untouched stores marks in
       let known_length : length view.log ≤ length edits.log = prefix_length view.log edits.log right.log.known_prefix in
-      let front_length : length (take computed.count view.log) ≤ length view.log =
-      prefix_length (take computed.count view.log) view.log (record { rest = drop computed.count view.log; whole = sym (take-append-drop computed.count view.log) }) in
+      let front_length : length (take computed.known.count view.log) ≤ length view.log =
+      prefix_length (take computed.known.count view.log) view.log (record { rest = drop computed.known.count view.log; whole = sym (take-append-drop computed.known.count view.log) }) in
       record {
         log = record {
           known_prefix = right.log.known_prefix;

@@ -1,5 +1,5 @@
 -- Claims, puts and finishes keep the state honest.
-use Rattle.std.proofs.Common.{◌≡◌, ◌≢◌, ◌<◌, ◌≤◌, ◌+◌, ℕ, List, [], ◌∷◌, ◌++◌, Some, None, true, false, not, ◌==◌, length, get_or, set, refl, sym, ◌∙◌, ap, subst, inl, inr, arith}
+use Rattle.std.proofs.Common.{◌≡◌, ◌≢◌, ◌<◌, ◌≤◌, ◌+◌, ℕ, List, [], ◌∷◌, ◌++◌, None, true, false, not, ◌==◌, length, get_or, set, refl, sym, ◌∙◌, ap, subst, inl, inr, arith}
 use Rattle.std.specs.Prelude.{Contains, Any}
 use Rattle.std.proofs.Math.ListN.{length-set}
 use Rattle.std.proofs.lemmas.List.Elements.{All-contains, Contains-push}
@@ -7,11 +7,13 @@ use Rattle.std.proofs.lemmas.Bool.{cases_eq}
 use Rattle.mark_core.specs.declared.words.Clean.{Clean}
 use Rattle.mark_core.specs.declared.words.Place.{Place}
 use Rattle.mark_core.specs.declared.words.Held.{Held}
-use Rattle.mark_core.specs.Place.{StoresClean, StoresValue, place_at, words_of}
+use Rattle.mark_core.specs.Place.{place_at, words_of}
+use Rattle.mark_core.proofs.Stores.{StoresClean, StoresValue}
 use Rattle.mark_core.specs.Mark.{IsPrefix}
-use Rattle.mark_core.specs.State.{View, State, view_at, spent_view}
-use Rattle.mark_core.specs.View.{took, hold_with, wrote, gave_back}
-use Rattle.mark_core.specs.Permission.{MayRead, MayClaim, MayPut, MayFinish}
+use Rattle.mark_core.specs.declared.actors.View.{View}
+use Rattle.mark_core.specs.State.{State, view_at, spent_view}
+use Rattle.mark_core.specs.View.{with_hold, hold_with, with_put, without_hold}
+use Rattle.mark_core.specs.Permission.{MayStepAt, MayClaim, MayPut, MayFinish}
 use Rattle.mark_core.specs.Step.{after_claim, after_put, after_finish}
 use Rattle.mark_core.specs.Honest.{IsRightMark, IsRightHold, IsRightRead, IsRightView, HoldsPlace, IsHonest}
 use Rattle.mark_core.proofs.Places.{values_after_claim, claim_advances, values_after_put, put_advances, values_after_finish, finish_advances}
@@ -39,9 +41,9 @@ module _ {E : Type 0} (places : ℕ) (worth : List E → ℕ → ℕ) (touches :
 
   -- which places the views hold after a claim of this one
   holds_more : (view place first other : ℕ) → view < length s.views → HoldsPlace (view_at s first) other
-      → HoldsPlace (get_or (set s.views view (took (view_at s view) place)) first spent_view) other
+      → HoldsPlace (get_or (set s.views view (with_hold (view_at s view) place)) first spent_view) other
   holds_more view place first other lt h =
-      elim (set_cases s.views view (took (view_at s view) place) spent_view first lt) [
+      elim (set_cases s.views view (with_hold (view_at s view) place) spent_view first lt) [
         | inl p ↦
             subst (λ (v : View (List E)). HoldsPlace v other) (sym p.1)
             (any_append_left (λ (hold : Held). hold.place ≡ other) (view_at s view).holds (record { place = place; word = None } ∷ [])
@@ -50,9 +52,9 @@ module _ {E : Type 0} (places : ℕ) (worth : List E → ℕ → ℕ) (touches :
       ]
 
   held_before : (view place first other : ℕ) → view < length s.views → other ≢ place
-      → HoldsPlace (get_or (set s.views view (took (view_at s view) place)) first spent_view) other → HoldsPlace (view_at s first) other
+      → HoldsPlace (get_or (set s.views view (with_hold (view_at s view) place)) first spent_view) other → HoldsPlace (view_at s first) other
   held_before view place first other lt differs h =
-      elim (set_cases s.views view (took (view_at s view) place) spent_view first lt) [
+      elim (set_cases s.views view (with_hold (view_at s view) place) spent_view first lt) [
         | inl p ↦
             elim (any_push_cases (λ (hold : Held). hold.place ≡ other) (view_at s view).holds (record { place = place; word = None })
             (subst (λ (v : View (List E)). HoldsPlace v other) p.1 h)) [
@@ -63,14 +65,14 @@ module _ {E : Type 0} (places : ℕ) (worth : List E → ℕ → ℕ) (touches :
       ]
 
   claimer : (view place first : ℕ) → view < length s.views → (place_at s.places place).clean.held ≡ false
-      → HoldsPlace (get_or (set s.views view (took (view_at s view) place)) first spent_view) place → first ≡ view
+      → HoldsPlace (get_or (set s.views view (with_hold (view_at s view) place)) first spent_view) place → first ≡ view
   claimer view place first lt free h =
-      elim (set_cases s.views view (took (view_at s view) place) spent_view first lt) [
+      elim (set_cases s.views view (with_hold (view_at s view) place) spent_view first lt) [
         | inl p ↦ p.0
         | inr p ↦ absurd (none_holds first place free (subst (λ (v : View (List E)). HoldsPlace v place) p.1 h))
       ]
 
-  pub claim_keeps : (view place : ℕ) (seen : Clean) → MayRead (length s.places) (view_at s view) place → MayClaim (view_at s view) place seen
+  pub claim_keeps : (view place : ℕ) (seen : Clean) → MayStepAt (length s.places) (view_at s view) place → MayClaim (view_at s view) place seen
       → (place_at s.places place).clean ≡ seen → IsHonest places worth touches codeless (after_claim s view place seen)
   claim_keeps view place seen may claim found =
       let held : Clean = record { upto = seen.upto; held = true } in
@@ -82,7 +84,7 @@ module _ {E : Type 0} (places : ℕ) (worth : List E → ℕ → ℕ) (touches :
       let read_mark : (place_at s.places claim.read.place).mark ≡ (place_at s.places place).mark = ap (λ p. (place_at s.places p).mark) claim.ground.same_place in
       let stale : seen.upto ≤ (place_at s.places place).mark = omega (arith, claim.ground.stale, read.mark_below) in
       let free : (place_at s.places place).clean.held ≡ false = ap (λ (x : Clean). x.held) found ∙ claim.free in
-      let new : View (List E) = took (view_at s view) place in
+      let new : View (List E) = with_hold (view_at s view) place in
       record {
         count = length-set s.places place (record (place_at s.places place) { clean = held }) ∙ honest.count;
         editor_live = set_keeps (λ (v : View (List E)). v.spent) s.views view new spent_view lt refl 0 ∙ honest.editor_live;
@@ -143,9 +145,9 @@ module _ {E : Type 0} (places : ℕ) (worth : List E → ℕ → ℕ) (touches :
 
   -- which places the views hold after a put of this one
   wrote_holds : (view place word first other : ℕ) → view < length s.views → HoldsPlace (view_at s first) other
-      → HoldsPlace (get_or (set s.views view (wrote (view_at s view) place word)) first spent_view) other
+      → HoldsPlace (get_or (set s.views view (with_put (view_at s view) place word)) first spent_view) other
   wrote_holds view place word first other lt h =
-      elim (set_cases s.views view (wrote (view_at s view) place word) spent_view first lt) [
+      elim (set_cases s.views view (with_put (view_at s view) place word) spent_view first lt) [
         | inl p ↦
             subst (λ (v : View (List E)). HoldsPlace v other) (sym p.1)
             (any_map (λ (hold : Held). hold.place ≡ other) (hold_with place word) (λ hold e. hold_place place word hold ∙ e) (view_at s view).holds
@@ -154,9 +156,9 @@ module _ {E : Type 0} (places : ℕ) (worth : List E → ℕ → ℕ) (touches :
       ]
 
   wrote_held : (view place word first other : ℕ) → view < length s.views
-      → HoldsPlace (get_or (set s.views view (wrote (view_at s view) place word)) first spent_view) other → HoldsPlace (view_at s first) other
+      → HoldsPlace (get_or (set s.views view (with_put (view_at s view) place word)) first spent_view) other → HoldsPlace (view_at s first) other
   wrote_held view place word first other lt h =
-      elim (set_cases s.views view (wrote (view_at s view) place word) spent_view first lt) [
+      elim (set_cases s.views view (with_put (view_at s view) place word) spent_view first lt) [
         | inl p ↦
             subst (λ (i : ℕ). HoldsPlace (view_at s i) other) (sym p.0)
             (any_from_map (λ (hold : Held). hold.place ≡ other) (hold_with place word) (λ hold e. sym (hold_place place word hold) ∙ e) (view_at s view).holds
@@ -164,14 +166,14 @@ module _ {E : Type 0} (places : ℕ) (worth : List E → ℕ → ℕ) (touches :
         | inr p ↦ subst (λ (v : View (List E)). HoldsPlace v other) p.1 h
       ]
 
-  pub put_keeps : (view place word : ℕ) → MayRead (length s.places) (view_at s view) place → MayPut worth (view_at s view) place word
+  pub put_keeps : (view place word : ℕ) → MayStepAt (length s.places) (view_at s view) place → MayPut worth (view_at s view) place word
       → IsHonest places worth touches codeless (after_put s view place word)
   put_keeps view place word may put =
       let after : List Place = set s.places place (record (place_at s.places place) { value = word }) in
       let lt : view < length s.views = live_within s.views view may.live in
       let stores : StoresValue (words_of s.places) (words_of after) place word = stores_value s.places place may.there word in
       let stale : (place_at s.places place).clean.upto ≤ (place_at s.places place).mark = held_stale view place put.hold may.there put.among put.same_place in
-      let new : View (List E) = wrote (view_at s view) place word in
+      let new : View (List E) = with_put (view_at s view) place word in
       record {
         count = length-set s.places place (record (place_at s.places place) { value = word }) ∙ honest.count;
         editor_live = set_keeps (λ (v : View (List E)). v.spent) s.views view new spent_view lt refl 0 ∙ honest.editor_live;
@@ -202,9 +204,9 @@ module _ {E : Type 0} (places : ℕ) (worth : List E → ℕ → ℕ) (touches :
 
   -- which places the views hold after a finish of this one
   gave_holds : (view place mark first other : ℕ) → view < length s.views → other ≢ place → HoldsPlace (view_at s first) other
-      → HoldsPlace (get_or (set s.views view (gave_back (view_at s view) place mark)) first spent_view) other
+      → HoldsPlace (get_or (set s.views view (without_hold (view_at s view) place mark)) first spent_view) other
   gave_holds view place mark first other lt differs h =
-      elim (set_cases s.views view (gave_back (view_at s view) place mark) spent_view first lt) [
+      elim (set_cases s.views view (without_hold (view_at s view) place mark) spent_view first lt) [
         | inl p ↦
             subst (λ (v : View (List E)). HoldsPlace v other) (sym p.1)
             (any_filter (λ (hold : Held). hold.place ≡ other) (λ hold. not (hold.place == place))
@@ -214,9 +216,9 @@ module _ {E : Type 0} (places : ℕ) (worth : List E → ℕ → ℕ) (touches :
       ]
 
   gave_held : (view place mark first other : ℕ) → view < length s.views
-      → HoldsPlace (get_or (set s.views view (gave_back (view_at s view) place mark)) first spent_view) other → HoldsPlace (view_at s first) other
+      → HoldsPlace (get_or (set s.views view (without_hold (view_at s view) place mark)) first spent_view) other → HoldsPlace (view_at s first) other
   gave_held view place mark first other lt h =
-      elim (set_cases s.views view (gave_back (view_at s view) place mark) spent_view first lt) [
+      elim (set_cases s.views view (without_hold (view_at s view) place mark) spent_view first lt) [
         | inl p ↦
             let kept : Any (λ (hold : Held). (hold.place ≡ other) × (not (hold.place == place) ≡ true)) (view_at s view).holds =
             any_from_filter (λ (hold : Held). hold.place ≡ other) (λ hold. not (hold.place == place)) (view_at s view).holds
@@ -225,37 +227,38 @@ module _ {E : Type 0} (places : ℕ) (worth : List E → ℕ → ℕ) (touches :
         | inr p ↦ subst (λ (v : View (List E)). HoldsPlace v other) p.1 h
       ]
 
-  pub finish_keeps : (view place mark : ℕ) → MayRead (length s.places) (view_at s view) place → MayFinish worth touches (view_at s view) place mark
+  pub finish_keeps : (view place mark : ℕ) → MayStepAt (length s.places) (view_at s view) place → MayFinish worth touches (view_at s view) place mark
       → IsHonest places worth touches codeless (after_finish s view place mark)
   finish_keeps view place mark may finish =
       let free : Clean = record { upto = mark + 1; held = false } in
       let after : List Place = set s.places place (record (place_at s.places place) { clean = free }) in
-      let hold : Held = record { place = place; word = Some finish.word } in
+      let hold : Held = finish.hold in
+      let same : hold.place ≡ place = finish.marked.same_place in
       let lt : view < length s.views = live_within s.views view may.live in
       let stores : StoresClean (words_of s.places) (words_of after) place free = stores_clean s.places place may.there free in
-      let stale : (place_at s.places place).clean.upto ≤ (place_at s.places place).mark = held_stale view place hold may.there finish.among refl in
+      let stale : (place_at s.places place).clean.upto ≤ (place_at s.places place).mark = held_stale view place hold may.there finish.among same in
       let below : IsPrefix (view_at s view).log s.edits.log = (honest.views view).log.known_prefix in
       let right : IsRightHold worth (words_of s.places) (view_at s view).log hold =
       All-contains (IsRightHold worth (words_of s.places) (view_at s view).log) (view_at s view).holds hold (honest.views view).holds finish.among in
-      let new : View (List E) = gave_back (view_at s view) place mark in
+      let new : View (List E) = without_hold (view_at s view) place mark in
       record {
         count = length-set s.places place (record (place_at s.places place) { clean = free }) ∙ honest.count;
         editor_live = set_keeps (λ (v : View (List E)). v.spent) s.views view new spent_view lt refl 0 ∙ honest.editor_live;
         editor_log = set_keeps (λ (v : View (List E)). v.log) s.views view new spent_view lt refl 0 ∙ honest.editor_log;
         marks = λ other there. subst (λ (m : ℕ). IsRightMark touches s.edits other m) (sym (stores.marks other)) (honest.marks other there);
         values = λ other there.
-            values_after_finish worth touches codeless s.edits (words_of s.places) (words_of after) (view_at s view).log place finish.word mark below
-            finish.computed (law place may.there) stores (right.put finish.word refl) other (honest.marks other there) (honest.values other there);
+            values_after_finish worth touches codeless s.edits (words_of s.places) (words_of after) (view_at s view).log place finish.marked.word mark below
+            finish.marked.computed (law place may.there) stores (ap (λ p. (place_at s.places p).value) (sym same) ∙ right.put finish.marked.word finish.marked.put) other (honest.marks other there) (honest.values other there);
         views =
             each_after_set (IsRightView worth touches codeless s.edits (words_of after)) s.views view new lt
-            (view_gave_back worth touches codeless s.edits (words_of s.places) (words_of after) (view_at s view) place finish.word mark
-            finish.computed (law place may.there) stale stores (honest.marks place (within place may.there)) (honest.views view))
+            (view_gave_back worth touches codeless s.edits (words_of s.places) (words_of after) (view_at s view) place finish.marked.word mark
+            finish.marked.computed (law place may.there) stale stores (honest.marks place (within place may.there)) (honest.views view))
             (λ other differs.
             view_stays worth touches codeless s.edits s.edits (words_of s.places) (words_of after) (view_at s other)
-            (finish_advances worth touches codeless s.edits (words_of s.places) (words_of after) (view_at s view).log place finish.word mark below
-            finish.computed (law place may.there) stores stale)
+            (finish_advances worth touches codeless s.edits (words_of s.places) (words_of after) (view_at s view).log place finish.marked.word mark below
+            finish.marked.computed (law place may.there) stores stale)
             (λ hold' among h. (
-              stores.cleans hold'.place (held_apart view other place hold' hold differs finish.among refl among),
+              stores.cleans hold'.place (held_apart view other place hold' hold differs finish.among same among),
               stores.values hold'.place,
             ))
             (honest.views other));

@@ -1,17 +1,17 @@
 -- What holds in every state that allowed events can reach, part by part.
-use Rattle.std.specs.Prelude.{◌≡◌, ◌<◌, ◌≤◌, ◌+◌, ◌⊎◌, ℕ, List, Some, true, false, length, take, Contains, All, Any}
+use Rattle.std.specs.Prelude.{◌≡◌, ◌<◌, ◌≤◌, ◌+◌, ◌⊎◌, ℕ, List, Some, true, false, length, Contains, All, Any}
 use Rattle.mark_core.specs.declared.words.Clean.{Clean}
 use Rattle.mark_core.specs.declared.words.Known.{Known}
 use Rattle.mark_core.specs.declared.words.Half.{Half}
 use Rattle.mark_core.specs.declared.words.Finished.{Finished}
 use Rattle.mark_core.specs.declared.words.Held.{Held}
-use Rattle.mark_core.specs.declared.answers.Seen.{Seen}
-use Rattle.mark_core.specs.declared.answers.Seen.TheVariants.{Value, Stale, Newer}
-use Rattle.mark_core.specs.Answer.{Shows}
 use Rattle.mark_core.specs.Place.{Words, words_of}
-use Rattle.mark_core.specs.Mark.{IsPrefix, IsTouched, IsLastMark}
-use Rattle.mark_core.specs.State.{Edits, View, State, entries_of, view_at}
+use Rattle.mark_core.specs.Mark.{IsPrefix, IsLastMark}
+use Rattle.mark_core.specs.declared.actors.Edits.{Edits}
+use Rattle.mark_core.specs.declared.actors.View.{View}
+use Rattle.mark_core.specs.State.{State, view_at}
 use Rattle.mark_core.specs.Permission.{IsLive, IsWorthKnown}
+use Rattle.mark_core.specs.Legal.{MeetsFloor, IsLegalRead}
 
 module _ {E : Type 0} (touches : List E → E → ℕ → Type 0) where
   -- the place is marked for the pending entry, which touches it
@@ -31,13 +31,17 @@ module _ {E : Type 0} (touches : List E → E → ℕ → Type 0) where
   abbrev pub IsRightMark : Edits E → ℕ → ℕ → Type 0
   IsRightMark edits place mark = IsPendingMark edits place mark ⊎ IsSettledMark edits place mark
 
--- The clean word and the value of a place: it was computed for no mark that is still to come; never only
--- where the opening gave no code; the value is the worth where it was computed for the present mark; and a
--- held place is stale.
-pub record IsRightValue {E : Type 0} (worth : List E → ℕ → ℕ) (codeless : ℕ → Type 0) (log : List E) (place mark : ℕ) (clean : Clean) (value : ℕ) : Type 0 where
+-- What a clean word says of a place: it was computed for no mark that is still to come, and never only where
+-- the opening gave no code.
+pub record IsRightUpto (codeless : ℕ → Type 0) (count place mark : ℕ) (clean : Clean) : Type 0 where
   pub upto_mark : clean.upto ≤ mark + 1
-  pub upto_log : clean.upto ≤ length log + 1
+  pub upto_log : clean.upto ≤ count + 1
   pub never : clean.upto ≡ 0 → codeless place
+
+-- The clean word and the value of a place: the value is the worth where it was computed for the present mark,
+-- and a held place is stale.
+pub record IsRightValue {E : Type 0} (worth : List E → ℕ → ℕ) (codeless : ℕ → Type 0) (log : List E) (place mark : ℕ) (clean : Clean) (value : ℕ) : Type 0 where
+  pub upto : IsRightUpto codeless (length log) place mark clean
   pub current : clean.upto ≡ mark + 1 → value ≡ worth log place
   pub held : clean.held ≡ true → clean.upto ≤ mark
 
@@ -64,39 +68,11 @@ pub record IsStillThere (words : Words) (half : Half) : Type 0 where
   pub free : half.clean.held ≡ false
   pub word : (word : ℕ) → half.word ≡ Some word → words.value half.place ≡ word
 
--- the mark is at least the floor, or the place was read as computed for the mark that gave the floor
-abbrev pub MeetsFloor : ℕ → ℕ → ℕ → Type 0
-MeetsFloor mark floor upto = (floor ≤ mark) ⊎ ((mark + 1 ≡ floor) × (upto ≡ floor))
-
 -- A begun read: what it read stays believable whatever the other views do.
 pub record IsRightHalf (codeless : ℕ → Type 0) (count : ℕ) (words : Words) (half : Half) : Type 0 where
-  pub upto_mark : half.clean.upto ≤ words.mark half.place + 1
-  pub upto_log : half.clean.upto ≤ count + 1
-  pub never : half.clean.upto ≡ 0 → codeless half.place
+  pub upto : IsRightUpto codeless count half.place (words.mark half.place) half.clean
   pub stale : (half.clean.upto ≤ words.mark half.place) ⊎ IsStillThere words half
   pub floor : MeetsFloor (words.mark half.place) half.floor half.clean.upto
-
--- What a read may show of a place at a number of commits, where the log has `count` entries and `entries`
--- has the pending one too.
-abbrev pub IsLegalAnswer : {E : Type 0} → (List E → ℕ → ℕ) → (List E → E → ℕ → Type 0) → (ℕ → Type 0) → ℕ → List E → ℕ → ℕ → ℕ → Seen → Type 0
--- a value is the worth after that many entries, and was read with the last mark in them
-IsLegalAnswer worth touches codeless count entries number place mark (Value word) =
-    (word ≡ worth (take number entries) place) × IsLastMark touches (take number entries) place mark
--- a stale mark is the last one in that many entries, and 0 only where the opening gave no code; or it is
--- that of a later entry, which touches the place
-IsLegalAnswer worth touches codeless count entries number place mark (Stale shown) =
-    ((shown ≤ number) × IsLastMark touches (take number entries) place shown × (shown ≡ 0 → codeless place))
-    ⊎ ((number < shown) × IsTouched touches entries place shown)
--- a newer mark is that of a later entry of the log, which touches the place
-IsLegalAnswer worth touches codeless count entries number place mark (Newer shown) =
-    (number < shown) × (shown ≤ count) × IsTouched touches entries place shown
-
--- A finished read with this word is legal: its number is within the log, and whatever it shows may be shown.
-pub record IsLegalRead {E : Type 0} (worth : List E → ℕ → ℕ) (touches : List E → E → ℕ → Type 0) (codeless : ℕ → Type 0) (edits : Edits E) (read : Finished) (word : ℕ) : Type 0 where
-  pub within : read.number ≤ length edits.log
-  pub legal :
-      (shown : Seen) → Shows read.number read.clean word read.mark shown
-      → IsLegalAnswer worth touches codeless (length edits.log) (entries_of edits) read.number read.place read.mark shown
 
 -- A finished read: its mark hasn't fallen since, it met its floor, and with a word it is legal.
 pub record IsRightRead {E : Type 0} (worth : List E → ℕ → ℕ) (touches : List E → E → ℕ → Type 0) (codeless : ℕ → Type 0) (edits : Edits E) (words : Words) (read : Finished) : Type 0 where

@@ -5,8 +5,11 @@ pub mod State
 pub mod View
 pub mod Permission
 pub mod Step
+pub mod Legal
 pub mod Honest
 pub mod Run
+pub mod Growth
+pub mod Law
 pub mod Kept
 pub mod Core
 pub mod TwoCells

@@ -1,5 +1,5 @@
 -- Which entry of a list last touched a place.
-use Rattle.std.specs.Prelude.{◌≡◌, ◌<◌, ◌≤◌, ◌-◌, ℕ, List, ◌++◌, Some, length, take, slice_get}
+use Rattle.std.specs.Prelude.{◌≡◌, ◌<◌, ◌≤◌, ◌+◌, ◌-◌, ℕ, List, ◌++◌, Some, length, take, slice_get}
 
 -- the second list goes on from the first
 pub record IsPrefix {X : Type 0} (xs ys : List X) : Type 0 where
@@ -18,3 +18,8 @@ pub record IsLastMark {E : Type 0} (touches : List E → E → ℕ → Type 0) (
   pub within : mark ≤ length entries
   pub touched : 0 < mark → IsTouched touches entries place mark
   pub none_later : (number : ℕ) → mark < number → number ≤ length entries → IsTouched touches entries place number → ⊥
+
+-- no entry from this index on touches the place
+abbrev pub NoneTouches : {E : Type 0} → (List E → E → ℕ → Type 0) → List E → ℕ → ℕ → Type 0
+NoneTouches touches entries place from =
+    (index : ℕ) → from ≤ index → index < length entries → IsTouched touches entries place (index + 1) → ⊥

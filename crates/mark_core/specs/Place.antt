@@ -1,6 +1,6 @@
 -- The words of the places, each kind as a function of the place, so that a list of places and a table of
 -- words have one meaning.
-use Rattle.std.specs.Prelude.{◌≡◌, ◌≢◌, ℕ, List, Option, Some, None, false, slice_index_or}
+use Rattle.std.specs.Prelude.{ℕ, List, Option, Some, None, false, slice_index_or}
 use Rattle.mark_core.specs.declared.words.Clean.{Clean}
 use Rattle.mark_core.specs.declared.words.Place.{Place}
 
@@ -10,35 +10,14 @@ pub record Words : Type 0 where
   pub clean : ℕ → Clean
   pub value : ℕ → ℕ
 
--- one mark word is stored, and no other word changes
-pub record StoresMark (before after : Words) (place number : ℕ) : Type 0 where
-  pub stored : after.mark place ≡ number
-  pub marks : (other : ℕ) → other ≢ place → after.mark other ≡ before.mark other
-  pub cleans : (other : ℕ) → after.clean other ≡ before.clean other
-  pub values : (other : ℕ) → after.value other ≡ before.value other
-
--- one clean word is stored, and no other word changes
-pub record StoresClean (before after : Words) (place : ℕ) (clean : Clean) : Type 0 where
-  pub stored : after.clean place ≡ clean
-  pub marks : (other : ℕ) → after.mark other ≡ before.mark other
-  pub cleans : (other : ℕ) → other ≢ place → after.clean other ≡ before.clean other
-  pub values : (other : ℕ) → after.value other ≡ before.value other
-
--- one value is stored, and no other word changes
-pub record StoresValue (before after : Words) (place word : ℕ) : Type 0 where
-  pub stored : after.value place ≡ word
-  pub marks : (other : ℕ) → after.mark other ≡ before.mark other
-  pub cleans : (other : ℕ) → after.clean other ≡ before.clean other
-  pub values : (other : ℕ) → other ≢ place → after.value other ≡ before.value other
-
 -- a place that no event has reached and for which no value was given
 abbrev pub blank_place : Place
 blank_place = record { mark = 0; clean = record { upto = 0; held = false }; value = 0 }
 
 -- a place as it opens: with the code that it was given, or with none
-abbrev pub opened : Option ℕ → Place
-opened None = record { mark = 0; clean = record { upto = 0; held = false }; value = 0 }
-opened (Some code) = record { mark = 0; clean = record { upto = 1; held = false }; value = code }
+abbrev pub opening_place : Option ℕ → Place
+opening_place None = blank_place
+opening_place (Some code) = record { mark = 0; clean = record { upto = 1; held = false }; value = code }
 
 -- the place with this number
 abbrev pub place_at : List Place → ℕ → Place

@@ -1,46 +1,15 @@
 -- The state of the machine: the edits, the places and the views.
-use Rattle.std.specs.Prelude.{ℕ, List, [], ◌∷◌, ◌++◌, Option, None, Bool, true, false, map, slice_index_or, slice_set}
+use Rattle.std.specs.Prelude.{ℕ, List, [], ◌∷◌, ◌++◌, Option, None, true, false, map, slice_index_or, slice_set}
 use Rattle.std.specs.Option.{option_to_list}
+use Rattle.mark_core.specs.declared.actors.Edits.{Edits}
+use Rattle.mark_core.specs.declared.actors.View.{View}
 use Rattle.mark_core.specs.declared.words.Place.{Place}
 use Rattle.mark_core.specs.declared.words.Known.{Known}
-use Rattle.mark_core.specs.declared.words.Half.{Half}
-use Rattle.mark_core.specs.declared.words.Finished.{Finished}
-use Rattle.mark_core.specs.declared.words.Held.{Held}
-use Rattle.mark_core.specs.declared.words.Lost.{Lost}
-use Rattle.mark_core.specs.Place.{opened}
-
--- the log of committed entries, the entry that is being marked, and the places marked for it
-pub record Edits (E : Type 0) : Type 0 where
-  pub log : List E
-  pub pending : Option E
-  pub marked : List ℕ
+use Rattle.mark_core.specs.Place.{opening_place}
 
 -- the log with the pending entry, if there is one, at its end
 abbrev pub entries_of : {E : Type 0} → Edits E → List E
 entries_of edits = edits.log ++ option_to_list edits.pending
-
--- what one actor knows and has done
-pub record View (L : Type 0) : Type 0 where
-  -- whether it was joined into another view
-  pub spent : Bool
-  -- the entries that it knows: the list of them, or how many of the log they are
-  pub log : L
-  -- the greatest count of commits that it has seen
-  pub seen : ℕ
-  -- the counts that its see events loaded, in order
-  pub sees : List ℕ
-  -- places that it knows as computed for a mark
-  pub known : List Known
-  -- its begun read
-  pub half : Option Half
-  -- its finished reads
-  pub reads : List Finished
-  -- the places that it holds
-  pub holds : List Held
-  -- what it finished, one for each finish
-  pub done : List Known
-  -- what its refused claims found, one for each refused claim
-  pub lost : List Lost
 
 -- a view that was joined into another, with nothing but this for its log
 abbrev pub spent_with : {L : Type 0} → L → View L
@@ -98,6 +67,6 @@ abbrev pub opening_state : {E : Type 0} → List (Option ℕ) → State E
 opening_state opening =
     record {
       edits = record { log = []; pending = None; marked = [] };
-      places = map opened opening;
+      places = map opening_place opening;
       views = new_view [] 0 [] ∷ [];
     }

@@ -8,8 +8,9 @@ use Rattle.mark_core.specs.declared.events.Outcome.{Outcome}
 use Rattle.mark_core.specs.declared.events.Outcome.TheVariants.{Done, Count, Word, Claimed, Seat}
 use Rattle.mark_core.specs.declared.events.Outcome.TheVariants.{Clean as AnswersClean, Mark as AnswersMark}
 use Rattle.mark_core.specs.Place.{place_at}
-use Rattle.mark_core.specs.State.{Edits, State, view_at, with_view, spent_view}
-use Rattle.mark_core.specs.View.{saw, committed, split_off, joined, began, valued, finished, took, missed, wrote, gave_back}
+use Rattle.mark_core.specs.declared.actors.Edits.{Edits}
+use Rattle.mark_core.specs.State.{State, view_at, with_view, spent_view}
+use Rattle.mark_core.specs.View.{with_count, with_entry, split_off, union_of, with_half, with_value, with_read_end, with_hold, with_loss, with_put, without_hold}
 use Rattle.mark_core.specs.Permission.{Allowed}
 
 -- the state with another place in place of this one
@@ -26,9 +27,11 @@ marks_for edits entry place =
 abbrev pub commits : {E : Type 0} → Edits E → E → Edits E
 commits edits entry = record { log = edits.log ++ entry ∷ []; pending = None; marked = [] }
 
+-- the view has seen how many entries the log has
 abbrev pub after_see : {E : Type 0} → State E → ℕ → State E
-after_see s view = with_view s view (saw (view_at s view) (length s.edits.log))
+after_see s view = with_view s view (with_count (view_at s view) (length s.edits.log))
 
+-- the place has the number of the next entry for its mark, and the entry is pending
 abbrev pub after_mark : {E : Type 0} → State E → E → ℕ → State E
 after_mark s entry place =
     record {
@@ -37,51 +40,61 @@ after_mark s entry place =
       views = s.views;
     }
 
+-- the entry is in the log, and the view that committed it knows it
 abbrev pub after_commit : {E : Type 0} → State E → ℕ → E → State E
 after_commit s view entry =
     record {
       edits = commits s.edits entry;
       places = s.places;
-      views = slice_set s.views view (committed (view_at s view) entry);
+      views = slice_set s.views view (with_entry (view_at s view) entry);
     }
 
+-- a new view stands after the others, which knows what this one does
 abbrev pub after_split : {E : Type 0} → State E → ℕ → State E
 after_split s view =
     record { edits = s.edits; places = s.places; views = s.views ++ split_off (view_at s view) ∷ [] }
 
+-- the view has what both had, and the other is spent
 abbrev pub after_join : {E : Type 0} → State E → ℕ → ℕ → State E
 after_join s view other =
-    with_view (with_view s view (joined (view_at s view) (view_at s other))) other spent_view
+    with_view (with_view s view (union_of (view_at s view) (view_at s other))) other spent_view
 
+-- the view has begun a read of the place
 abbrev pub after_read_clean : {E : Type 0} → State E → ℕ → ℕ → State E
 after_read_clean s view place =
-    with_view s view (began (view_at s view) place (place_at s.places place).clean)
+    with_view s view (with_half (view_at s view) place (place_at s.places place).clean)
 
+-- the begun read has the value, where it is a read of the place
 abbrev pub after_read_value : {E : Type 0} → State E → ℕ → ℕ → State E
 after_read_value s view place =
-    with_view s view (valued (view_at s view) place (place_at s.places place).value)
+    with_view s view (with_value (view_at s view) place (place_at s.places place).value)
 
+-- the begun read has ended with the mark, where it is a read of the place
 abbrev pub after_read_mark : {E : Type 0} → State E → ℕ → ℕ → State E
 after_read_mark s view place =
-    with_view s view (finished (view_at s view) place (place_at s.places place).mark)
+    with_view s view (with_read_end (view_at s view) place (place_at s.places place).mark)
 
+-- the view holds the place, whose clean word says so
 abbrev pub after_claim : {E : Type 0} → State E → ℕ → ℕ → Clean → State E
 after_claim s view place seen =
-    with_place (with_view s view (took (view_at s view) place)) place
+    with_place (with_view s view (with_hold (view_at s view) place)) place
     (record (place_at s.places place) { clean = record { upto = seen.upto; held = true } })
 
+-- the view has noted the clean word that it found
 abbrev pub after_refusal : {E : Type 0} → State E → ℕ → ℕ → State E
 after_refusal s view place =
-    with_view s view (missed (view_at s view) place (place_at s.places place).clean)
+    with_view s view (with_loss (view_at s view) place (place_at s.places place).clean)
 
+-- the place has the word, and the view has noted it at its hold
 abbrev pub after_put : {E : Type 0} → State E → ℕ → ℕ → ℕ → State E
 after_put s view place word =
-    with_place (with_view s view (wrote (view_at s view) place word)) place
+    with_place (with_view s view (with_put (view_at s view) place word)) place
     (record (place_at s.places place) { value = word })
 
+-- the place is free and computed for the mark, and the view holds it no more
 abbrev pub after_finish : {E : Type 0} → State E → ℕ → ℕ → ℕ → State E
 after_finish s view place mark =
-    with_place (with_view s view (gave_back (view_at s view) place mark)) place
+    with_place (with_view s view (without_hold (view_at s view) place mark)) place
     (record (place_at s.places place) { clean = record { upto = mark + 1; held = false } })
 
 -- the claim found the clean word that it expected, and holds the place

@@ -6,15 +6,16 @@ use Rattle.mark_core.specs.declared.words.Known.{Known}
 use Rattle.mark_core.specs.declared.words.Half.{Half}
 use Rattle.mark_core.specs.declared.words.Finished.{Finished}
 use Rattle.mark_core.specs.declared.words.Held.{Held}
-use Rattle.mark_core.specs.State.{View, new_view}
+use Rattle.mark_core.specs.declared.actors.View.{View}
+use Rattle.mark_core.specs.State.{new_view}
 
 -- after a load of the count of commits
-abbrev pub saw : {L : Type 0} → View L → ℕ → View L
-saw view count = record view { seen = count; sees = view.sees ++ count ∷ [] }
+abbrev pub with_count : {L : Type 0} → View L → ℕ → View L
+with_count view count = record view { seen = count; sees = view.sees ++ count ∷ [] }
 
 -- after a commit of the entry
-abbrev pub committed : {E : Type 0} → View (List E) → E → View (List E)
-committed view entry =
+abbrev pub with_entry : {E : Type 0} → View (List E) → E → View (List E)
+with_entry view entry =
     record view { log = view.log ++ entry ∷ []; seen = length view.log + 1 }
 
 -- a new view that knows what this one does
@@ -26,8 +27,8 @@ abbrev pub longer : {X : Type 0} → List X → List X → List X
 longer xs ys = if nat_lt (length xs) (length ys) then ys else xs
 
 -- the view that stays, after a join with the other that leaves it with this log
-abbrev pub joined_with : {L : Type 0} → L → View L → View L → View L
-joined_with log view other =
+abbrev pub union_with : {L : Type 0} → L → View L → View L → View L
+union_with log view other =
     record view {
       log = log;
       seen = max view.seen other.seen;
@@ -39,8 +40,8 @@ joined_with log view other =
     }
 
 -- the view that stays, with the longer log
-abbrev pub joined : {E : Type 0} → View (List E) → View (List E) → View (List E)
-joined view other = joined_with (longer view.log other.log) view other
+abbrev pub union_of : {E : Type 0} → View (List E) → View (List E) → View (List E)
+union_of view other = union_with (longer view.log other.log) view other
 
 -- one more than the greatest mark for which the place is known, and 0 where it isn't known
 abbrev pub floor_of : List Known → ℕ → ℕ
@@ -49,13 +50,13 @@ floor_of (pair ∷ known) place =
     if pair.place == place then max (pair.mark + 1) (floor_of known place) else floor_of known place
 
 -- a read of the place, of which only the clean word was loaded
-abbrev pub begun : {L : Type 0} → View L → ℕ → Clean → Half
-begun view place clean =
+abbrev pub new_half : {L : Type 0} → View L → ℕ → Clean → Half
+new_half view place clean =
     record { place = place; clean = clean; floor = floor_of view.known place; word = None }
 
 -- after a load of the clean word
-abbrev pub began : {L : Type 0} → View L → ℕ → Clean → View L
-began view place clean = record view { half = Some (begun view place clean) }
+abbrev pub with_half : {L : Type 0} → View L → ℕ → Clean → View L
+with_half view place clean = record view { half = Some (new_half view place clean) }
 
 -- the begun read with the word, where it is a read of this place
 abbrev pub with_word : Option Half → ℕ → ℕ → Option Half
@@ -64,8 +65,8 @@ with_word (Some half) place word =
     if half.place == place then Some (record half { word = Some word }) else Some half
 
 -- after a load of the value
-abbrev pub valued : {L : Type 0} → View L → ℕ → ℕ → View L
-valued view place word = record view { half = with_word view.half place word }
+abbrev pub with_value : {L : Type 0} → View L → ℕ → ℕ → View L
+with_value view place word = record view { half = with_word view.half place word }
 
 -- the read that a load of this mark ends
 abbrev pub read_of : ℕ → Half → ℕ → Finished
@@ -80,38 +81,38 @@ read_of number half mark =
     }
 
 -- what a read with a word tells of its place: that its value was computed for the mark
-abbrev pub learned : Half → ℕ → List Known
-learned half mark =
+abbrev pub known_from : Half → ℕ → List Known
+known_from half mark =
     if is_some half.word && (half.clean.upto == mark + 1)
     then record { place = half.place; mark = mark } ∷ []
     else []
 
 -- after the load of a mark that ends the read
-abbrev pub ended : {L : Type 0} → View L → Half → ℕ → View L
-ended view half mark =
+abbrev pub with_read : {L : Type 0} → View L → Half → ℕ → View L
+with_read view half mark =
     record view {
       half = None;
       reads = view.reads ++ read_of view.seen half mark ∷ [];
-      known = view.known ++ learned half mark;
+      known = view.known ++ known_from half mark;
     }
 
-abbrev pub ended_at : {L : Type 0} → View L → Option Half → ℕ → ℕ → View L
-ended_at view None place mark = view
-ended_at view (Some half) place mark =
-    if half.place == place then ended view half mark else view
+abbrev pub with_read_at : {L : Type 0} → View L → Option Half → ℕ → ℕ → View L
+with_read_at view None place mark = view
+with_read_at view (Some half) place mark =
+    if half.place == place then with_read view half mark else view
 
 -- after a load of the mark, which ends a begun read of this place
-abbrev pub finished : {L : Type 0} → View L → ℕ → ℕ → View L
-finished view place mark = ended_at view view.half place mark
+abbrev pub with_read_end : {L : Type 0} → View L → ℕ → ℕ → View L
+with_read_end view place mark = with_read_at view view.half place mark
 
 -- after a claim that took the place
-abbrev pub took : {L : Type 0} → View L → ℕ → View L
-took view place =
+abbrev pub with_hold : {L : Type 0} → View L → ℕ → View L
+with_hold view place =
     record view { holds = view.holds ++ record { place = place; word = None } ∷ [] }
 
 -- after a claim that was refused and found this clean word
-abbrev pub missed : {L : Type 0} → View L → ℕ → Clean → View L
-missed view place found =
+abbrev pub with_loss : {L : Type 0} → View L → ℕ → Clean → View L
+with_loss view place found =
     record view { lost = view.lost ++ record { place = place; found = found } ∷ [] }
 
 -- the held place with the word, where it is this one
@@ -120,12 +121,12 @@ hold_with place word hold =
     if hold.place == place then record hold { word = Some word } else hold
 
 -- after a put of the word
-abbrev pub wrote : {L : Type 0} → View L → ℕ → ℕ → View L
-wrote view place word = record view { holds = map (hold_with place word) view.holds }
+abbrev pub with_put : {L : Type 0} → View L → ℕ → ℕ → View L
+with_put view place word = record view { holds = map (hold_with place word) view.holds }
 
 -- after a finish for the mark
-abbrev pub gave_back : {L : Type 0} → View L → ℕ → ℕ → View L
-gave_back view place mark =
+abbrev pub without_hold : {L : Type 0} → View L → ℕ → ℕ → View L
+without_hold view place mark =
     record view {
       holds = filter (λ hold. not (hold.place == place)) view.holds;
       known = view.known ++ record { place = place; mark = mark } ∷ [];

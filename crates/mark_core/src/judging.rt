@@ -2,10 +2,10 @@
 
 ghost use Rattle.std.specs.Prelude.{◌≡◌, ◌<◌, ◌+◌, ◌↔◌, ◌⊎◌, ◌^◌, ◌≤◌, ℕ, length, IsTrue, IfOk, Contains, Any, Some, None};
 ghost use Rattle.mark_core.specs.declared.events.Event.{Event};
-ghost use Rattle.mark_core.specs.Mark.{IsTouched, IsLastMark};
+ghost use Rattle.mark_core.specs.Mark.{IsTouched, IsLastMark, NoneTouches};
 ghost use Rattle.mark_core.specs.State.{State, view_at};
-ghost use Rattle.mark_core.specs.Core.{state_of, subject_of};
-ghost use Rattle.mark_core.specs.Permission.{IsLive, MayMark, MayCommit, MayJoin, MayClaim, MayPut, MayFinish, IsWorthKnown, IsWorthMarked, IsGround, IsMarkedHold, Allowed};
+ghost use Rattle.mark_core.specs.Core.{state_of, Allows};
+ghost use Rattle.mark_core.specs.Permission.{IsLive, MayMark, MayCommit, MayJoin, MayClaim, MayPut, MayFinish, IsWorthKnown, IsWorthMarked, IsGround, IsMarkedHold, Belong};
 
 use crate::events::Event;
 use crate::protocol::Core;
@@ -22,7 +22,8 @@ fn touched<S: Judge>(
     index: usize,
 ) -> Result<bool, Memory>
     requires { index < length log.now }
-    ensures { IfOk result (λ b. IsTrue b ↔ IsTouched (S.touches subject.now) log.now place (index + 1)) }
+    ensures { IfOk result
+        (λ b. IsTrue b ↔ IsTouched (S.touches subject.now) log.now place (index + 1)) }
 {
     subject.touches_now(alloc, &log[..index], &log[index], place)
 }
@@ -52,7 +53,8 @@ fn is_mark<S: Judge>(
     mark: usize,
 ) -> Result<bool, Memory>
     requires { mark ≤ length log.now }
-    ensures { IfOk result (λ b. IsTrue b ↔ (0 < mark → IsTouched (S.touches subject.now) log.now place mark)) }
+    ensures { IfOk result
+        (λ b. IsTrue b ↔ (0 < mark → IsTouched (S.touches subject.now) log.now place mark)) }
 {
     if mark == 0 {
         return Ok(true);
@@ -69,7 +71,7 @@ fn none_touched<S: Judge>(
     from: usize,
 ) -> Result<bool, Memory>
     ensures { IfOk result
-        (λ b. IsTrue b ↔ ((index : ℕ) → from ≤ index → index < length log.now → IsTouched (S.touches subject.now) log.now place (index + 1) → ⊥)) }
+        (λ b. IsTrue b ↔ NoneTouches (S.touches subject.now) log.now place from) }
 {
     for index in from..log.len() {
         if touched(alloc, subject, log, place, index)? {
@@ -89,7 +91,7 @@ fn belongs<S: Judge>(
     mark: u64,
 ) -> Result<bool, Memory>
     ensures { IfOk result
-        (λ b. IsTrue b ↔ ((S.worth subject.now log.now place ≡ word) × IsLastMark (S.touches subject.now) log.now place mark)) }
+        (λ b. IsTrue b ↔ Belong S.worth S.touches subject.now log.now place word mark) }
 {
     if subject.worth_now(alloc, log, place)? != word {
         return Ok(false);
@@ -125,7 +127,8 @@ fn knows_marked<S: Judge>(
     mark: u64,
 ) -> Result<bool, Memory>
     ensures { IfOk result
-        (λ b. IsTrue b ↔ IsWorthMarked (S.worth subject.now) (S.touches subject.now) log.now place word mark) }
+        (λ b. IsTrue b ↔
+        IsWorthMarked (S.worth subject.now) (S.touches subject.now) log.now place word mark) }
 {
     for count in 0..log.len() {
         if belongs(alloc, subject, &log[..count], place, word, mark)? {
@@ -145,7 +148,8 @@ fn any_marked<S: Judge>(
     mark: u64,
 ) -> Result<bool, Memory>
     ensures { IfOk result
-        (λ b. IsTrue b ↔ Any (λ hold. IsMarkedHold (S.worth subject.now) (S.touches subject.now) log.now place mark hold) holds.now) }
+        (λ b. IsTrue b ↔ Any (λ hold.
+        IsMarkedHold (S.worth subject.now) (S.touches subject.now) log.now place mark hold) holds.now) }
 {
     for hold in holds {
         if is_marked_hold(alloc, subject, log, *hold, place, mark)? {
@@ -165,7 +169,8 @@ fn is_marked_hold<S: Judge>(
     mark: u64,
 ) -> Result<bool, Memory>
     ensures { IfOk result
-        (λ b. IsTrue b ↔ IsMarkedHold (S.worth subject.now) (S.touches subject.now) log.now place mark hold) }
+        (λ b. IsTrue b ↔
+        IsMarkedHold (S.worth subject.now) (S.touches subject.now) log.now place mark hold) }
 {
     match hold.word {
         Some(word) if hold.place == place => {
@@ -186,7 +191,8 @@ fn all_marked<S: Judge>(
     places: u32,
 ) -> Result<bool, Memory>
     ensures { IfOk result
-        (λ b. IsTrue b ↔ ((place : ℕ) → place < places → S.touches subject.now log.now entry.now place → Contains marked.now place)) }
+        (λ b. IsTrue b ↔ ((place : ℕ) → place < places
+        → S.touches subject.now log.now entry.now place → Contains marked.now place)) }
 {
     for place in 0..places {
         if !is_covered(alloc, subject, log, entry, marked, place)? {
@@ -205,7 +211,8 @@ fn is_covered<S: Judge>(
     marked: &[u32],
     place: u32,
 ) -> Result<bool, Memory>
-    ensures { IfOk result (λ b. IsTrue b ↔ (S.touches subject.now log.now entry.now place → Contains marked.now place)) }
+    ensures { IfOk result
+        (λ b. IsTrue b ↔ (S.touches subject.now log.now entry.now place → Contains marked.now place)) }
 {
     if marked.contains(&place) {
         return Ok(true);
@@ -241,7 +248,7 @@ impl<S: Judge> Core<S> {
     /// place.
     pub fn allows(&self, event: &Event<S::Entry>) -> Result<bool, Memory>
         ensures { IfOk result
-            (λ allowed. IsTrue allowed ↔ Allowed (S.worth (subject_of self.now)) (S.touches (subject_of self.now)) (state_of self.now) event.now) }
+            (λ allowed. IsTrue allowed ↔ Allows S.worth S.touches self.now event.now) }
     {
         match event {
             Event::See { view } | Event::Split { view } => Ok(self.state().is_live(*view)),
@@ -250,7 +257,7 @@ impl<S: Judge> Core<S> {
             Event::Join { view, other } => Ok(self.allows_join(*view, *other)),
             Event::ReadClean { view, place }
             | Event::ReadValue { view, place }
-            | Event::ReadMark { view, place } => Ok(self.state().may_read(*view, *place)),
+            | Event::ReadMark { view, place } => Ok(self.state().may_step_at(*view, *place)),
             Event::Claim { view, place, seen } => Ok(self.allows_claim(*view, *place, *seen)),
             Event::Put { view, place, word } => self.allows_put(*view, *place, *word),
             Event::Finish { view, place, mark } => self.allows_finish(*view, *place, *mark),
@@ -260,9 +267,9 @@ impl<S: Judge> Core<S> {
     /// Whether the editor may mark the place for the entry.
     fn allows_mark(&self, view: u32, entry: &S::Entry, place: u32) -> Result<bool, Memory>
         ensures { IfOk result
-            (λ allowed. IsTrue allowed ↔ Allowed (S.worth (subject_of self.now)) (S.touches (subject_of self.now)) (state_of self.now) (Event.Mark view entry.now place)) }
+            (λ b. IsTrue b ↔ Allows S.worth S.touches self.now (Event.Mark view entry.now place)) }
     {
-        if view != 0 || !self.state().may_read(view, place) || !self.may_pend(entry) {
+        if view != 0 || !self.state().may_step_at(view, place) || !self.may_pend(entry) {
             return Ok(false);
         }
         let alloc = self.state().allocator();
@@ -272,7 +279,8 @@ impl<S: Judge> Core<S> {
 
     /// Whether nothing is pending, or this entry is.
     fn may_pend(&self, entry: &S::Entry) -> bool
-        ensures { IsTrue result ↔ (((state_of self.now).edits.pending ≡ None) ⊎ ((state_of self.now).edits.pending ≡ Some entry.now)) }
+        ensures { IsTrue result ↔ (((state_of self.now).edits.pending ≡ None)
+            ⊎ ((state_of self.now).edits.pending ≡ Some entry.now)) }
     {
         match self.state().pending() {
             None => true,
@@ -293,7 +301,7 @@ impl<S: Judge> Core<S> {
     /// Whether the editor may commit the entry.
     fn allows_commit(&self, view: u32, entry: &S::Entry) -> Result<bool, Memory>
         ensures { IfOk result
-            (λ allowed. IsTrue allowed ↔ Allowed (S.worth (subject_of self.now)) (S.touches (subject_of self.now)) (state_of self.now) (Event.Commit view entry.now)) }
+            (λ b. IsTrue b ↔ Allows S.worth S.touches self.now (Event.Commit view entry.now)) }
     {
         if view != 0 || !self.state().is_live(view) || !self.is_pending(entry) {
             return Ok(false);
@@ -311,7 +319,7 @@ impl<S: Judge> Core<S> {
 
     /// Whether the other view may be joined into this one.
     fn allows_join(&self, view: u32, other: u32) -> bool
-        ensures { IsTrue result ↔ Allowed (S.worth (subject_of self.now)) (S.touches (subject_of self.now)) (state_of self.now) (Event.Join view other) }
+        ensures { IsTrue result ↔ Allows S.worth S.touches self.now (Event.Join view other) }
     {
         view != other
             && other != 0
@@ -322,9 +330,9 @@ impl<S: Judge> Core<S> {
 
     /// Whether the view may claim the place from this clean word.
     fn allows_claim(&self, view: u32, place: u32, seen: Clean) -> bool
-        ensures { IsTrue result ↔ Allowed (S.worth (subject_of self.now)) (S.touches (subject_of self.now)) (state_of self.now) (Event.Claim view place seen) }
+        ensures { IsTrue result ↔ Allows S.worth S.touches self.now (Event.Claim view place seen) }
     {
-        self.state().may_read(view, place)
+        self.state().may_step_at(view, place)
             && !seen.held
             && has_ground(self.state().reads(view), place, seen)
     }
@@ -332,10 +340,10 @@ impl<S: Judge> Core<S> {
     /// Whether the view may put the word to the place.
     fn allows_put(&self, view: u32, place: u32, word: u64) -> Result<bool, Memory>
         ensures { IfOk result
-            (λ allowed. IsTrue allowed ↔ Allowed (S.worth (subject_of self.now)) (S.touches (subject_of self.now)) (state_of self.now) (Event.Put view place word)) }
+            (λ b. IsTrue b ↔ Allows S.worth S.touches self.now (Event.Put view place word)) }
     {
         let state = self.state();
-        if !state.may_read(view, place) || !holds_place(state.holds(view), place) {
+        if !state.may_step_at(view, place) || !holds_place(state.holds(view), place) {
             return Ok(false);
         }
         knows_worth(
@@ -350,10 +358,10 @@ impl<S: Judge> Core<S> {
     /// Whether the view may give the place back for the mark.
     fn allows_finish(&self, view: u32, place: u32, mark: u64) -> Result<bool, Memory>
         ensures { IfOk result
-            (λ allowed. IsTrue allowed ↔ Allowed (S.worth (subject_of self.now)) (S.touches (subject_of self.now)) (state_of self.now) (Event.Finish view place mark)) }
+            (λ b. IsTrue b ↔ Allows S.worth S.touches self.now (Event.Finish view place mark)) }
     {
         let state = self.state();
-        if !state.may_read(view, place) {
+        if !state.may_step_at(view, place) {
             return Ok(false);
         }
         any_marked(

@@ -1,47 +1,63 @@
 #![tactic(auto)]
 
-ghost use Rattle.std.specs.Prelude.{◌≡◌, ◌<◌, ◌⊎◌, List, Option, ℕ, Contains};
-ghost use Rattle.mark_core.specs.declared.events.Event.{Event};
-ghost use Rattle.mark_core.specs.declared.words.Finished.{Finished};
-ghost use Rattle.mark_core.specs.Mark.{IsLastMark};
-ghost use Rattle.mark_core.specs.State.{State, view_at, opening_state};
-ghost use Rattle.mark_core.specs.Honest.{MeetsFloor, IsLegalRead, IsHonest};
-ghost use Rattle.mark_core.specs.Run.{IsOpening, IsCodeless, Runs, ReadsTwice, ShowsOf};
+ghost use Rattle.mark_core.specs.Law.{OpeningsAreHonest, EventsKeepHonest, ValuesAreWorths, NewerMarksTouch, StaleMarksTouch, CellsAreLegal, ReadsAreLegal};
+ghost use Rattle.mark_core.specs.Law.{ReadsBegin, ReadsGoOn, ReadsEnd, SeesAnswerTheCount, SplitsHandOn, JoinsHandOn, ViewsGrow};
+ghost use Rattle.mark_core.specs.Law.{EventsHappenInOrder, RunsStayHonest, StaleForLaterEdits, LastMarksAreUnique};
 
-use crate::answers::Seen;
 use crate::subjects::Subject;
 
-/// The theorem: from an opening state, whatever allowed events happen, the state is honest. So each read
-/// that a view has finished met its floor, and is legal where it loaded a word.
-pub fn stays_honest<S: Subject>(_subject: &S)
-    ensures honest { (opening : List (Option ℕ)) (events : List (Event S.Entry)) (s : State S.Entry)
-        → IsOpening (S.places _subject.now) (S.worth _subject.now) opening
-        → Runs (S.worth _subject.now) (S.touches _subject.now) (opening_state opening) events s
-        → IsHonest (S.places _subject.now) (S.worth _subject.now) (S.touches _subject.now) (IsCodeless opening) s }
-    ensures legal { (opening : List (Option ℕ)) (events : List (Event S.Entry)) (s : State S.Entry) (view : ℕ) (read : Finished)
-        → IsOpening (S.places _subject.now) (S.worth _subject.now) opening
-        → Runs (S.worth _subject.now) (S.touches _subject.now) (opening_state opening) events s
-        → Contains (view_at s view).reads read
-        → MeetsFloor read.mark read.floor read.clean.upto
-        × ((word : ℕ) → read.word ≡ Some word → IsLegalRead (S.worth _subject.now) (S.touches _subject.now) (IsCodeless opening) s.edits read word) }
+/// One event. The state that `Core::open` gives is honest, and where a state is honest, the one that an
+/// event leaves is honest too.
+pub fn keeps_honest<S: Subject>(_subject: &S)
+    ensures opening { OpeningsAreHonest S.places S.worth S.touches _subject.now }
+    ensures event { EventsKeepHonest S.places S.worth S.touches _subject.now }
 {}
 
-/// For one view: of two finished reads of a place, the first of which showed the value as current, the
-/// second shows it as stale or newer only for a later edit. Any events may happen between them.
+/// What the finished reads of a view show in an honest state: a value is the worth after as many entries
+/// as the read's number says, and each mark is that of an entry that touches the place, or 0 where the
+/// opening gave no code. Each read met its floor, and is legal where it loaded a word.
+pub fn shows_what_is_right<S: Subject>(_subject: &S)
+    ensures value { ValuesAreWorths S.places S.worth S.touches _subject.now }
+    ensures newer { NewerMarksTouch S.places S.worth S.touches _subject.now }
+    ensures stale { StaleMarksTouch S.places S.worth S.touches _subject.now }
+    ensures cell { CellsAreLegal S.places S.worth S.touches _subject.now }
+    ensures legal { ReadsAreLegal S.places S.worth S.touches _subject.now }
+{}
+
+/// How a read goes through its three loads: it begins with a floor above each mark for which the view knows
+/// the place, goes on with the value, and ends with the number that the view has seen, which is at least
+/// the length of the view's log. What it showed as current the view knows from then on.
+pub fn reads_in_three_loads<S: Subject>(_subject: &S)
+    ensures begins { ReadsBegin S.places S.worth S.touches _subject.now }
+    ensures goes_on { ReadsGoOn S.places S.worth S.touches _subject.now }
+    ensures ends { ReadsEnd S.places S.worth S.touches _subject.now }
+{}
+
+/// What views hand on: a see answers the count, a split gives what the view knows to a new one, and a join
+/// gives it to the one that stays. A view's counts, finishes and refused claims grow by what its own
+/// events and joins add and by nothing else, and of its log, known places and reads nothing goes.
+pub fn hands_on<S: Subject>(_subject: &S)
+    ensures see { SeesAnswerTheCount S.places S.worth S.touches _subject.now }
+    ensures split { SplitsHandOn S.places S.worth S.touches _subject.now }
+    ensures join { JoinsHandOn S.places S.worth S.touches _subject.now }
+    ensures grow { ViewsGrow S.places S.worth S.touches _subject.now }
+{}
+
+/// Lists of events: they happen one after the other, and whatever events happen from an opening state, the
+/// state is honest.
+pub fn stays_honest<S: Subject>(_subject: &S)
+    ensures in_order { EventsHappenInOrder S.places S.worth S.touches _subject.now }
+    ensures honest { RunsStayHonest S.places S.worth S.touches _subject.now }
+{}
+
+/// Of two legal reads of a place by one view, of which the first showed the value as current and the second
+/// began with a floor above the first one's mark, the second shows the place as stale or newer only for an
+/// edit above the first one's number.
 pub fn goes_stale_for_later_edits_only<S: Subject>(_subject: &S)
-    ensures { (opening : List (Option ℕ)) (events : List (Event S.Entry)) (s : State S.Entry) (view place : ℕ) (first second : Finished) (value edit : ℕ)
-        → IsOpening (S.places _subject.now) (S.worth _subject.now) opening
-        → Runs (S.worth _subject.now) (S.touches _subject.now) (opening_state opening) events s
-        → ReadsTwice (S.worth _subject.now) (S.touches _subject.now) s view place first second
-        → ShowsOf first (Seen.Value value)
-        → ShowsOf second (Seen.Stale edit) ⊎ ShowsOf second (Seen.Newer edit)
-        → first.number < edit }
+    ensures { StaleForLaterEdits S.worth S.touches _subject.now }
 {}
 
 /// A place has one last mark in a list of entries.
 pub fn has_one_last_mark<S: Subject>(_subject: &S)
-    ensures { (entries : List S.Entry) (place mark other : ℕ)
-        → IsLastMark (S.touches _subject.now) entries place mark
-        → IsLastMark (S.touches _subject.now) entries place other
-        → mark ≡ other }
+    ensures { LastMarksAreUnique S.worth S.touches _subject.now }
 {}

@@ -6,11 +6,13 @@
 // and the mark, in this order.
 //
 // `Core` is the machine over one subject, one event at a time; `specs/` says what each event needs and
-// does, and what an honest state is. `laws` has the theorem: every list of allowed events keeps the
-// state honest, so each finished read is legal. No thread and no table is here: a crate that runs the
-// protocol over atomic words proves that each of its steps is one of these events.
+// does, and what an honest state is. `laws` says what holds: an opening is honest and each event keeps a
+// state so; what a read of an honest state may show, alone and after another read; what views hand on.
+// No thread and no table is here: a crate that runs the protocol over atomic words proves that each of
+// its steps is one of these events. `View` and `Edits` are what its tokens hold in proofs.
 #![tactic(auto)]
 
+mod actors;
 mod answers;
 mod events;
 mod judging;
@@ -22,9 +24,13 @@ mod two_cells;
 mod views;
 mod words;
 
+pub use actors::{Edits, View};
 pub use answers::{Seen, shown};
 pub use events::{Event, Outcome};
-pub use laws::{goes_stale_for_later_edits_only, has_one_last_mark, stays_honest};
+pub use laws::{
+    goes_stale_for_later_edits_only, hands_on, has_one_last_mark, keeps_honest,
+    reads_in_three_loads, shows_what_is_right, stays_honest,
+};
 pub use protocol::Core;
 pub use subjects::{Judge, Subject};
 pub use two_cells::TwoCells;

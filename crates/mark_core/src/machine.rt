@@ -1,7 +1,7 @@
 #![tactic(auto)]
 
 ghost use Rattle.std.specs.Prelude.{◌≡◌, ◌<◌, ◌^◌, IfOk, map, length};
-ghost use Rattle.mark_core.specs.Place.{opened as opened_place};
+ghost use Rattle.mark_core.specs.Place.{opening_place};
 ghost use Rattle.mark_core.specs.State.{State, opening_state};
 
 use crate::views::Stored;
@@ -44,7 +44,7 @@ impl<E: Drop> Machine<E> {
         requires { length opening.now < 2 ^ 32 }
         ensures { IfOk result (λ machine. machine ≡ opening_state opening.now) }
     {
-        let places = opened_places(alloc, opening)?;
+        let places = places_of_codes(alloc, opening)?;
         let mut views = Vec::new(alloc);
         views.push(Stored::editor(alloc))?;
         Ok(Machine {
@@ -59,15 +59,18 @@ impl<E: Drop> Machine<E> {
 }
 
 /// The places as they open.
-fn opened_places(alloc: Global, opening: &[Option<u64>]) -> Result<Vec<Place>, AllocError>
-    ensures { IfOk result (λ places. places.items ≡ map opened_place opening.now) }
+fn places_of_codes(alloc: Global, opening: &[Option<u64>]) -> Result<Vec<Place>, AllocError>
+    ensures { IfOk result (λ places. places.items ≡ map opening_place opening.now) }
 {
-    opening.iter().map(|code| opened(*code)).collect(alloc)
+    opening
+        .iter()
+        .map(|code| place_of_code(*code))
+        .collect(alloc)
 }
 
 /// A place as it opens.
-fn opened(code: Option<u64>) -> Place
-    ensures { result ≡ opened_place code }
+fn place_of_code(code: Option<u64>) -> Place
+    ensures { result ≡ opening_place code }
 {
     match code {
         None => Place {

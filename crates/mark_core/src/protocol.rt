@@ -2,9 +2,8 @@
 
 ghost use Rattle.std.specs.Prelude.{◌≡◌, ◌↔◌, IsTrue, ◌<◌, ◌^◌, length, IfOk, OnErr};
 ghost use Rattle.mark_core.specs.State.{State, opening_state};
-ghost use Rattle.mark_core.specs.Core.{state_of, subject_of};
-ghost use Rattle.mark_core.specs.Permission.{Allowed, HasRoom};
-ghost use Rattle.mark_core.specs.Step.{Happens};
+ghost use Rattle.mark_core.specs.Core.{state_of, subject_of, Allows, Steps};
+ghost use Rattle.mark_core.specs.Permission.{HasRoom};
 ghost use Rattle.mark_core.specs.Run.{IsOpening};
 
 use crate::events::{Event, Outcome};
@@ -26,7 +25,8 @@ impl<S: Subject> Core<S> {
     pub fn open(alloc: Global, subject: S, opening: &[Option<u64>]) -> Result<Core<S>, Memory>
         requires few { length opening.now < 2 ^ 32 }
         requires right { IsOpening (S.places subject) (S.worth subject) opening.now }
-        ensures { IfOk result (λ core. (subject_of core ≡ subject) × (state_of core ≡ opening_state opening.now)) }
+        ensures { IfOk result
+            (λ core. (subject_of core ≡ subject) × (state_of core ≡ opening_state opening.now)) }
     {
         let state = Machine::open(alloc, opening)?;
         Ok(Core { subject, state })
@@ -58,11 +58,11 @@ impl<S: Subject> Core<S> {
 
     /// Does the event, which is allowed, and answers its outcome. After `Memory` the state is as before.
     pub fn step(&mut self, event: Event<S::Entry>) -> Result<Outcome, Memory>
-        requires allowed { Allowed (S.worth (subject_of self.old)) (S.touches (subject_of self.old)) (state_of self.old) event }
+        requires allowed { Allows S.worth S.touches self.old event }
         requires room { HasRoom (state_of self.old) event }
         ensures same_subject { subject_of self.new ≡ subject_of self.old }
         ensures ok { IfOk result
-            (λ outcome. Happens (S.worth (subject_of self.old)) (S.touches (subject_of self.old)) (state_of self.old) event outcome (state_of self.new)) }
+            (λ outcome. Steps S.worth S.touches self.old event outcome (state_of self.new)) }
         ensures err { OnErr result (state_of self.new ≡ state_of self.old) }
     {
         match event {

@@ -1,8 +1,9 @@
 #![tactic(auto)]
 
 ghost use Rattle.std.specs.Prelude.{◌≡◌, ◌+◌, ◌<◌, ◌^◌, ◌∷◌, [], max, ℕ, All, IfOk, OnOk, OnErr, IsTrue, map, length};
-ghost use Rattle.mark_core.specs.State.{View, spent_with, new_view};
-ghost use Rattle.mark_core.specs.View.{saw, split_off, joined_with, floor_of, began, valued, finished, took, missed, hold_with, wrote, gave_back};
+ghost use Rattle.mark_core.specs.declared.actors.View.{View};
+ghost use Rattle.mark_core.specs.State.{spent_with, new_view};
+ghost use Rattle.mark_core.specs.View.{with_count, split_off, union_with, floor_of, with_half, with_value, with_read_end, with_hold, with_loss, hold_with, with_put, without_hold};
 ghost use Rattle.std.specs.Prelude.{filter, not, ◌==◌, if◌then◌else◌};
 
 use crate::words::{Clean, Finished, Half, Held, Known, Lost, Memory};
@@ -27,7 +28,7 @@ pub struct Stored {
 
 impl Model for Stored {
     ghost use Rattle.std.specs.Prelude.{ℕ, ◌+◌, ◌^◌, ◌<◌, All};
-    ghost use Rattle.mark_core.specs.State.{View};
+    ghost use Rattle.mark_core.specs.declared.actors.View.{View};
 
     ghost Value = { View ℕ };
 
@@ -114,7 +115,7 @@ impl Stored {
 
     /// Notes the count of commits.
     pub fn see(&mut self, count: u64) -> Result<(), Memory>
-        ensures ok { OnOk result (self.new ≡ saw self.old count) }
+        ensures ok { OnOk result (self.new ≡ with_count self.old count) }
         ensures err { OnErr result (self.new ≡ self.old) }
     {
         self.sees.push(count)?;
@@ -151,7 +152,8 @@ impl Stored {
 
     /// Takes over all that the other view knows and has done.
     pub fn join(&mut self, other: &Stored) -> Result<(), Memory>
-        ensures ok { OnOk result (self.new ≡ joined_with (max self.old.log other.now.log) self.old other.now) }
+        ensures ok { OnOk result
+            (self.new ≡ union_with (max self.old.log other.now.log) self.old other.now) }
         ensures err { OnErr result (self.new ≡ self.old) }
     {
         self.sees.try_reserve(other.sees.len())?;
@@ -171,7 +173,7 @@ impl Stored {
 
     /// Begins a read of the place.
     pub fn begin(&mut self, place: u32, clean: Clean)
-        ensures { self.new ≡ began self.old place clean }
+        ensures { self.new ≡ with_half self.old place clean }
     {
         let floor = floor(&self.known, place);
         self.half = Some(Half {
@@ -184,7 +186,7 @@ impl Stored {
 
     /// Goes on with the begun read, where it is one of this place.
     pub fn go_on(&mut self, place: u32, word: u64)
-        ensures { self.new ≡ valued self.old place word }
+        ensures { self.new ≡ with_value self.old place word }
     {
         self.half = match self.half {
             Some(half) if half.place == place => Some(Half {
@@ -197,7 +199,7 @@ impl Stored {
 
     /// Ends the begun read, where it is one of this place.
     pub fn end(&mut self, place: u32, mark: u64) -> Result<(), Memory>
-        ensures ok { OnOk result (self.new ≡ finished self.old place mark) }
+        ensures ok { OnOk result (self.new ≡ with_read_end self.old place mark) }
         ensures err { OnErr result (self.new ≡ self.old) }
     {
         let Some(half) = self.half else {
@@ -224,7 +226,7 @@ impl Stored {
 
     /// Notes a claim that took the place.
     pub fn take(&mut self, place: u32) -> Result<(), Memory>
-        ensures ok { OnOk result (self.new ≡ took self.old place) }
+        ensures ok { OnOk result (self.new ≡ with_hold self.old place) }
         ensures err { OnErr result (self.new ≡ self.old) }
     {
         self.holds.push(Held { place, word: None })?;
@@ -233,7 +235,7 @@ impl Stored {
 
     /// Notes a claim that was refused, with the clean word that it found.
     pub fn miss(&mut self, place: u32, found: Clean) -> Result<(), Memory>
-        ensures ok { OnOk result (self.new ≡ missed self.old place found) }
+        ensures ok { OnOk result (self.new ≡ with_loss self.old place found) }
         ensures err { OnErr result (self.new ≡ self.old) }
     {
         self.lost.push(Lost { place, found })?;
@@ -242,7 +244,7 @@ impl Stored {
 
     /// Notes the word that was put to a held place.
     pub fn put(&mut self, place: u32, word: u64)
-        ensures { self.new ≡ wrote self.old place word }
+        ensures { self.new ≡ with_put self.old place word }
     {
         put_word(&mut self.holds, place, word);
     }
@@ -250,7 +252,7 @@ impl Stored {
     /// Gives a held place back, as computed for the mark.
     pub fn give_back(&mut self, place: u32, mark: u64) -> Result<(), Memory>
         requires { mark + 1 < 2 ^ 64 }
-        ensures ok { OnOk result (self.new ≡ gave_back self.old place mark) }
+        ensures ok { OnOk result (self.new ≡ without_hold self.old place mark) }
         ensures err { OnErr result (self.new ≡ self.old) }
     {
         self.known.try_reserve(1)?;

@@ -1,7 +1,9 @@
 pub mod BudgetLemmas
 pub mod CycleLemmas
 pub mod FieldLemmas
+pub mod HonestLemmas
 pub mod ListLemmas
+pub mod LoopLemmas
 pub mod PlainLemmas
 pub mod RecordLemmas
 pub mod ResultLemmas

@@ -1,6 +1,6 @@
 -- Values by a budget of steps: over any cells, any values, and any function that gives a cell its value from those of its inputs.
 -- `circ` is the value of a cell that leads into a cycle.
-use Rattle.std.specs.Prelude.{◌≡◌, ◌≢◌, ℕ, zero, suc, ◌<◌, ◌≤◌, List, slice_get, Some}
+use Rattle.std.specs.Prelude.{◌≡◌, ◌≢◌, ◌⊎◌, ℕ, zero, suc, ◌<◌, ◌≤◌, List, slice_get, Some}
 
 -- the value of a cell depends on the values of its inputs alone
 abbrev pub IsLocal : {C V : Type 0} (Input : C → C → Type 0) (step : C → (C → V) → V) → Type 0
@@ -34,3 +34,23 @@ pub record IsJustified {C : Type 0} (Input : C → C → Type 0) (number : C →
   pub numbers_below : (i : ℕ) (c : C) → slice_get ordered i ≡ Some c → number c < count
   pub numbers_differ : (i j : ℕ) (c d : C) → i < j → slice_get ordered i ≡ Some c → slice_get ordered j ≡ Some d → number c ≢ number d
   pub circular_input : (c : C) → Circular c → (d : C) × Input c d × Circular d
+
+-- one or more steps lead from a cell to another, each of them from a cell to one of its inputs
+pub data Leads {C : Type 0} (Input : C → C → Type 0) : C → C → Type 0 where
+  one_step : (c d : C) → Input c d → Leads Input c d
+  and_on : (c d e : C) → Input c d → Leads Input d e → Leads Input c e
+
+-- steps lead from the cell to one from which steps come back, or come back to the cell itself
+pub record LeadsIntoCycle {C : Type 0} (Input : C → C → Type 0) (c : C) : Type 0 where
+  pub turn : C
+  pub there : (c ≡ turn) ⊎ Leads Input c turn
+  pub back : Leads Input turn turn
+
+-- a step gives the circular value only where an input has it
+abbrev pub IsHonest : {C V : Type 0} (Input : C → C → Type 0) (circ : V) (step : C → (C → V) → V) → Type 0
+IsHonest {C} {V} Input circ step = (c : C) (f : C → V) → step c f ≡ circ → (d : C) × Input c d × (f d ≡ circ)
+
+-- two steps give the cells of a set the same values from the same values of their inputs, which are in the set too
+pub record AgreeOn {C V : Type 0} (Input : C → C → Type 0) (Kept : C → Type 0) (a b : C → (C → V) → V) : Type 0 where
+  pub closed : (c d : C) → Kept c → Input c d → Kept d
+  pub same : (c : C) (f g : C → V) → Kept c → ((d : C) → Input c d → f d ≡ g d) → a c f ≡ b c g

@@ -9,7 +9,7 @@ use Rattle.value_core.specs.declared.value.Value.{Value}
 use Rattle.value_core.specs.declared.value.Value.TheVariants.{Empty, Number, Truth, Error, Label}
 use Rattle.sum_syntax.specs.Tree.{Tree, number, reference, binary, references_of}
 use Rattle.value_core.specs.Values.{IsValue, code_of}
-use Rattle.sheet_model.specs.Budget.{ev, StandsIn, IsJustified}
+use Rattle.sheet_model.specs.Budget.{ev, StandsIn, IsJustified, LeadsIntoCycle, AgreeOn}
 use Rattle.sheet_model.specs.Sheets.{SheetValue, ContentValue, Constant, Computed, is_inside, cell_count, place_of, content_of}
 
 -- a value as a number: an empty cell counts as 0, FALSE as 0 and TRUE as 1; a label is none, and an error stays itself
@@ -102,3 +102,22 @@ pub record AreValues (sheet : SheetValue) (codes : List ℕ) : Type 0 where
   pub count : length codes ≡ cell_count sheet
   pub each : (cell : Position) → IsTrue (is_inside sheet cell) → slice_get codes (place_of sheet cell) ≡ Some (code_of (value_of sheet cell))
   pub values : (cell : Position) → IsTrue (is_inside sheet cell) → IsValue (value_of sheet cell)
+
+-- no cell of the sheet holds #CIRC! as a constant
+abbrev pub HasNoCircularConstant : SheetValue → Type 0
+HasNoCircularConstant sheet = (cell : Position) → content_of sheet cell ≢ Constant circular_value
+
+-- a cell's value is #CIRC! exactly where its references lead into a cycle
+abbrev pub CyclesTellCircularCells : Type 0
+CyclesTellCircularCells = (sheet : SheetValue) (cell : Position) → HasNoCircularConstant sheet → (value_of sheet cell ≡ circular_value) ↔ LeadsIntoCycle (IsInput sheet) cell
+
+-- the cells that a map gives a cell as its inputs
+abbrev pub IsMapped : (Position → List Position) → Position → Position → Type 0
+IsMapped inputs cell input = StandsIn (inputs cell) input
+
+-- over any map from cells to inputs, steps that agree on a set of cells that has their inputs give them the same values
+abbrev pub AgreeingStepsGiveOneValue : Type 0
+AgreeingStepsGiveOneValue =
+    (inputs : Position → List Position) (kept : Position → Bool) (a b : Position → (Position → Value) → Value)
+    → AgreeOn (IsMapped inputs) (λ cell. IsTrue (kept cell)) a b
+    → (n : ℕ) (cell : Position) → IsTrue (kept cell) → ev circular_value a n cell ≡ ev circular_value b n cell

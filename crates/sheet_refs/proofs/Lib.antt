@@ -1,5 +1,13 @@
+pub mod ColumnLemmas
+pub mod EndLemmas
+pub mod GapLemmas
 pub mod Grid
 pub mod NameLemmas
 pub mod Overlaps
+pub mod PartLemmas
+pub mod Places
 pub mod PrintLemmas
-pub mod EndLemmas
+pub mod RunLemmas
+pub mod SetLemmas
+pub mod Subtraction
+pub mod Tiles

@@ -14,7 +14,7 @@ use Rattle.std.proofs.lemmas.Option.{none-some, same_Some}
 use Rattle.std.proofs.lemmas.Bool.Decides.{nat_tests, leb_tells}
 use Rattle.sheet_refs.proofs.Grid.{same_position}
 use Rattle.sheet_refs.specs.Cells.{Position, Corners, IsNamed}
-use Rattle.sheet_refs.specs.Names.{IsLetter, IsDigit, IsColumnName, IsRowName, IsCellName, IsRangeName, place_of}
+use Rattle.sheet_refs.specs.Names.{IsLetter, IsDigit, IsColumnName, IsRowName, IsCellName, IsRangeName, letter_number}
 use Rattle.sheet_refs.specs.Names.IsRangeName.{one, two}
 
 letter_passes : (b : ℕ) → IsLetter b → is_ascii_alphabetic b ≡ true
@@ -64,9 +64,9 @@ first_row (d ∷ ds) row name =
 pub first_col : (letters : List ℕ) (col : ℕ) → IsColumnName letters col → 1 ≤ col
 first_col [] col name = absurd (omega (arith, name.some))
 first_col (b ∷ bs) col name =
-    rw name.value (positive (λ n b. 26 * n + place_of b) (λ n b h. omega arith) _ bs (place_from_one b (name.letters 0 0 name.some)))
+    rw name.value (positive (λ n b. 26 * n + letter_number b) (λ n b h. omega arith) _ bs (place_from_one b (name.letters 0 0 name.some)))
   where
-    place_from_one : (b : ℕ) → IsLetter b → 1 ≤ 26 * 0 + place_of b
+    place_from_one : (b : ℕ) → IsLetter b → 1 ≤ 26 * 0 + letter_number b
     place_from_one b (inl h) = grind (arith, nat_tests)
     place_from_one b (inr h) = grind (arith, nat_tests)
 

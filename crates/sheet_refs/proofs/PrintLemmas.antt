@@ -8,7 +8,7 @@ use Rattle.std.proofs.lemmas.List.Elements.{All-append}
 use Rattle.std.proofs.lemmas.List.Sums.{fold-append}
 use Rattle.std.proofs.lemmas.Bool.Decides.{nat_tests}
 use Rattle.sheet_refs.specs.Cells.{Position, Corners, IsNamed, IsOrdered, spanned}
-use Rattle.sheet_refs.specs.Names.{IsLetter, IsDigit, IsColumnName, IsRowName, IsCellName, IsRangeName, place_of, decimal_number, column_number, last_letters, cell_text, range_text}
+use Rattle.sheet_refs.specs.Names.{IsLetter, IsDigit, IsColumnName, IsRowName, IsCellName, IsRangeName, letter_number, decimal_number, column_number, last_letters, cell_text, range_text}
 use Rattle.sheet_refs.specs.Names.IsRangeName.{two}
 
 -- one element has the property of all
@@ -67,10 +67,10 @@ letters_written (suc more) (suc col) within =
     let letter = 65 + col % 26 in
     let text = last_letters more (col / 26) in
     let is_letter : IsLetter letter = inl (omega arith, omega arith) in
-    let place : place_of letter ≡ col % 26 + 1 = grind (arith, nat_tests) in
+    let place : letter_number letter ≡ col % 26 + 1 = grind (arith, nat_tests) in
     rw (last_behind more col) (record {
       letters = All-append IsLetter text (letter ∷ []) front.letters (alone IsLetter letter is_letter);
-      value = rw (fold-append (λ number letter. 26 * number + place_of letter) 0 text (letter ∷ [])) (omega (arith, front.value, place));
+      value = rw (fold-append (λ number letter. 26 * number + letter_number letter) 0 text (letter ∷ [])) (omega (arith, front.value, place));
       few = omega (arith, front.few, length-append text (letter ∷ []));
     })
 

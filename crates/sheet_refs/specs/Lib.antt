@@ -1,6 +1,9 @@
 pub mod Cells
+pub mod Columns
 pub mod Ends
 pub mod NameLaws
 pub mod Names
 pub mod Rectangles
 pub mod Refs
+pub mod Runs
+pub mod Sizes

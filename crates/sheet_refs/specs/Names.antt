@@ -1,7 +1,12 @@
 -- The names of cells and ranges, as relations between a text and what it names.
-use Rattle.std.specs.Prelude.{◌≡◌, ℕ, zero, suc, ◌+◌, ◌-◌, ◌*◌, ◌/◌, ◌%◌, ◌==◌, ◌≤◌, ◌<◌, List, [], ◌∷◌, ◌++◌, length, fold, All, if◌then◌else◌, nat_le, ◌⊎◌, ◌≢◌, slice_index}
+use Rattle.std.specs.Prelude.{◌≡◌, ℕ, zero, suc, ◌+◌, ◌-◌, ◌*◌, ◌/◌, ◌%◌, ◌==◌, ◌≤◌, ◌<◌, List, [], ◌∷◌, ◌++◌, length, fold, All, if◌then◌else◌, nat_le, ◌⊎◌, ◌≢◌, slice_index, MatchOption}
+use Rattle.std.specs.declared.option.Option.{Option}
 use Rattle.std.specs.Fmt.{decimal}
 use Rattle.sheet_refs.specs.Cells.{Position, Corners, spanned}
+
+-- the result is what is meant, and None exactly where nothing is
+abbrev pub Finds : {V : Type 0} → Option V → (V → Type 0) → Type 0
+Finds {V} result Meant = MatchOption result ((value : V) → ¬ Meant value) Meant
 
 -- an ASCII digit
 abbrev pub IsDigit : ℕ → Type 0
@@ -22,13 +27,13 @@ pub record IsDecimal (text : List ℕ) (most number : ℕ) : Type 0 where
 abbrev pub IsLetter : ℕ → Type 0
 IsLetter byte = ((65 ≤ byte) × (byte ≤ 90)) ⊎ ((97 ≤ byte) × (byte ≤ 122))
 
--- a letter's place in the alphabet, from 1, in either case
-abbrev pub place_of : ℕ → ℕ
-place_of letter = if nat_le letter 90 then letter - 64 else letter - 96
+-- a letter's number in the alphabet, from 1, in either case
+abbrev pub letter_number : ℕ → ℕ
+letter_number letter = if nat_le letter 90 then letter - 64 else letter - 96
 
 -- the number that letters write in base 26 with the digits A for 1 to Z for 26
 abbrev pub column_number : List ℕ → ℕ
-column_number letters = fold (λ number letter. 26 * number + place_of letter) 0 letters
+column_number letters = fold (λ number letter. 26 * number + letter_number letter) 0 letters
 
 -- one to three letters that name a column, A to XFD
 pub record IsColumnName (text : List ℕ) (col : ℕ) : Type 0 where

@@ -1,9 +1,10 @@
-ghost use Rattle.std.specs.Prelude.{◌≡◌, MatchOption};
-ghost use Rattle.sheet_refs.specs.Ends.{Anchor, Reference, IsAnchorName, IsEndName, IsReferenceName, has_dollar, past_dollar};
+ghost use Rattle.std.specs.Prelude.{◌≡◌};
+ghost use Rattle.sheet_refs.specs.Names.{Finds};
+ghost use Rattle.sheet_refs.specs.Ends.{IsAnchorName, IsEndName, IsReferenceName, has_dollar, past_dollar};
 
-use super::cell::Cell;
-use super::ends::{End, Ref};
-use super::names::{colon_in, column_of, letters_in_front, row_of};
+use crate::cell::Cell;
+use crate::ends::{End, Ref};
+use crate::names::{colon_in, column_of, letters_in_front, row_of};
 
 // Whether a `$` stands in front, and what is behind it.
 fn dollar_off(text: &[u8]) -> (bool, &[u8])
@@ -18,7 +19,7 @@ fn dollar_off(text: &[u8]) -> (bool, &[u8])
 
 // The end that a column and a row name, each behind a `$` where it is fixed.
 fn anchor_of(text: &[u8]) -> Option<End>
-    ensures { MatchOption result ((end : Anchor) → ¬ IsAnchorName text.now end) (IsAnchorName text.now) }
+    ensures { Finds result (IsAnchorName text.now) }
 {
     let (col_fixed, text) = dollar_off(text);
     let (column, text) = text.split_at(letters_in_front(text));
@@ -35,7 +36,7 @@ fn anchor_of(text: &[u8]) -> Option<End>
 
 // The same, behind a dot where the reference stands within brackets.
 fn end_of(dotted: bool, text: &[u8]) -> Option<End>
-    ensures { MatchOption result ((end : Anchor) → ¬ IsEndName dotted text.now end) (IsEndName dotted text.now) }
+    ensures { Finds result (IsEndName dotted text.now) }
 {
     if !dotted {
         return anchor_of(text);
@@ -50,7 +51,7 @@ fn end_of(dotted: bool, text: &[u8]) -> Option<End>
 /// of a cell with a `$` before each part that is fixed; within brackets each end stands behind a dot. The
 /// brackets are no part of the text. None exactly where the text spells no reference.
 pub fn ref_of(dotted: bool, text: &[u8]) -> Option<Ref>
-    ensures { MatchOption result ((r : Reference) → ¬ IsReferenceName dotted text.now r) (IsReferenceName dotted text.now) }
+    ensures { Finds result (IsReferenceName dotted text.now) }
 {
     match colon_in(text) {
         None => {

@@ -1,8 +1,8 @@
 ghost use Rattle.std.specs.Prelude.{◌≡◌};
 ghost use Rattle.sheet_refs.specs.Ends.{lesser, greater};
 
-use super::cell::Cell;
-use super::range::Range;
+use crate::cell::Cell;
+use crate::range::Range;
 use std::marker::Model;
 
 /// An end of a reference: a cell, and which of its parts are fixed, that is written behind a `$`.

@@ -1,6 +1,6 @@
 ghost use Rattle.std.specs.Prelude.{◌≡◌, ℕ, ◌*◌, ◌≤◌, ◌↔◌, length, Contains, IsTrue, IsSome, IfSome};
 
-use super::cell::Cell;
+use crate::Cell;
 use std::fmt;
 use std::marker::Model;
 
@@ -57,6 +57,7 @@ impl Range {
     /// How many cells the range has: at most 17,179,869,184.
     pub fn cells(&self) -> u64
         ensures product { result ≡ height self.now * width self.now }
+        ensures small { result ≤ 17179869184 }
         ensures count { result ≡ length (cells_of self.now) }
         ensures listed { (cell : Position) → Contains (cells_of self.now) cell ↔ IsIn cell self.now }
     {

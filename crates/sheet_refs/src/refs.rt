@@ -1,7 +1,7 @@
 ghost use Rattle.std.specs.Prelude.{◌≡◌, List, IfOk};
 
-use super::memory::Memory;
-use super::range::Range;
+use crate::memory::Memory;
+use crate::range::Range;
 use std::alloc::Global;
 use std::marker::Model;
 

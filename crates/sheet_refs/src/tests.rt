@@ -1,6 +1,6 @@
 // What no clause says: that the definitions of names, digits and printed forms mean what a person who
 // knows spreadsheets expects. The expected values were worked out by hand.
-use super::*;
+use crate::*;
 use std::test::Fail;
 
 #[test]

@@ -1,2 +1,6 @@
+pub mod Conversions
+pub mod Decoding
+pub mod Operators
+pub mod Powers
 pub mod Values
 pub mod Wholes

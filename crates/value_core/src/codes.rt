@@ -3,8 +3,8 @@ ghost use Rattle.value_core.specs.declared.value.Value.{Value};
 ghost use Rattle.value_core.specs.declared.value.ErrorKind.{ErrorKind};
 ghost use Rattle.value_core.specs.Values.{IsValue, code_of, place_of_error};
 
-use super::value::{ErrorKind, Value};
-use super::whole::Whole;
+use crate::value::{ErrorKind, Value};
+use crate::whole::Whole;
 
 // What is added to a number so that its code is no negative number.
 const SHIFT: i64 = 1 << 53;

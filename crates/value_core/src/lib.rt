@@ -11,6 +11,7 @@
 #![tactic(auto)]
 
 mod codes;
+mod convert;
 mod operators;
 #[cfg(test)]
 mod tests;
@@ -18,6 +19,7 @@ mod value;
 mod whole;
 
 pub use codes::{code, decode};
-pub use operators::{BinaryOp, PrefixOp};
+pub use convert::{as_number, as_truth, in_range, never_empty, truth_number};
+pub use operators::{BinaryOp, PrefixOp, binary, prefix};
 pub use value::{ErrorKind, Value};
 pub use whole::{MAX_WHOLE, Whole};

@@ -86,3 +86,168 @@ fn whole_numbers_have_ends(rt: HostRuntime) {
         assert_eq!(rt; Whole::new(n).is_some(), inside, "{n}");
     }
 }
+
+const ADD: BinaryOp = BinaryOp::Add;
+
+const SUB: BinaryOp = BinaryOp::Sub;
+
+const MUL: BinaryOp = BinaryOp::Mul;
+
+const DIV: BinaryOp = BinaryOp::Div;
+
+const POWER: BinaryOp = BinaryOp::Power;
+
+const EMPTY: Value = Value::Empty;
+
+const TRUE: Value = Value::Truth(true);
+
+const FALSE: Value = Value::Truth(false);
+
+const LABEL: Value = Value::Label(3);
+
+const OTHER: Value = Value::Label(4);
+
+const NA: Value = Value::Error(ErrorKind::Na);
+
+const REF: Value = Value::Error(ErrorKind::Ref);
+
+const NUM: Value = Value::Error(ErrorKind::Num);
+
+const VALUE: Value = Value::Error(ErrorKind::Value);
+
+const DIV0: Value = Value::Error(ErrorKind::Div0);
+
+#[test]
+fn numbers_are_calculated(rt: HostRuntime) -> Result<(), Fail> {
+    let greatest = 9_007_199_254_740_991;
+    for (left, op, right, wanted) in [
+        (greatest, ADD, 0, Some(greatest)),
+        (greatest, ADD, 1, None),
+        (-greatest, SUB, 1, None),
+        (-greatest, ADD, 1, Some(-9_007_199_254_740_990)),
+        (94_906_265, MUL, 94_906_266, Some(9_007_199_231_156_490)),
+        (94_906_266, MUL, 94_906_266, None),
+        (greatest, MUL, greatest, None),
+        (greatest, MUL, -1, Some(-greatest)),
+        (-6, DIV, 3, Some(-2)),
+        (7, DIV, 2, None),
+        (0, DIV, -5, Some(0)),
+        (2, POWER, 52, Some(4_503_599_627_370_496)),
+        (2, POWER, 53, None),
+        (-2, POWER, 53, None),
+        (-3, POWER, 3, Some(-27)),
+        (2, POWER, -1, None),
+        (0, POWER, 0, Some(1)),
+        (0, POWER, greatest, Some(0)),
+        (1, POWER, greatest, Some(1)),
+        (-1, POWER, greatest, Some(-1)),
+        (-1, POWER, greatest - 1, Some(1)),
+        (3, POWER, greatest, None),
+    ] {
+        let value = match wanted {
+            Some(n) => number(n)?,
+            None => NUM,
+        };
+        assert_eq!(rt;
+            binary(op, number(left)?, number(right)?),
+            value,
+            "{left} {op:?} {right}"
+        );
+    }
+    Ok(())
+}
+
+#[test]
+fn kinds_are_converted(rt: HostRuntime) -> Result<(), Fail> {
+    for (left, op, right, wanted) in [
+        (TRUE, ADD, TRUE, number(2)?),
+        (EMPTY, SUB, TRUE, number(-1)?),
+        (LABEL, MUL, number(0)?, VALUE),
+        (number(1)?, DIV, EMPTY, DIV0),
+        (NA, ADD, REF, NA),
+        (LABEL, ADD, REF, VALUE),
+        (number(1)?, POWER, REF, REF),
+    ] {
+        assert_eq!(rt;
+            binary(op, left, right),
+            wanted,
+            "{left:?} {op:?} {right:?}"
+        );
+    }
+    assert_eq!(rt; prefix(PrefixOp::Minus, TRUE), number(-1)?);
+    assert_eq!(rt; prefix(PrefixOp::Minus, EMPTY), number(0)?);
+    assert_eq!(rt; prefix(PrefixOp::Minus, LABEL), VALUE);
+    assert_eq!(rt; prefix(PrefixOp::Plus, LABEL), LABEL);
+    assert_eq!(rt; prefix(PrefixOp::Plus, EMPTY), number(0)?);
+    assert_eq!(rt; prefix(PrefixOp::Plus, NA), NA);
+    Ok(())
+}
+
+// What the six comparisons give, in the order `=`, `<>`, `<`, `<=`, `>`, `>=`: a letter each, T and F for
+// truths and V for `#VALUE!`.
+fn comparisons(left: Value, right: Value) -> [char; 6] {
+    let shown = |op: BinaryOp| match &binary(op, left, right) {
+        Value::Truth(true) => 'T',
+        Value::Truth(false) => 'F',
+        Value::Error(ErrorKind::Value) => 'V',
+        _ => '?',
+    };
+    [
+        shown(BinaryOp::Equal),
+        shown(BinaryOp::Unequal),
+        shown(BinaryOp::Less),
+        shown(BinaryOp::LessEqual),
+        shown(BinaryOp::Greater),
+        shown(BinaryOp::GreaterEqual),
+    ]
+}
+
+#[test]
+fn values_are_compared(rt: HostRuntime) -> Result<(), Fail> {
+    let equal = ['T', 'F', 'F', 'T', 'F', 'T'];
+    let less = ['F', 'T', 'T', 'T', 'F', 'F'];
+    let greater = ['F', 'T', 'F', 'F', 'T', 'T'];
+    let same = ['T', 'F', 'V', 'V', 'V', 'V'];
+    let different = ['F', 'T', 'V', 'V', 'V', 'V'];
+    for (left, right, wanted) in [
+        (number(-2)?, number(1)?, less),
+        (number(1)?, number(1)?, equal),
+        (FALSE, TRUE, less),
+        (TRUE, TRUE, equal),
+        (LABEL, LABEL, same),
+        (LABEL, OTHER, different),
+        (TRUE, number(1)?, different),
+        (LABEL, number(1)?, different),
+        (LABEL, FALSE, different),
+        (EMPTY, EMPTY, equal),
+        (EMPTY, number(1)?, less),
+        (number(-1)?, EMPTY, less),
+        (EMPTY, FALSE, equal),
+        (TRUE, EMPTY, greater),
+        (EMPTY, LABEL, different),
+        (LABEL, EMPTY, different),
+    ] {
+        assert_eq!(rt; comparisons(left, right), wanted, "{left:?} {right:?}");
+    }
+    assert_eq!(rt; binary(BinaryOp::Equal, NA, REF), NA);
+    assert_eq!(rt; binary(BinaryOp::Less, LABEL, REF), REF);
+    Ok(())
+}
+
+#[test]
+fn values_are_truths(rt: HostRuntime) -> Result<(), Fail> {
+    for (value, wanted) in [
+        (EMPTY, Ok(false)),
+        (number(0)?, Ok(false)),
+        (number(-3)?, Ok(true)),
+        (TRUE, Ok(true)),
+        (FALSE, Ok(false)),
+        (LABEL, Err(ErrorKind::Value)),
+        (NA, Err(ErrorKind::Na)),
+    ] {
+        assert_eq!(rt; as_truth(value), wanted, "{value:?}");
+    }
+    assert_eq!(rt; Value::Number(truth_number(true)), number(1)?);
+    assert_eq!(rt; Value::Number(truth_number(false)), number(0)?);
+    Ok(())
+}

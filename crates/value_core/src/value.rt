@@ -1,6 +1,6 @@
 ghost use Rattle.std.specs.Prelude.{◌≡◌};
 
-use super::whole::Whole;
+use crate::whole::Whole;
 use std::fmt;
 
 /// Why a cell has no ordinary value. The names, but for the last, are those of OpenFormula.

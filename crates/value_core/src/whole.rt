@@ -28,6 +28,12 @@ impl Model for Whole {
 impl Whole {
     ghost use Rattle.value_core.specs.Wholes.{IsWhole};
 
+    /// The number 0.
+    pub const ZERO: Whole = Whole { number: 0 };
+
+    /// The number 1.
+    pub const ONE: Whole = Whole { number: 1 };
+
     /// The whole number n; None exactly where it is out of range.
     pub fn new(n: i64) -> Option<Whole>
         ensures whole { IsSome result ↔ IsWhole n }

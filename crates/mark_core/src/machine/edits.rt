@@ -11,7 +11,8 @@ impl<E: Drop> Machine<E> {
     /// The view loads the count of commits.
     pub fn see(&mut self, view: u32) -> Result<u64, Memory>
         requires { view < length self.old.views }
-        ensures ok { IfOk result (λ count. (count ≡ length self.old.edits.log) × (self.new ≡ after_see self.old view)) }
+        ensures ok { IfOk result
+            (λ count. (count ≡ length self.old.edits.log) × (self.new ≡ after_see self.old view)) }
         ensures err { OnErr result (self.new ≡ self.old) }
     {
         let count = self.log.len() as u64;
@@ -35,7 +36,9 @@ impl<E: Drop> Machine<E> {
     /// want of memory.
     pub fn commit(&mut self, entry: E) -> Result<u64, Memory>
         requires { 0 < length self.old.views }
-        ensures ok { IfOk result (λ count. (count ≡ length self.old.edits.log + 1) × (self.new ≡ after_commit self.old 0 entry)) }
+        ensures ok { IfOk result
+            (λ count. (count ≡ length self.old.edits.log + 1)
+            × (self.new ≡ after_commit self.old 0 entry)) }
         ensures err { OnErr result (self.new ≡ self.old) }
     {
         if self.log.len() as u64 >= u64::MAX - 1 {

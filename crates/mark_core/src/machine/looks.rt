@@ -1,8 +1,8 @@
 #![tactic(auto)]
 
-ghost use Rattle.std.specs.Prelude.{◌≡◌, ◌<◌, ◌↔◌, ◌^◌, length, IsTrue, MatchOption, Some, None};
+ghost use Rattle.std.specs.Prelude.{◌≡◌, ◌<◌, ◌↔◌, ◌-◌, ◌^◌, length, IsTrue, MatchOption, Some, None};
 ghost use Rattle.mark_core.specs.State.{State, view_at};
-ghost use Rattle.mark_core.specs.Permission.{IsLive, MayRead};
+ghost use Rattle.mark_core.specs.Permission.{IsLive, MayStepAt};
 
 use crate::machine::Machine;
 use crate::words::{Finished, Held};
@@ -16,7 +16,7 @@ impl<E> Machine<E> {
 
     /// Whether one more view can have a number.
     pub fn has_room(&self) -> bool
-        ensures { IsTrue result ↔ (length self.now.views < 4294967295) }
+        ensures { IsTrue result ↔ (length self.now.views < 2 ^ 32 - 1) }
     {
         self.views.len() < u32::MAX as usize
     }
@@ -32,8 +32,8 @@ impl<E> Machine<E> {
     }
 
     /// Whether the view and the place are there, and the view isn't spent.
-    pub fn may_read(&self, view: u32, place: u32) -> bool
-        ensures { IsTrue result ↔ MayRead (length self.now.places) (view_at self.now view) place }
+    pub fn may_step_at(&self, view: u32, place: u32) -> bool
+        ensures { IsTrue result ↔ MayStepAt (length self.now.places) (view_at self.now view) place }
     {
         (place as usize) < self.places.len() && self.is_live(view)
     }
@@ -57,7 +57,8 @@ impl<E> Machine<E> {
 
     /// The pending entry.
     pub fn pending(&self) -> Option<&E>
-        ensures { MatchOption result (self.now.edits.pending ≡ None) (λ entry. self.now.edits.pending ≡ Some entry.now) }
+        ensures { MatchOption result
+            (self.now.edits.pending ≡ None) (λ entry. self.now.edits.pending ≡ Some entry.now) }
     {
         self.pending.as_ref()
     }

@@ -38,7 +38,8 @@ impl<E: Drop> Machine<E> {
         requires there { view < length self.old.views }
         requires place_there { place < length self.old.places }
         ensures ok { IfOk result
-            (λ mark. (mark ≡ (place_at self.old.places place).mark) × (self.new ≡ after_read_mark self.old view place)) }
+            (λ mark. (mark ≡ (place_at self.old.places place).mark)
+            × (self.new ≡ after_read_mark self.old view place)) }
         ensures err { OnErr result (self.new ≡ self.old) }
     {
         let mark = self.places[place as usize].mark;

@@ -1,6 +1,6 @@
 #![tactic(auto)]
 
-ghost use Rattle.std.specs.Prelude.{◌≡◌, ◌≢◌, ◌<◌, length, IfOk, OnOk, OnErr};
+ghost use Rattle.std.specs.Prelude.{◌≡◌, ◌≢◌, ◌<◌, ◌-◌, ◌^◌, length, IfOk, OnOk, OnErr};
 ghost use Rattle.mark_core.specs.State.{State, view_at};
 ghost use Rattle.mark_core.specs.Step.{after_split, after_join};
 
@@ -13,8 +13,9 @@ impl<E: Drop> Machine<E> {
     /// A new view comes to stand beside the others. It knows what this one does.
     pub fn split(&mut self, view: u32) -> Result<u32, Memory>
         requires there { view < length self.old.views }
-        requires room { length self.old.views < 4294967295 }
-        ensures ok { IfOk result (λ seat. (seat ≡ length self.old.views) × (self.new ≡ after_split self.old view)) }
+        requires room { length self.old.views < 2 ^ 32 - 1 }
+        ensures ok { IfOk result
+            (λ seat. (seat ≡ length self.old.views) × (self.new ≡ after_split self.old view)) }
         ensures err { OnErr result (self.new ≡ self.old) }
     {
         let new = self.views[view as usize].split(self.alloc)?;

@@ -25,7 +25,8 @@ impl<E: Drop> Machine<E> {
     pub fn claim(&mut self, view: u32, place: u32, seen: Clean) -> Result<bool, Memory>
         requires there { view < length self.old.views }
         requires place_there { place < length self.old.places }
-        ensures ok { IfOk result (λ taken. Gives self.old (Event.Claim view place seen) (Outcome.Claimed taken) self.new) }
+        ensures ok { IfOk result
+            (λ taken. Gives self.old (Event.Claim view place seen) (Outcome.Claimed taken) self.new) }
         ensures err { OnErr result (self.new ≡ self.old) }
     {
         if self.clean(place) == seen {

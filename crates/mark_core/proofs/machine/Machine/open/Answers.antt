@@ -1,5 +1,5 @@
 use Rattle.std.proofs.Common.{◌++◌, ◌∷◌, [], List, ℕ, ap, ◌∙◌}
-use Rattle.mark_core.specs.State.{View}
+use Rattle.mark_core.specs.declared.actors.View.{View}
 use Rattle.mark_core.proofs.KeptLemmas.{kept_opening}
 use Rattle.mark_core.proofs.machine.Machine.open.Goals as goal
 

@@ -1,0 +1,3 @@
+pub mod GatherLemmas
+pub mod PathLemmas
+pub mod WalkLemmas

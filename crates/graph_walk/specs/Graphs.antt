@@ -1,0 +1,80 @@
+-- The dependency graph of a sheet as a set of pairs, and what cells depend on by them.
+use Rattle.std.specs.Prelude.{◌≡◌, ◌≢◌, ◌↔◌, ◌⊎◌, Bool, IsTrue, List, ◌++◌, Contains}
+use Rattle.sheet_refs.specs.Cells.{Position, Corners, IsIn}
+use Rattle.sheet_refs.specs.Rectangles.{IsAmong}
+use Rattle.graph_walk.specs.Paths.{IsPath, IsReached, LeadsTo, back}
+
+-- a cell whose formula refers to a range
+pub record Pair : Type 0 where
+  pub range : Corners
+  pub cell : Position
+
+-- the one cell is in a range to which the other refers: the other depends directly on it
+pub record Step (pairs : List Pair) (from to : Position) : Type 0 where
+  pub pair : Pair
+  pub listed : Contains pairs pair
+  pub inside : IsIn from pair.range
+  pub cell_is : pair.cell ≡ to
+
+-- the cells of a range and all that depend on them, in any number of steps: each stands at the end of a
+-- list of cells that begins in the range and in which each next cell depends directly on the one before
+abbrev pub Reach : List Pair → Corners → Position → Type 0
+Reach pairs range cell = IsReached (Step pairs) (λ from. IsIn from range) cell
+
+-- the cells of a range and all on which they depend, in any number of steps: each stands at the start of
+-- such a list that ends in the range
+pub record Back (pairs : List Pair) (range : Corners) (cell : Position) : Type 0 where
+  pub to : Position
+  pub ends : IsIn to range
+  pub cells : List Position
+  pub path : IsPath (Step pairs) cell cells to
+
+-- a list with at least one step leads from the cell to itself
+abbrev pub IsOnCycle : List Pair → Position → Type 0
+IsOnCycle pairs cell = LeadsTo (Step pairs) cell cell
+
+-- a cell depends directly, or in at least one step, on a cell of a range
+abbrev pub IsDirectDependent : List Pair → Corners → Position → Type 0
+IsDirectDependent pairs range cell = (from : Position) × IsIn from range × Step pairs from cell
+
+abbrev pub IsDependent : List Pair → Corners → Position → Type 0
+IsDependent pairs range cell = (from : Position) × IsIn from range × LeadsTo (Step pairs) from cell
+
+-- a cell of a range depends directly, or in at least one step, on a cell
+abbrev pub IsDirectPrecedent : List Pair → Corners → Position → Type 0
+IsDirectPrecedent pairs range cell = (to : Position) × IsIn to range × Step pairs cell to
+
+abbrev pub IsPrecedent : List Pair → Corners → Position → Type 0
+IsPrecedent pairs range cell = (to : Position) × IsIn to range × LeadsTo (Step pairs) cell to
+
+-- a list has kept what it held
+pub record Keeps (old new : List Corners) : Type 0 where
+  pub added : List Corners
+  pub whole : new ≡ old ++ added
+
+-- ranges were added to a list that hold all cells of one set, and only cells of another
+pub record Adds (old new : List Corners) (least most : Position → Type 0) : Type 0 where
+  pub added : List Corners
+  pub whole : new ≡ old ++ added
+  pub all : (cell : Position) → least cell → IsAmong added cell
+  pub only : (cell : Position) → IsAmong added cell → most cell
+
+-- the same pairs
+abbrev pub SamePairs : List Pair → List Pair → Type 0
+SamePairs old new = (pair : Pair) → Contains new pair ↔ Contains old pair
+
+-- the pairs of one cell have become exactly those with some ranges, and no other pair has changed
+abbrev pub Replaces : List Pair → List Pair → Position → List Corners → Type 0
+Replaces old new cell refs =
+    (pair : Pair) → Contains new pair ↔ (((pair.cell ≡ cell) × Contains refs pair.range) ⊎ ((pair.cell ≢ cell) × Contains old pair))
+
+-- a set of cells, as a test, has those of a range
+abbrev pub HasRange : (Position → Bool) → Corners → Type 0
+HasRange set range = (cell : Position) → IsIn cell range → IsTrue (set cell)
+
+-- a set of cells has all that depend directly on its cells, or all on which they depend directly
+abbrev pub IsClosed : List Pair → (Position → Bool) → Type 0
+IsClosed pairs set = (from to : Position) → Step pairs from to → IsTrue (set from) → IsTrue (set to)
+
+abbrev pub IsClosedBack : List Pair → (Position → Bool) → Type 0
+IsClosedBack pairs set = (from to : Position) → Step pairs from to → IsTrue (set to) → IsTrue (set from)

@@ -1,0 +1,4 @@
+pub mod Gathers
+pub mod Graphs
+pub mod Paths
+pub mod Walks

@@ -1,0 +1,47 @@
+ghost use Rattle.std.specs.Prelude.{ℕ, ◌+◌, ◌≤◌, List, OnOk};
+ghost use Rattle.graph_walk.specs.Graphs.{Pair, Adds, Keeps, IsDirectDependent, IsDependent, IsDirectPrecedent, IsPrecedent, SamePairs, Replaces};
+
+use sheet_refs::{Cell, Memory, Range, Refs};
+
+/// The dependency graph of a sheet: a finite set of pairs of a range and a cell that refers to it.
+///
+/// The queries add ranges to a list that they are lent; after Memory the list begins with what it held.
+pub trait Graph {
+    /// The pairs, as a list in which the order and repeats mean nothing.
+    ghost pairs: { Self → List Pair };
+
+    /// How many calls of `replace` there is room for.
+    ghost spare: { Self → ℕ };
+
+    /// Adds ranges whose cells are exactly those that refer to a range that shares a cell with `q`.
+    fn direct_dependents(&self, q: Range, out: &mut Vec<Range>) -> Result<(), Memory>
+        ensures found { OnOk result (Adds out.old.items out.new.items (IsDirectDependent (pairs self.now) q) (IsDirectDependent (pairs self.now) q)) }
+        ensures kept { Keeps out.old.items out.new.items };
+
+    /// Adds ranges whose cells are exactly those of the ranges to which cells of `q` refer.
+    fn direct_precedents(&self, q: Range, out: &mut Vec<Range>) -> Result<(), Memory>
+        ensures found { OnOk result (Adds out.old.items out.new.items (IsDirectPrecedent (pairs self.now) q) (IsDirectPrecedent (pairs self.now) q)) }
+        ensures kept { Keeps out.old.items out.new.items };
+
+    /// Adds ranges that hold all direct dependents of `q` and only cells that depend on it, in at least one step.
+    fn ahead(&self, q: Range, out: &mut Vec<Range>) -> Result<(), Memory>
+        ensures found { OnOk result (Adds out.old.items out.new.items (IsDirectDependent (pairs self.now) q) (IsDependent (pairs self.now) q)) }
+        ensures kept { Keeps out.old.items out.new.items };
+
+    /// Adds ranges that hold all direct precedents of `q` and only cells on which it depends, in at least one step.
+    fn behind(&self, q: Range, out: &mut Vec<Range>) -> Result<(), Memory>
+        ensures found { OnOk result (Adds out.old.items out.new.items (IsDirectPrecedent (pairs self.now) q) (IsPrecedent (pairs self.now) q)) }
+        ensures kept { Keeps out.old.items out.new.items };
+
+    /// Makes room for so many calls of `replace`, at most 1,048,576. The pairs stay, after Memory too.
+    fn reserve(&mut self, changes: u32) -> Result<(), Memory>
+        requires { changes ≤ 1048576 }
+        ensures room { OnOk result (changes ≤ spare self.new) }
+        ensures same { SamePairs (pairs self.old) (pairs self.new) };
+
+    /// Makes the pairs of a cell exactly those with these ranges, and changes no other pair. It takes no memory.
+    fn replace(&mut self, cell: Cell, refs: &Refs)
+        requires { 1 ≤ spare self.old }
+        ensures replaced { Replaces (pairs self.old) (pairs self.new) cell refs.now }
+        ensures room { spare self.old ≤ spare self.new + 1 };
+}

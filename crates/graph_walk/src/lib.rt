@@ -1,0 +1,19 @@
+//! Dependency graphs of sheets, and walks over them.
+//!
+//! A `Graph` means a set of pairs of a range and a cell whose formula refers to it, and answers which cells
+//! depend directly on a range and on which it depends. What depends on a range in any number of steps is
+//! defined by lists of cells (`specs/Graphs.antt`); `reach_laws` and `back_laws` say that this is the least
+//! set that has the range and is closed under a step. `dependents`, `precedents` and `on_cycle` answer it
+//! exactly over every graph, whatever its `ahead` and `behind` answer between the direct ones and all.
+//!
+//! It stands on `sheet_refs` alone; graphs of other crates implement the trait.
+#![tactic(auto)]
+
+mod gather;
+mod graph;
+mod laws;
+mod walk;
+
+pub use graph::Graph;
+pub use laws::{back_laws, reach_laws};
+pub use walk::{dependents, on_cycle, precedents};

@@ -1,0 +1,69 @@
+ghost use Rattle.std.specs.Prelude.{◌↔◌, List, IfOk, OnOk, IsTrue};
+ghost use Rattle.sheet_refs.specs.Cells.{Position, IsIn};
+ghost use Rattle.sheet_refs.specs.Rectangles.{IsAmong};
+ghost use Rattle.graph_walk.specs.Graphs.{Adds, Reach, Back, IsOnCycle};
+ghost use Rattle.graph_walk.specs.Walks.{step_in, IsNext, IsBeyond, IsWalk};
+
+use crate::gather::gather;
+use crate::graph::Graph;
+use sheet_refs::{Cell, Memory, Range, RectSet};
+use std::alloc::Global;
+
+/// Which way a walk goes.
+#[derive(Clone, Copy)]
+enum Direction {
+    /// To the cells that depend on those that it is at.
+    Ahead,
+    /// To the cells on which they depend.
+    Behind,
+}
+
+// Adds the ranges that the graph answers ahead of a range or behind it.
+fn next_ranges<G: Graph>(graph: &G, direction: Direction, range: Range, out: &mut Vec<Range>) -> Result<(), Memory>
+    ensures { OnOk result (Adds out.old.items out.new.items (IsNext (step_in direction (G.pairs graph.now)) range) (IsBeyond (step_in direction (G.pairs graph.now)) range)) }
+{
+    match direction {
+        Direction::Ahead => graph.ahead(range, out),
+        Direction::Behind => graph.behind(range, out),
+    }
+}
+
+// All cells that a walk from some ranges reaches. Each range that adds cells to the set is asked for once.
+fn walk<G: Graph>(alloc: Global, graph: &G, direction: Direction, starts: &[Range]) -> Result<RectSet, Memory>
+    ensures { IfOk result (IsWalk direction (G.pairs graph.now) starts.now) }
+{
+    let mut set = RectSet::new(alloc);
+    let mut waiting = Vec::new(alloc);
+    gather(&mut set, &mut waiting, starts)?;
+    let mut found = Vec::new(alloc);
+    while let Some(range) = waiting.pop() {
+        found.clear();
+        next_ranges(graph, direction, range, &mut found)?;
+        gather(&mut set, &mut waiting, &found)?;
+    }
+    Ok(set)
+}
+
+/// The cells of a range and all cells that depend on them in any number of steps.
+pub fn dependents<G: Graph>(alloc: Global, graph: &G, q: Range) -> Result<RectSet, Memory>
+    ensures { IfOk result (λ set. (cell : Position) → IsAmong set cell ↔ Reach (G.pairs graph.now) q cell) }
+{
+    walk(alloc, graph, Direction::Ahead, &[q])
+}
+
+/// The cells of a range and all cells on which they depend in any number of steps.
+pub fn precedents<G: Graph>(alloc: Global, graph: &G, q: Range) -> Result<RectSet, Memory>
+    ensures { IfOk result (λ set. (cell : Position) → IsAmong set cell ↔ Back (G.pairs graph.now) q cell) }
+{
+    walk(alloc, graph, Direction::Behind, &[q])
+}
+
+/// Whether the cell is reached again from its own references: a cell that only leads to a cycle is not on one.
+pub fn on_cycle<G: Graph>(alloc: Global, graph: &G, cell: Cell) -> Result<bool, Memory>
+    ensures { IfOk result (λ on. IsTrue on ↔ IsOnCycle (G.pairs graph.now) cell) }
+{
+    let mut next = Vec::new(alloc);
+    graph.ahead(Range::of(cell, cell), &mut next)?;
+    let reached = walk(alloc, graph, Direction::Ahead, &next)?;
+    Ok(reached.contains(cell))
+}
