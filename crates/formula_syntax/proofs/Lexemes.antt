@@ -1,11 +1,11 @@
 -- A text has one list of tokens, and how it is read piece by piece.
-use Rattle.std.proofs.Common.{◌≡◌, ◌≢◌, ℕ, zero, suc, ◌+◌, ◌<◌, ◌≤◌, Bool, true, false, List, [], ◌∷◌, ◌++◌, length, take, drop, refl, sym, ◌∙◌, ap, subst, arith, cond}
+use Rattle.std.proofs.Common.{◌≡◌, ℕ, ◌+◌, ◌<◌, ◌≤◌, Bool, true, false, List, [], ◌∷◌, ◌++◌, length, take, drop, refl, sym, ◌∙◌, ap, subst, arith}
 use Rattle.std.proofs.lemmas.Bool.{false≢true}
 use Rattle.std.proofs.lemmas.List.{length-append, take-append-drop, append-nil, append_assoc, length-drop}
 use Rattle.formula_syntax.specs.declared.tokens.Token.{Token}
 use Rattle.formula_syntax.specs.Lexing.{is_blank, IsToken, IsFront, HasNoToken, HasTokens, past_blanks}
 use Rattle.formula_syntax.specs.Lexing.HasTokens.{nothing, blank, next}
-use Rattle.formula_syntax.proofs.TokenLemmas.{token_some, token_unique, blank_no_token, IsSame}
+use Rattle.formula_syntax.proofs.TokenLemmas.{token_some, token_unique, blank_no_token}
 
 no_piece : (piece rest : List ℕ) (t : Token) → [] ≡ piece ++ rest → IsToken piece rest t → ⊥
 no_piece piece rest t split is = omega (arith, token_some piece rest t is, ap length split, length-append piece rest)

@@ -1,11 +1,10 @@
 -- What a derivation bounds: references and nodes by tokens, and that each call fits its function.
-use Rattle.std.proofs.Common.{◌≡◌, ◌≢◌, ℕ, zero, suc, ◌+◌, ◌<◌, ◌≤◌, List, [], ◌∷◌, ◌++◌, length, refl, sym, ap, ◌∙◌, arith, pos, get_or}
+use Rattle.std.proofs.Common.{◌≡◌, ◌≢◌, ℕ, ◌+◌, ◌≤◌, List, [], ◌∷◌, ◌++◌, length, refl, arith}
 use Rattle.std.specs.Prelude.{count_by, cond}
 use Rattle.std.proofs.lemmas.List.{length-append}
 use Rattle.std.proofs.lemmas.List.Sums.{sum_by-append}
-use Rattle.sheet_refs.specs.Ends.{Reference, IsReference}
+use Rattle.sheet_refs.specs.Ends.{IsReference}
 use Rattle.sheet_refs.proofs.EndLemmas.{reference_kept}
-use Rattle.value_core.specs.declared.value.ErrorKind.{ErrorKind}
 use Rattle.value_core.specs.declared.value.ErrorKind.TheVariants.{Circ}
 use Rattle.formula_syntax.specs.declared.tokens.Token.{Token}
 use Rattle.formula_syntax.specs.declared.tokens.Token.TheVariants as token
@@ -14,7 +13,7 @@ use Rattle.formula_syntax.specs.Grammar.{Derives, AreDerived, AreSome}
 use Rattle.formula_syntax.specs.Grammar.Derives.{tighter, operator, sign, a_number, a_truth, an_error, a_reference, parentheses, a_call, a_truth_call}
 use Rattle.formula_syntax.specs.Grammar.AreDerived.{none, some}
 use Rattle.formula_syntax.specs.Grammar.AreSome.{one, more}
-use Rattle.formula_syntax.specs.Lexing.{IsToken, IsWord, HasTokens}
+use Rattle.formula_syntax.specs.Lexing.{IsToken, HasTokens}
 use Rattle.formula_syntax.specs.Lexing.HasTokens.{nothing, blank, next}
 use Rattle.formula_syntax.specs.Lexing.IsToken.{word, bracketed, error, operator as operator_token, opening, closing, semicolon, comma}
 use Rattle.formula_syntax.specs.Lexing.IsWord.{number, truth, function, reference}

@@ -1,7 +1,7 @@
 -- Words: what they stand for, and that it is one thing.
-use Rattle.std.proofs.Common.{◌≡◌, ◌≢◌, ℕ, zero, suc, ◌-◌, ◌+◌, ◌<◌, ◌≤◌, ◌⊎◌, Bool, true, false, List, [], ◌∷◌, ◌++◌, length, get_or, take, drop, map, refl, sym, ◌∙◌, ap, subst, arith, inl, inr, pos}
+use Rattle.std.proofs.Common.{◌≡◌, ℕ, suc, ◌<◌, Bool, true, false, List, [], ◌∷◌, ◌++◌, length, get_or, map, refl, sym, ◌∙◌, ap, arith, inl, inr, pos}
 use Rattle.std.specs.Prelude.{Option, Some, None, ◌&&◌, ◌||◌, nat_le, nat_eq, cond}
-use Rattle.std.specs.List.{prefix_len, All}
+use Rattle.std.specs.List.{All}
 use Rattle.std.specs.Char.{to_ascii_lowercase, is_ascii_alphabetic}
 use Rattle.std.proofs.lemmas.Option.{none-some, same_Some}
 use Rattle.std.proofs.lemmas.Bool.Decides.{nat_tests}
@@ -16,7 +16,7 @@ use Rattle.formula_syntax.specs.declared.functions.Function.TheVariants.{Sum, Pr
 use Rattle.formula_syntax.specs.declared.tokens.Token.{Token}
 use Rattle.formula_syntax.specs.declared.tokens.Token.TheVariants as token
 use Rattle.formula_syntax.specs.Functions.{function_name, all_functions}
-use Rattle.formula_syntax.specs.Lexing.{is_word, IsSpelt, IsWord, HasEnded}
+use Rattle.formula_syntax.specs.Lexing.{is_word, IsSpelt, IsWord}
 use Rattle.formula_syntax.specs.Lexing.IsWord.{number, truth, function, reference}
 
 -- what holds of no function of the table holds of none

@@ -1,5 +1,5 @@
 -- Tokens that are always written alike, read from the front of a text. The reader's own clauses cite it.
-use Rattle.std.specs.Prelude.{ℕ, ◌<◌, Bool, List, [], ◌∷◌, codes, Option, Some, None, option_map, if◌then◌else◌, ◌==◌, nat_eq}
+use Rattle.std.specs.Prelude.{ℕ, List, [], ◌∷◌, codes, Option, Some, None, option_map, if◌then◌else◌, ◌==◌, nat_eq}
 use Rattle.std.specs.List.{starts_with}
 use Rattle.value_core.specs.declared.value.ErrorKind.TheVariants as kind
 use Rattle.value_core.specs.declared.operators.BinaryOp.TheVariants.{Add, Sub, Mul, Div, Power, Equal, Unequal, Less, LessEqual, Greater, GreaterEqual}

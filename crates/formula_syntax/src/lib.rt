@@ -1,4 +1,9 @@
-//! Formulas as trees.
+//! Formulas as trees, read from their text.
+//!
+//! A text is a formula exactly where the grammar spells a tree with it (`specs/Spelling.antt`), and no text
+//! spells two (`formula_laws`). The grammar has two halves: which tokens a text has (`specs/Lexing.antt`), and
+//! which tokens derive which tree, at which level (`specs/Grammar.antt`). The reader gives the tree, or a
+//! refusal, each exactly where its cause holds.
 //!
 //! A formula is a tree of at most 8,192 nodes with at most 255 references (`specs/Formula.antt`). Contracts
 //! see it as a tree of the specs (`specs/Tree.antt`), without where its nodes lie in memory. One table says
@@ -12,6 +17,8 @@ mod laws;
 mod lexer;
 mod reader;
 mod reading;
+#[cfg(test)]
+mod tests;
 mod tokens;
 mod tree;
 mod words;
