@@ -1,11 +1,10 @@
 -- Sets of cells that grow: how many named cells they lack, and what gathers in a list of ranges.
-use Rattle.std.proofs.Common.{◌≡◌, ℕ, zero, suc, ◌+◌, ◌-◌, ◌<◌, ◌≤◌, ◌↔◌, ◌⊎◌, inl, inr, ◌&&◌, ◌||◌, not, Bool, true, false, cond, List, [], ◌∷◌, ◌++◌, length, get_or, take, refl, sym, ◌∙◌, ap, subst, arith, length-append, length-take}
-use Rattle.std.specs.List.{list_any, Contains, AllPairs}
+use Rattle.std.proofs.Common.{◌≡◌, ℕ, zero, suc, ◌+◌, ◌<◌, ◌≤◌, ◌↔◌, ◌⊎◌, inl, inr, ◌&&◌, ◌||◌, not, Bool, true, false, cond, List, [], ◌∷◌, ◌++◌, length, get_or, take, refl, sym, ◌∙◌, ap, subst, arith, length-append, length-take}
 use Rattle.std.specs.Prelude.{nat_le}
-use Rattle.std.proofs.lemmas.Bool.{le-leb, leb-true, cases_lt}
+use Rattle.std.proofs.lemmas.Bool.{le-leb, leb-true}
 use Rattle.std.proofs.lemmas.List.{take_all, take_more, append_assoc, append-nil, get_or_default, get_or-take, length_push}
 use Rattle.sheet_refs.specs.Cells.{Position, Corners, IsIn, IsNamed, IsOrdered, cells_of}
-use Rattle.sheet_refs.specs.Rectangles.{Overlap, IsAmong, IsNew, Joins, AreDisjoint, Tile}
+use Rattle.sheet_refs.specs.Rectangles.{IsAmong, IsNew, Joins, AreDisjoint, Tile}
 use Rattle.sheet_refs.proofs.ColumnLemmas.{among_cons, none_among}
 use Rattle.sheet_refs.proofs.Grid.{cells_listed}
 use Rattle.sheet_refs.proofs.Tiles.{among_append, among_one, among_at}
@@ -39,8 +38,8 @@ is_in_tells cell range = (to, from)
     from : IsIn cell range → (rows && cols) ≡ true
     from inside =
         true_and rows cols
-          (true_and (nat_le range.head.row cell.row) (nat_le cell.row range.tail.row) (le-leb _ _ inside.row_from) (le-leb _ _ inside.row_to))
-          (true_and (nat_le range.head.col cell.col) (nat_le cell.col range.tail.col) (le-leb _ _ inside.col_from) (le-leb _ _ inside.col_to))
+        (true_and (nat_le range.head.row cell.row) (nat_le cell.row range.tail.row) (le-leb _ _ inside.row_from) (le-leb _ _ inside.row_to))
+        (true_and (nat_le range.head.col cell.col) (nat_le cell.col range.tail.col) (le-leb _ _ inside.col_from) (le-leb _ _ inside.col_to))
 
 or_left : (a b : Bool) → a ≡ true → (a || b) ≡ true
 or_left true b is = refl
@@ -55,15 +54,16 @@ among_tells [] cell = (λ test. absurd (cc), λ among. absurd (none_among cell a
 among_tells (range ∷ ranges) cell =
     let here = is_in_tells cell range in
     let rest = among_tells ranges cell in
-    let both = among_cons range ranges cell in
-    (λ test. by_first (is_in cell range) refl test rest.0 here.0 both.1,
-     λ among. elim (both.0 among) [
-        inl inside ↦ or_left (is_in cell range) (is_among ranges cell) (here.1 inside)
-      | inr later ↦ or_right (is_in cell range) (is_among ranges cell) (rest.1 later)
-      ])
+    let both = among_cons range ranges cell in (
+      λ test. by_first (is_in cell range) refl test rest.0 here.0 both.1,
+      λ among. elim (both.0 among) [
+        | inl inside ↦ or_left (is_in cell range) (is_among ranges cell) (here.1 inside)
+        | inr later ↦ or_right (is_in cell range) (is_among ranges cell) (rest.1 later)
+      ],
+    )
   where
     by_first : (first : Bool) → is_in cell range ≡ first → (first || is_among ranges cell) ≡ true → (is_among ranges cell ≡ true → IsAmong ranges cell) → (is_in cell range ≡ true → IsIn cell range)
-          → (IsIn cell range ⊎ IsAmong ranges cell → IsAmong (range ∷ ranges) cell) → IsAmong (range ∷ ranges) cell
+        → (IsIn cell range ⊎ IsAmong ranges cell → IsAmong (range ∷ ranges) cell) → IsAmong (range ∷ ranges) cell
     by_first true is test rest here join = join (inl (here is))
     by_first false is test rest here join = join (inr (rest test))
 
@@ -138,9 +138,10 @@ take_next ranges place range within here = take_more ranges place range within �
 
 pub among_next : (ranges : List Corners) (range : Corners) (cell : Position) → IsAmong (ranges ++ range ∷ []) cell ↔ (IsAmong ranges cell ⊎ IsIn cell range)
 among_next ranges range cell =
-    let both = among_append ranges (range ∷ []) cell in
-    (λ among. elim (both.0 among) [ inl old ↦ inl old | inr new ↦ inr (among_one range cell new) ],
-     λ found. elim found [ inl old ↦ both.1 (inl old) | inr inside ↦ both.1 (inr (record { range = range; listed = (0, omega arith, refl); inside = inside })) ])
+    let both = among_append ranges (range ∷ []) cell in (
+      λ among. elim (both.0 among) [ inl old ↦ inl old | inr new ↦ inr (among_one range cell new) ],
+      λ found. elim found [ inl old ↦ both.1 (inl old) | inr inside ↦ both.1 (inr (record { range = range; listed = (0, omega arith, refl); inside = inside })) ],
+    )
 
 -- a cell of one of the first parts of a tiling is not in a later one
 apart_from_first : (parts : List Corners) (place : ℕ) (cell : Position) → AreDisjoint parts → place < length parts → IsIn cell (get_or parts place (record { head = cell; tail = cell })) → IsAmong (take place parts) cell → ⊥
@@ -152,9 +153,9 @@ apart_from_first parts place cell disjoint within inside among =
     disjoint k place d before within (cell, record { first = first; second = inside })
 
 pub admitted_more : (old now new waited waiting later parts : List Corners) (range : Corners) (place : ℕ) (part : Corners)
-      → Admitted old now waited waiting (take place parts) → Tile parts (IsNew old range) → place < length parts → part ≡ get_or parts place part
-      → IsOrdered part.head part.tail → IsNamed part.head.row part.head.col → Joins now new part → later ≡ waiting ++ part ∷ []
-      → Admitted old new waited later (take (place + 1) parts)
+    → Admitted old now waited waiting (take place parts) → Tile parts (IsNew old range) → place < length parts → part ≡ get_or parts place part
+    → IsOrdered part.head part.tail → IsNamed part.head.row part.head.col → Joins now new part → later ≡ waiting ++ part ∷ []
+    → Admitted old new waited later (take (place + 1) parts)
 admitted_more old now new waited waiting later parts range place part known tiled within here ordered named joined pushed = record {
   waits = pushed ∙ (ap (λ (w : List Corners). w ++ part ∷ []) known.waits ∙ (append_assoc waited (take place parts) (part ∷ []) ∙ ap (λ (a : List Corners). waited ++ a) (sym next)));
   gained = λ cell. (to cell, from cell);
@@ -166,19 +167,19 @@ admitted_more old now new waited waiting later parts range place part known tile
 
     to : (cell : Position) → IsAmong new cell → IsAmong old cell ⊎ IsAmong (take (place + 1) parts) cell
     to cell among = elim ((joined cell).0 among) [
-        inl before ↦ elim ((known.gained cell).0 before) [
-          inl is_old ↦ inl is_old
+      | inl before ↦ elim ((known.gained cell).0 before) [
+        | inl is_old ↦ inl is_old
         | inr first ↦ inr (among_same _ _ cell (sym next) ((among_next (take place parts) part cell).1 (inl first)))
-        ]
-      | inr inside ↦ inr (among_same _ _ cell (sym next) ((among_next (take place parts) part cell).1 (inr inside)))
       ]
+      | inr inside ↦ inr (among_same _ _ cell (sym next) ((among_next (take place parts) part cell).1 (inr inside)))
+    ]
 
     from : (cell : Position) → IsAmong old cell ⊎ IsAmong (take (place + 1) parts) cell → IsAmong new cell
     from cell (inl is_old) = (joined cell).1 (inl ((known.gained cell).1 (inl is_old)))
     from cell (inr added) = elim ((among_next (take place parts) part cell).0 (among_same _ _ cell next added)) [
-        inl first ↦ (joined cell).1 (inl ((known.gained cell).1 (inr first)))
+      | inl first ↦ (joined cell).1 (inl ((known.gained cell).1 (inr first)))
       | inr inside ↦ (joined cell).1 (inr inside)
-      ]
+    ]
 
     head_in : IsIn part.head part
     head_in = record { row_from = omega arith; row_to = ordered.rows; col_from = omega arith; col_to = ordered.cols }
@@ -191,9 +192,9 @@ admitted_more old now new waited waiting later parts range place part known tile
 
     absent_now : IsAmong now part.head → ⊥
     absent_now among = elim ((known.gained part.head).0 among) [
-        inl is_old ↦ head_new.absent is_old
+      | inl is_old ↦ head_new.absent is_old
       | inr first ↦ apart_from_first parts place part.head tiled.disjoint within (subst (λ (r : Corners). IsIn part.head r) same_part head_in) first
-      ]
+    ]
 
     fewer : absent new + length (take (place + 1) parts) ≤ absent old
     fewer =
@@ -209,9 +210,9 @@ admitted_all old new waited waiting parts range known tiled = record {
   gained = known.gained;
   only = λ cell among. ((tiled.exact cell).0 among).inside;
   all = λ cell inside. elim (among_or_not old cell) [
-      inl is_old ↦ (known.gained cell).1 (inl is_old)
+    | inl is_old ↦ (known.gained cell).1 (inl is_old)
     | inr none ↦ (known.gained cell).1 (inr ((tiled.exact cell).1 (record { inside = inside; absent = none })))
-    ];
+  ];
   fewer = known.fewer;
 }
 
@@ -227,7 +228,7 @@ gathers_none set waiting = record {
 
 -- one more range has been admitted
 pub gathers_more : (old now new waited waiting later found : List Corners) (place : ℕ) (range : Corners) → place < length found → range ≡ get_or found place range
-      → Gathers old now waited waiting (IsAmong (take place found)) → Gathers now new waiting later (λ cell. IsIn cell range) → Gathers old new waited later (IsAmong (take (place + 1) found))
+    → Gathers old now waited waiting (IsAmong (take place found)) → Gathers now new waiting later (λ cell. IsIn cell range) → Gathers old new waited later (IsAmong (take (place + 1) found))
 gathers_more old now new waited waiting later found place range within here first second = record {
   added = first.added ++ second.added;
   waits = second.waits ∙ (ap (λ (w : List Corners). w ++ second.added) first.waits ∙ append_assoc waited first.added second.added);
@@ -242,31 +243,31 @@ gathers_more old now new waited waiting later found place range within here firs
 
     to : (cell : Position) → IsAmong new cell → IsAmong old cell ⊎ IsAmong (first.added ++ second.added) cell
     to cell among = elim ((second.gained cell).0 among) [
-        inl before ↦ elim ((first.gained cell).0 before) [
-          inl is_old ↦ inl is_old
+      | inl before ↦ elim ((first.gained cell).0 before) [
+        | inl is_old ↦ inl is_old
         | inr added ↦ inr ((among_append first.added second.added cell).1 (inl added))
-        ]
-      | inr added ↦ inr ((among_append first.added second.added cell).1 (inr added))
       ]
+      | inr added ↦ inr ((among_append first.added second.added cell).1 (inr added))
+    ]
 
     from : (cell : Position) → IsAmong old cell ⊎ IsAmong (first.added ++ second.added) cell → IsAmong new cell
     from cell (inl is_old) = (second.gained cell).1 (inl ((first.gained cell).1 (inl is_old)))
     from cell (inr added) = elim ((among_append first.added second.added cell).0 added) [
-        inl one ↦ (second.gained cell).1 (inl ((first.gained cell).1 (inr one)))
+      | inl one ↦ (second.gained cell).1 (inl ((first.gained cell).1 (inr one)))
       | inr two ↦ (second.gained cell).1 (inr two)
-      ]
+    ]
 
     only : (cell : Position) → IsAmong (first.added ++ second.added) cell → IsAmong (take (place + 1) found) cell
     only cell added = elim ((among_append first.added second.added cell).0 added) [
-        inl one ↦ among_same _ _ cell (sym next) ((among_next (take place found) range cell).1 (inl (first.only cell one)))
+      | inl one ↦ among_same _ _ cell (sym next) ((among_next (take place found) range cell).1 (inl (first.only cell one)))
       | inr two ↦ among_same _ _ cell (sym next) ((among_next (take place found) range cell).1 (inr (second.only cell two)))
-      ]
+    ]
 
     all : (cell : Position) → IsAmong (take (place + 1) found) cell → IsAmong new cell
     all cell among = elim ((among_next (take place found) range cell).0 (among_same _ _ cell next among)) [
-        inl before ↦ (second.gained cell).1 (inl (first.all cell before))
+      | inl before ↦ (second.gained cell).1 (inl (first.all cell before))
       | inr inside ↦ second.all cell inside
-      ]
+    ]
 
 -- all items of a list are its first so many
 pub admitted_end : (old new waited waiting parts : List Corners) (place : ℕ) → length parts ≤ place → Admitted old new waited waiting (take place parts) → Admitted old new waited waiting parts

@@ -1,11 +1,10 @@
 -- Paths of steps: joined, turned round, and what they stay within.
-use Rattle.std.proofs.Common.{◌≡◌, ◌↔◌, ◌⊎◌, inl, inr, List, [], ◌∷◌, ◌++◌, refl, sym, ◌∙◌, subst}
-use Rattle.sheet_refs.specs.Cells.{Position, Corners, IsIn}
-use Rattle.sheet_refs.specs.Rectangles.{IsAmong}
+use Rattle.std.proofs.Common.{List, [], ◌∷◌, ◌++◌, refl, sym, subst}
+use Rattle.sheet_refs.specs.Cells.{Position, Corners}
 use Rattle.graph_walk.specs.Paths.{IsPath, IsReached, LeadsTo, back}
 use Rattle.std.specs.Prelude.{Result, Ok, Err, OnOk}
 use Rattle.graph_walk.specs.Graphs.{Pair, Step, Adds, IsDirectPrecedent, IsPrecedent}
-use Rattle.graph_walk.specs.Walks.{IsWalking, IsNext, IsBeyond}
+use Rattle.graph_walk.specs.Walks.{IsNext, IsBeyond}
 
 -- one path after another
 pub path_join : (step : Position → Position → Type 0) (a b c : Position) (first second : List Position) → IsPath step a first b → IsPath step b second c → IsPath step a (first ++ second) c
@@ -70,8 +69,8 @@ back_within step set closed a b (next ∷ cells) has path = closed a next path.0
 
 -- what a graph answers behind a range is what lies ahead of it by the steps taken back
 pub adds_more : {E : Type 0} (result : Result (Unit {0}) E) (old new : List Corners) (pairs : List Pair) (range : Corners)
-      → OnOk result (Adds old new (IsDirectPrecedent pairs range) (IsPrecedent pairs range))
-      → OnOk result (Adds old new (IsNext (back (Step pairs)) range) (IsBeyond (back (Step pairs)) range))
+    → OnOk result (Adds old new (IsDirectPrecedent pairs range) (IsPrecedent pairs range))
+    → OnOk result (Adds old new (IsNext (back (Step pairs)) range) (IsBeyond (back (Step pairs)) range))
 adds_more (Ok x) old new pairs range adds = record {
   added = adds.added;
   whole = adds.whole;

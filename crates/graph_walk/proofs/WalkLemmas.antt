@@ -1,5 +1,5 @@
 -- A walk, one range at a time: what it has reached, and that it ends with all that is.
-use Rattle.std.proofs.Common.{◌≡◌, ℕ, ◌+◌, ◌<◌, ◌≤◌, ◌↔◌, ◌⊎◌, inl, inr, List, [], ◌∷◌, ◌++◌, length, refl, sym, ◌∙◌, ap, subst, arith, length-append}
+use Rattle.std.proofs.Common.{◌≡◌, ◌+◌, ◌<◌, ◌↔◌, ◌⊎◌, inl, inr, List, [], ◌∷◌, ◌++◌, length, refl, sym, ◌∙◌, ap, subst, arith, length-append}
 use Rattle.sheet_refs.specs.Cells.{Position, Corners, IsIn, spanned}
 use Rattle.sheet_refs.specs.Rectangles.{IsAmong}
 use Rattle.sheet_refs.proofs.ColumnLemmas.{none_among}
@@ -27,7 +27,7 @@ module _ (step : Position → Position → Type 0) (starts : List Corners) where
 
   -- one range is taken from those that wait, and what was found from it gathers
   pub walking_on : (set new waiting rest later found answer : List Corners) (range : Corners) → IsWalking step starts set waiting → waiting ≡ rest ++ range ∷ []
-        → Adds found answer (IsNext step range) (IsBeyond step range) → found ≡ [] → Gathers set new rest later (IsAmong answer) → IsWalking step starts new later
+      → Adds found answer (IsNext step range) (IsBeyond step range) → found ≡ [] → Gathers set new rest later (IsAmong answer) → IsWalking step starts new later
   walking_on set new waiting rest later found answer range walking popped adds empty gathered = record { sound = sound; begun = begun; waits = waits; done = done }
     where
       answered : answer ≡ adds.added
@@ -52,9 +52,9 @@ module _ (step : Position → Position → Type 0) (starts : List Corners) where
 
       waits : (cell : Position) → IsAmong later cell → IsAmong new cell
       waits cell among = elim ((among_append rest gathered.added cell).0 (subst (λ (w : List Corners). IsAmong w cell) gathered.waits among)) [
-          inl in_rest ↦ kept cell (walking.waits cell (in_waiting cell (inl in_rest)))
+        | inl in_rest ↦ kept cell (walking.waits cell (in_waiting cell (inl in_rest)))
         | inr added ↦ (gathered.gained cell).1 (inr added)
-        ]
+      ]
 
       waits_on : (cell : Position) → IsAmong rest cell ⊎ IsAmong gathered.added cell → IsAmong later cell
       waits_on cell among = subst (λ (w : List Corners). IsAmong w cell) (sym gathered.waits) ((among_append rest gathered.added cell).1 among)
@@ -64,15 +64,15 @@ module _ (step : Position → Position → Type 0) (starts : List Corners) where
 
       done : (from to : Position) → IsAmong new from → step from to → IsAmong new to ⊎ IsAmong later from
       done from to among one = elim ((gathered.gained from).0 among) [
-          inr added ↦ inr (waits_on from (inr added))
+        | inr added ↦ inr (waits_on from (inr added))
         | inl before ↦ elim (walking.done from to before one) [
-            inl there ↦ inl (kept to there)
+          | inl there ↦ inl (kept to there)
           | inr waiting_from ↦ elim ((among_next rest range from).0 (subst (λ (w : List Corners). IsAmong w from) popped waiting_from)) [
-              inl in_rest ↦ inr (waits_on from (inl in_rest))
+            | inl in_rest ↦ inr (waits_on from (inl in_rest))
             | inr inside ↦ inl (next_there from to inside one)
-            ]
           ]
         ]
+      ]
 
   -- each turn leaves fewer cells and ranges to come
   pub walking_falls : (set new waiting rest later : List Corners) (range : Corners) (cells : Position → Type 0) → waiting ≡ rest ++ range ∷ [] → Gathers set new rest later cells → absent new + length later < absent set + length waiting
@@ -87,17 +87,18 @@ module _ (step : Position → Position → Type 0) (starts : List Corners) where
     where
       closed : (from to : Position) → step from to → IsAmong set from → IsAmong set to
       closed from to one among = elim (walking.done from to among one) [
-          inl there ↦ there
+        | inl there ↦ there
         | inr still ↦ absurd (none_among from (subst (λ (w : List Corners). IsAmong w from) empty still))
-        ]
+      ]
 
 -- ---- what the walks of the public calls answer
 
 -- from one range
 pub reached_range : (step : Position → Position → Type 0) (range : Corners) (cell : Position) → IsReached step (IsAmong (range ∷ [])) cell ↔ IsReached step (λ from. IsIn from range) cell
-reached_range step range cell =
-    (λ reached. record { from = reached.from; starts = among_one range reached.from reached.starts; cells = reached.cells; path = reached.path },
-     λ reached. record { from = reached.from; starts = record { range = range; listed = (0, omega arith, refl); inside = reached.starts }; cells = reached.cells; path = reached.path })
+reached_range step range cell = (
+  λ reached. record { from = reached.from; starts = among_one range reached.from reached.starts; cells = reached.cells; path = reached.path },
+  λ reached. record { from = reached.from; starts = record { range = range; listed = (0, omega arith, refl); inside = reached.starts }; cells = reached.cells; path = reached.path },
+)
 
 -- by the steps taken back, it reaches the cells from which the range is reached
 pub reached_back : (pairs : List Pair) (range : Corners) (cell : Position) → IsReached (back (Step pairs)) (IsAmong (range ∷ [])) cell ↔ Back pairs range cell
@@ -115,7 +116,7 @@ reached_back pairs range cell = (to, from)
 
 -- from what lies ahead of a cell, it reaches the cell again exactly where the cell is on a cycle
 pub reached_again : (step : Position → Position → Type 0) (cell : Position) (range : Corners) (old answer : List Corners) → range ≡ spanned cell cell → old ≡ [] → Adds old answer (IsNext step range) (IsBeyond step range)
-      → IsReached step (IsAmong answer) cell ↔ LeadsTo step cell cell
+    → IsReached step (IsAmong answer) cell ↔ LeadsTo step cell cell
 reached_again step cell range old answer one empty adds = (to, from)
   where
     answered : answer ≡ adds.added

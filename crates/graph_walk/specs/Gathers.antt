@@ -1,7 +1,7 @@
 -- How a set of cells and a list of ranges to be walked on from grow.
 use Rattle.std.specs.Prelude.{◌≡◌, ℕ, ◌+◌, ◌≤◌, ◌⊎◌, ◌↔◌, ◌&&◌, not, nat_le, Bool, List, [], ◌∷◌, ◌++◌, length, if◌then◌else◌}
 use Rattle.std.specs.List.{list_any}
-use Rattle.sheet_refs.specs.Cells.{Position, Corners, IsIn, cells_of}
+use Rattle.sheet_refs.specs.Cells.{Position, Corners, cells_of}
 use Rattle.sheet_refs.specs.Rectangles.{IsAmong}
 
 -- whether a cell is in a range, or in one of some ranges

@@ -2,7 +2,7 @@
 use Rattle.std.specs.Prelude.{◌≡◌, ◌≢◌, ◌↔◌, ◌⊎◌, Bool, IsTrue, List, ◌++◌, Contains}
 use Rattle.sheet_refs.specs.Cells.{Position, Corners, IsIn}
 use Rattle.sheet_refs.specs.Rectangles.{IsAmong}
-use Rattle.graph_walk.specs.Paths.{IsPath, IsReached, LeadsTo, back}
+use Rattle.graph_walk.specs.Paths.{IsPath, IsReached, LeadsTo}
 
 -- a cell whose formula refers to a range
 pub record Pair : Type 0 where

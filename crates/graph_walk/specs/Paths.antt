@@ -1,5 +1,5 @@
 -- What can be reached by the steps of a relation between cells, as lists of cells.
-use Rattle.std.specs.Prelude.{◌≡◌, ◌↔◌, List, [], ◌∷◌}
+use Rattle.std.specs.Prelude.{◌≡◌, List, [], ◌∷◌}
 use Rattle.sheet_refs.specs.Cells.{Position}
 
 -- a list of cells that leads from one cell to another: each is a step from the one before, and the last is the other

@@ -21,7 +21,11 @@ fn admit(set: &mut RectSet, waiting: &mut Vec<Range>, range: Range) -> Result<()
 }
 
 // The same for each of some ranges.
-pub(crate) fn gather(set: &mut RectSet, waiting: &mut Vec<Range>, found: &[Range]) -> Result<(), Memory>
+pub(crate) fn gather(
+    set: &mut RectSet,
+    waiting: &mut Vec<Range>,
+    found: &[Range],
+) -> Result<(), Memory>
     ensures { OnOk result (Gathers set.old set.new waiting.old.items waiting.new.items (IsAmong found.now)) }
 {
     for range in found {

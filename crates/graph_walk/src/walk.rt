@@ -19,7 +19,12 @@ enum Direction {
 }
 
 // Adds the ranges that the graph answers ahead of a range or behind it.
-fn next_ranges<G: Graph>(graph: &G, direction: Direction, range: Range, out: &mut Vec<Range>) -> Result<(), Memory>
+fn next_ranges<G: Graph>(
+    graph: &G,
+    direction: Direction,
+    range: Range,
+    out: &mut Vec<Range>,
+) -> Result<(), Memory>
     ensures { OnOk result (Adds out.old.items out.new.items (IsNext (step_in direction (G.pairs graph.now)) range) (IsBeyond (step_in direction (G.pairs graph.now)) range)) }
 {
     match direction {
@@ -29,7 +34,12 @@ fn next_ranges<G: Graph>(graph: &G, direction: Direction, range: Range, out: &mu
 }
 
 // All cells that a walk from some ranges reaches. Each range that adds cells to the set is asked for once.
-fn walk<G: Graph>(alloc: Global, graph: &G, direction: Direction, starts: &[Range]) -> Result<RectSet, Memory>
+fn walk<G: Graph>(
+    alloc: Global,
+    graph: &G,
+    direction: Direction,
+    starts: &[Range],
+) -> Result<RectSet, Memory>
     ensures { IfOk result (IsWalk direction (G.pairs graph.now) starts.now) }
 {
     let mut set = RectSet::new(alloc);

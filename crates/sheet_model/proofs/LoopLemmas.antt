@@ -24,9 +24,11 @@ module _ {C V : Type 0} (Input : C → C → Type 0) (circ : V) (step : C → (C
           first : {from : C} → Leads Input from turn → Leads Input turn turn → (d : C) × Input from d × LeadsIntoCycle Input d
           first (one_step _ d step_on) back = (d, step_on, record { turn = turn; there = inl refl; back = back })
           first (and_on _ d _ step_on rest) back = (d, step_on, record { turn = turn; there = inr rest; back = back })
+
       toward : (from : C) → Leads Input from leads.turn → (d : C) × Input from d × LeadsIntoCycle Input d
       toward from (one_step _ d step_on) = (d, step_on, record { turn = leads.turn; there = inl refl; back = leads.back })
       toward from (and_on _ d _ step_on rest) = (d, step_on, record { turn = leads.turn; there = inr rest; back = leads.back })
+
       either : (c ≡ leads.turn) ⊎ Leads Input c leads.turn → (d : C) × Input c d × LeadsIntoCycle Input d
       either (inl same) = subst (λ (from : C). (d : C) × Input from d × LeadsIntoCycle Input d) (sym same) (around leads.turn leads.back)
       either (inr leads_there) = toward c leads_there
@@ -52,6 +54,7 @@ find_number {C} number (cell ∷ cells) n = by_test (number cell == n) refl (fin
         other : (i : ℕ) (c : C) → slice_get (cell ∷ cells) i ≡ Some c → number c ≢ n
         other zero c at = let same : cell ≡ c = cc in subst (λ (d : C). number d ≢ n) same differs
         other (suc i) c at = none i c at
+
     by_test : (test : Bool) → (number cell == n) ≡ test → ((i : ℕ) × (c : C) × (slice_get cells i ≡ Some c) × (number c ≡ n)) ⊎ ((i : ℕ) (c : C) → slice_get cells i ≡ Some c → number c ≢ n) → ((i : ℕ) × (c : C) × (slice_get (cell ∷ cells) i ≡ Some c) × (number c ≡ n)) ⊎ ((i : ℕ) (c : C) → slice_get (cell ∷ cells) i ≡ Some c → number c ≢ n)
     by_test true same rest = inl (0, cell, refl, grind (arith, nat_tests))
     by_test false same rest = later rest (let differs : number cell ≢ n = grind (arith, nat_tests) in differs)
@@ -85,20 +88,25 @@ module _ {C V : Type 0} (Input : C → C → Type 0) (circ : V) (step : C → (C
           arrive : (start ≡ now) ⊎ Leads Input start now → Leads Input start d
           arrive (inl same) = subst (λ (from : C). Leads Input from d) (sym same) (one_step now d is_input)
           arrive (inr leads) = leads_on start now d leads is_input
+
       return : (v d : C) → Input now d → v ≡ d → (v ≡ now) ⊎ Leads Input v now → Leads Input v v
       return v d is_input same (inl here) = subst (λ (to : C). Leads Input v to) (sym same) (subst (λ (from : C). Leads Input from d) (sym here) (one_step now d is_input))
       return v d is_input same (inr leads) = subst (λ (to : C). Leads Input v to) (sym same) (leads_on v now d leads is_input)
+
       move : (d : C) → Input now d → (v : C) → Passed start now v → Passed start d v
       move d is_input v p = record { from = p.from; entered = p.entered; reached = p.reached; goes_on = inr (onward p.goes_on) }
         where
           onward : (v ≡ now) ⊎ Leads Input v now → Leads Input v d
           onward (inl same) = subst (λ (from : C). Leads Input from d) (sym same) (one_step now d is_input)
           onward (inr leads) = leads_on v now d leads is_input
+
       here : (d : C) → Input now d → Passed start d d
       here d is_input = record { from = now; entered = is_input; reached = reach d is_input; goes_on = inl refl }
+
       stands : (d : C) → Input now d → (i : ℕ) (v : C) → (slice_get passed i ≡ Some v) ⊎ ((i ≡ length passed) × (d ≡ v)) → Passed start d v
       stands d is_input i v (inl old) = move d is_input v (path.each i v old)
       stands d is_input i v (inr last) = subst (λ (w : C). Passed start d w) last.1 (here d is_input)
+
       apart_still : (d : C) → ((i : ℕ) (v : C) → slice_get passed i ≡ Some v → number v ≢ number d) → (i j : ℕ) (v w : C) → i < j → (slice_get passed i ≡ Some v) ⊎ ((i ≡ length passed) × (d ≡ v)) → (slice_get passed j ≡ Some w) ⊎ ((j ≡ length passed) × (d ≡ w)) → number v ≢ number w
       apart_still d new i j v w less (inl at_i) (inl at_j) = path.differ i j v w less at_i at_j
       apart_still d new i j v w less (inl at_i) (inr last) = subst (λ (x : C). number v ≢ number x) last.1 (new i v at_i)
@@ -110,12 +118,14 @@ module _ {C V : Type 0} (Input : C → C → Type 0) (circ : V) (step : C → (C
           let here = last.0 in
           let there = again.0 in
           absurd (omega (arith, less, here, there))
+
       extend : (d : C) → Input now d → ((i : ℕ) (v : C) → slice_get passed i ≡ Some v → number v ≢ number d) → Path start d (passed ++ d ∷ [])
       extend d is_input new = record {
         arrived = inr (reach d is_input);
         each = λ i v at. stands d is_input i v (slice_get-pushed passed d i v at);
         differ = λ i j v w less at_i at_j. apart_still d new i j v w less (slice_get-pushed passed d i v at_i) (slice_get-pushed passed d j w at_j);
       }
+
       either : (d : C) → Input now d → ev circ step n d ≡ circ → ((i : ℕ) × (c : C) × (slice_get passed i ≡ Some c) × (number c ≡ number d)) ⊎ ((i : ℕ) (c : C) → slice_get passed i ≡ Some c → number c ≢ number d) → ((extended : List C) → Path start d extended → count < length extended + n → LeadsIntoCycle Input start) → LeadsIntoCycle Input start
       either d is_input still (inl (i, v, at, same)) onward =
           let p = path.each i v at in

@@ -1,5 +1,5 @@
-use sum_syntax::Formula;
 use std::sync::Arc;
+use sum_syntax::Formula;
 use value_core::Whole;
 
 /// What stands in a cell.

@@ -9,9 +9,9 @@ ghost use Rattle.sheet_model.specs.Walks.{first_state, known_values, known_value
 
 use super::content::Content;
 use super::sheet::Sheet;
-use sum_syntax::{Formula, Node};
 use sheet_refs::Cell;
 use std::alloc::{AllocError, Global};
+use sum_syntax::{Formula, Node};
 use value_core::{ErrorKind, Value, Whole};
 
 /// What is known of a cell in a walk.

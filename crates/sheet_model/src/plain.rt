@@ -6,10 +6,10 @@ ghost use Rattle.sheet_model.specs.PlainRows.{AppendsFields, AppendsRow};
 
 use super::content::Content;
 use super::sheet::Sheet;
-use sum_syntax::{MAX_TEXT, ReadRefused, read_formula};
 use sheet_refs::{Memory, decimal_of};
 use std::alloc::{AllocError, Global};
 use std::sync::Arc;
+use sum_syntax::{MAX_TEXT, ReadRefused, read_formula};
 use value_core::{MAX_WHOLE, Whole};
 
 /// The most records of a text that is read.

@@ -4,12 +4,12 @@ ghost use Rattle.sheet_model.specs.Sheets.{IsSheetSize};
 use super::content::Content;
 use super::sheet::Sheet;
 use super::walk::all_values;
-use sum_syntax::{MAX_TEXT, read_formula};
 use sheet_refs::Cell;
 use std::alloc::Global;
 use std::fmt::Write;
 use std::sync::Arc;
 use std::test::Fail;
+use sum_syntax::{MAX_TEXT, read_formula};
 use value_core::{Value, Whole, decode};
 
 /// What a field writes: nothing, a number, or a formula.

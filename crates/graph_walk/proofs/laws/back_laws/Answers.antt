@@ -1,5 +1,4 @@
 use Rattle.std.proofs.Common.{IsTrue, ◌∷◌}
-use Rattle.sheet_refs.specs.Cells.{Position, IsIn}
 use Rattle.graph_walk.specs.Graphs.{Step}
 use Rattle.graph_walk.proofs.PathLemmas.{back_within}
 use Rattle.graph_walk.proofs.laws.back_laws.Goals as goal

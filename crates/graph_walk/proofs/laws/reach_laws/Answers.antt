@@ -1,5 +1,5 @@
 use Rattle.std.proofs.Common.{IsTrue}
-use Rattle.sheet_refs.specs.Cells.{Position, IsIn}
+use Rattle.sheet_refs.specs.Cells.{IsIn}
 use Rattle.graph_walk.specs.Graphs.{Step}
 use Rattle.graph_walk.proofs.PathLemmas.{reached_step, reached_within}
 use Rattle.graph_walk.proofs.laws.reach_laws.Goals as goal

@@ -1,8 +1,4 @@
-use Rattle.std.proofs.Common.{◌≡◌, ap, sym, subst, rules, OnOk}
-use Rattle.sheet_refs.specs.Cells.{Position, IsIn}
-use Rattle.graph_walk.specs.Graphs.{Adds, Step}
-use Rattle.graph_walk.specs.Walks.{step_in, IsNext, IsBeyond}
-use Rattle.graph_walk.proofs.PathLemmas.{leads_back, adds_more}
+use Rattle.graph_walk.proofs.PathLemmas.{adds_more}
 use Rattle.graph_walk.proofs.walk.next_ranges.Goals as goal
 
 pub returns-in-Ahead : goal.returns-in-Ahead

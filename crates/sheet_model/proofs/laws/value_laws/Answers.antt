@@ -28,9 +28,9 @@ returns-clause-unique c = λ sheet ordered circular values order settled.
 pub returns-clause-cycles : goal.returns-clause-cycles
 unfolding value_of
 returns-clause-cycles c = λ sheet cell plain. (
-    leads_into_cycle (IsInput sheet) circular_value (step sheet) (step_honest sheet plain) (place_of sheet) (cell_count sheet) (λ from to input. place-lt sheet to input.inside) (λ a b d e input other same. place_same sheet b e input.inside other.inside same) cell,
-    λ leads. cycle_circular (IsInput sheet) circular_value (step sheet) (step_local sheet) (step_strict sheet) cell leads (suc (cell_count sheet)),
-  )
+  leads_into_cycle (IsInput sheet) circular_value (step sheet) (step_honest sheet plain) (place_of sheet) (cell_count sheet) (λ from to input. place-lt sheet to input.inside) (λ a b d e input other same. place_same sheet b e input.inside other.inside same) cell,
+  λ leads. cycle_circular (IsInput sheet) circular_value (step sheet) (step_local sheet) (step_strict sheet) cell leads (suc (cell_count sheet)),
+)
 
 pub returns-clause-agreeing : goal.returns-clause-agreeing
 returns-clause-agreeing c = λ inputs kept a b. agree_on (IsMapped inputs) circular_value (λ cell. IsTrue (kept cell)) a b
