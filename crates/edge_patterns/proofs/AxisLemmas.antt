@@ -8,7 +8,7 @@ use Rattle.edge_patterns.specs.declared.axis.Axis.TheVariants.{Down, Right}
 use Rattle.edge_patterns.specs.declared.edge.Pattern.{Pattern}
 use Rattle.edge_patterns.specs.declared.edge.Pattern.TheVariants.{Single, Rr, Rf, Fr, Ff, Chain}
 use Rattle.edge_patterns.specs.Axes.{along, IsLine, axis_of, count_along, cell_along}
-use Rattle.edge_patterns.specs.Edges.{EdgeValue, IsEdge, IsShapeOf, IsPair, cell_at, range_at, range_along}
+use Rattle.edge_patterns.specs.Edges.{EdgeValue, IsEdge, IsShapeOf, IsPair, run_cell, range_at, range_along}
 use Rattle.edge_patterns.proofs.Crossings.{cell_again}
 
 -- the pairs of an edge by a direction
@@ -51,7 +51,7 @@ single_range axis edge single =
     let tail : along axis edge.prec.tail - 0 ≡ along axis edge.prec.tail = omega arith in
     rw (single, head, tail, cell_again axis edge.prec.head, cell_again axis edge.prec.tail) refl
 
-first_cell : (axis : Axis) (run : Corners) → cell_along axis run 0 ≡ run.head
+pub first_cell : (axis : Axis) (run : Corners) → cell_along axis run 0 ≡ run.head
 first_cell axis run = let head : along axis run.head + 0 ≡ along axis run.head = omega arith in rw head (cell_again axis run.head)
 
 module _ (edge : EdgeValue) (is : IsEdge edge) (axis : Axis) (line : IsLine axis edge.dep) where
@@ -69,7 +69,7 @@ module _ (edge : EdgeValue) (is : IsEdge edge) (axis : Axis) (line : IsLine axis
           record {
             place = 0;
             within = omega (arith, here);
-            cell_is = pair.cell_is ∙ ap (cell_at edge) place ∙ first_cell (axis_of edge.dep) edge.dep ∙ sym (first_cell axis edge.dep);
+            cell_is = pair.cell_is ∙ ap (run_cell edge) place ∙ first_cell (axis_of edge.dep) edge.dep ∙ sym (first_cell axis edge.dep);
             range_is = pair.range_is ∙ ap (range_at edge) place ∙ single_range (axis_of edge.dep) edge single ∙ sym (single_range axis edge single);
           }
 

@@ -5,18 +5,18 @@ use Rattle.sheet_refs.specs.Cells.{Position, Corners, IsIn}
 use Rattle.edge_patterns.specs.declared.edge.Pattern.{Pattern}
 use Rattle.edge_patterns.specs.declared.edge.Pattern.TheVariants.{Chain}
 use Rattle.edge_patterns.specs.declared.queries.Places.{Places}
-use Rattle.edge_patterns.specs.Axes.{along, across, cell_of, IsLine, axis_of}
-use Rattle.edge_patterns.specs.Edges.{EdgeValue, IsEdge, IsShapeOf, IsPair, run_length, cell_at, range_at, first_along, last_along, part_of_run, part_of_prec}
+use Rattle.edge_patterns.specs.Axes.{along, across, position_at, IsLine, axis_of}
+use Rattle.edge_patterns.specs.Edges.{EdgeValue, IsEdge, IsShapeOf, IsPair, run_length, run_cell, range_at, first_along, last_along, part_of_run, part_of_prec}
 use Rattle.edge_patterns.specs.Places.{AreMeant, IsHit, IsAsked}
-use Rattle.edge_patterns.specs.Queries.{IsReached, IsReferred, IsLedTo}
-use Rattle.edge_patterns.specs.Queries.IsReached.{at_once as reach_at_once, onward as reach_onward}
+use Rattle.edge_patterns.specs.Queries.{IsSpreadTo, IsReferred, IsLedTo}
+use Rattle.edge_patterns.specs.Queries.IsSpreadTo.{at_once as reach_at_once, onward as reach_onward}
 use Rattle.edge_patterns.specs.Queries.IsLedTo.{at_once as led_at_once, onward as led_onward}
 use Rattle.edge_patterns.proofs.Crossings.{ordered, along_of}
 use Rattle.edge_patterns.proofs.QueryLemmas.{on_line, in_line, cells_in, cell_in, direct_place, hit_direct}
 
 -- the cell of an edge's line with this coordinate
 abbrev pub point : EdgeValue → ℕ → Position
-point edge coordinate = cell_of (axis_of edge.dep) coordinate (across (axis_of edge.dep) edge.dep.head)
+point edge coordinate = position_at (axis_of edge.dep) coordinate (across (axis_of edge.dep) edge.dep.head)
 
 -- the first coordinates of the run and of the rectangle
 abbrev pub run_head : EdgeValue → ℕ
@@ -87,7 +87,7 @@ module _ (edge : EdgeValue) (chain : IsChain edge) where
   in_ranges from to place within begins ends =
       let axis = axis_of edge.dep in
       let inside = in_line axis edge.prec (first_along axis edge from) (last_along axis edge to) (prec_head edge + place) chain.thin (rw (first_is from) (omega (arith, begins))) (rw (last_is to within) (omega (arith, ends))) in
-      subst (λ (place_across : ℕ). IsIn (cell_of axis (prec_head edge + place) place_across) (part_of_prec edge from to)) chain.line inside
+      subst (λ (place_across : ℕ). IsIn (position_at axis (prec_head edge + place) place_across) (part_of_prec edge from to)) chain.line inside
 
   -- the one cell of a cell's range
   range_in : (place : ℕ) (cell : Position) → place < run_length edge → IsIn cell (range_at edge place) → cell ≡ point edge (prec_head edge + place)
@@ -99,7 +99,7 @@ module _ (edge : EdgeValue) (chain : IsChain edge) where
   in_range : (place : ℕ) → place < run_length edge → IsIn (point edge (prec_head edge + place)) (range_at edge place)
   in_range place within = in_ranges place place place within (omega arith) (omega arith)
 
-  pair_at : (place : ℕ) → place < run_length edge → IsPair edge (range_at edge place) (cell_at edge place)
+  pair_at : (place : ℕ) → place < run_length edge → IsPair edge (range_at edge place) (run_cell edge place)
   pair_at place within = record { place = place; within = within; cell_is = refl; range_is = refl }
 
   -- what a step tells: the cell it comes from is the one cell of the range
@@ -110,7 +110,7 @@ module _ (edge : EdgeValue) (chain : IsChain edge) where
   -- where each cell refers to the one before it, the run is reached from the first hit place on
   module _ (query : Corners) (places : Places) (meant : AreMeant (run_length edge) (IsHit edge query) places) where
     module _ (before : prec_head edge + 1 ≡ run_head edge) where
-      onward_in : (cell : Position) → IsReached edge query cell → (place : ℕ) × (places.from ≤ place) × (place < run_length edge) × (cell ≡ cell_at edge place)
+      onward_in : (cell : Position) → IsSpreadTo edge query cell → (place : ℕ) × (places.from ≤ place) × (place < run_length edge) × (cell ≡ run_cell edge place)
       onward_in cell (reach_at_once _ direct) =
           let (place, within, same, hit) = direct_place edge query cell direct in
           (place, ((meant.meant place within).1 hit).0, within, same)
@@ -119,7 +119,7 @@ module _ (edge : EdgeValue) (chain : IsChain edge) where
           let step = point_along edge (run_head edge + place) (prec_head edge + pair.place) (sym same ∙ step_in range cell from pair inside) in
           (pair.place, omega (arith, step, begins, before), pair.within, pair.cell_is)
 
-      onward_from : (count : ℕ) → places.from + count < run_length edge → IsReached edge query (cell_at edge (places.from + count))
+      onward_from : (count : ℕ) → places.from + count < run_length edge → IsSpreadTo edge query (run_cell edge (places.from + count))
       onward_from zero within =
           let at : places.from + 0 ≡ places.from = omega arith in
           rw at (reach_at_once _ (hit_direct edge query places.from (omega (arith, within)) ((meant.meant places.from (omega (arith, within))).0 (omega arith, meant.ordered))))
@@ -128,7 +128,7 @@ module _ (edge : EdgeValue) (chain : IsChain edge) where
           let coordinate : run_head edge + (places.from + count) ≡ prec_head edge + (places.from + suc count) = omega (arith, before) in
           reach_onward _ _ _ (onward_from count less) (pair_at (places.from + suc count) within) (rw coordinate (in_range (places.from + suc count) within))
 
-      pub reached_onward : IsEdge edge → (cell : Position) → IsIn cell (part_of_run edge places.from (run_length edge - 1)) ↔ IsReached edge query cell
+      pub reached_onward : IsEdge edge → (cell : Position) → IsIn cell (part_of_run edge places.from (run_length edge - 1)) ↔ IsSpreadTo edge query cell
       reached_onward is cell = (
         λ inside.
             let (place, begins, ends, same) = cells_in edge is places.from (run_length edge - 1) cell inside in
@@ -141,7 +141,7 @@ module _ (edge : EdgeValue) (chain : IsChain edge) where
 
     -- where each cell refers to the one behind it, the run is reached up to the last hit place
     module _ (after : prec_head edge ≡ run_head edge + 1) where
-      backward_in : (cell : Position) → IsReached edge query cell → (place : ℕ) × (place ≤ places.to) × (cell ≡ cell_at edge place)
+      backward_in : (cell : Position) → IsSpreadTo edge query cell → (place : ℕ) × (place ≤ places.to) × (cell ≡ run_cell edge place)
       backward_in cell (reach_at_once _ direct) =
           let (place, within, same, hit) = direct_place edge query cell direct in
           (place, ((meant.meant place within).1 hit).1, same)
@@ -150,7 +150,7 @@ module _ (edge : EdgeValue) (chain : IsChain edge) where
           let step = point_along edge (run_head edge + place) (prec_head edge + pair.place) (sym same ∙ step_in range cell from pair inside) in
           (pair.place, omega (arith, step, ends, after), pair.cell_is)
 
-      backward_from : (count place : ℕ) → place + count ≡ places.to → IsReached edge query (cell_at edge place)
+      backward_from : (count place : ℕ) → place + count ≡ places.to → IsSpreadTo edge query (run_cell edge place)
       backward_from zero place same =
           let at : place ≡ places.to = omega (arith, same) in
           rw at (reach_at_once _ (hit_direct edge query places.to meant.within ((meant.meant places.to meant.within).0 (meant.ordered, omega arith))))
@@ -160,7 +160,7 @@ module _ (edge : EdgeValue) (chain : IsChain edge) where
           let coordinate : run_head edge + suc place ≡ prec_head edge + place = omega (arith, after) in
           reach_onward _ _ _ (backward_from count (suc place) more) (pair_at place within) (rw coordinate (in_range place within))
 
-      pub reached_backward : IsEdge edge → (cell : Position) → IsIn cell (part_of_run edge 0 places.to) ↔ IsReached edge query cell
+      pub reached_backward : IsEdge edge → (cell : Position) → IsIn cell (part_of_run edge 0 places.to) ↔ IsSpreadTo edge query cell
       reached_backward is cell = (
         λ inside.
             let (place, begins, ends, same) = cells_in edge is 0 places.to cell inside in
@@ -178,7 +178,7 @@ module _ (edge : EdgeValue) (chain : IsChain edge) where
 
     referred_at : (place : ℕ) → place < run_length edge → places.from ≤ place → place ≤ places.to → IsReferred edge query (point edge (prec_head edge + place))
     referred_at place within begins ends =
-        record { from = cell_at edge place; range = range_at edge place; asked = (meant.meant place within).0 (begins, ends); pair = pair_at place within; inside = in_range place within }
+        record { from = run_cell edge place; range = range_at edge place; asked = (meant.meant place within).0 (begins, ends); pair = pair_at place within; inside = in_range place within }
 
     module _ (before : prec_head edge + 1 ≡ run_head edge) where
       led_before_in : (cell : Position) → IsLedTo edge query cell → (place : ℕ) × (place ≤ places.to) × (cell ≡ point edge (prec_head edge + place))

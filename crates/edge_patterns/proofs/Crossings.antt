@@ -5,7 +5,7 @@ use Rattle.sheet_refs.specs.Rectangles.{Overlap}
 use Rattle.sheet_refs.proofs.Overlaps.{overlap_from, crossed_from}
 use Rattle.edge_patterns.specs.declared.axis.Axis.{Axis}
 use Rattle.edge_patterns.specs.declared.axis.Axis.TheVariants.{Down, Right}
-use Rattle.edge_patterns.specs.Axes.{along, across, cell_of}
+use Rattle.edge_patterns.specs.Axes.{along, across, position_at}
 
 -- a cell lies between the coordinates of a range's corners
 pub record Lies (axis : Axis) (cell : Position) (range : Corners) : Type 0 where
@@ -51,14 +51,14 @@ overlap Down a b a_ordered b_ordered is = overlap_from a b a_ordered b_ordered (
 overlap Right a b a_ordered b_ordered is = overlap_from a b a_ordered b_ordered (record { rows = is.left; rows_back = is.right; cols = is.begins; cols_back = is.ends })
 
 -- the coordinates of a cell that is made of them, and the cell that is made of a cell's
-pub along_of : (axis : Axis) (line place : ℕ) → along axis (cell_of axis line place) ≡ line
+pub along_of : (axis : Axis) (line place : ℕ) → along axis (position_at axis line place) ≡ line
 along_of Down line place = refl
 along_of Right line place = refl
 
-pub across_of : (axis : Axis) (line place : ℕ) → across axis (cell_of axis line place) ≡ place
+pub across_of : (axis : Axis) (line place : ℕ) → across axis (position_at axis line place) ≡ place
 across_of Down line place = refl
 across_of Right line place = refl
 
-pub cell_again : (axis : Axis) (cell : Position) → cell_of axis (along axis cell) (across axis cell) ≡ cell
+pub cell_again : (axis : Axis) (cell : Position) → position_at axis (along axis cell) (across axis cell) ≡ cell
 cell_again Down cell = refl
 cell_again Right cell = refl

@@ -6,7 +6,7 @@ use Rattle.edge_patterns.specs.declared.axis.Axis.{Axis}
 use Rattle.edge_patterns.specs.declared.edge.Pattern.{Pattern}
 use Rattle.edge_patterns.specs.declared.edge.Pattern.TheVariants.{Single, Rr, Rf, Fr, Ff, Chain}
 use Rattle.edge_patterns.specs.Axes.{along, across, IsLine, axis_of, count_along}
-use Rattle.edge_patterns.specs.Edges.{EdgeValue, IsEdge, IsShapeOf, run_length, range_at, range_along, steps, head_moves, tail_moves, edge_of}
+use Rattle.edge_patterns.specs.Edges.{EdgeValue, IsEdge, IsShapeOf, run_length, range_at, range_along, steps_if, head_moves, tail_moves, edge_of}
 use Rattle.edge_patterns.specs.Joins.{HasEnds, IsAsWide, Moves}
 use Rattle.edge_patterns.proofs.Crossings.{ordered, is_ordered, cell_again}
 use Rattle.edge_patterns.proofs.EdgeLemmas.{spans}
@@ -50,7 +50,7 @@ length_either edge axis line = either (line_or_cell axis edge.dep line)
     either (inr alone) = count_one (axis_of edge.dep) edge.dep alone ∙ sym (count_one axis edge.dep alone)
 
 -- a moving tail has room for its steps
-pub tail_room : (axis : Axis) (pattern : Pattern) (edge : EdgeValue) → IsShapeOf axis pattern edge → steps (tail_moves pattern) (count_along axis edge.dep - 1) ≤ along axis edge.prec.tail
+pub tail_room : (axis : Axis) (pattern : Pattern) (edge : EdgeValue) → IsShapeOf axis pattern edge → steps_if (tail_moves pattern) (count_along axis edge.dep - 1) ≤ along axis edge.prec.tail
 tail_room axis Single edge shape = omega arith
 tail_room axis Rr edge shape = let fits = shape.0.fits in omega (arith, fits)
 tail_room axis Rf edge shape = omega arith
@@ -69,11 +69,11 @@ pub record Ends (axis : Axis) (edge : EdgeValue) (first last : Corners) : Type 0
   pub right : across axis first.tail ≡ across axis edge.prec.tail
   pub right_last : across axis last.tail ≡ across axis edge.prec.tail
 
-steps_back : (moves : Bool) (last count : ℕ) → steps moves (count - 1) ≤ last → last - steps moves (count - 1 - 0) + steps moves (count - 1) ≡ last
+steps_back : (moves : Bool) (last count : ℕ) → steps_if moves (count - 1) ≤ last → last - steps_if moves (count - 1 - 0) + steps_if moves (count - 1) ≡ last
 steps_back true last count room = omega (arith, room)
 steps_back false last count room = omega arith
 
-no_steps_back : (moves : Bool) (last count : ℕ) → last - steps moves (count - 1 - (count - 1)) ≡ last
+no_steps_back : (moves : Bool) (last count : ℕ) → last - steps_if moves (count - 1 - (count - 1)) ≡ last
 no_steps_back true last count = omega arith
 no_steps_back false last count = omega arith
 
@@ -138,7 +138,7 @@ outer_corners axis first last count moves is left goes =
     let on = moves_on moves _ _ count goes in
     spanned_ordered first.head last.tail (is_ordered axis (record { head = first.head; tail = last.tail }) (record { line = omega (arith, line, on); width = omega (arith, width, left) }))
 
-back_again : (moves : Bool) (first count : ℕ) → first + steps moves (count - 1) - steps moves (count - 1 - 0) ≡ first
+back_again : (moves : Bool) (first count : ℕ) → first + steps_if moves (count - 1) - steps_if moves (count - 1 - 0) ≡ first
 back_again true first count = omega arith
 back_again false first count = omega arith
 

@@ -8,7 +8,7 @@ use Rattle.edge_patterns.specs.declared.edge.Pattern.{Pattern}
 use Rattle.edge_patterns.specs.declared.edge.Pattern.TheVariants.{Single, Rr, Rf, Fr, Ff, Chain}
 use Rattle.edge_patterns.specs.Axes.{along, IsLine, count_along, cell_along}
 use Rattle.edge_patterns.specs.Edges.{EdgeValue, IsEdge, IsShapeOf, IsPair, run_length, range_at, range_along, head_moves, tail_moves, edge_of}
-use Rattle.edge_patterns.specs.Joins.{Follows, IsUnion, HasEnds, HasInnerRanges, Moves}
+use Rattle.edge_patterns.specs.Joins.{Follows, HasBothPairs, HasEnds, HasInnerRanges, Moves}
 use Rattle.edge_patterns.proofs.Crossings.{lies, is_in, ordered, is_ordered}
 use Rattle.edge_patterns.proofs.AxisLemmas.{to_along, from_along}
 use Rattle.edge_patterns.proofs.JoinLemmas.{same_range, shape_along, length_either, range_either, spanned_ordered, ends_at, head_goes, tail_goes}
@@ -173,7 +173,7 @@ module _ (axis : Axis) (front back : EdgeValue) (front_is : IsEdge front) (back_
           let end : count + (count_along axis back.dep - 1) ≡ count_along axis whole - 1 = omega (arith, whole_count, back_some) in
           agree axis edge back (shape_along edge edge_is axis edge_line) (shape_along back back_is axis follows.back_line) count fits (back_first_along inner) (ap (range_along axis edge) end ∙ has.last_is) place within
 
-      pub has_pairs : IsUnion front back edge
+      pub has_pairs : HasBothPairs front back edge
       has_pairs = record {
         is_edge = edge_is;
         pairs = λ range cell. (
@@ -256,7 +256,7 @@ module _ (axis : Axis) (front back : EdgeValue) (front_is : IsEdge front) (back_
       ]
 
   -- a union has these ends and these ranges
-  module _ (edge : EdgeValue) (union : IsUnion front back edge) where
+  module _ (edge : EdgeValue) (union : HasBothPairs front back edge) where
     pair_inside : (range : Corners) (cell : Position) → IsPair front range cell ⊎ IsPair back range cell → IsIn cell whole
     pair_inside range cell (inl pair) = front_inside cell ((run_has_ranges front front_is cell).1 (range, pair))
     pair_inside range cell (inr pair) = back_inside cell ((run_has_ranges back back_is cell).1 (range, pair))

@@ -4,9 +4,9 @@ use Rattle.std.proofs.lemmas.Bool.{cases_lt}
 use Rattle.sheet_refs.specs.Cells.{Corners}
 use Rattle.edge_patterns.specs.declared.axis.Axis.{Axis}
 use Rattle.edge_patterns.specs.Axes.{axis_of, count_along}
-use Rattle.edge_patterns.specs.Edges.{EdgeValue, IsEdge, run_length, cell_at, range_at, range_along, edge_of}
-use Rattle.edge_patterns.specs.Joins.{IsUnion}
-use Rattle.edge_patterns.specs.Laws.{SamePairs}
+use Rattle.edge_patterns.specs.Edges.{EdgeValue, IsEdge, run_length, run_cell, range_at, range_along, edge_of}
+use Rattle.edge_patterns.specs.Joins.{HasBothPairs}
+use Rattle.edge_patterns.specs.Laws.{AlikeInPairs}
 use Rattle.edge_patterns.proofs.Crossings.{ordered}
 use Rattle.edge_patterns.proofs.AxisLemmas.{one_cell, single_range}
 use Rattle.edge_patterns.proofs.FlipLemmas.{union_flipped}
@@ -14,14 +14,14 @@ use Rattle.edge_patterns.proofs.JoinedLemmas.{ends_tell}
 use Rattle.edge_patterns.proofs.UnionLemmas.{one_range, same_run}
 
 -- at each place of the run the ranges are the same
-same_ranges : (a b : EdgeValue) → a.dep ≡ b.dep → SamePairs a b → (place : ℕ) → place < run_length a → range_at a place ≡ range_at b place
+same_ranges : (a b : EdgeValue) → a.dep ≡ b.dep → AlikeInPairs a b → (place : ℕ) → place < run_length a → range_at a place ≡ range_at b place
 same_ranges a b run same place within =
     let length : run_length a ≡ run_length b = ap (λ (dep : Corners). count_along (axis_of dep) dep) run in
-    let there : cell_at a place ≡ cell_at b place = ap (λ (dep : Corners). cell_at (edge_of dep a.prec a.pattern) place) run in
-    let pair = (same (range_at a place) (cell_at a place)).0 (record { place = place; within = within; cell_is = refl; range_is = refl }) in
-    one_range b (range_at a place) (range_at b place) (cell_at a place) pair (record { place = place; within = omega (arith, length, within); cell_is = there; range_is = refl })
+    let there : run_cell a place ≡ run_cell b place = ap (λ (dep : Corners). run_cell (edge_of dep a.prec a.pattern) place) run in
+    let pair = (same (range_at a place) (run_cell a place)).0 (record { place = place; within = within; cell_is = refl; range_is = refl }) in
+    one_range b (range_at a place) (range_at b place) (run_cell a place) pair (record { place = place; within = omega (arith, length, within); cell_is = there; range_is = refl })
 
-pub pairs_tell : (a b : EdgeValue) → IsEdge a → IsEdge b → SamePairs a b → a ≡ b
+pub pairs_tell : (a b : EdgeValue) → IsEdge a → IsEdge b → AlikeInPairs a b → a ≡ b
 pairs_tell a b a_is b_is same =
     let axis = axis_of a.dep in
     let run = same_run a b a_is b_is same in
@@ -50,7 +50,7 @@ pairs_tell a b a_is b_is same =
           equal
     ]
 
-pub unions_one : (a b joined other : EdgeValue) → IsUnion a b joined → IsUnion b a other → joined ≡ other
+pub unions_one : (a b joined other : EdgeValue) → HasBothPairs a b joined → HasBothPairs b a other → joined ≡ other
 unions_one a b joined other union flipped =
     let again = union_flipped b a other flipped in
     pairs_tell joined other union.is_edge again.is_edge (λ range cell. (

@@ -6,7 +6,10 @@ pub mod FlipLemmas
 pub mod JoinLemmas
 pub mod JoinedLemmas
 pub mod LawLemmas
+pub mod NeighbourLemmas
 pub mod PartLemmas
 pub mod QueryLemmas
+pub mod RectangleLemmas
 pub mod ReferredLemmas
+pub mod SplitLemmas
 pub mod UnionLemmas

@@ -4,30 +4,30 @@ use Rattle.std.specs.Prelude.{Option, Some, None, ◌↔◌, ◌==◌, Bool, tru
 use Rattle.std.proofs.lemmas.Bool.Decides.{nat_tests}
 use Rattle.sheet_refs.specs.Cells.{Position, Corners, IsIn}
 use Rattle.edge_patterns.specs.Axes.{along, IsLine, axis_of, count_along, cell_along}
-use Rattle.edge_patterns.specs.Edges.{EdgeValue, IsEdge, IsPair, run_length, cell_at, range_at, first_along, last_along, range_along, part_of, steps, head_moves, tail_moves}
-use Rattle.edge_patterns.specs.Joins.{IsPart, IsBefore, Keeps}
+use Rattle.edge_patterns.specs.Edges.{EdgeValue, IsEdge, IsPair, run_length, run_cell, range_at, first_along, last_along, range_along, part_of, steps_if, head_moves, tail_moves}
+use Rattle.edge_patterns.specs.Joins.{IsPart, StandsBefore, IsPartOrNone}
 use Rattle.edge_patterns.specs.Places.{StandsBetween}
 use Rattle.edge_patterns.proofs.Crossings.{along_of, lies}
 use Rattle.edge_patterns.proofs.QueryLemmas.{Cuts, cuts}
 use Rattle.edge_patterns.proofs.AxisLemmas.{to_along, from_along}
 
 -- each cell of a run has one number
-pub one_place : (edge : EdgeValue) (a b : ℕ) → cell_at edge a ≡ cell_at edge b → a ≡ b
+pub one_place : (edge : EdgeValue) (a b : ℕ) → run_cell edge a ≡ run_cell edge b → a ≡ b
 one_place edge a b same =
     let axis = axis_of edge.dep in
     let e : along axis edge.dep.head + a ≡ along axis edge.dep.head + b = sym (along_of axis _ _) ∙ ap (along axis) same ∙ along_of axis _ _ in
     omega (arith, e)
 
 -- steps add up
-steps_on : (moves : Bool) (first from place : ℕ) → first + steps moves from + steps moves place ≡ first + steps moves (from + place)
+steps_on : (moves : Bool) (first from place : ℕ) → first + steps_if moves from + steps_if moves place ≡ first + steps_if moves (from + place)
 steps_on true first from place = omega arith
 steps_on false first from place = omega arith
 
-steps_left : (moves : Bool) (last count from place to : ℕ) → from + place ≤ to → to < count → last - steps moves (count - 1 - to) - steps moves (to + 1 - from - 1 - place) ≡ last - steps moves (count - 1 - (from + place))
+steps_left : (moves : Bool) (last count from place to : ℕ) → from + place ≤ to → to < count → last - steps_if moves (count - 1 - to) - steps_if moves (to + 1 - from - 1 - place) ≡ last - steps_if moves (count - 1 - (from + place))
 steps_left true last count from place to order within = omega arith
 steps_left false last count from place to order within = omega arith
 
-pub no_steps : (moves : Bool) (first : ℕ) → first + steps moves 0 ≡ first
+pub no_steps : (moves : Bool) (first : ℕ) → first + steps_if moves 0 ≡ first
 no_steps true first = omega arith
 no_steps false first = omega arith
 
@@ -44,7 +44,7 @@ module _ (edge : EdgeValue) (is : IsEdge edge) (from to : ℕ) (order : from ≤
   part_count : count_along (axis_of edge.dep) (part_of edge from to).dep ≡ to + 1 - from
   part_count = rw (run_cut.head, run_cut.tail) (omega (arith, order))
 
-  part_cell : (place : ℕ) → cell_along (axis_of edge.dep) (part_of edge from to).dep place ≡ cell_at edge (from + place)
+  part_cell : (place : ℕ) → cell_along (axis_of edge.dep) (part_of edge from to).dep place ≡ run_cell edge (from + place)
   part_cell place =
       let same : along (axis_of edge.dep) edge.dep.head + from + place ≡ along (axis_of edge.dep) edge.dep.head + (from + place) = omega arith in
       rw (run_cut.head, run_cut.left, same) refl
@@ -106,7 +106,7 @@ module _ (edge : EdgeValue) (is : IsEdge edge) (from to : ℕ) (order : from ≤
   part_is_part part_is = record { is_edge = part_is; pairs = part_pairs part_is }
 
 -- what is kept can be said in another way
-pub keeps_where : (edge : EdgeValue) (Kept Said : Position → Type 0) → ((range : Corners) (cell : Position) → IsPair edge range cell → Kept cell ↔ Said cell) → (result : Option EdgeValue) → Keeps result edge Kept → Keeps result edge Said
+pub keeps_where : (edge : EdgeValue) (Kept Said : Position → Type 0) → ((range : Corners) (cell : Position) → IsPair edge range cell → Kept cell ↔ Said cell) → (result : Option EdgeValue) → IsPartOrNone result edge Kept → IsPartOrNone result edge Said
 keeps_where edge Kept Said same None none = λ range cell pair said. none range cell pair ((same range cell pair).1 said)
 keeps_where edge Kept Said same (Some part) is = record {
   is_edge = is.is_edge;
@@ -126,7 +126,7 @@ place_in_run edge is cell inside =
 
 module _ (edge : EdgeValue) (cell : Position) (place : ℕ) (coordinate : along (axis_of edge.dep) cell ≡ along (axis_of edge.dep) edge.dep.head + place) where
   -- the cells before it and those after it are those with smaller and greater numbers
-  pub before_is : (range : Corners) (other : Position) → IsPair edge range other → StandsBetween edge 0 place other ↔ IsBefore edge other cell
+  pub before_is : (range : Corners) (other : Position) → IsPair edge range other → StandsBetween edge 0 place other ↔ StandsBefore edge other cell
   before_is range other pair =
       let axis = axis_of edge.dep in
       let at : along axis other ≡ along axis edge.dep.head + pair.place = ap (along axis) pair.cell_is ∙ along_of axis _ _ in (
@@ -137,7 +137,7 @@ module _ (edge : EdgeValue) (cell : Position) (place : ℕ) (coordinate : along 
         λ less. record { place = pair.place; begins = omega arith; ends = omega (arith, at, coordinate, less); cell_is = pair.cell_is },
       )
 
-  pub after_is : (range : Corners) (other : Position) → IsPair edge range other → StandsBetween edge (place + 1) (run_length edge) other ↔ IsBefore edge cell other
+  pub after_is : (range : Corners) (other : Position) → IsPair edge range other → StandsBetween edge (place + 1) (run_length edge) other ↔ StandsBefore edge cell other
   after_is range other pair =
       let axis = axis_of edge.dep in
       let at : along axis other ≡ along axis edge.dep.head + pair.place = ap (along axis) pair.cell_is ∙ along_of axis _ _ in (

@@ -6,11 +6,11 @@ use Rattle.sheet_refs.specs.Rectangles.{Overlap}
 use Rattle.edge_patterns.specs.declared.axis.Axis.{Axis}
 use Rattle.edge_patterns.specs.declared.axis.Axis.TheVariants.{Down, Right}
 use Rattle.edge_patterns.specs.declared.queries.Places.{Places}
-use Rattle.edge_patterns.specs.Axes.{along, across, cell_of, slice_of, IsLine, axis_of}
-use Rattle.edge_patterns.specs.Edges.{EdgeValue, IsEdge, run_length, cell_at, range_at, part_of_run}
+use Rattle.edge_patterns.specs.Axes.{along, across, position_at, slice_of, IsLine, axis_of}
+use Rattle.edge_patterns.specs.Edges.{EdgeValue, IsEdge, run_length, run_cell, range_at, part_of_run}
 use Rattle.edge_patterns.specs.Places.{AreMeant, IsHit, IsAsked}
-use Rattle.edge_patterns.specs.Queries.{IsDirect, IsReached, IsReferred, IsLedTo}
-use Rattle.edge_patterns.specs.Queries.IsReached.{at_once as reach_at_once, onward as reach_onward}
+use Rattle.edge_patterns.specs.Queries.{IsDirect, IsSpreadTo, IsReferred, IsLedTo}
+use Rattle.edge_patterns.specs.Queries.IsSpreadTo.{at_once as reach_at_once, onward as reach_onward}
 use Rattle.edge_patterns.specs.Queries.IsLedTo.{at_once as led_at_once, onward as led_onward}
 use Rattle.edge_patterns.proofs.Crossings.{lies, is_in, along_of, across_of, cell_again}
 
@@ -26,7 +26,7 @@ cuts Down range first last = record { head = refl; tail = refl; left = refl; rig
 cuts Right range first last = record { head = refl; tail = refl; left = refl; right = refl }
 
 -- a cell between two coordinates of a line is the one at its own coordinate
-pub on_line : (axis : Axis) (range : Corners) (first last : ℕ) (cell : Position) → IsLine axis range → IsIn cell (slice_of axis range first last) → (first ≤ along axis cell) × (along axis cell ≤ last) × (cell ≡ cell_of axis (along axis cell) (across axis range.head))
+pub on_line : (axis : Axis) (range : Corners) (first last : ℕ) (cell : Position) → IsLine axis range → IsIn cell (slice_of axis range first last) → (first ≤ along axis cell) × (along axis cell ≤ last) × (cell ≡ position_at axis (along axis cell) (across axis range.head))
 on_line axis range first last cell line inside =
     let at = cuts axis range first last in
     let is = lies axis cell (slice_of axis range first last) inside in
@@ -37,7 +37,7 @@ on_line axis range first last cell line inside =
     let same : across axis cell ≡ across axis range.head = omega (arith, left, right, line) in
     (from, to, rw (← same) (sym (cell_again axis cell)))
 
-pub in_line : (axis : Axis) (range : Corners) (first last coordinate : ℕ) → IsLine axis range → first ≤ coordinate → coordinate ≤ last → IsIn (cell_of axis coordinate (across axis range.head)) (slice_of axis range first last)
+pub in_line : (axis : Axis) (range : Corners) (first last coordinate : ℕ) → IsLine axis range → first ≤ coordinate → coordinate ≤ last → IsIn (position_at axis coordinate (across axis range.head)) (slice_of axis range first last)
 in_line axis range first last coordinate line from to =
     let at = cuts axis range first last in
     let along_is = along_of axis coordinate (across axis range.head) in
@@ -50,7 +50,7 @@ in_line axis range first last coordinate line from to =
     })
 
 -- the cells of a part of a run, by their numbers
-pub cells_in : (edge : EdgeValue) → IsEdge edge → (from to : ℕ) (cell : Position) → IsIn cell (part_of_run edge from to) → (place : ℕ) × (from ≤ place) × (place ≤ to) × (cell ≡ cell_at edge place)
+pub cells_in : (edge : EdgeValue) → IsEdge edge → (from to : ℕ) (cell : Position) → IsIn cell (part_of_run edge from to) → (place : ℕ) × (from ≤ place) × (place ≤ to) × (cell ≡ run_cell edge place)
 cells_in edge is from to cell inside =
     let axis = axis_of edge.dep in
     let head = along axis edge.dep.head in
@@ -58,20 +58,20 @@ cells_in edge is from to cell inside =
     let begins = at.0 in
     let ends = at.1 in
     let same : along axis cell ≡ head + (along axis cell - head) = omega (arith, begins) in
-    (along axis cell - head, omega (arith, begins), omega (arith, ends), at.2 ∙ ap (λ (coordinate : ℕ). cell_of axis coordinate (across axis edge.dep.head)) same)
+    (along axis cell - head, omega (arith, begins), omega (arith, ends), at.2 ∙ ap (λ (coordinate : ℕ). position_at axis coordinate (across axis edge.dep.head)) same)
 
-pub cell_in : (edge : EdgeValue) → IsEdge edge → (from to place : ℕ) → from ≤ place → place ≤ to → IsIn (cell_at edge place) (part_of_run edge from to)
+pub cell_in : (edge : EdgeValue) → IsEdge edge → (from to place : ℕ) → from ≤ place → place ≤ to → IsIn (run_cell edge place) (part_of_run edge from to)
 cell_in edge is from to place begins ends =
     let axis = axis_of edge.dep in
     let head = along axis edge.dep.head in
     in_line axis edge.dep (head + from) (head + to) (head + place) is.line (omega (arith, begins)) (omega (arith, ends))
 
 -- the cells with a range that overlaps the query are those whose numbers are hit
-pub direct_place : (edge : EdgeValue) (query : Corners) (cell : Position) → IsDirect edge query cell → (place : ℕ) × (place < run_length edge) × (cell ≡ cell_at edge place) × IsHit edge query place
+pub direct_place : (edge : EdgeValue) (query : Corners) (cell : Position) → IsDirect edge query cell → (place : ℕ) × (place < run_length edge) × (cell ≡ run_cell edge place) × IsHit edge query place
 direct_place edge query cell direct =
     (direct.pair.place, direct.pair.within, direct.pair.cell_is, subst (λ (range : Corners). Overlap range query) direct.pair.range_is direct.overlaps)
 
-pub hit_direct : (edge : EdgeValue) (query : Corners) (place : ℕ) → place < run_length edge → IsHit edge query place → IsDirect edge query (cell_at edge place)
+pub hit_direct : (edge : EdgeValue) (query : Corners) (place : ℕ) → place < run_length edge → IsHit edge query place → IsDirect edge query (run_cell edge place)
 hit_direct edge query place within hit =
     record { range = range_at edge place; pair = record { place = place; within = within; cell_is = refl; range_is = refl }; overlaps = hit }
 
@@ -93,7 +93,7 @@ no_direct edge query none cell direct =
     none place within hit
 
 -- nothing is reached where nothing is hit
-pub no_reached : (edge : EdgeValue) (query : Corners) → ((place : ℕ) → place < run_length edge → ¬ IsHit edge query place) → (cell : Position) → ¬ IsReached edge query cell
+pub no_reached : (edge : EdgeValue) (query : Corners) → ((place : ℕ) → place < run_length edge → ¬ IsHit edge query place) → (cell : Position) → ¬ IsSpreadTo edge query cell
 no_reached edge query none cell (reach_at_once _ direct) = no_direct edge query none cell direct
 no_reached edge query none cell (reach_onward from _ range before pair inside) = no_reached edge query none from before
 

@@ -8,7 +8,7 @@ use Rattle.edge_patterns.specs.declared.edge.Pattern.{Pattern}
 use Rattle.edge_patterns.specs.declared.edge.Pattern.TheVariants.{Single, Rr, Rf, Fr, Ff, Chain}
 use Rattle.edge_patterns.specs.declared.queries.Places.{Places}
 use Rattle.edge_patterns.specs.Axes.{along, axis_of, count_along}
-use Rattle.edge_patterns.specs.Edges.{EdgeValue, IsEdge, IsShapeOf, run_length, cell_at, range_at, first_along, last_along, part_of_prec}
+use Rattle.edge_patterns.specs.Edges.{EdgeValue, IsEdge, IsShapeOf, run_length, run_cell, range_at, first_along, last_along, part_of_prec}
 use Rattle.edge_patterns.specs.Places.{AreMeant, IsAsked}
 use Rattle.edge_patterns.specs.Queries.{IsReferred}
 use Rattle.edge_patterns.proofs.Crossings.{lies, is_in, ordered}
@@ -83,7 +83,7 @@ referred_covers edge is query places meant cell =
           let within : place < run_length edge = omega (arith, to, meant.within) in
           let range = spans axis edge place in
           record {
-            from = cell_at edge place;
+            from = run_cell edge place;
             range = range_at edge place;
             asked = (meant.meant place within).0 (from, to);
             pair = record { place = place; within = within; cell_is = refl; range_is = refl };

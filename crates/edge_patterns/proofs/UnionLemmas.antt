@@ -4,22 +4,22 @@ use Rattle.std.specs.Prelude.{◌↔◌, Bool, true, false}
 use Rattle.sheet_refs.specs.Cells.{Position, Corners, IsIn, IsOrdered}
 use Rattle.edge_patterns.specs.declared.axis.Axis.{Axis}
 use Rattle.edge_patterns.specs.declared.axis.Axis.TheVariants.{Down}
-use Rattle.edge_patterns.specs.Axes.{along, across, cell_of, axis_of, count_along}
-use Rattle.edge_patterns.specs.Edges.{EdgeValue, IsEdge, IsShapeOf, IsPair, cell_at, range_at, range_along, steps, head_moves, tail_moves}
-use Rattle.edge_patterns.specs.Laws.{SamePairs}
+use Rattle.edge_patterns.specs.Axes.{along, across, position_at, axis_of, count_along}
+use Rattle.edge_patterns.specs.Edges.{EdgeValue, IsEdge, IsShapeOf, IsPair, run_cell, range_at, range_along, steps_if, head_moves, tail_moves}
+use Rattle.edge_patterns.specs.Laws.{AlikeInPairs}
 use Rattle.edge_patterns.proofs.Crossings.{lies, is_in, along_of, across_of, cell_again}
 use Rattle.edge_patterns.proofs.EdgeLemmas.{spans}
 use Rattle.edge_patterns.proofs.PartLemmas.{one_place, place_in_run}
 use Rattle.edge_patterns.proofs.JoinLemmas.{same_range, tail_room}
 
 -- coordinates that move alike and agree at two places agree between them
-heads_agree : (m k : Bool) (first other offset count place : ℕ) → first + steps m offset ≡ other + steps k 0 → first + steps m (offset + (count - 1)) ≡ other + steps k (count - 1) → place < count → first + steps m (offset + place) ≡ other + steps k place
+heads_agree : (m k : Bool) (first other offset count place : ℕ) → first + steps_if m offset ≡ other + steps_if k 0 → first + steps_if m (offset + (count - 1)) ≡ other + steps_if k (count - 1) → place < count → first + steps_if m (offset + place) ≡ other + steps_if k place
 heads_agree true true first other offset count place start end within = omega (arith, start, end, within)
 heads_agree true false first other offset count place start end within = omega (arith, start, end, within)
 heads_agree false true first other offset count place start end within = omega (arith, start, end, within)
 heads_agree false false first other offset count place start end within = omega (arith, start, end, within)
 
-tails_agree : (m k : Bool) (last other whole offset count place : ℕ) → offset + count ≤ whole → steps m (whole - 1) ≤ last → steps k (count - 1) ≤ other → last - steps m (whole - 1 - offset) ≡ other - steps k (count - 1 - 0) → last - steps m (whole - 1 - (offset + (count - 1))) ≡ other - steps k (count - 1 - (count - 1)) → place < count → last - steps m (whole - 1 - (offset + place)) ≡ other - steps k (count - 1 - place)
+tails_agree : (m k : Bool) (last other whole offset count place : ℕ) → offset + count ≤ whole → steps_if m (whole - 1) ≤ last → steps_if k (count - 1) ≤ other → last - steps_if m (whole - 1 - offset) ≡ other - steps_if k (count - 1 - 0) → last - steps_if m (whole - 1 - (offset + (count - 1))) ≡ other - steps_if k (count - 1 - (count - 1)) → place < count → last - steps_if m (whole - 1 - (offset + place)) ≡ other - steps_if k (count - 1 - place)
 tails_agree true true last other whole offset count place fits room other_room start end within = omega (arith, fits, room, other_room, start, end, within)
 tails_agree true false last other whole offset count place fits room other_room start end within = omega (arith, fits, room, other_room, start, end, within)
 tails_agree false true last other whole offset count place fits room other_room start end within = omega (arith, fits, room, other_room, start, end, within)
@@ -74,7 +74,7 @@ run_has_ranges edge is cell =
           let number = place_in_run edge is cell inside in
           let width : across axis cell ≡ across axis edge.dep.head = omega (arith, left, right, line) in
           let place = along axis cell - along axis edge.dep.head in
-          let here : cell ≡ cell_at edge place = sym (cell_again axis cell) ∙ ap (λ (k : ℕ). cell_of axis k (across axis cell)) number.0 ∙ ap (cell_of axis (along axis edge.dep.head + place)) width in
+          let here : cell ≡ run_cell edge place = sym (cell_again axis cell) ∙ ap (λ (k : ℕ). position_at axis k (across axis cell)) number.0 ∙ ap (position_at axis (along axis edge.dep.head + place)) width in
           (range_at edge place, record { place = place; within = number.1; cell_is = here; range_is = refl }),
       λ has.
           let pair = has.1 in
@@ -91,7 +91,7 @@ one_range edge range other cell a b =
     a.range_is ∙ ap (range_at edge) same ∙ sym b.range_is
 
 -- two edges with the same pairs have the same run
-pub same_run : (a b : EdgeValue) → IsEdge a → IsEdge b → SamePairs a b → a.dep ≡ b.dep
+pub same_run : (a b : EdgeValue) → IsEdge a → IsEdge b → AlikeInPairs a b → a.dep ≡ b.dep
 same_run a b a_is b_is same = same_cells a.dep b.dep a_is.dep.ordered b_is.dep.ordered (λ cell. (
   λ inside. let has = (run_has_ranges a a_is cell).0 inside in (run_has_ranges b b_is cell).1 (has.0, (same has.0 cell).0 has.1),
   λ inside. let has = (run_has_ranges b b_is cell).0 inside in (run_has_ranges a a_is cell).1 (has.0, (same has.0 cell).1 has.1),

@@ -14,15 +14,15 @@ across Down cell = cell.col
 across Right cell = cell.row
 
 -- the cell with these two coordinates
-abbrev pub cell_of : Axis → ℕ → ℕ → Position
-cell_of Down line place = record { row = line; col = place }
-cell_of Right line place = record { row = place; col = line }
+abbrev pub position_at : Axis → ℕ → ℕ → Position
+position_at Down line place = record { row = line; col = place }
+position_at Right line place = record { row = place; col = line }
 
 -- as wide as the range across a direction, and along it from one coordinate to another
 abbrev pub slice_of : Axis → Corners → ℕ → ℕ → Corners
 slice_of axis range first last = record {
-  head = cell_of axis first (across axis range.head);
-  tail = cell_of axis last (across axis range.tail);
+  head = position_at axis first (across axis range.head);
+  tail = position_at axis last (across axis range.tail);
 }
 
 -- the range is one cell wide along a direction
@@ -39,4 +39,4 @@ count_along axis run = along axis run.tail + 1 - along axis run.head
 
 -- its cells, numbered from 0 at the head
 abbrev pub cell_along : Axis → Corners → ℕ → Position
-cell_along axis run place = cell_of axis (along axis run.head + place) (across axis run.head)
+cell_along axis run place = position_at axis (along axis run.head + place) (across axis run.head)

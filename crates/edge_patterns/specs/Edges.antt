@@ -30,16 +30,16 @@ tail_moves Ff = false
 tail_moves Chain = true
 
 -- so many steps where it moves, and none where it stays
-abbrev pub steps : Bool → ℕ → ℕ
-steps moves count = if moves then count else 0
+abbrev pub steps_if : Bool → ℕ → ℕ
+steps_if moves count = if moves then count else 0
 
 -- the number of cells of the run
 abbrev pub run_length : EdgeValue → ℕ
 run_length edge = count_along (axis_of edge.dep) edge.dep
 
 -- the cells of the run, numbered from 0
-abbrev pub cell_at : EdgeValue → ℕ → Position
-cell_at edge place = cell_along (axis_of edge.dep) edge.dep place
+abbrev pub run_cell : EdgeValue → ℕ → Position
+run_cell edge place = cell_along (axis_of edge.dep) edge.dep place
 
 -- the cells of the run from one number to another
 abbrev pub part_of_run : EdgeValue → ℕ → ℕ → Corners
@@ -51,10 +51,10 @@ part_of_run edge from to =
 -- along a direction, where the range of a cell begins and where it ends: a moving head sets out from the head of `prec`, and a moving
 -- tail comes to the tail of `prec` at the last cell
 abbrev pub first_along : Axis → EdgeValue → ℕ → ℕ
-first_along axis edge place = along axis edge.prec.head + steps (head_moves edge.pattern) place
+first_along axis edge place = along axis edge.prec.head + steps_if (head_moves edge.pattern) place
 
 abbrev pub last_along : Axis → EdgeValue → ℕ → ℕ
-last_along axis edge place = along axis edge.prec.tail - steps (tail_moves edge.pattern) (count_along axis edge.dep - 1 - place)
+last_along axis edge place = along axis edge.prec.tail - steps_if (tail_moves edge.pattern) (count_along axis edge.dep - 1 - place)
 
 abbrev pub range_along : Axis → EdgeValue → ℕ → Corners
 range_along axis edge place = slice_of axis edge.prec (first_along axis edge place) (last_along axis edge place)
@@ -73,7 +73,7 @@ range_at edge place = range_along (axis_of edge.dep) edge place
 pub record IsPair (edge : EdgeValue) (range : Corners) (cell : Position) : Type 0 where
   pub place : ℕ
   pub within : place < run_length edge
-  pub cell_is : cell ≡ cell_at edge place
+  pub cell_is : cell ≡ run_cell edge place
   pub range_is : range ≡ range_at edge place
 
 -- one range is the other, moved on or back by one cell along a direction
@@ -112,6 +112,10 @@ pub record IsEdge (edge : EdgeValue) : Type 0 where
   pub prec : IsRange edge.prec
   pub line : IsLine (axis_of edge.dep) edge.dep
   pub shape : IsShapeOf (axis_of edge.dep) edge.pattern edge
+
+-- along the run, the rectangle begins before the run does
+abbrev pub BeginsBefore : EdgeValue → Type 0
+BeginsBefore edge = let axis = axis_of edge.dep in along axis edge.prec.head < along axis edge.dep.head
 
 -- an edge by its three parts
 abbrev pub edge_of : Corners → Corners → Pattern → EdgeValue

@@ -1,10 +1,10 @@
 -- Joining two edges, and taking a cell out of one.
-use Rattle.std.specs.Prelude.{◌≡◌, ℕ, ◌+◌, ◌-◌, ◌<◌, ◌⊎◌, ◌↔◌, Bool, MatchOption}
+use Rattle.std.specs.Prelude.{◌≡◌, ◌≢◌, ℕ, ◌+◌, ◌-◌, ◌<◌, ◌⊎◌, ◌↔◌, Bool, MatchOption, IsSomeAnd}
 use Rattle.std.specs.declared.option.Option.{Option}
 use Rattle.sheet_refs.specs.Cells.{Position, Corners}
 use Rattle.edge_patterns.specs.declared.axis.Axis.{Axis}
 use Rattle.edge_patterns.specs.Axes.{along, across, IsLine, axis_of, count_along}
-use Rattle.edge_patterns.specs.Edges.{EdgeValue, IsEdge, IsPair, run_length, range_at, range_along, steps}
+use Rattle.edge_patterns.specs.Edges.{EdgeValue, IsEdge, IsPair, run_length, range_at, range_along, steps_if}
 
 -- the second run goes on where the first ends, in one line
 pub record Follows (axis : Axis) (front back : Corners) : Type 0 where
@@ -18,14 +18,14 @@ abbrev pub AreNeighbours : Corners → Corners → Type 0
 AreNeighbours a b = (axis : Axis) × (Follows axis a b ⊎ Follows axis b a)
 
 -- an edge that has exactly the pairs of two others
-pub record IsUnion (a b : EdgeValue) (joined : EdgeValue) : Type 0 where
+pub record HasBothPairs (a b : EdgeValue) (joined : EdgeValue) : Type 0 where
   pub is_edge : IsEdge joined
   pub pairs : (range : Corners) (cell : Position) → IsPair joined range cell ↔ (IsPair a range cell ⊎ IsPair b range cell)
 
 -- the edge into which two edges can be joined
 pub record IsJoin (a b : EdgeValue) (joined : EdgeValue) : Type 0 where
   pub neighbours : AreNeighbours a.dep b.dep
-  pub union : IsUnion a b joined
+  pub union : HasBothPairs a b joined
 
 -- an edge with this run whose first and last cells have these ranges
 pub record HasEnds (axis : Axis) (dep first last : Corners) (edge : EdgeValue) : Type 0 where
@@ -46,11 +46,11 @@ pub record IsAsWide (axis : Axis) (a b : Corners) : Type 0 where
 
 -- over so many cells a coordinate goes from one number to another, by one at each cell or not at all
 abbrev pub Moves : ℕ → ℕ → ℕ → Bool → Type 0
-Moves first last count moves = last ≡ first + steps moves count
+Moves first last count moves = last ≡ first + steps_if moves count
 
 -- the cell comes before another in a run
-abbrev pub IsBefore : EdgeValue → Position → Position → Type 0
-IsBefore edge cell other = along (axis_of edge.dep) cell < along (axis_of edge.dep) other
+abbrev pub StandsBefore : EdgeValue → Position → Position → Type 0
+StandsBefore edge cell other = along (axis_of edge.dep) cell < along (axis_of edge.dep) other
 
 -- an edge that has exactly those pairs of another whose cells are kept
 pub record IsPart (edge : EdgeValue) (Kept : Position → Type 0) (part : EdgeValue) : Type 0 where
@@ -58,6 +58,15 @@ pub record IsPart (edge : EdgeValue) (Kept : Position → Type 0) (part : EdgeVa
   pub pairs : (range : Corners) (cell : Position) → IsPair part range cell ↔ (IsPair edge range cell × Kept cell)
 
 -- an edge with those pairs, or None exactly where there are none
-abbrev pub Keeps : Option EdgeValue → EdgeValue → (Position → Type 0) → Type 0
-Keeps result edge Kept =
+abbrev pub IsPartOrNone : Option EdgeValue → EdgeValue → (Position → Type 0) → Type 0
+IsPartOrNone result edge Kept =
     MatchOption result ((range : Corners) (cell : Position) → IsPair edge range cell → ¬ Kept cell) (IsPart edge Kept)
+
+-- there is an edge, and it has the pair
+abbrev pub HasPair : Option EdgeValue → Corners → Position → Type 0
+HasPair part range cell = IsSomeAnd part (λ edge. IsPair edge range cell)
+
+-- two parts have together exactly the pairs of an edge without those of one cell
+abbrev pub LeaveOut : Option EdgeValue → Option EdgeValue → EdgeValue → Position → Type 0
+LeaveOut before after edge left_out =
+    (range : Corners) (cell : Position) → (HasPair before range cell ⊎ HasPair after range cell) ↔ (IsPair edge range cell × (cell ≢ left_out))

@@ -17,9 +17,9 @@ pub record IsDirect (edge : EdgeValue) (query : Corners) (cell : Position) : Typ
   pub overlaps : Overlap range query
 
 -- the cell is reached from the query by one or more of the edge's own pairs
-pub data IsReached (edge : EdgeValue) (query : Corners) : Position → Type 0 where
-  at_once : (cell : Position) → IsDirect edge query cell → IsReached edge query cell
-  onward : (from cell : Position) (range : Corners) → IsReached edge query from → IsPair edge range cell → IsIn from range → IsReached edge query cell
+pub data IsSpreadTo (edge : EdgeValue) (query : Corners) : Position → Type 0 where
+  at_once : (cell : Position) → IsDirect edge query cell → IsSpreadTo edge query cell
+  onward : (from cell : Position) (range : Corners) → IsSpreadTo edge query from → IsPair edge range cell → IsIn from range → IsSpreadTo edge query cell
 
 -- the cell is in the range of a cell that is in the query
 pub record IsReferred (edge : EdgeValue) (query : Corners) (cell : Position) : Type 0 where
@@ -33,3 +33,7 @@ pub record IsReferred (edge : EdgeValue) (query : Corners) (cell : Position) : T
 pub data IsLedTo (edge : EdgeValue) (query : Corners) : Position → Type 0 where
   at_once : (cell : Position) → IsReferred edge query cell → IsLedTo edge query cell
   onward : (from cell : Position) (range : Corners) → IsLedTo edge query from → IsPair edge range from → IsIn cell range → IsLedTo edge query cell
+
+-- there is an answer exactly where two ranges overlap
+abbrev pub AnswersWhere : Option Corners → Corners → Corners → Type 0
+AnswersWhere result a b = MatchOption result (¬ Overlap a b) (λ _. Overlap a b)

@@ -1,7 +1,7 @@
 // The two directions of a run, so that a row is treated as a column is.
 ghost use Rattle.std.specs.Prelude.{◌≡◌, ◌+◌, ◌-◌, ◌<◌, ◌≤◌, ◌↔◌, IsTrue};
 ghost use Rattle.sheet_refs.specs.Cells.{IsOrdered};
-ghost use Rattle.edge_patterns.specs.Axes.{along, across, cell_of, slice_of, IsLine, axis_of, count_along};
+ghost use Rattle.edge_patterns.specs.Axes.{along, across, position_at, slice_of, IsLine, axis_of, count_along};
 ghost use Rattle.edge_patterns.specs.Edges.{HasName, IsRange};
 
 use sheet_refs::{Cell, Range};
@@ -73,15 +73,15 @@ impl Axis {
         ensures range { IsRange result }
     {
         check_names(range);
-        let head = self.moved(range.head(), first);
-        let tail = self.moved(range.tail(), last);
+        let head = self.with_coordinate(range.head(), first);
+        let tail = self.with_coordinate(range.tail(), last);
         Range::of(head, tail)
     }
 
     // The cell with another coordinate in this direction.
-    fn moved(self, cell: Cell, place: u32) -> Cell
-        requires { HasName (cell_of self place (across self cell)) }
-        ensures { result ≡ cell_of self place (across self cell) }
+    fn with_coordinate(self, cell: Cell, place: u32) -> Cell
+        requires { HasName (position_at self place (across self cell)) }
+        ensures { result ≡ position_at self place (across self cell) }
     {
         match self {
             Axis::Down => Cell::new(place, cell.col()).unwrap(),

@@ -18,8 +18,26 @@ pub enum Pattern {
     Fr,
     /// Each cell refers to the same range.
     Ff,
-    /// Each cell refers to the one before it in its line, or each to the one behind it.
+    /// Each cell refers to the one before it in its line, or each to the next one.
     Chain,
+}
+
+impl Pattern {
+    ghost use Rattle.edge_patterns.specs.Edges.{head_moves, tail_moves};
+
+    /// Whether the head of the range moves on with the cell.
+    pub(crate) fn head_moves(self) -> bool
+        ensures { result ≡ head_moves self }
+    {
+        matches!(self, Pattern::Rr | Pattern::Rf | Pattern::Chain)
+    }
+
+    /// Whether the tail of the range moves on with the cell.
+    pub(crate) fn tail_moves(self) -> bool
+        ensures { result ≡ tail_moves self }
+    {
+        matches!(self, Pattern::Rr | Pattern::Fr | Pattern::Chain)
+    }
 }
 
 /// A run of cells, one cell wide, whose references follow a pattern.
@@ -47,7 +65,7 @@ impl Model for Edge {
 
 impl Edge {
     ghost use Rattle.edge_patterns.specs.Axes.{axis_of, along, slice_of};
-    ghost use Rattle.edge_patterns.specs.Edges.{IsEdge, IsRange, run_length, range_at, first_along, last_along, part_of_run, part_of_prec, part_of, edge_of, single_edge};
+    ghost use Rattle.edge_patterns.specs.Edges.{IsEdge, IsRange, run_length, range_at, first_along, last_along, part_of_run, part_of_prec, part_of, edge_of, BeginsBefore, single_edge};
 
     /// The edge of one cell and the range to which it refers.
     pub fn single(cell: Cell, range: Range) -> Edge
@@ -106,27 +124,29 @@ impl Edge {
     }
 
     /// Where the range of the cell with this number begins, along the run.
-    pub(crate) fn first(&self, place: u32) -> u32
+    fn first(&self, place: u32) -> u32
         requires { place < run_length self.now }
         ensures first { result ≡ first_along (axis_of self.now.dep) self.now place }
     {
         let first = self.axis().along(self.prec.head());
-        match self.pattern {
-            Pattern::Rr | Pattern::Rf | Pattern::Chain => first + place,
-            Pattern::Single | Pattern::Fr | Pattern::Ff => first,
+        if self.pattern.head_moves() {
+            first + place
+        } else {
+            first
         }
     }
 
     /// Where the range of the cell with this number ends, along the run.
-    pub(crate) fn last(&self, place: u32) -> u32
+    fn last(&self, place: u32) -> u32
         requires { place < run_length self.now }
         ensures last { result ≡ last_along (axis_of self.now.dep) self.now place }
     {
         let last = self.axis().along(self.prec.tail());
         let left = self.len() - 1 - place;
-        match self.pattern {
-            Pattern::Rr | Pattern::Fr | Pattern::Chain => last - left,
-            Pattern::Single | Pattern::Rf | Pattern::Ff => last,
+        if self.pattern.tail_moves() {
+            last - left
+        } else {
+            last
         }
     }
 
@@ -166,7 +186,7 @@ impl Edge {
 
     /// Whether the ranges begin before the run does; a chain's cells then refer to the ones before them.
     pub(crate) fn refers_back(&self) -> bool
-        ensures { IsTrue result ↔ along (axis_of self.now.dep) self.now.prec.head < along (axis_of self.now.dep) self.now.dep.head }
+        ensures { IsTrue result ↔ BeginsBefore self.now }
     {
         let axis = self.axis();
         axis.along(self.prec.head()) < axis.along(self.dep.head())

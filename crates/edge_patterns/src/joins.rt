@@ -2,8 +2,8 @@
 ghost use Rattle.std.specs.Prelude.{◌≡◌, ◌≢◌, ◌+◌, ◌-◌, ◌<◌, ◌≤◌, ◌↔◌, IsTrue};
 ghost use Rattle.sheet_refs.specs.Names.{Finds};
 ghost use Rattle.edge_patterns.specs.Axes.{IsLine, count_along};
-ghost use Rattle.edge_patterns.specs.Edges.{run_length, IsBeside, steps, head_moves, tail_moves};
-ghost use Rattle.edge_patterns.specs.Joins.{Follows, IsUnion, IsJoin, HasEnds, HasInnerRanges, IsAsWide, Moves};
+ghost use Rattle.edge_patterns.specs.Edges.{run_length, IsBeside, steps_if, head_moves, tail_moves};
+ghost use Rattle.edge_patterns.specs.Joins.{Follows, HasBothPairs, IsJoin, HasEnds, HasInnerRanges, IsAsWide, Moves};
 ghost use Rattle.edge_patterns.specs.declared.edge.Pattern.TheVariants.{Single, Chain};
 
 use crate::axis::Axis;
@@ -47,7 +47,7 @@ fn follows(axis: Axis, front: &Edge, back: &Edge) -> bool
 // ranges that move alike and agree at two cells agree at all between them.
 fn union_of(axis: Axis, front: &Edge, back: &Edge) -> Option<Edge>
     requires { Follows axis front.now.dep back.now.dep }
-    ensures { Finds result (IsUnion front.now back.now) }
+    ensures { Finds result (HasBothPairs front.now back.now) }
 {
     let dep = Range::of(front.dep().head(), back.dep().tail());
     let outer = over(axis, dep, front.range_at(0), back.range_at(back.len() - 1));

@@ -1,10 +1,18 @@
-ghost use Rattle.edge_patterns.specs.Laws.{CellsHaveOneRange, RunsHaveRanges, PairsTellTheEdge, UnionsAreOne};
+ghost use Rattle.edge_patterns.specs.Laws.{CellsHaveOneRange, RunsHaveRanges, SinglesHaveOnePair, RangesAreOrdered, RectanglesHaveTheRanges, RunsAreAsked, ChainsReferToNeighbours, PairsTellTheEdge, UnionsAreOne};
 
-/// What holds of edges: each cell of a run has one range, and no other cell has any; edges with the same pairs are the
-/// same in all three parts, so no two patterns fit one set of pairs; and two edges have one union, in whatever order.
+/// What holds of edges: each cell of a run has one range, and no other cell has any; a `Single` has its one pair; no range
+/// has its head past its tail, and the rectangle has exactly the cells of the ranges; a query refers to some cell exactly
+/// where it shares one with the run; the chains of several cells are the edges whose cells all refer to the one before
+/// them, or all to the next; edges with the same pairs are the same in all three parts, so no two patterns fit one set of
+/// pairs; and two edges have one union, in whatever order.
 pub fn edge_laws()
     ensures cells_have_one_range { CellsHaveOneRange }
     ensures runs_have_ranges { RunsHaveRanges }
+    ensures singles_have_one_pair { SinglesHaveOnePair }
+    ensures ranges_are_ordered { RangesAreOrdered }
+    ensures rectangles_have_the_ranges { RectanglesHaveTheRanges }
+    ensures runs_are_asked { RunsAreAsked }
+    ensures chains_refer_to_neighbours { ChainsReferToNeighbours }
     ensures pairs_tell_the_edge { PairsTellTheEdge }
     ensures unions_are_one { UnionsAreOne }
 {}

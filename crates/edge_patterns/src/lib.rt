@@ -15,6 +15,8 @@ mod edge;
 mod joins;
 mod laws;
 mod queries;
+#[cfg(test)]
+mod small_edges;
 mod splits;
 #[cfg(test)]
 mod tests;

@@ -3,9 +3,9 @@ ghost use Rattle.std.specs.Prelude.{◌≡◌, ◌≢◌, ℕ, ◌<◌, ◌≤�
 ghost use Rattle.sheet_refs.specs.Cells.{IsIn};
 ghost use Rattle.sheet_refs.specs.Rectangles.{Overlap};
 ghost use Rattle.edge_patterns.specs.Axes.{along, axis_of};
-ghost use Rattle.edge_patterns.specs.Edges.{run_length, first_along, last_along, cell_at, range_at};
-ghost use Rattle.edge_patterns.specs.Places.{IsFirst, IsLast, Marks, IsHit, IsAsked};
-ghost use Rattle.edge_patterns.specs.Queries.{Covers, IsDirect, IsReached, IsReferred, IsLedTo};
+ghost use Rattle.edge_patterns.specs.Edges.{IsEdge, run_length, first_along, last_along, run_cell, range_at};
+ghost use Rattle.edge_patterns.specs.Places.{IsFirst, IsLast, EndsFrom, BeginsBy, FindsPlaces, IsHit, IsAsked};
+ghost use Rattle.edge_patterns.specs.Queries.{Covers, IsDirect, IsSpreadTo, IsReferred, IsLedTo, AnswersWhere};
 ghost use Rattle.edge_patterns.specs.declared.edge.Pattern.TheVariants.{Chain};
 
 use crate::{Edge, Pattern};
@@ -18,37 +18,38 @@ pub(crate) struct Places {
     pub(crate) to: u32,
 }
 
-/// The number of the first cell whose range ends at this coordinate or past it.
+// The number of the first cell whose range ends at this coordinate or past it.
 fn first_ending_from(e: &Edge, coordinate: u32) -> u32
     requires { coordinate ≤ along (axis_of e.now.dep) e.now.prec.tail }
-    ensures { IsFirst (run_length e.now) (λ place. coordinate ≤ last_along (axis_of e.now.dep) e.now place) result }
+    ensures { IsFirst (run_length e.now) (EndsFrom e.now coordinate) result }
 {
     let last_place = e.len() - 1;
     let last = e.axis().along(e.prec().tail());
-    match e.pattern() {
-        Pattern::Rr | Pattern::Fr | Pattern::Chain => (coordinate + last_place).saturating_sub(
-            last,
-        ),
-        Pattern::Single | Pattern::Rf | Pattern::Ff => 0,
+    if e.pattern().tail_moves() {
+        (coordinate + last_place).saturating_sub(last)
+    } else {
+        0
     }
 }
 
-/// The number of the last cell whose range begins at this coordinate or before it.
+// The number of the last cell whose range begins at this coordinate or before it.
 fn last_beginning_by(e: &Edge, coordinate: u32) -> u32
     requires { along (axis_of e.now.dep) e.now.prec.head ≤ coordinate }
-    ensures { IsLast (run_length e.now) (λ place. first_along (axis_of e.now.dep) e.now place ≤ coordinate) result }
+    ensures { IsLast (run_length e.now) (BeginsBy e.now coordinate) result }
 {
     let last_place = e.len() - 1;
     let first = e.axis().along(e.prec().head());
-    match e.pattern() {
-        Pattern::Rr | Pattern::Rf | Pattern::Chain => last_place.min(coordinate - first),
-        Pattern::Single | Pattern::Fr | Pattern::Ff => last_place,
+    if e.pattern().head_moves() {
+        last_place.min(coordinate - first)
+    } else {
+        last_place
     }
 }
 
-/// The cells whose ranges overlap the query.
+// The cells whose ranges overlap the query.
 fn hit_places(e: &Edge, q: Range) -> Option<Places>
-    ensures { Marks (run_length e.now) (IsHit e.now q) result }
+    ensures hit { FindsPlaces (run_length e.now) (IsHit e.now q) result }
+    ensures edge { IsEdge e.now }
 {
     if !e.prec().overlaps(&q) {
         return None;
@@ -61,9 +62,10 @@ fn hit_places(e: &Edge, q: Range) -> Option<Places>
     Some(Places { from, to })
 }
 
-/// The cells that are in the query.
+// The cells that are in the query.
 fn asked_places(e: &Edge, q: Range) -> Option<Places>
-    ensures { Marks (run_length e.now) (IsAsked e.now q) result }
+    ensures asked { FindsPlaces (run_length e.now) (IsAsked e.now q) result }
+    ensures edge { IsEdge e.now }
 {
     if !e.dep().overlaps(&q) {
         return None;
@@ -76,7 +78,8 @@ fn asked_places(e: &Edge, q: Range) -> Option<Places>
 
 /// The cells of the run whose range overlaps the query, in constant time; None exactly where there is none.
 pub fn direct(e: &Edge, q: Range) -> Option<Range>
-    ensures { Covers result (IsDirect e.now q) }
+    ensures covers { Covers result (IsDirect e.now q) }
+    ensures none { AnswersWhere result e.now.prec q }
 {
     let Some(hit) = hit_places(e, q) else {
         return None;
@@ -87,8 +90,9 @@ pub fn direct(e: &Edge, q: Range) -> Option<Range>
 /// The cells that the edge's own pairs reach from the query, in constant time: for a Chain in one or more steps, and for
 /// the other patterns as `direct`. None exactly where there is none.
 pub fn spread(e: &Edge, q: Range) -> Option<Range>
-    ensures chain { e.now.pattern ≡ Chain → Covers result (IsReached e.now q) }
+    ensures chain { e.now.pattern ≡ Chain → Covers result (IsSpreadTo e.now q) }
     ensures others { e.now.pattern ≢ Chain → Covers result (IsDirect e.now q) }
+    ensures none { AnswersWhere result e.now.prec q }
 {
     let Some(hit) = hit_places(e, q) else {
         return None;
@@ -108,6 +112,7 @@ pub fn spread(e: &Edge, q: Range) -> Option<Range>
 pub fn back(e: &Edge, q: Range) -> Option<Range>
     ensures chain { e.now.pattern ≡ Chain → Covers result (IsLedTo e.now q) }
     ensures others { e.now.pattern ≢ Chain → Covers result (IsReferred e.now q) }
+    ensures none { AnswersWhere result q e.now.dep }
 {
     let Some(asked) = asked_places(e, q) else {
         return None;

@@ -2,7 +2,7 @@
 ghost use Rattle.std.specs.Prelude.{◌≤◌};
 ghost use Rattle.sheet_refs.specs.Cells.{IsIn};
 ghost use Rattle.edge_patterns.specs.Edges.{run_length};
-ghost use Rattle.edge_patterns.specs.Joins.{IsBefore, Keeps};
+ghost use Rattle.edge_patterns.specs.Joins.{StandsBefore, IsPartOrNone, LeaveOut};
 ghost use Rattle.edge_patterns.specs.Places.{StandsBetween};
 
 use crate::Edge;
@@ -12,8 +12,9 @@ use sheet_refs::Cell;
 /// where there is no cell on that side. A part of one cell is a `Single`, and every other one has the edge's pattern.
 pub fn split(e: &Edge, cell: Cell) -> (Option<Edge>, Option<Edge>)
     requires { IsIn cell e.now.dep }
-    ensures before { Keeps result.0 e.now (λ other. IsBefore e.now other cell) }
-    ensures after { Keeps result.1 e.now (λ other. IsBefore e.now cell other) }
+    ensures before { IsPartOrNone result.0 e.now (λ other. StandsBefore e.now other cell) }
+    ensures after { IsPartOrNone result.1 e.now (λ other. StandsBefore e.now cell other) }
+    ensures parts { LeaveOut result.0 result.1 e.now cell }
 {
     let axis = e.axis();
     let place = axis.along(cell) - axis.along(e.dep().head());
@@ -23,7 +24,7 @@ pub fn split(e: &Edge, cell: Cell) -> (Option<Edge>, Option<Edge>)
 /// The edge of the cells from a number up to another, which is left out.
 fn between(e: &Edge, from: u32, end: u32) -> Option<Edge>
     requires { end ≤ run_length e.now }
-    ensures { Keeps result e.now (StandsBetween e.now from end) }
+    ensures { IsPartOrNone result e.now (StandsBetween e.now from end) }
 {
     if from >= end {
         return None;

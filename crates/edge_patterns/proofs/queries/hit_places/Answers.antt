@@ -2,8 +2,8 @@ use Rattle.std.proofs.Common.{refl}
 use Rattle.edge_patterns.proofs.EdgeLemmas.{hit_between}
 use Rattle.edge_patterns.proofs.queries.hit_places.Goals as goal
 
-pub returns : goal.returns
-returns c =
+pub returns-clause-hit : goal.returns-clause-hit
+returns-clause-hit c =
     let first = rw (c.along.ensures.along, c.axis.ensures.axis, c.head.ensures.head) at c.first_ending_from-from.ensures in
     let last = rw (c.along-2.ensures.along, c.axis-2.ensures.axis, c.tail.ensures.tail) at c.last_beginning_by-to.ensures in
     let prec = rw c.prec.ensures.prec at (c.if-not-overlaps.ensures.0 refl) in

@@ -1,0 +1,152 @@
+-- The chains are the edges whose cells refer to their neighbours.
+use Rattle.std.proofs.Common.{◌≡◌, ◌≢◌, ℕ, ◌+◌, ◌-◌, ◌<◌, ◌⊎◌, inl, inr, arith, refl, sym, ◌∙◌, ap, subst}
+use Rattle.sheet_refs.specs.Cells.{Position, Corners}
+use Rattle.edge_patterns.specs.declared.axis.Axis.{Axis}
+use Rattle.edge_patterns.specs.declared.edge.Pattern.{Pattern}
+use Rattle.edge_patterns.specs.declared.edge.Pattern.TheVariants.{Single, Rr, Rf, Fr, Ff, Chain}
+use Rattle.edge_patterns.specs.Axes.{along, across, position_at, axis_of}
+use Rattle.edge_patterns.specs.Edges.{EdgeValue, IsEdge, IsShapeOf, IsPair, run_length, run_cell, range_at, first_along, last_along}
+use Rattle.edge_patterns.specs.Laws.{AllReferBefore, AllReferBehind}
+use Rattle.edge_patterns.proofs.Crossings.{ordered, along_of, across_of, cell_again}
+use Rattle.edge_patterns.proofs.EdgeLemmas.{spans}
+use Rattle.edge_patterns.proofs.ChainLemmas.{IsChain, is_chain, prec_head, run_head}
+
+same_corner : (axis : Axis) (a b : Position) → along axis a ≡ along axis b → across axis a ≡ across axis b → a ≡ b
+same_corner axis a b line place =
+    sym (cell_again axis a) ∙ ap (λ (k : ℕ). position_at axis k (across axis a)) line ∙ ap (position_at axis (along axis b)) place ∙ cell_again axis b
+
+-- the range of a chain's cell is one cell of its line
+record IsPoint (edge : EdgeValue) (place : ℕ) (range : Corners) : Type 0 where
+  one : range.head ≡ range.tail
+  at : along (axis_of edge.dep) range.head ≡ prec_head edge + place
+  in_line : across (axis_of edge.dep) range.head ≡ across (axis_of edge.dep) edge.dep.head
+
+chain_point : (edge : EdgeValue) → IsChain edge → (place : ℕ) → place < run_length edge → IsPoint edge place (range_at edge place)
+chain_point edge chain place within =
+    let axis = axis_of edge.dep in
+    let range = spans axis edge place in
+    let first : first_along axis edge place ≡ prec_head edge + place = rw chain.pattern refl in
+    let last : last_along axis edge place ≡ prec_head edge + place = rw (chain.pattern, chain.last) (omega (arith, within)) in
+    record {
+      one = same_corner axis _ _ (range.head ∙ first ∙ sym last ∙ sym range.tail) (range.left ∙ chain.thin ∙ sym range.right);
+      at = range.head ∙ first;
+      in_line = range.left ∙ chain.line;
+    }
+
+cell_line : (edge : EdgeValue) (place : ℕ) → along (axis_of edge.dep) (run_cell edge place) ≡ run_head edge + place
+cell_line edge place = along_of (axis_of edge.dep) _ _
+
+cell_across : (edge : EdgeValue) (place : ℕ) → across (axis_of edge.dep) (run_cell edge place) ≡ across (axis_of edge.dep) edge.dep.head
+cell_across edge place = across_of (axis_of edge.dep) _ _
+
+pub chain_refers : (edge : EdgeValue) → IsEdge edge → edge.pattern ≡ Chain → AllReferBefore edge ⊎ AllReferBehind edge
+chain_refers edge is same = either (is_chain edge is same).beside
+  where
+    either : (prec_head edge ≡ run_head edge + 1) ⊎ (prec_head edge + 1 ≡ run_head edge) → AllReferBefore edge ⊎ AllReferBehind edge
+    either (inl behind) = inr (λ range cell pair.
+        let point = subst (IsPoint edge pair.place) (sym pair.range_is) (chain_point edge (is_chain edge is same) pair.place pair.within) in
+        let at = point.at in
+        let line : along (axis_of edge.dep) cell ≡ run_head edge + pair.place = ap (along (axis_of edge.dep)) pair.cell_is ∙ cell_line edge pair.place in
+        let place : across (axis_of edge.dep) cell ≡ across (axis_of edge.dep) edge.dep.head = ap (across (axis_of edge.dep)) pair.cell_is ∙ cell_across edge pair.place in
+        (point.one, record { same_line = point.in_line ∙ sym place; one_on = omega (arith, at, line, behind) }))
+    either (inr before) = inl (λ range cell pair.
+        let point = subst (IsPoint edge pair.place) (sym pair.range_is) (chain_point edge (is_chain edge is same) pair.place pair.within) in
+        let at = point.at in
+        let line : along (axis_of edge.dep) cell ≡ run_head edge + pair.place = ap (along (axis_of edge.dep)) pair.cell_is ∙ cell_line edge pair.place in
+        let place : across (axis_of edge.dep) cell ≡ across (axis_of edge.dep) edge.dep.head = ap (across (axis_of edge.dep)) pair.cell_is ∙ cell_across edge pair.place in
+        (point.one, record { same_line = place ∙ sym point.in_line; one_on = omega (arith, at, line, before) }))
+
+-- at a place the range is one cell, so many before the cell of the run or so many behind it
+record Near (edge : EdgeValue) (before behind place : ℕ) : Type 0 where
+  one : first_along (axis_of edge.dep) edge place ≡ last_along (axis_of edge.dep) edge place
+  at : first_along (axis_of edge.dep) edge place + before ≡ run_head edge + place + behind
+  left : across (axis_of edge.dep) edge.prec.head ≡ across (axis_of edge.dep) edge.dep.head
+  right : across (axis_of edge.dep) edge.prec.tail ≡ across (axis_of edge.dep) edge.dep.head
+
+pair_here : (edge : EdgeValue) (place : ℕ) → place < run_length edge → IsPair edge (range_at edge place) (run_cell edge place)
+pair_here edge place within = record { place = place; within = within; cell_is = refl; range_is = refl }
+
+near_before : (edge : EdgeValue) → AllReferBefore edge → (place : ℕ) → place < run_length edge → Near edge 1 0 place
+near_before edge refers place within =
+    let axis = axis_of edge.dep in
+    let range = spans axis edge place in
+    let (one, next) = refers (range_at edge place) (run_cell edge place) (pair_here edge place within) in
+    let step = next.one_on in
+    let head = range.head in
+    let line = cell_line edge place in
+    record {
+      one = sym range.head ∙ ap (along axis) one ∙ range.tail;
+      at = omega (arith, step, head, line);
+      left = sym range.left ∙ sym next.same_line ∙ cell_across edge place;
+      right = sym range.right ∙ ap (across axis) (sym one) ∙ sym next.same_line ∙ cell_across edge place;
+    }
+
+near_behind : (edge : EdgeValue) → AllReferBehind edge → (place : ℕ) → place < run_length edge → Near edge 0 1 place
+near_behind edge refers place within =
+    let axis = axis_of edge.dep in
+    let range = spans axis edge place in
+    let (one, next) = refers (range_at edge place) (run_cell edge place) (pair_here edge place within) in
+    let step = next.one_on in
+    let head = range.head in
+    let line = cell_line edge place in
+    record {
+      one = sym range.head ∙ ap (along axis) one ∙ range.tail;
+      at = omega (arith, step, head, line);
+      left = sym range.left ∙ next.same_line ∙ cell_across edge place;
+      right = sym range.right ∙ ap (across axis) (sym one) ∙ next.same_line ∙ cell_across edge place;
+    }
+
+-- an edge whose first and last ranges are such is a chain, as no other pattern's are
+chain_of : (edge : EdgeValue) → IsEdge edge → (before behind : ℕ) → (before ≡ 1 × behind ≡ 0) ⊎ (before ≡ 0 × behind ≡ 1) → (pattern : Pattern) → edge.pattern ≡ pattern → IsShapeOf (axis_of edge.dep) pattern edge → pattern ≢ Single → Near edge before behind 0 → Near edge before behind (run_length edge - 1) → pattern ≡ Chain
+chain_of edge is before behind way Single same shape several first last = absurd (several refl)
+chain_of edge is before behind way Rf same shape several first last =
+    let fits = shape.fits in
+    let two = shape.several in
+    let one = rw same at first.one in
+    absurd (omega (arith, fits, two, one))
+chain_of edge is before behind way Fr same shape several first last =
+    let fits = shape.fits in
+    let two = shape.several in
+    let one = rw same at last.one in
+    absurd (omega (arith, fits, two, one))
+chain_of edge is before behind way Ff same shape several first last =
+    let at_first = rw same at first.at in
+    let at_last = rw same at last.at in
+    absurd (omega (arith, shape, at_first, at_last))
+chain_of edge is before behind way Rr same shape several first last =
+    let axis = axis_of edge.dep in
+    let fits = shape.0.fits in
+    let one = rw same at first.one in
+    let at = rw same at first.at in
+    let run = ordered axis edge.dep is.dep.ordered in
+    let line = run.line in
+    absurd (shape.1 (record {
+      head = first.left;
+      tail = first.right ∙ is.line;
+      moved = moved way;
+    }))
+  where
+    moved : (before ≡ 1 × behind ≡ 0) ⊎ (before ≡ 0 × behind ≡ 1) → ((along (axis_of edge.dep) edge.prec.head ≡ along (axis_of edge.dep) edge.dep.head + 1) × (along (axis_of edge.dep) edge.prec.tail ≡ along (axis_of edge.dep) edge.dep.tail + 1)) ⊎ ((along (axis_of edge.dep) edge.prec.head + 1 ≡ along (axis_of edge.dep) edge.dep.head) × (along (axis_of edge.dep) edge.prec.tail + 1 ≡ along (axis_of edge.dep) edge.dep.tail))
+    moved (inl (b, h)) =
+        let fits = shape.0.fits in
+        let two = shape.0.several in
+        let one = rw same at first.one in
+        let at = rw same at first.at in
+        inr (omega (arith, b, h, at), omega (arith, b, h, at, one, fits, two))
+    moved (inr (b, h)) =
+        let fits = shape.0.fits in
+        let two = shape.0.several in
+        let one = rw same at first.one in
+        let at = rw same at first.at in
+        inl (omega (arith, b, h, at), omega (arith, b, h, at, one, fits, two))
+chain_of edge is before behind way Chain same shape several first last = refl
+
+pub refers_chain : (edge : EdgeValue) → IsEdge edge → edge.pattern ≢ Single → AllReferBefore edge ⊎ AllReferBehind edge → edge.pattern ≡ Chain
+refers_chain edge is several (inl refers) =
+    let run = ordered (axis_of edge.dep) edge.dep is.dep.ordered in
+    let line = run.line in
+    chain_of edge is 1 0 (inl (refl, refl)) edge.pattern refl is.shape several (near_before edge refers 0 (omega (arith, line))) (near_before edge refers (run_length edge - 1) (omega (arith, line)))
+refers_chain edge is several (inr refers) =
+    let run = ordered (axis_of edge.dep) edge.dep is.dep.ordered in
+    let line = run.line in
+    chain_of edge is 0 1 (inr (refl, refl)) edge.pattern refl is.shape several (near_behind edge refers 0 (omega (arith, line))) (near_behind edge refers (run_length edge - 1) (omega (arith, line)))
