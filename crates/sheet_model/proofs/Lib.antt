@@ -7,6 +7,7 @@ pub mod LoopLemmas
 pub mod PlainLemmas
 pub mod RecordLemmas
 pub mod ResultLemmas
+pub mod SameSheets
 pub mod SheetLemmas
 pub mod TurnLemmas
 pub mod ValueLemmas

@@ -144,6 +144,7 @@ module _ (lines : List (List ℕ)) (contents : List Content) (read : HasRows lin
   plain_sheet text taken =
       let all = all_records text lines (longest lines) contents taken read in
       record {
+        filled = record { size = plain_size; filled = length-map contents content_value ∙ read.longer };
         rows = ap length all;
         cols = ap longest all;
         records = λ k h. subst (λ (t : List (List ℕ)). IsPlainRecord k (get_or t k [])) all (read.records k (rw all h));

@@ -5,7 +5,7 @@ use Rattle.sheet_refs.specs.Names.{IsDecimal}
 use Rattle.value_core.specs.declared.value.Value.TheVariants.{Empty, Number}
 use Rattle.sum_syntax.specs.Grammar.{Spells}
 use Rattle.sum_syntax.specs.Tree.{Tree, references_of}
-use Rattle.sheet_model.specs.Sheets.{SheetValue, ContentValue, Constant, Computed, content_of}
+use Rattle.sheet_model.specs.Sheets.{SheetValue, ContentValue, Constant, Computed, IsFilled, content_of}
 
 -- the records of a text: its lines, without the empty ones
 abbrev pub records_of : List ℕ → List (List ℕ)
@@ -59,6 +59,7 @@ longest records = fold (λ most line. max most (length (fields_of line))) 0 reco
 
 -- a row for each record, as wide as the longest one, and in each cell what its field holds
 pub record IsPlainSheet (text : List ℕ) (sheet : SheetValue) : Type 0 where
+  pub filled : IsFilled sheet
   pub rows : sheet.rows ≡ length (records_of text)
   pub cols : sheet.cols ≡ longest (records_of text)
   pub records : (k : ℕ) → k < length (records_of text) → IsPlainRecord k (slice_index_or (records_of text) k [])

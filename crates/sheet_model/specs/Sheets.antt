@@ -1,5 +1,5 @@
 -- Sheets: a rectangle of cells that begins at A1, and what stands in each cell.
-use Rattle.std.specs.Prelude.{◌≡◌, ℕ, ◌+◌, ◌-◌, ◌*◌, ◌≤◌, ◌&&◌, Bool, nat_le, if◌then◌else◌, List, length, map, replicate, slice_index_or, slice_set}
+use Rattle.std.specs.Prelude.{◌≡◌, ℕ, ◌+◌, ◌-◌, ◌*◌, ◌≤◌, ◌&&◌, Bool, nat_le, if◌then◌else◌, List, length, map, replicate, slice_index_or, slice_set, IsTrue}
 use Rattle.sheet_refs.specs.Cells.{Position}
 use Rattle.sum_syntax.specs.Tree.{Tree}
 use Rattle.value_core.specs.declared.value.Value.{Value}
@@ -69,3 +69,9 @@ blank_sheet rows cols = record { rows = rows; cols = cols; contents = replicate 
 -- the sheet with another content in one of its cells
 abbrev pub with_content : SheetValue → Position → ContentValue → SheetValue
 with_content sheet cell content = record { rows = sheet.rows; cols = sheet.cols; contents = slice_set sheet.contents (place_of sheet cell) content }
+
+-- sheets that are filled, have the same sizes and have the same content in each cell are the same
+abbrev pub SheetsAreTheirCells : Type 0
+SheetsAreTheirCells =
+    (a b : SheetValue) → IsFilled a → IsFilled b → a.rows ≡ b.rows → a.cols ≡ b.cols
+    → ((cell : Position) → IsTrue (is_inside a cell) → content_of a cell ≡ content_of b cell) → a ≡ b

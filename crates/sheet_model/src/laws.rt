@@ -2,7 +2,7 @@ ghost use Rattle.std.specs.Prelude.{◌≡◌, ◌≢◌, ◌≤◌, ◌⊎◌, 
 ghost use Rattle.sheet_refs.specs.Cells.{Position};
 ghost use Rattle.value_core.specs.declared.value.Value.{Value as CellValue};
 ghost use Rattle.sheet_model.specs.Budget.{StandsIn};
-ghost use Rattle.sheet_model.specs.Sheets.{SheetValue};
+ghost use Rattle.sheet_model.specs.Sheets.{SheetValue, SheetsAreTheirCells};
 ghost use Rattle.sheet_model.specs.Values.{budget_value, value_of, step, circular_value, IsOrderOf, IsSettledBy, CyclesTellCircularCells, AgreeingStepsGiveOneValue};
 
 /// What holds of the values of every sheet, however they are computed.
@@ -32,4 +32,9 @@ pub fn value_laws()
         → values cell ≡ value_of sheet cell }
     ensures cycles { CyclesTellCircularCells }
     ensures agreeing { AgreeingStepsGiveOneValue }
+{}
+
+/// What holds of sheets as contracts see them: one is told by its sizes and by what stands in its cells.
+pub fn sheet_laws()
+    ensures { SheetsAreTheirCells }
 {}

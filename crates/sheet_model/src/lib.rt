@@ -22,7 +22,7 @@ mod tests;
 mod walk;
 
 pub use content::Content;
-pub use laws::value_laws;
+pub use laws::{sheet_laws, value_laws};
 pub use plain::{PlainRefused, load_plain};
 pub use sheet::Sheet;
 pub use walk::all_values;
