@@ -291,7 +291,7 @@ fn goes_on(edge: &Edge, drawn: &Drawn, areas: &[Area]) -> bool {
 
 // Whether no pair past a gap can be joined.
 fn stops(edge: &Edge, drawn: &Drawn, areas: &[Area]) -> bool {
-    let Some(beyond) = stepped(drawn.first, drawn.down, drawn.count + 1) else {
+    let Some(beyond) = stepped(drawn.first, drawn.down, drawn.count.saturating_add(1)) else {
         return true;
     };
     areas.iter().all(|area| join(edge, &Edge::single(beyond, area.range)).is_none())
