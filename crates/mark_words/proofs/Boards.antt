@@ -1,0 +1,302 @@
+-- Words and views of a table, through the change of one of them.
+use Rattle.std.proofs.Common.{◌≡◌, ◌≢◌, ◌<◌, ◌+◌, ◌*◌, ◌/◌, ◌%◌, ◌==◌, ◌⊎◌, ℕ, zero, suc, List, [], ◌∷◌, ◌++◌, Some, Bool, map, length, get_or, set, get_or-set_same, get_or-set_other, length-append, false, true, refl, sym, ◌∙◌, ap, subst, inl, inr, ⊎_elim, arith}
+use Rattle.std.specs.Prelude.{slice_index, slice_set}
+use Rattle.std.proofs.Math.ListN.{length-set}
+use Rattle.std.specs.Prelude.{Contains}
+use Rattle.std.proofs.lemmas.List.{get_or_append_left, get_or_push}
+use Rattle.std.proofs.lemmas.List.Elements.{Contains-push_cases}
+use mathlib.Core.Option.{some, some-injective, some-ne-none}
+use lib.ListN.{get_elem?}
+use Rattle.atomic_table.proofs.Lists.{at_set, set_else, at_longer}
+use Rattle.mark_core.specs.declared.actors.View.{View}
+use Rattle.mark_core.specs.declared.actors.Edits.{Edits}
+use Rattle.mark_core.specs.declared.words.Clean.{Clean}
+use Rattle.mark_core.specs.declared.words.Place.{Place}
+use Rattle.mark_core.specs.Place.{place_at}
+use Rattle.mark_core.specs.Mark.{IsPrefix}
+use Rattle.mark_core.specs.State.{State, view_at, spent_view}
+use Rattle.mark_words.specs.declared.board.Doing.{Doing}
+use Rattle.mark_words.specs.Words.{code_of, clean_at, shown_place, words_of_places}
+use Rattle.mark_words.specs.Rule.{IsRightSeat, IsGathered, AreSeats, NameSubject}
+
+-- an element that is there is what a look with any default gives
+pub there_or : {X : Type 0} (xs : List X) (i : ℕ) (x d : X) → get_elem? xs i ≡ some x → get_or xs i d ≡ x
+there_or [] i x d e = absurd (some-ne-none x (sym e))
+there_or (y ∷ xs) zero x d e = some-injective y x e
+there_or (y ∷ xs) (suc i) x d e = there_or xs i x d e
+
+-- the same of what a function makes of it
+pub there_map : {X Y : Type 0} (f : X → Y) (xs : List X) (ys : List Y) (i : ℕ) (x : X) (d : Y) → map f xs ≡ ys → get_elem? xs i ≡ some x → get_or ys i d ≡ f x
+there_map f [] ys i x d same e = absurd (some-ne-none x (sym e))
+there_map f (y ∷ xs) ys zero x d same e = ap (λ l. get_or l 0 d) (sym same) ∙ ap f (some-injective y x e)
+there_map f (y ∷ xs) ys (suc i) x d same e = ap (λ l. get_or l (suc i) d) (sym same) ∙ there_map f xs (map f xs) i x d refl e
+
+-- the first word stored as it was
+pub first_again : (words : List ℕ) (count : ℕ) (rest : List ℕ) → words ≡ count ∷ rest → slice_set words 0 (slice_index words 0) ≡ words
+first_again words count rest e =
+    subst (λ (l : List ℕ). slice_set l 0 (slice_index l 0) ≡ l) (sym e) refl
+
+-- what holds of each element after one was exchanged
+pub each_set : {X : Type 0} (P : ℕ → X → Type 0) (xs : List X) (i : ℕ) (x : X)
+    → ((j : ℕ) (y : X) → j ≢ i → get_elem? xs j ≡ some y → P j y) → P i x
+    → (j : ℕ) (y : X) → get_elem? (set xs i x) j ≡ some y → P j y
+each_set {X} P xs i x others here j y e =
+    ⊎_elim
+    (λ (t : (j ≡ i) × (x ≡ y)). subst (λ (z : X). P j z) t.1 (subst (λ (k : ℕ). P k x) (sym t.0) here))
+    (λ (t : (j ≢ i) × (get_elem? xs j ≡ some y)). others j y t.0 t.1)
+    (at_set xs i j x y e)
+
+-- the first word with another count
+pub first_set : (words : List ℕ) (count new : ℕ) (rest : List ℕ) → words ≡ count ∷ rest → slice_set words 0 new ≡ new ∷ rest
+first_set words count new rest e = ap (λ l. slice_set l 0 new) e
+
+-- an element of a list with one more is the new one or one of the others
+pub at_push : {X : Type 0} (xs : List X) (x y : X) (j : ℕ) → get_elem? (xs ++ x ∷ []) j ≡ some y
+    → ((j ≡ length xs) × (x ≡ y)) ⊎ (get_elem? xs j ≡ some y)
+at_push [] x y zero e = inl (refl, some-injective x y e)
+at_push [] x y (suc j) e = absurd (some-ne-none y (sym e))
+at_push (z ∷ xs) x y zero e = inr e
+at_push (z ∷ xs) x y (suc j) e =
+    ⊎_elim
+    (λ (t : (j ≡ length xs) × (x ≡ y)). inl (ap suc t.0, t.1))
+    (λ (t : get_elem? xs j ≡ some y). inr t)
+    (at_push xs x y j e)
+
+-- a list with an element isn't empty
+pub some_within : {X : Type 0} (xs : List X) (i : ℕ) (x : X) → get_elem? xs i ≡ some x → i < length xs
+some_within [] i x e = absurd (some-ne-none x (sym e))
+some_within (y ∷ xs) zero x e = omega arith
+some_within (y ∷ xs) (suc i) x e = let lt : i < length xs = some_within xs i x e in omega arith
+
+next_mark : (place : ℕ) → 3 * suc place + 1 ≡ suc (suc (suc (3 * place + 1)))
+next_mark place = omega arith
+
+-- the word of a mark
+pub mark_word : (count : ℕ) (places : List Place) (place : ℕ) → place < length places
+    → slice_index (count ∷ words_of_places places) (3 * place + 1) ≡ (place_at places place).mark
+mark_word count [] place lt = absurd (omega arith)
+mark_word count (p ∷ places) zero lt = refl
+mark_word count (p ∷ places) (suc place) lt =
+    ap (λ i. slice_index (count ∷ words_of_places (p ∷ places)) i) (next_mark place) ∙ mark_word p.value places place (omega arith)
+
+-- a mark stored in its word
+pub mark_set : (count : ℕ) (places : List Place) (place new : ℕ) → place < length places
+    → slice_set (count ∷ words_of_places places) (3 * place + 1) new
+    ≡ count ∷ words_of_places (set places place (record (place_at places place) { mark = new }))
+mark_set count [] place new lt = absurd (omega arith)
+mark_set count (p ∷ places) zero new lt = refl
+mark_set count (p ∷ places) (suc place) new lt =
+    ap (λ i. slice_set (count ∷ words_of_places (p ∷ places)) i new) (next_mark place)
+    ∙ ap (λ l. count ∷ p.mark ∷ code_of p.clean ∷ l) (mark_set p.value places place new (omega arith))
+
+-- what holds of a seat stays where edits and places of the state do
+pub seat_stays : {S E : Type 0} (core core' : State E) (seat : ℕ) (doing : Doing S E) → core'.edits ≡ core.edits → core'.places ≡ core.places
+    → IsRightSeat core seat doing → IsRightSeat core' seat doing
+seat_stays {E} core core' seat doing edits places right =
+    record {
+      first = right.first;
+      editor = λ e.
+          let ed = right.editor e in
+          record { first = ed.first; edits = ed.edits ∙ sym edits; marks = ed.marks ∙ ap (λ l. map (λ (p : Place). p.mark) l) (sym places) };
+      shorter = subst (λ (x : Edits E). IsPrefix doing.shorter x.log) (sym edits) right.shorter;
+      shorter_length = right.shorter_length;
+    }
+
+module _ {S E : Type 0} (core core' : State E) (seats : List (Doing S E)) (are : AreSeats core seats)
+    (id : ℕ) (doing after : Doing S E) (at : get_elem? seats id ≡ some doing) (live : doing.view.spent ≡ false) where
+  pub id_within : id < length core.views
+  id_within = omega (arith, are.count, some_within seats id doing at)
+
+  -- another seat's view of the state stays
+  others_stay : core'.views ≡ slice_set core.views id after.view → (j : ℕ) → j ≢ id → view_at core' j ≡ view_at core j
+  others_stay views j apart = ap (λ vs. get_or vs j spent_view) views ∙ get_or-set_other core.views id j after.view spent_view apart
+
+  -- a view that was handed in stays, since its seat is spent and this one isn't
+  gathered_stays : core'.views ≡ slice_set core.views id after.view → (view : View (List E)) → IsGathered core seats view → IsGathered core' (slice_set seats id after) view
+  gathered_stays views view g =
+      let apart : g.seat ≢ id =
+      λ e. let same : g.doing ≡ doing = some-injective g.doing doing (sym g.there ∙ ap (λ i. get_elem? seats i) e ∙ at) in
+      let spent : doing.view.spent ≡ true = ap (λ (d : Doing S E). d.view.spent) (sym same) ∙ g.spent in
+      absurd (cc) in
+      record {
+        seat = g.seat;
+        doing = g.doing;
+        there = set_else seats id g.seat after apart ∙ g.there;
+        spent = g.spent;
+        same = others_stay views g.seat apart ∙ g.same;
+      }
+
+  -- the seats after a change of one
+  pub seat_changes : core'.views ≡ slice_set core.views id after.view → after.gathered ≡ doing.gathered
+      → ((j : ℕ) (u : Doing S E) → j ≢ id → IsRightSeat core j u → IsRightSeat core' j u) → IsRightSeat core' id after
+      → AreSeats core' (slice_set seats id after)
+  seat_changes views gathered others here =
+      record {
+        count = ap length views ∙ length-set core.views id after.view ∙ are.count ∙ sym (length-set seats id after);
+        views =
+            each_set (λ j u. (u.view.spent ≡ false → view_at core' j ≡ u.view)) seats id after
+            (λ j u apart e live'. others_stay views j apart ∙ are.views j u e live')
+            (λ live'. ap (λ vs. get_or vs id spent_view) views ∙ get_or-set_same core.views id after.view spent_view id_within);
+        each = each_set (IsRightSeat core') seats id after (λ j u apart e. others j u apart (are.each j u e)) here;
+        gathered =
+            each_set (λ j u. ((view : View (List E)) → Contains u.gathered view → IsGathered core' (slice_set seats id after) view)) seats id after
+            (λ j u apart e view among. gathered_stays views view (are.gathered j u e view among))
+            (λ view among. gathered_stays views view (are.gathered id doing at view (subst (λ l. Contains l view) gathered among)));
+      }
+
+-- the seats with one more
+pub seat_added : {S E : Type 0} (core core' : State E) (seats : List (Doing S E)) (new : Doing S E) → AreSeats core seats
+    → core'.views ≡ core.views ++ new.view ∷ [] → new.gathered ≡ []
+    → ((j : ℕ) (u : Doing S E) → IsRightSeat core j u → IsRightSeat core' j u) → IsRightSeat core' (length seats) new
+    → AreSeats core' (seats ++ new ∷ [])
+seat_added {S} {E} core core' seats new are views none others here =
+    record {
+      count = ap length views ∙ length-append core.views (new.view ∷ []) ∙ ap (λ n. n + 1) are.count ∙ sym (length-append seats (new ∷ []));
+      views = λ j u e live.
+          ⊎_elim
+          (λ (n : (j ≡ length seats) × (new ≡ u)).
+          ap (λ vs. get_or vs j spent_view) views
+          ∙ get_or_push core.views new.view spent_view j (are.count ∙ sym n.0)
+          ∙ ap (λ (d : Doing S E). d.view) n.1)
+          (λ (old : get_elem? seats j ≡ some u). front j (some_within seats j u old) ∙ are.views j u old live)
+          (at_push seats new u j e);
+      each = λ j u e.
+          ⊎_elim
+          (λ (n : (j ≡ length seats) × (new ≡ u)). subst (λ (d : Doing S E). IsRightSeat core' j d) n.1 (subst (λ i. IsRightSeat core' i new) (sym n.0) here))
+          (λ (old : get_elem? seats j ≡ some u). others j u (are.each j u old))
+          (at_push seats new u j e);
+      gathered = λ j u e view among.
+          ⊎_elim
+          (λ (n : (j ≡ length seats) × (new ≡ u)).
+          absurd (let empty : Contains [] view = subst (λ l. Contains l view) none (subst (λ (d : Doing S E). Contains d.gathered view) (sym n.1) among) in
+          let lt : empty.0 < 0 = empty.1 in omega arith))
+          (λ (old : get_elem? seats j ≡ some u).
+          let g : IsGathered core seats view = are.gathered j u old view among in
+          record {
+            seat = g.seat;
+            doing = g.doing;
+            there = at_longer seats (new ∷ []) g.seat g.doing g.there;
+            spent = g.spent;
+            same = front g.seat (some_within seats g.seat g.doing g.there) ∙ g.same;
+          })
+          (at_push seats new u j e);
+    }
+  where
+    front : (j : ℕ) → j < length seats → view_at core' j ≡ view_at core j
+    front j lt = ap (λ vs. get_or vs j spent_view) views ∙ get_or_append_left core.views (new.view ∷ []) spent_view j (omega (arith, are.count))
+
+-- the seats after one was handed in to another: the state keeps its view
+module _ {S E : Type 0} (core : State E) (seats : List (Doing S E)) (are : AreSeats core seats)
+    (other : ℕ) (note spent : Doing S E) (at : get_elem? seats other ≡ some note) (live : note.view.spent ≡ false) where
+  pub seat_spent : spent.view.spent ≡ true → spent.gathered ≡ [] → IsRightSeat core other spent → AreSeats core (slice_set seats other spent)
+  seat_spent off none here =
+      record {
+        count = are.count ∙ sym (length-set seats other spent);
+        views =
+            each_set (λ j u. (u.view.spent ≡ false → view_at core j ≡ u.view)) seats other spent
+            (λ j u apart e live'. are.views j u e live')
+            (λ live'. absurd (cc));
+        each = each_set (IsRightSeat core) seats other spent (λ j u apart e. are.each j u e) here;
+        gathered =
+            each_set (λ j u. ((view : View (List E)) → Contains u.gathered view → IsGathered core (slice_set seats other spent) view)) seats other spent
+            (λ j u apart e view among.
+            let g : IsGathered core seats view = are.gathered j u e view among in
+            let apart' : g.seat ≢ other =
+            λ e'. let same : g.doing ≡ note = some-injective g.doing note (sym g.there ∙ ap (λ i. get_elem? seats i) e' ∙ at) in
+            let spent' : note.view.spent ≡ true = ap (λ (d : Doing S E). d.view.spent) (sym same) ∙ g.spent in
+            absurd (cc) in
+            record { seat = g.seat; doing = g.doing; there = set_else seats other g.seat spent apart' ∙ g.there; spent = g.spent; same = g.same })
+            (λ view among. absurd (let empty : Contains [] view = subst (λ l. Contains l view) none among in let lt : empty.0 < 0 = empty.1 in omega arith));
+      }
+
+-- a seat to which a view of a spent seat was handed in
+pub seat_gathers : {S E : Type 0} (core : State E) (seats : List (Doing S E)) (id : ℕ) (doing : Doing S E) (view : View (List E)) → AreSeats core seats
+    → get_elem? seats id ≡ some doing → doing.view.spent ≡ false → IsGathered core seats view
+    → AreSeats core (slice_set seats id (record doing { gathered = doing.gathered ++ view ∷ [] }))
+seat_gathers {S} {E} core seats id doing view are at live new =
+    let after : Doing S E = record doing { gathered = doing.gathered ++ view ∷ [] } in
+    let right : IsRightSeat core id doing = are.each id doing at in
+    record {
+      count = are.count ∙ sym (length-set seats id after);
+      views =
+          each_set (λ j u. (u.view.spent ≡ false → view_at core j ≡ u.view)) seats id after
+          (λ j u apart e live'. are.views j u e live')
+          (λ live'. are.views id doing at live');
+      each =
+          each_set (IsRightSeat core) seats id after (λ j u apart e. are.each j u e)
+          (record {
+            first = right.first;
+            editor = λ on. let ed = right.editor on in record { first = ed.first; edits = ed.edits; marks = ed.marks };
+            shorter = right.shorter;
+            shorter_length = right.shorter_length;
+          });
+      gathered =
+          each_set (λ j u. ((v : View (List E)) → Contains u.gathered v → IsGathered core (slice_set seats id after) v)) seats id after
+          (λ j u apart e v among. stays v (are.gathered j u e v among))
+          (λ v among.
+          ⊎_elim
+          (λ (old : Contains doing.gathered v). stays v (are.gathered id doing at v old))
+          (λ (same : view ≡ v). subst (λ (x : View (List E)). IsGathered core (slice_set seats id after) x) same (stays view new))
+          (Contains-push_cases doing.gathered view v among));
+    }
+  where
+    stays : (v : View (List E)) → IsGathered core seats v → IsGathered core (slice_set seats id (record doing { gathered = doing.gathered ++ view ∷ [] })) v
+    stays v g =
+        let after : Doing S E = record doing { gathered = doing.gathered ++ view ∷ [] } in
+        let apart : g.seat ≢ id =
+        λ e. let same : g.doing ≡ doing = some-injective g.doing doing (sym g.there ∙ ap (λ i. get_elem? seats i) e ∙ at) in
+        let spent : doing.view.spent ≡ true = ap (λ (d : Doing S E). d.view.spent) (sym same) ∙ g.spent in
+        absurd (cc) in
+        record { seat = g.seat; doing = g.doing; there = set_else seats id g.seat after apart ∙ g.there; spent = g.spent; same = g.same }
+
+-- each seat still names the subject where one was exchanged
+pub subject_set : {S E : Type 0} (subject : S) (seats : List (Doing S E)) (id : ℕ) (after : Doing S E) → NameSubject subject seats
+    → (after.view.spent ≡ false → after.subject ≡ Some subject) → NameSubject subject (slice_set seats id after)
+subject_set subject seats id after name here =
+    each_set (λ j u. (u.view.spent ≡ false → u.subject ≡ Some subject)) seats id after (λ j u apart e. name j u e) here
+
+-- and where one was added
+pub subject_added : {S E : Type 0} (subject : S) (seats : List (Doing S E)) (new : Doing S E) → NameSubject subject seats
+    → new.subject ≡ Some subject → NameSubject subject (seats ++ new ∷ [])
+subject_added {S} {E} subject seats new name here j u e live =
+    ⊎_elim
+    (λ (n : (j ≡ length seats) × (new ≡ u)). ap (λ (d : Doing S E). d.subject) (sym n.1) ∙ here)
+    (λ (old : get_elem? seats j ≡ some u). name j u old live)
+    (at_push seats new u j e)
+
+-- a clean word is what its word stands for
+decoded_as : (upto : ℕ) (held : Bool) → (let c : Clean = record { upto = upto; held = held } in clean_at (code_of c) ≡ c)
+decoded_as upto true =
+    let half : (2 * upto + 1) / 2 ≡ upto = omega arith in
+    let odd : (2 * upto + 1) % 2 ≡ 1 = omega arith in
+    ap (λ n. (let c : Clean = record { upto = n; held = (2 * upto + 1) % 2 == 1 } in c)) half
+    ∙ ap (λ n. (let c : Clean = record { upto = upto; held = n == 1 } in c)) odd
+decoded_as upto false =
+    let half : 2 * upto / 2 ≡ upto = omega arith in
+    let even : 2 * upto % 2 ≡ 0 = omega arith in
+    ap (λ n. (let c : Clean = record { upto = n; held = 2 * upto % 2 == 1 } in c)) half
+    ∙ ap (λ n. (let c : Clean = record { upto = upto; held = n == 1 } in c)) even
+
+decoded : (clean : Clean) → clean_at (code_of clean) ≡ clean
+decoded clean = decoded_as clean.upto clean.held
+
+next_word : (place k : ℕ) → 3 * suc place + k ≡ suc (suc (suc (3 * place + k)))
+next_word place k = omega arith
+
+-- the words of a place, behind those of another one
+shown_next : (a b c : ℕ) (words : List ℕ) (place : ℕ) → shown_place (a ∷ b ∷ c ∷ words) (suc place) ≡ shown_place words place
+shown_next a b c words place =
+    let all : List ℕ = a ∷ b ∷ c ∷ words in
+    let put : ℕ → ℕ → ℕ → Place = λ i j k. record { mark = slice_index all i; clean = clean_at (slice_index all j); value = slice_index all k } in
+    ap (λ i. put i (3 * suc place + 2) (3 * suc place + 3)) (next_word place 1)
+    ∙ ap (λ j. put (suc (suc (suc (3 * place + 1)))) j (3 * suc place + 3)) (next_word place 2)
+    ∙ ap (λ k. put (suc (suc (suc (3 * place + 1)))) (suc (suc (suc (3 * place + 2)))) k) (next_word place 3)
+
+-- the words of a list of places show the places
+pub shown_same : (count : ℕ) (places : List Place) (place : ℕ) → place < length places
+    → shown_place (count ∷ words_of_places places) place ≡ place_at places place
+shown_same count [] place lt = absurd (omega arith)
+shown_same count (p ∷ places) zero lt =
+    ap (λ c. (let q : Place = record { mark = p.mark; clean = c; value = p.value } in q)) (decoded p.clean)
+shown_same count (p ∷ places) (suc place) lt =
+    shown_next count p.mark (code_of p.clean) (p.value ∷ words_of_places places) place ∙ shown_same p.value places place (omega arith)

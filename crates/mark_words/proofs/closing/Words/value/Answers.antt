@@ -1,0 +1,7 @@
+use Rattle.std.proofs.Common.{◌+◌, ◌*◌, sym}
+use Rattle.std.specs.Mem.Slots.{slots_items}
+use Rattle.mark_words.proofs.Boards.{there_or}
+use Rattle.mark_words.proofs.closing.Words.value.Goals as goal
+
+pub returns : goal.returns
+returns g c = sym (there_or (slots_items c.args.self.now.closed.words) (3 * c.args.place + 3) c.word.result 0 c.word.ensures)

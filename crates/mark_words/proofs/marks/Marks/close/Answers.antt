@@ -1,0 +1,54 @@
+use Rattle.std.proofs.Common.{◌≡◌, arith, ◌∙◌, ap, inl, inr}
+use Rattle.mark_words.specs.declared.seats.Seat.{Seat}
+use Rattle.mark_words.proofs.SeatSteps.{splits, gathers}
+use Rattle.mark_words.proofs.CloseLemmas.{all_last, handed, none_waits, closes}
+use Rattle.mark_words.proofs.marks.Marks.close.Goals as goal
+
+pub split_seat-witness-requires : goal.split_seat-witness-requires
+split_seat-witness-requires g c = (
+  c.requires.table,
+  omega (arith, c.args.self.sized),
+  splits c.args.self.table.shared.key.subject.value (g.S.Subject.places c.args.self.table.shared.key.subject.value)
+      (g.S.Subject.worth c.args.self.table.shared.key.subject.value)
+      (g.S.Subject.touches c.args.self.table.shared.key.subject.value) (g.S.Subject.untouched c.args.self.table.shared.key.subject.value)
+      c.args.self.table.shared.key.opening.value.items _ _ c.args.editor.live,
+)
+
+pub join_seat-requires : goal.join_seat-requires
+join_seat-requires g c =
+    let inv = c.loop-other.invariant in (
+      inv.same_table,
+      all_last (λ (other : Seat _ _ _). other.seat.table_id ≡ c.args.self.table.shared.table_id) c.pop.new.self.items c.loop-other.others.items c.in-Some-pop.other c.in-Some-pop.ensures.items inv.tables,
+      c.in-Some-pop.other.bare,
+      omega (arith, c.args.self.sized),
+      gathers c.args.self.table.shared.key.subject.value (g.S.Subject.places c.args.self.table.shared.key.subject.value) (g.S.Subject.worth c.args.self.table.shared.key.subject.value)
+          (g.S.Subject.touches c.args.self.table.shared.key.subject.value) (g.S.Subject.untouched c.args.self.table.shared.key.subject.value)
+          c.args.self.table.shared.key.opening.value.items _ _ _ _ inv.live inv.editor c.in-Some-pop.other.live,
+    )
+
+pub loop-other-preserved-in-Some-pop : goal.loop-other-preserved-in-Some-pop
+loop-other-preserved-in-Some-pop g c =
+    handed _ _ _ c.loop-other.all _ c.loop-other.others.items _ c.in-Some-pop.other c.loop-other.invariant c.in-Some-pop.ensures.items
+    c.join_seat.ensures.0 c.join_seat.ensures.2
+
+pub loop-other-preserved : goal.loop-other-preserved
+loop-other-preserved g c =
+    handed _ _ _ c.loop-other.all _ c.loop-other.others.items _ c.in-Some-pop.other c.loop-other.invariant c.in-Some-pop.ensures.items
+    c.join_seat.ensures.0 c.join_seat.ensures.2
+
+pub returns-clause-closed : goal.returns-clause-closed
+returns-clause-closed g c =
+    let inv = c.loop-other.invariant in
+    let last = c.close_with-closed.ensures.values.2 in
+    let split = c.split_seat-witness.ensures in
+    closes g.S.Subject.places g.S.Subject.worth g.S.Subject.touches c.args.self c.args.editor c.args.others.items _ last.0 last.1.0
+    c.loop-other.all.id c.loop-other.all.me.0 last.1.1 inv.live inv.editor last.2
+    (inv.view ∙ ap (λ m. m.0.view) split.2) (inv.edits ∙ ap (λ m. m.0.edits) split.2)
+    (c.args.editor.knows_all.log c.requires.editor)
+    (omega (arith, c.args.editor.has_desk.places c.in-Some.desk c.in-Some.is, c.args.self.sized, ap (λ z. z.words) c.requires.table))
+    (ap (λ m. m.0.view.log) split.4)
+    (λ other among.
+    elim (inv.views other among) [
+      | inl waits ↦ absurd (none_waits c.loop-other.others.items other (omega (arith, c.in_default-pop.ensures.cases.0)) waits)
+      | inr handed ↦ handed
+    ])

@@ -1,0 +1,37 @@
+use Rattle.std.proofs.Common.{arith, ◌+◌, sym, ◌∙◌, ap}
+use Rattle.std.proofs.lemmas.Option.{same_Some}
+use Rattle.mark_words.specs.Doing.{with_commit}
+use Rattle.mark_words.specs.declared.board.Doing.{Doing}
+use Rattle.mark_words.proofs.EditSteps.{commits_some}
+use Rattle.mark_words.proofs.DeskLemmas.{desk_committed, knows_committed}
+use Rattle.mark_words.proofs.marks.Marks.commit.Goals as goal
+
+pub store-requires : goal.store-requires
+store-requires g c = (
+  c.requires.table,
+  omega (arith, c.args.self.now.sized),
+  commits_some c.args.self.now.table.shared.key.subject.value (g.S.Subject.places c.args.self.now.table.shared.key.subject.value) (g.S.Subject.worth c.args.self.now.table.shared.key.subject.value)
+      (g.S.Subject.touches c.args.self.now.table.shared.key.subject.value) (g.S.Subject.untouched c.args.self.now.table.shared.key.subject.value)
+      c.args.self.now.table.shared.key.opening.value.items _ _ _ _ _ c.args.seat.now.live c.requires.editor c.requires.pending c.requires.marked
+      (ap (λ n. n + 1) (c.args.seat.now.has_desk.count c.in-Some.desk (sym c.take.ensures.value ∙ c.in-Some.is))),
+)
+
+pub invariant_of-seat : goal.invariant_of-seat
+invariant_of-seat g c =
+    let told = c.store.ensures.2 in
+    record {
+      live = ap (λ (d : Doing _ _). d.view.spent) told.doing ∙ c.args.seat.now.live;
+      bare = told.slots ∙ c.args.seat.now.bare;
+      has_desk =
+          desk_committed c.args.seat.now.seat.table_id.words c.store.new.seat.table_id.words
+          (ap (λ z. z.words) c.store.ensures.0) c.args.seat.now.seat.me.0 c.store.new.seat.me.0
+          c.args.seat.now.desk c.in-Some.desk c.with_count.result (sym c.take.ensures.value ∙ c.in-Some.is) c.args.seat.now.has_desk
+          told.entry told.doing c.with_count.ensures.count c.with_count.ensures.marks;
+      knows_all = knows_committed c.args.seat.now.seat.me.0 c.store.new.seat.me.0 c.args.seat.now.knows_all told.entry told.doing;
+    }
+
+pub returns-clause-doing : goal.returns-clause-doing
+returns-clause-doing g c entry pending =
+    let told = c.store.ensures.2 in
+    told.doing
+    ∙ ap (λ x. with_commit c.args.seat.now.seat.me.0 x) (same_Some told.entry entry (sym told.pending ∙ pending))

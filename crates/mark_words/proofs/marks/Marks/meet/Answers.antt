@@ -1,0 +1,59 @@
+use Rattle.std.proofs.Common.{arith, sym, ◌∙◌, ap}
+use Rattle.mark_words.specs.declared.board.Doing.{Doing}
+use Rattle.mark_words.specs.Doing.{union_doing}
+use Rattle.mark_words.proofs.SeeSteps.{sees}
+use Rattle.mark_words.proofs.SeatSteps.{splits, joins}
+use Rattle.mark_words.proofs.Meets.{met, met_knows, met_live, met_desk}
+use Rattle.mark_words.proofs.marks.Marks.meet.Goals as goal
+
+pub split_seat-note-requires : goal.split_seat-note-requires
+split_seat-note-requires g c = (
+  c.requires.other_table,
+  omega (arith, c.args.self.now.sized),
+  splits c.args.self.now.table.shared.key.subject.value (g.S.Subject.places c.args.self.now.table.shared.key.subject.value) (g.S.Subject.worth c.args.self.now.table.shared.key.subject.value)
+      (g.S.Subject.touches c.args.self.now.table.shared.key.subject.value) (g.S.Subject.untouched c.args.self.now.table.shared.key.subject.value)
+      c.args.self.now.table.shared.key.opening.value.items _ _ c.args.other.now.live,
+)
+
+pub join_seat-requires : goal.join_seat-requires
+join_seat-requires g c =
+    let note = c.split_seat-note.ensures.4 in
+    let copy = ap (λ m. m.0) note in (
+      c.requires.table,
+      c.split_seat-note.ensures.3 ∙ c.requires.other_table,
+      ap (λ m. m.1) note,
+      omega (arith, c.args.self.now.sized),
+      joins c.args.self.now.table.shared.key.subject.value (g.S.Subject.places c.args.self.now.table.shared.key.subject.value) (g.S.Subject.worth c.args.self.now.table.shared.key.subject.value)
+          (g.S.Subject.touches c.args.self.now.table.shared.key.subject.value) (g.S.Subject.untouched c.args.self.now.table.shared.key.subject.value)
+          c.args.self.now.table.shared.key.opening.value.items
+          c.args.seat.now.seat.id c.args.seat.now.seat.me.0 c.split_seat-note.result.id c.split_seat-note.result.me.0 c.args.seat.now.live
+          (ap (λ (d : Doing _ _). d.view.spent) copy) (ap (λ (d : Doing _ _). d.view.holds) copy) (ap (λ (d : Doing _ _). d.editor) copy) (ap (λ (d : Doing _ _). d.gathered) (sym copy)),
+    )
+
+pub load-requires : goal.load-requires
+load-requires g c = (
+  c.join_seat.ensures.0 ∙ c.requires.table,
+  omega (arith, c.args.self.now.sized),
+  sees c.args.self.now.table.shared.key.subject.value (g.S.Subject.places c.args.self.now.table.shared.key.subject.value) (g.S.Subject.worth c.args.self.now.table.shared.key.subject.value)
+      (g.S.Subject.touches c.args.self.now.table.shared.key.subject.value) (g.S.Subject.untouched c.args.self.now.table.shared.key.subject.value)
+      c.args.self.now.table.shared.key.opening.value.items _ _ _ _
+      (ap (λ m. m.0.view.spent) c.join_seat.ensures.2 ∙ c.args.seat.now.live),
+)
+
+pub invariant_of-seat : goal.invariant_of-seat
+invariant_of-seat g c =
+    let is = ap (λ m. m.0) c.join_seat.ensures.2 ∙ ap (λ (d : Doing _ _). union_doing c.args.seat.now.seat.me.0 d) (ap (λ m. m.0) c.split_seat-note.ensures.4) in
+    let same = ap (λ z. z.words) (c.load.ensures.0 ∙ c.join_seat.ensures.0) in
+    record {
+      live = met_live _ c.args.seat.now.seat.me.0 c.args.other.now.seat.me.0 c.join_seat.new.seat.me c.load.new.seat.me c.load.result is c.load.ensures.2 c.args.seat.now.knows_all ∙ c.args.seat.now.live;
+      bare = c.load.ensures.2.slots ∙ ap (λ m. m.1) c.join_seat.ensures.2 ∙ c.args.seat.now.bare;
+      has_desk =
+          met_desk _ c.args.seat.now.seat.me.0 c.args.other.now.seat.me.0 c.join_seat.new.seat.me c.load.new.seat.me c.load.result is c.load.ensures.2 c.args.seat.now.knows_all
+          c.args.seat.now.seat.table_id.words c.load.new.seat.table_id.words c.args.seat.now.desk same c.args.seat.now.has_desk;
+      knows_all = met_knows _ c.args.seat.now.seat.me.0 c.args.other.now.seat.me.0 c.join_seat.new.seat.me c.load.new.seat.me c.load.result is c.load.ensures.2 c.args.seat.now.knows_all;
+    }
+
+pub returns-clause-met : goal.returns-clause-met
+returns-clause-met g c =
+    let is = ap (λ m. m.0) c.join_seat.ensures.2 ∙ ap (λ (d : Doing _ _). union_doing c.args.seat.now.seat.me.0 d) (ap (λ m. m.0) c.split_seat-note.ensures.4) in
+    met _ c.args.seat.now.seat.me.0 c.args.other.now.seat.me.0 c.join_seat.new.seat.me c.load.new.seat.me c.load.result is c.load.ensures.2 c.args.seat.now.knows_all

@@ -1,0 +1,27 @@
+-- The viewer knew nothing, and knows the editor's log.
+use Rattle.std.proofs.Common.{◌≡◌, ◌≤◌, ℕ, length, ◌∙◌, ap, inl, inr, arith}
+use Rattle.mark_core.proofs.Prefixes.{prefix_length}
+use Rattle.mark_words.specs.declared.board.Doing.{Doing}
+use Rattle.mark_words.proofs.tests.learns.Goals as goal
+
+pub returns-clause-ready : goal.returns-clause-ready
+returns-clause-ready c =
+    let kept = c.meet.ensures.other_kept in
+    let ready = c.requires.ready in
+    record {
+      table = c.meet.ensures.other_same ∙ ready.table;
+      editor = ap (λ (d : Doing _ ℕ). d.editor) kept ∙ ready.editor;
+      two = ready.two;
+      pending = ap (λ (d : Doing _ ℕ). d.edits.pending) kept ∙ ready.pending;
+      marked = ap (λ (d : Doing _ ℕ). d.edits.marked) kept ∙ ready.marked;
+      entries = ap (λ (d : Doing _ ℕ). length d.view.log) kept ∙ ready.entries;
+    }
+
+pub returns-clause-log : goal.returns-clause-log
+returns-clause-log c =
+    let met = c.meet.ensures.met in
+    let most = prefix_length c.args.editor.now.seat.me.0.view.log c.meet.new.seat.seat.me.0.view.log met.other_log in
+    elim met.one_log [
+      | inl own ↦ absurd (omega (arith, most, ap length (own ∙ c.requires.blank.none), c.requires.ready.entries))
+      | inr theirs ↦ ap length theirs ∙ c.requires.ready.entries
+    ]

@@ -1,0 +1,20 @@
+-- What the editor's seat knows at run time.
+use Rattle.std.specs.Prelude.{◌≡◌, ◌<◌, ◌+◌, ◌*◌, ◌^◌, ℕ, true, Option, is_some, IsSome, length}
+use Rattle.std.specs.Option.{ForSome}
+use Rattle.mark_words.specs.declared.board.Doing.{Doing}
+use Rattle.mark_words.specs.declared.seats.Desk.{Desk}
+
+-- The editor's seat has a desk and no other has, with the length of its log and the marks that it knows, one for
+-- each place of a table of so many words.
+pub record HasDesk {S E : Type 0} (words : ℕ) (doing : Doing S E) (desk : Option Desk) : Type 0 where
+  pub editor : doing.editor ≡ is_some desk
+  pub count : ForSome desk (λ d. d.count ≡ length doing.view.log)
+  pub marks : ForSome desk (λ d. d.marks.items ≡ doing.marks)
+  pub places : ForSome desk (λ d. words ≡ 3 * length d.marks.items + 1)
+
+-- The editor's seat knows the whole log, and has seen its length. The number of a pending entry is one of 64 bits, since
+-- places were marked with it.
+pub record KnowsAll {S E : Type 0} (doing : Doing S E) : Type 0 where
+  pub log : doing.editor ≡ true → doing.view.log ≡ doing.edits.log
+  pub seen : doing.editor ≡ true → doing.view.seen ≡ length doing.view.log
+  pub number : doing.editor ≡ true → IsSome doing.edits.pending → length doing.view.log + 1 < 2 ^ 64

@@ -1,0 +1,11 @@
+pub mod Words
+pub mod Doing
+pub mod Rule
+pub mod Plays
+pub mod Desk
+pub mod Editing
+pub mod Meet
+pub mod Token
+pub mod Opened
+pub mod Closed
+pub mod Trial

@@ -1,0 +1,72 @@
+-- The rule of the table.
+use Rattle.std.specs.Prelude.{◌≡◌, ◌≤◌, ℕ, List, Option, Some, true, false, map, length, Contains}
+use mathlib.Core.Option.{some}
+use lib.ListN.{get_elem?}
+use Rattle.atomic_table.specs.Table.{State as TableState}
+use Rattle.mark_core.specs.declared.actors.View.{View}
+use Rattle.mark_core.specs.declared.words.Place.{Place}
+use Rattle.mark_core.specs.Mark.{IsPrefix}
+use Rattle.mark_core.specs.State.{State, view_at}
+use Rattle.mark_core.specs.Honest.{IsHonest}
+use Rattle.mark_core.specs.Run.{IsCodeless}
+use Rattle.mark_words.specs.declared.board.Doing.{Doing}
+use Rattle.mark_words.specs.declared.board.Topic.{Topic}
+use Rattle.mark_words.specs.Words.{words_of_state}
+
+-- the editor's seat is the first one, has the state's edits and knows each place's mark
+pub record IsEditor {S E : Type 0} (core : State E) (seat : ℕ) (doing : Doing S E) : Type 0 where
+  pub first : seat ≡ 0
+  pub edits : doing.edits ≡ core.edits
+  pub marks : doing.marks ≡ map (λ (place : Place). place.mark) core.places
+
+-- the first seat is the editor's and no other is, and the shorter log of a seat is a prefix of the log that is
+-- no longer than its own
+pub record IsRightSeat {S E : Type 0} (core : State E) (seat : ℕ) (doing : Doing S E) : Type 0 where
+  pub first : seat ≡ 0 → doing.editor ≡ true
+  pub editor : doing.editor ≡ true → IsEditor core seat doing
+  pub shorter : IsPrefix doing.shorter core.edits.log
+  pub shorter_length : length doing.shorter ≤ length doing.view.log
+
+-- a view that was handed in: it is the state's view of a seat that is spent
+pub record IsGathered {S E : Type 0} (core : State E) (seats : List (Doing S E)) (view : View (List E)) : Type 0 where
+  pub seat : ℕ
+  pub doing : Doing S E
+  pub there : get_elem? seats seat ≡ some doing
+  pub spent : doing.view.spent ≡ true
+  pub same : view_at core seat ≡ view
+
+-- The state has a view for each seat, which is the seat's own while it isn't spent, and each seat is right.
+pub record AreSeats {S E : Type 0} (core : State E) (seats : List (Doing S E)) : Type 0 where
+  pub count : length core.views ≡ length seats
+  pub views :
+      (seat : ℕ) (doing : Doing S E) → get_elem? seats seat ≡ some doing → doing.view.spent ≡ false
+      → view_at core seat ≡ doing.view
+  pub each : (seat : ℕ) (doing : Doing S E) → get_elem? seats seat ≡ some doing → IsRightSeat core seat doing
+  pub gathered :
+      (seat : ℕ) (doing : Doing S E) → get_elem? seats seat ≡ some doing
+      → (view : View (List E)) → Contains doing.gathered view → IsGathered core seats view
+
+-- each seat that isn't spent names the subject
+abbrev pub NameSubject : {S E : Type 0} → S → List (Doing S E) → Type 0
+NameSubject {S} {E} subject seats =
+    (seat : ℕ) (doing : Doing S E) → get_elem? seats seat ≡ some doing → doing.view.spent ≡ false
+    → doing.subject ≡ Some subject
+
+-- The table is that of an honest state of the core: its words are those of the state, and its seats the state's.
+pub record IsKept {S E : Type 0} (subject : S) (places : ℕ) (worth : List E → ℕ → ℕ) (touches : List E → E → ℕ → Type 0) (opening : List (Option ℕ)) (t : TableState E (Doing S E)) : Type 0 where
+  pub sized : length opening ≡ places
+  pub core : State E
+  pub honest : IsHonest places worth touches (IsCodeless opening) core
+  pub words : t.words ≡ words_of_state core
+  pub seats : AreSeats core t.views
+  pub subjects : NameSubject subject t.views
+
+-- the rule, for what the table is about
+abbrev pub Holds : {S E : Type 0} → (S → ℕ) → (S → List E → ℕ → ℕ) → (S → List E → E → ℕ → Type 0) → Topic S → TableState E (Doing S E) → Type 0
+Holds places worth touches topic =
+    IsKept topic.subject.value (places topic.subject.value) (worth topic.subject.value) (touches topic.subject.value)
+    topic.opening.value.items
+
+-- how many places the table has
+abbrev pub place_count : {S : Type 0} → Topic S → ℕ
+place_count topic = length topic.opening.value.items

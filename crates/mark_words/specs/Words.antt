@@ -1,0 +1,37 @@
+-- The words of the table as a function of the state of the core.
+use Rattle.std.specs.Prelude.{ℕ, ◌+◌, ◌*◌, ◌/◌, ◌%◌, ◌==◌, List, [], ◌∷◌, Option, Some, None, length, if◌then◌else◌, slice_index}
+use Rattle.mark_core.specs.declared.words.Clean.{Clean}
+use Rattle.mark_core.specs.declared.words.Place.{Place}
+use Rattle.mark_core.specs.State.{State}
+
+-- the word of a clean word
+abbrev pub code_of : Clean → ℕ
+code_of clean = if clean.held then 2 * clean.upto + 1 else 2 * clean.upto
+
+-- the clean word of which this is the word
+abbrev pub clean_at : ℕ → Clean
+clean_at word = record { upto = word / 2; held = word % 2 == 1 }
+
+-- three words for each place: its mark, its clean word and its value
+abbrev pub words_of_places : List Place → List ℕ
+words_of_places [] = []
+words_of_places (place ∷ places) = place.mark ∷ code_of place.clean ∷ place.value ∷ words_of_places places
+
+-- the count of commits, and then the words of the places
+abbrev pub words_of_state : {E : Type 0} → State E → List ℕ
+words_of_state s = length s.edits.log ∷ words_of_places s.places
+
+-- the words that a table opens with
+abbrev pub opening_words : List (Option ℕ) → List ℕ
+opening_words [] = []
+opening_words (None ∷ opening) = 0 ∷ 0 ∷ 0 ∷ opening_words opening
+opening_words (Some code ∷ opening) = 0 ∷ 2 ∷ code ∷ opening_words opening
+
+-- the place with this number, as the words of a table show it
+abbrev pub shown_place : List ℕ → ℕ → Place
+shown_place words place =
+    record {
+      mark = slice_index words (3 * place + 1);
+      clean = clean_at (slice_index words (3 * place + 2));
+      value = slice_index words (3 * place + 3);
+    }

@@ -1,0 +1,15 @@
+#![tactic(auto)]
+
+ghost use Rattle.std.specs.Prelude.{◌≡◌, ◌+◌, ◌*◌};
+ghost use Rattle.mark_words.specs.Rule.{place_count};
+
+use crate::board::Board;
+use mark_core::Subject;
+
+/// The words of one table, shared by threads.
+#[derive(Drop)]
+pub struct Marks<S: Subject> {
+    pub(crate) table: Board<S>,
+    ghost no_slots: { table.shared.table_id.slots ≡ 0 },
+    ghost sized: { table.shared.table_id.words ≡ 3 * place_count table.shared.key + 1 },
+}

@@ -1,0 +1,212 @@
+#![tactic(auto)]
+
+ghost use Rattle.std.specs.Prelude.{◌≡◌, ◌<◌, ◌+◌, ◌^◌, length, true, All, IfOk, OnOk};
+ghost use Rattle.std.specs.Thread.{IsSync};
+ghost use Rattle.mark_words.specs.Token.{IsSeatOf, places_of, is_editor, log_of, closed_places};
+ghost use Rattle.mark_words.specs.Trial.{IsReady, IsBlank};
+
+use super::*;
+use mark_core::{Clean, Memory, TwoCells};
+use std::alloc::{AllocError, Global};
+use std::test::Fail;
+use std::thread::{Threads, join, map_vec};
+
+type Table = Marks<TwoCells>;
+
+type Token = Seat<TwoCells>;
+
+type Cell = (u64, Clean, u64);
+
+/// Marks both cells for an entry with the next number and commits it.
+fn sets_both(marks: &Table, editor: &mut Token, count: u64) -> u64
+    requires ready { IsReady marks.now editor.old count }
+    requires room { count < 2 ^ 32 }
+    ensures count { result ≡ count + 1 }
+    ensures ready { IsReady marks.now editor.new (count + 1) }
+{
+    marks.mark(editor, &7, 0, count + 1);
+    marks.mark(editor, &7, 1, count + 1);
+    marks.commit(editor)
+}
+
+/// Commits so many entries.
+fn sets_often(marks: &Table, mut editor: Token, entries: u64) -> Token
+    requires ready { IsReady marks.now editor 0 }
+    requires room { entries < 2 ^ 32 }
+    ensures { IsReady marks.now result entries }
+{
+    let mut count = 0;
+    while count < entries {
+        count = sets_both(marks, &mut editor, count);
+    }
+    editor
+}
+
+/// Whether the seat sees this count, within a limit of turns.
+fn sees_until(marks: &Table, mut seat: Token, count: u64) -> (bool, Token)
+    requires { IsBlank marks.now seat }
+    ensures { IsBlank marks.now result.1 }
+{
+    for _ in 0..10_000_000 {
+        if marks.see(&mut seat) == count {
+            return (true, seat);
+        }
+    }
+    (false, seat)
+}
+
+/// One thread commits an entry, and another sees until it is counted.
+fn race<R: Threads + Sync>(
+    rt: &R,
+    marks: &Table,
+    editor: Token,
+    viewer: Token,
+) -> (Token, (bool, Token))
+    requires ready { IsReady marks.now editor 0 }
+    requires blank { IsBlank marks.now viewer }
+    ensures ready { IsReady marks.now result.0 1 }
+    ensures blank { IsBlank marks.now result.1.1 }
+{
+    join(
+        rt,
+        move || -> Token
+            requires { IsReady marks.now editor 0 }
+            ensures { IsReady marks.entry.now result 1 }
+        { sets_often(marks, editor, 1) },
+        move || -> (bool, Token)
+            requires { IsBlank marks.now viewer }
+            ensures { IsBlank marks.entry.now result.1 }
+        { sees_until(marks, viewer, 1) },
+    )
+}
+
+/// The viewer knows the one entry after it met the editor.
+fn learns(marks: &Table, viewer: &mut Token, editor: &mut Token)
+    requires blank { IsBlank marks.now viewer.old }
+    requires ready { IsReady marks.now editor.old 1 }
+    ensures ready { IsReady marks.now editor.new 1 }
+    ensures table { IsSeatOf marks.now viewer.new }
+    ensures log { length (log_of viewer.new) ≡ 1 }
+{
+    marks.meet(viewer, editor);
+}
+
+fn cell(words: &Words<TwoCells>, place: u32) -> Cell
+    requires { place < closed_places words.now }
+{
+    (words.mark(place), words.clean(place), words.value(place))
+}
+
+/// The two places of the words as they are closed.
+fn closes(marks: Table, editor: Token, others: Vec<Token>) -> Option<(Cell, Cell)>
+    requires table { IsSeatOf marks editor }
+    requires editor { is_editor editor ≡ true }
+    requires two { places_of marks ≡ 2 }
+    requires tables { All (λ other. IsSeatOf marks other) others.items }
+{
+    let words = marks.close(editor, others).ok()?;
+    Some((cell(&words, 0), cell(&words, 1)))
+}
+
+/// A viewer that sees, and meets another seat that saw, so many times.
+fn watch(marks: &Table, mut seat: Token) -> Token
+    requires { IsSeatOf marks.now seat }
+    ensures { IsSeatOf marks.now result }
+{
+    let mut other = marks.split(&mut seat);
+    for _ in 0..1000 {
+        marks.see(&mut other);
+        marks.meet(&mut seat, &mut other);
+    }
+    seat
+}
+
+/// The viewers, each in a thread of its own.
+fn watch_all<R: Threads + Sync>(
+    rt: &R,
+    marks: &Table,
+    viewers: Vec<Token>,
+) -> Result<Vec<Token>, AllocError>
+    requires { All (λ seat. IsSeatOf marks.now seat) viewers.items }
+    ensures { IfOk result (λ all. All (λ seat. IsSeatOf marks.now seat) all.items) }
+{
+    map_vec(rt, viewers, &|seat| watch(marks, seat))
+}
+
+/// The viewers watch while the editor commits a thousand entries.
+fn crowd<R: Threads + Sync>(
+    rt: &R,
+    marks: &Table,
+    editor: Token,
+    viewers: Vec<Token>,
+) -> (Token, Result<Vec<Token>, AllocError>)
+    requires ready { IsReady marks.now editor 0 }
+    requires tables { All (λ seat. IsSeatOf marks.now seat) viewers.items }
+    ensures ready { IsReady marks.now result.0 1000 }
+    ensures tables { IfOk result.1 (λ all. All (λ seat. IsSeatOf marks.now seat) all.items) }
+{
+    join(
+        rt,
+        move || -> Token
+            requires { IsReady marks.now editor 0 }
+            ensures { IsReady marks.entry.now result 1000 }
+        { sets_often(marks, editor, 1000) },
+        move || -> Result<Vec<Token>, AllocError>
+            requires { IsSync R.row × All (λ seat. IsSeatOf marks.now seat) viewers.items }
+            ensures { IfOk result (λ all. All (λ seat. IsSeatOf marks.entry.now seat) all.items) }
+        { watch_all(rt, marks, viewers) },
+    )
+}
+
+/// Four seats that were split from the editor's.
+fn viewers(alloc: Global, marks: &Table, editor: &mut Token) -> Result<Vec<Token>, AllocError>
+    requires ready { IsReady marks.now editor.old 0 }
+    ensures ready { OnOk result (IsReady marks.now editor.new 0) }
+    ensures tables { IfOk result (λ all. All (λ seat. IsSeatOf marks.now seat) all.items) }
+{
+    let mut all = Vec::with_capacity(alloc, 4)?;
+    for _ in 0..4 {
+        all.push(marks.split(editor))?;
+    }
+    Ok(all)
+}
+
+/// The first cell opens with the code of 1, and the second with none.
+fn opened(alloc: Global) -> Result<(Table, Token), Memory>
+    ensures { IfOk result (λ r. IsReady r.0 r.1 0) }
+{
+    Marks::open(alloc, TwoCells, &[Some(TwoCells::code(1)), None])
+}
+
+/// The first cell with this mark and the second, as they were opened.
+fn marked(mark: u64) -> Option<(Cell, Cell)> {
+    let free = |upto| Clean { upto, held: false };
+    Some(((mark, free(1), TwoCells::code(1)), (mark, free(0), 0)))
+}
+
+#[test]
+fn a_second_thread_sees_the_commit(rt: HostRuntime) -> Result<(), Fail> {
+    let alloc = rt.alloc();
+    let (marks, mut editor) = opened(alloc)?;
+    let viewer = marks.split(&mut editor);
+    let (mut editor, (saw, mut viewer)) = race(&rt, &marks, editor, viewer);
+    assert!(rt; saw);
+    learns(&marks, &mut viewer, &mut editor);
+    let mut others = Vec::new(alloc);
+    others.push(viewer)?;
+    assert_eq!(rt; closes(marks, editor, others), marked(1));
+    Ok(())
+}
+
+#[test]
+fn four_viewers_watch_a_thousand_commits(rt: HostRuntime) -> Result<(), Fail> {
+    let alloc = rt.alloc();
+    let (marks, mut editor) = opened(alloc)?;
+    let seats = viewers(alloc, &marks, &mut editor)?;
+    let (mut editor, seats) = crowd(&rt, &marks, editor, seats);
+    let seats = seats?;
+    assert_eq!(rt; seats.len(), 4);
+    assert_eq!(rt; marks.see(&mut editor), 1000);
+    assert_eq!(rt; closes(marks, editor, seats), marked(1000));
+    Ok(())
+}
