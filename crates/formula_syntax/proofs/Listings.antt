@@ -1,6 +1,6 @@
 -- Ranges listed once each.
-use Rattle.std.proofs.Common.{◌≡◌, ◌≢◌, ℕ, suc, ◌+◌, ◌<◌, ◌≤◌, List, [], ◌∷◌, ◌++◌, length, get_or, map, inl, inr, refl, sym, ap, ◌∙◌, subst, arith, append_assoc}
-use Rattle.std.specs.List.{Contains, AllPairs}
+use Rattle.std.proofs.Common.{◌≡◌, ◌≢◌, ℕ, ◌+◌, ◌<◌, ◌≤◌, List, [], ◌∷◌, ◌++◌, length, map, inl, inr, refl, sym, ap, ◌∙◌, subst, arith, append_assoc}
+use Rattle.std.specs.List.{Contains}
 use Rattle.std.specs.Borrow.{Bor}
 use Rattle.std.proofs.lemmas.List.{append-nil, length-append}
 use Rattle.std.proofs.lemmas.List.Elements.{Contains-push, Contains-push_cases, Contains-append_left, Contains-get_or}
@@ -12,7 +12,7 @@ use Rattle.formula_syntax.specs.declared.tree.Node.{Node}
 use Rattle.formula_syntax.specs.declared.tree.Nodes.{Nodes}
 use Rattle.formula_syntax.specs.Tree.{Tree, reference, prefix, binary, call, tree_of, trees_of, parameters_of, references_of, all_references}
 use Rattle.formula_syntax.specs.Printing.{piece_count, all_pieces}
-use Rattle.formula_syntax.specs.Listing.{IsOnceEach, ranges_of, references_left, lists_left, Lists}
+use Rattle.formula_syntax.specs.Listing.{IsOnceEach, references_left, lists_left, Lists}
 use Rattle.formula_syntax.specs.Listing.IsOnceEach.{nothing, again, first}
 
 -- what was listed are the ranges that stood

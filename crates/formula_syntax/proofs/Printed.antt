@@ -1,5 +1,5 @@
 -- The plain text of a tree spells it.
-use Rattle.std.proofs.Common.{◌≡◌, ◌≢◌, ℕ, ℤ, zero, suc, ◌+◌, ◌<◌, ◌≤◌, Bool, true, false, List, [], ◌∷◌, ◌++◌, pos, refl, sym, ap, ◌∙◌, subst, arith, append_assoc, inl, inr, decimal}
+use Rattle.std.proofs.Common.{◌≡◌, ◌≢◌, ℕ, ℤ, zero, suc, ◌≤◌, Bool, true, false, List, [], ◌∷◌, ◌++◌, pos, refl, sym, ap, ◌∙◌, subst, arith, append_assoc, inl, inr, decimal}
 use Rattle.std.specs.Prelude.{nat_lt, ◌==◌, codes, if◌then◌else◌}
 use Rattle.std.specs.Fmt.{signed_decimal}
 use Rattle.std.proofs.lemmas.List.{append-nil}
@@ -21,7 +21,7 @@ use Rattle.formula_syntax.specs.Grammar.{level_of, sign_written, Derives, AreDer
 use Rattle.formula_syntax.specs.Grammar.Derives.{tighter, operator, sign, a_number, a_truth, an_error, a_reference, parentheses, a_call}
 use Rattle.formula_syntax.specs.Grammar.AreDerived.{none, some}
 use Rattle.formula_syntax.specs.Grammar.AreSome.{one, more}
-use Rattle.formula_syntax.specs.Lexing.{is_word, operator_text, IsWord, IsLongest, HasEnded, IsToken, HasTokens}
+use Rattle.formula_syntax.specs.Lexing.{is_word, operator_text, IsWord, IsLongest, HasEnded, HasTokens}
 use Rattle.formula_syntax.specs.Lexing.IsToken.{word, error as error_token, operator as operator_token, opening, closing, semicolon}
 use Rattle.formula_syntax.specs.Lexing.HasTokens.{nothing, next}
 use Rattle.formula_syntax.specs.Spelling.{Spells}

@@ -4,7 +4,7 @@ use Rattle.std.specs.Borrow.{Bor}
 use Rattle.sheet_refs.specs.Cells.{Corners}
 use Rattle.sheet_refs.specs.Ends.{Reference, corners_of}
 use Rattle.formula_syntax.specs.declared.tree.Node.{Node}
-use Rattle.formula_syntax.specs.Tree.{Tree, references_of, all_references, tree_of, trees_of}
+use Rattle.formula_syntax.specs.Tree.{Tree, references_of, all_references, trees_of}
 use Rattle.formula_syntax.specs.Printing.{all_pieces}
 
 -- the ranges of a list, each once in the order in which it first stands: one that stood before adds nothing

@@ -3,7 +3,6 @@ use Rattle.std.specs.Prelude.{◌≡◌, ℕ, suc, ◌+◌, ◌<◌, List, [], �
 use Rattle.std.specs.Fmt.{signed_decimal}
 use Rattle.sheet_refs.specs.Ends.{reference_text}
 use Rattle.value_core.specs.Values.{truth_text, error_text}
-use Rattle.formula_syntax.specs.declared.tree.Node.{Node}
 use Rattle.formula_syntax.specs.declared.printer.Piece.{Piece}
 use Rattle.formula_syntax.specs.declared.printer.Piece.TheVariants as piece
 use Rattle.formula_syntax.specs.Functions.{function_name}
