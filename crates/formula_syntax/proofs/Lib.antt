@@ -1,9 +1,13 @@
 pub mod Fitting
 pub mod Complete
 pub mod Measures
+pub mod Pieces
+pub mod Printed
+pub mod PrintedWords
 pub mod Signs
 pub mod TokenLemmas
 pub mod Lexemes
+pub mod Listings
 pub mod Sound
 pub mod Spells
 pub mod Steps

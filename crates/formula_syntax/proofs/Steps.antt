@@ -1,5 +1,5 @@
 -- Reading step by step, as the reader goes: with enough steps, whatever their number is.
-use Rattle.std.proofs.Common.{◌≡◌, ℕ, zero, suc, ◌+◌, ◌*◌, ◌<◌, ◌≤◌, true, false, List, [], ◌∷◌, ◌++◌, length, refl, sym, ap, ◌∙◌, arith, subst}
+use Rattle.std.proofs.Common.{◌≡◌, ℕ, zero, suc, ◌+◌, ◌*◌, ◌-◌, ◌<◌, ◌≤◌, true, false, List, [], ◌∷◌, ◌++◌, length, refl, sym, ap, ◌∙◌, arith, subst}
 use Rattle.std.specs.Prelude.{Some, None, nat_eq, Result, Ok, Err, Vec}
 use Rattle.std.specs.Borrow.{Bor}
 use Rattle.std.specs.declared.alloc.Global.{Global}
@@ -14,8 +14,8 @@ use Rattle.formula_syntax.specs.declared.tokens.Token.{Token}
 use Rattle.formula_syntax.specs.declared.tokens.Token.TheVariants as token
 use Rattle.formula_syntax.specs.Tree.{Tree, binary, call, trees_from, tree_of}
 use Rattle.formula_syntax.specs.Grammar.{level_of}
-use Rattle.formula_syntax.specs.Reading.{Read, ReadAll, after_signs, with_signs, under, closed, parameters_by, next_by, read, go, several, is_fitting, HasNone, HasNoClose, HasNoSeparator, Answers, AnswersAll, steps, primary_at, grouped_at, parameters_at, call_at}
-use Rattle.formula_syntax.proofs.Complete.{go_stops, go_on, read_chain, read_signed, read_primary, read_several}
+use Rattle.formula_syntax.specs.Reading.{Read, ReadAll, after_signs, with_signs, under, closed, parameters_by, next_by, read, go, several, is_fitting, HasNone, HasNoneFrom, HasNoClose, HasNoSeparator, Answers, AnswersAll, steps, primary_at, grouped_at, parameters_at, call_at}
+use Rattle.formula_syntax.proofs.Complete.{level_small, go_stops, go_on, read_chain, read_signed, read_primary, read_several}
 use Rattle.formula_syntax.proofs.Sound.{chain_is}
 
 -- reading at a level has come to a tree and a rest, with steps left for the rest
@@ -32,12 +32,12 @@ Reads at ts t rest = (n : ℕ) → steps at ts ≤ n → read n at ts ≡ Some (
 abbrev pub Fails : ℕ → List Token → Type 0
 Fails at ts = (n : ℕ) → steps at ts ≤ n → read n at ts ≡ None
 
-pub chain_starts : (at next : ℕ) (ts rest : List Token) (t : Tree) → next ≡ suc at → at < 4 → length rest < length ts → Reads next ts t rest → Leads at ts t rest
+chain_starts : (at next : ℕ) (ts rest : List Token) (t : Tree) → next ≡ suc at → at < 4 → length rest < length ts → Reads next ts t rest → Leads at ts t rest
 chain_starts at next ts rest t is small shorter reads zero h = absurd (omega (arith, h, small))
 chain_starts at next ts rest t is small shorter reads (suc n) h =
     (n, omega (arith, h, small, shorter), read_chain n at ts rest t small (subst (λ (l : ℕ). read n l ts ≡ Some (t, rest)) is (reads n (omega (arith, h, small, is)))))
 
-pub chain_fails : (at next : ℕ) (ts : List Token) (e : Unread) → next ≡ suc at → at < 4 → Answers (λ n. read n next ts) (steps next ts) (Err e) → Answers (λ n. read n at ts) (steps at ts) (Err e)
+chain_fails : (at next : ℕ) (ts : List Token) (e : Unread) → next ≡ suc at → at < 4 → Answers (λ n. read n next ts) (steps next ts) (Err e) → Answers (λ n. read n at ts) (steps at ts) (Err e)
 chain_fails at next ts Memory is small h = tt
 chain_fails at next ts NotFormula is small h = fails
   where
@@ -45,14 +45,14 @@ chain_fails at next ts NotFormula is small h = fails
     fails zero k = absurd (omega (arith, k, small))
     fails (suc n) k = chain_is n at ts small ∙ (rw (subst (λ (l : ℕ). read n l ts ≡ None) is (h n (omega (arith, k, small, is)))) refl)
 
-pub chain_ends : (at : ℕ) (ts rest : List Token) (t : Tree) → HasNone at rest → Leads at ts t rest → Reads at ts t rest
+chain_ends : (at : ℕ) (ts rest : List Token) (t : Tree) → HasNone at rest → Leads at ts t rest → Reads at ts t rest
 chain_ends at ts rest t stop leads n h = last (leads n h)
   where
     last : (m : ℕ) × (8 * length rest + 2 ≤ m) × (read n at ts ≡ go m at t rest) → read n at ts ≡ Some (t, rest)
     last (zero, some, e) = absurd (omega (arith, some))
     last (suc m, some, e) = e ∙ go_stops m at t rest stop
 
-pub chain_more : (at next : ℕ) (op : BinaryOp) (ts rest behind after : List Token) (left right joined : Tree) → next ≡ suc at → at < 4 → level_of op ≡ at → rest ≡ token.Operator op ∷ behind → joined ≡ binary op left right → length after < length behind → Reads next behind right after → Leads at ts left rest → Leads at ts joined after
+chain_more : (at next : ℕ) (op : BinaryOp) (ts rest behind after : List Token) (left right joined : Tree) → next ≡ suc at → at < 4 → level_of op ≡ at → rest ≡ token.Operator op ∷ behind → joined ≡ binary op left right → length after < length behind → Reads next behind right after → Leads at ts left rest → Leads at ts joined after
 chain_more at next op ts rest behind after left right joined is small level split join shorter reads leads n h = step (leads n h)
   where
     step : (m : ℕ) × (8 * length rest + 2 ≤ m) × (read n at ts ≡ go m at left rest) → (m : ℕ) × (8 * length after + 2 ≤ m) × (read n at ts ≡ go m at joined after)
@@ -70,7 +70,7 @@ go_fails m op left ts e =
     let test : nat_eq (level_of op) (level_of op) ≡ true = grind (arith, nat_tests) in
     rw test (rw e refl)
 
-pub chain_breaks : (at next : ℕ) (op : BinaryOp) (ts rest behind : List Token) (left : Tree) (e : Unread) → next ≡ suc at → at < 4 → level_of op ≡ at → rest ≡ token.Operator op ∷ behind → Answers (λ n. read n next behind) (steps next behind) (Err e) → Leads at ts left rest → Answers (λ n. read n at ts) (steps at ts) (Err e)
+chain_breaks : (at next : ℕ) (op : BinaryOp) (ts rest behind : List Token) (left : Tree) (e : Unread) → next ≡ suc at → at < 4 → level_of op ≡ at → rest ≡ token.Operator op ∷ behind → Answers (λ n. read n next behind) (steps next behind) (Err e) → Leads at ts left rest → Answers (λ n. read n at ts) (steps at ts) (Err e)
 chain_breaks at next op ts rest behind left Memory is small level split h leads = tt
 chain_breaks at next op ts rest behind left NotFormula is small level split h leads = fails
   where
@@ -83,6 +83,72 @@ chain_breaks at next op ts rest behind left NotFormula is small level split h le
             let longer = ap length split in
             let no_right : read m (suc (level_of op)) behind ≡ None = subst (λ (l : ℕ). read m l behind ≡ None) (is ∙ ap suc (sym level)) (h m (omega (arith, some, longer, is, small))) in
             e ∙ subst (λ (l : ℕ). go (suc m) l left rest ≡ None) level (rw split (go_fails m op left behind no_right))
+
+-- reading goes down from a level to a looser one where no operator between them stands at the front
+lower : (k at level : ℕ) (ts rest : List Token) (t : Tree) → at + k ≡ level → level < 4 → length rest < length ts → ((j : ℕ) → at < j → HasNone j rest) → Leads level ts t rest → Leads at ts t rest
+lower zero at level ts rest t sum small shorter none leads = let same : level ≡ at = omega (arith, sum) in subst (λ (l : ℕ). Leads l ts t rest) same leads
+lower (suc k) at level ts rest t sum small shorter none leads =
+    lower k at (at + k) ts rest t refl (omega (arith, sum, small)) shorter none
+    (chain_starts (at + k) level ts rest t (omega (arith, sum)) (omega (arith, sum, small)) shorter (chain_ends level ts rest t (none level (omega (arith, sum))) leads))
+
+lower_fails : (k at level : ℕ) (ts : List Token) (e : Unread) → at + k ≡ level → level ≤ 4 → Answers (λ n. read n level ts) (steps level ts) (Err e) → Answers (λ n. read n at ts) (steps at ts) (Err e)
+lower_fails zero at level ts e sum small h = let same : level ≡ at = omega (arith, sum) in subst (λ (l : ℕ). Answers (λ n. read n l ts) (steps l ts) (Err e)) same h
+lower_fails (suc k) at level ts e sum small h =
+    lower_fails k at (at + k) ts e refl (omega (arith, sum, small)) (chain_fails (at + k) level ts e (omega (arith, sum)) (omega (arith, sum, small)) h)
+
+-- a reader's place among operators: some level, no looser than the wanted one, leads on, and no tighter operator is left
+pub record Climbs (at : ℕ) (ts : List Token) (left : Tree) (rest : List Token) : Type 0 where
+  pub level : ℕ
+  pub from : at ≤ level
+  pub small : level < 4
+  pub leads : Leads level ts left rest
+  pub done : HasNoneFrom (suc level) rest
+
+front_none : (op : BinaryOp) (rest behind : List Token) → rest ≡ token.Operator op ∷ behind → (j : ℕ) → level_of op < j → HasNone j rest
+front_none op rest behind split j more o r e = λ same. let eq : o ≡ op = cc in absurd (omega (arith, more, same, ap level_of eq))
+
+none_from : (at : ℕ) (rest : List Token) → HasNoneFrom at rest → (j : ℕ) → at ≤ j → HasNone j rest
+none_from at rest stop j more o r e = λ same. absurd (omega (arith, stop o r e, same, more))
+
+-- at the level of the operator at the front
+at_operator : (at : ℕ) (op : BinaryOp) (ts rest behind : List Token) (left : Tree) → rest ≡ token.Operator op ∷ behind → length rest < length ts → Climbs at ts left rest → Leads (level_of op) ts left rest
+at_operator at op ts rest behind left split shorter c =
+    let below : level_of op < suc c.level = c.done op behind split in
+    lower (c.level - level_of op) (level_of op) c.level ts rest left (omega (arith, below)) c.small shorter (front_none op rest behind split) c.leads
+
+pub climb_starts : (at : ℕ) (ts rest : List Token) (t : Tree) → at < 4 → length rest < length ts → Reads 4 ts t rest → Climbs at ts t rest
+climb_starts at ts rest t small shorter reads = record {
+  level = 3;
+  from = omega (arith, small);
+  small = omega arith;
+  leads = chain_starts 3 4 ts rest t (omega arith) (omega arith) shorter reads;
+  done = λ op r e. omega (arith, level_small op);
+}
+
+pub climb_fails : (at : ℕ) (ts : List Token) (e : Unread) → at < 4 → Answers (λ n. read n 4 ts) (steps 4 ts) (Err e) → Answers (λ n. read n at ts) (steps at ts) (Err e)
+climb_fails at ts e small h = lower_fails (4 - at) at 4 ts e (omega (arith, small)) (omega arith) h
+
+pub climb_more : (at next : ℕ) (op : BinaryOp) (ts rest behind after : List Token) (left right joined : Tree) → next ≡ suc (level_of op) → at ≤ level_of op → length rest < length ts → rest ≡ token.Operator op ∷ behind → joined ≡ binary op left right → length after < length behind → Reads next behind right after → HasNoneFrom next after → Climbs at ts left rest → Climbs at ts joined after
+climb_more at next op ts rest behind after left right joined is from within split join shorter reads done c = record {
+  level = level_of op;
+  from = from;
+  small = level_small op;
+  leads = chain_more (level_of op) next op ts rest behind after left right joined is (level_small op) refl split join shorter reads (at_operator at op ts rest behind left split within c);
+  done = subst (λ (l : ℕ). HasNoneFrom l after) is done;
+}
+
+pub climb_breaks : (at next : ℕ) (op : BinaryOp) (ts rest behind : List Token) (left : Tree) (e : Unread) → next ≡ suc (level_of op) → at ≤ level_of op → length rest < length ts → rest ≡ token.Operator op ∷ behind → Answers (λ n. read n next behind) (steps next behind) (Err e) → Climbs at ts left rest → Answers (λ n. read n at ts) (steps at ts) (Err e)
+climb_breaks at next op ts rest behind left e is from within split h c =
+    lower_fails (level_of op - at) at (level_of op) ts e (omega (arith, from)) (omega (arith, level_small op))
+    (chain_breaks (level_of op) next op ts rest behind left e is (level_small op) refl split h (at_operator at op ts rest behind left split within c))
+
+pub climb_ends : (at : ℕ) (ts rest : List Token) (t : Tree) → length rest < length ts → HasNoneFrom at rest → Climbs at ts t rest → Reads at ts t rest
+climb_ends at ts rest t shorter stop c =
+    chain_ends at ts rest t (none_from at rest stop at (omega arith))
+    (lower (c.level - at) at c.level ts rest t (omega (arith, c.from)) c.small shorter (λ j more. none_from at rest stop j (omega (arith, more))) c.leads)
+
+pub none_tighter : (rest : List Token) → HasNoneFrom 4 rest
+none_tighter rest op r e = level_small op
 
 -- signs, and what stands behind them
 pub signs_read : (ts operand rest : List Token) (t signed : Tree) → operand ≡ after_signs ts → signed ≡ with_signs ts t → length operand ≤ length ts → Reads 5 operand t rest → Reads 4 ts signed rest

@@ -3,6 +3,8 @@ pub mod Formula
 pub mod Functions
 pub mod Grammar
 pub mod Lexing
+pub mod Listing
+pub mod Printing
 pub mod Reading
 pub mod Spelling
 pub mod Tree

@@ -1,5 +1,5 @@
 -- How tokens are read from the left. The reader's own clauses cite it; what is read is what the grammar derives.
-use Rattle.std.specs.Prelude.{◌≡◌, ◌≢◌, ℕ, zero, suc, ◌+◌, ◌*◌, ◌-◌, ◌≤◌, Bool, true, false, ◌&&◌, List, [], ◌∷◌, ◌++◌, length, Option, Some, None, option_and_then, if◌then◌else◌, nat_lt, nat_le, nat_eq, Result, Ok, Err, Vec, map}
+use Rattle.std.specs.Prelude.{◌≡◌, ◌≢◌, ℕ, zero, suc, ◌+◌, ◌*◌, ◌-◌, ◌<◌, ◌≤◌, Bool, true, false, ◌&&◌, List, [], ◌∷◌, ◌++◌, length, Option, Some, None, option_and_then, if◌then◌else◌, nat_lt, nat_le, nat_eq, Result, Ok, Err, Vec, map}
 use Rattle.std.specs.Borrow.{Bor}
 use Rattle.std.specs.declared.alloc.Global.{Global}
 use Rattle.formula_syntax.specs.declared.reading.Unread.{Unread}
@@ -132,6 +132,10 @@ under_all (op ∷ ops) t = prefix op (under_all ops t)
 -- no operator of a level at the front
 abbrev pub HasNone : ℕ → List Token → Type 0
 HasNone level ts = (op : BinaryOp) (rest : List Token) → ts ≡ token.Operator op ∷ rest → level_of op ≢ level
+
+-- no operator of a level or a tighter one at the front
+abbrev pub HasNoneFrom : ℕ → List Token → Type 0
+HasNoneFrom level ts = (op : BinaryOp) (rest : List Token) → ts ≡ token.Operator op ∷ rest → level_of op < level
 
 -- no sign at the front
 abbrev pub HasNoSign : List Token → Type 0

@@ -4,6 +4,7 @@ use Rattle.formula_syntax.specs.declared.tokens.Token.{Token}
 use Rattle.formula_syntax.specs.Lexing.{HasTokens}
 use Rattle.formula_syntax.specs.Grammar.{Derives}
 use Rattle.formula_syntax.specs.Tree.{Tree, references_of}
+use Rattle.formula_syntax.specs.Printing.{plain as plain_text}
 use Rattle.formula_syntax.specs.declared.tokens.Token.TheVariants as token
 use Rattle.formula_syntax.specs.declared.reading.Unread.{Unread}
 use Rattle.formula_syntax.specs.declared.reading.Unread.TheVariants as unread
@@ -62,3 +63,7 @@ refusal_of unread.Memory = Memory
 -- no text spells two trees
 abbrev pub SpellsOneTree : Type 0
 SpellsOneTree = (text : List ℕ) (a b : Tree) → Spells text a → Spells text b → a ≡ b
+
+-- the plain text of each tree that a text spells, spells it too
+abbrev pub PlainSpells : Type 0
+PlainSpells = (text : List ℕ) (tree : Tree) → Spells text tree → Spells (plain_text tree) tree

@@ -3,7 +3,8 @@
 //! A text is a formula exactly where the grammar spells a tree with it (`specs/Spelling.antt`), and no text
 //! spells two (`formula_laws`). The grammar has two halves: which tokens a text has (`specs/Lexing.antt`), and
 //! which tokens derive which tree, at which level (`specs/Grammar.antt`). The reader gives the tree, or a
-//! refusal, each exactly where its cause holds.
+//! refusal, each exactly where its cause holds. `print` gives a tree's plain text, which spells the same tree
+//! (`specs/Printing.antt`), and `refs` its ranges, each once (`specs/Listing.antt`).
 //!
 //! A formula is a tree of at most 8,192 nodes with at most 255 references (`specs/Formula.antt`). Contracts
 //! see it as a tree of the specs (`specs/Tree.antt`), without where its nodes lie in memory. One table says
@@ -15,8 +16,11 @@
 mod functions;
 mod laws;
 mod lexer;
+mod listing;
+mod printer;
 mod reader;
 mod reading;
+mod reference_text;
 #[cfg(test)]
 mod tests;
 mod tokens;
@@ -25,6 +29,8 @@ mod words;
 
 pub use functions::{Function, Place};
 pub use laws::formula_laws;
+pub use listing::refs;
+pub use printer::print;
 pub use reader::{MAX_DEPTH, MAX_REFERENCES, MAX_TEXT, ReadRefused, read_formula};
 pub use tokens::Token;
 pub use tree::{Formula, Node, Nodes};

@@ -1,7 +1,7 @@
 ghost use Rattle.std.specs.Prelude.{◌≡◌, ◌<◌, ◌≤◌, ◌+◌, ◌*◌, ◌∷◌, [], length, map, IfOk, MatchOption};
 ghost use Rattle.formula_syntax.specs.Functions.{shape_of};
 ghost use Rattle.formula_syntax.specs.Grammar.{level_of, sign_written};
-ghost use Rattle.formula_syntax.specs.Reading.{sign_of, after_signs, with_signs, under_all, after_truth, is_fitting, only_references, read, several, primary_at, grouped_at, parameters_at, call_at, HasNone, HasNoSign, HasNoClose, HasNoSeparator, Answers, AnswersAll, steps};
+ghost use Rattle.formula_syntax.specs.Reading.{sign_of, after_signs, with_signs, under_all, after_truth, is_fitting, only_references, read, several, primary_at, grouped_at, parameters_at, call_at, HasNoneFrom, HasNoSign, HasNoClose, HasNoSeparator, Answers, AnswersAll, steps};
 ghost use Rattle.formula_syntax.specs.Tree.{Tree, tree_of, trees_from, prefix, binary};
 ghost use Rattle.formula_syntax.specs.Tree as tree;
 ghost use Rattle.formula_syntax.specs.declared.tokens.Token.TheVariants as token;
@@ -42,8 +42,10 @@ impl<T: Drop> From<AllocFailed<T>> for Unread {
     }
 }
 
-fn level(op: BinaryOp) -> u8
-    ensures { result ≡ level_of op }
+/// The level of an operator, from 0 for a comparison to 3 for `^`.
+pub(crate) fn level(op: BinaryOp) -> u8
+    ensures level { result ≡ level_of op }
+    ensures small { result < 4 }
 {
     match op {
         BinaryOp::Equal
@@ -58,12 +60,14 @@ fn level(op: BinaryOp) -> u8
     }
 }
 
-// The operator of a level at the front, and what is behind it.
-fn operator_at(at: u8, tokens: &[Token]) -> Option<(BinaryOp, &[Token])>
-    ensures { MatchOption result (HasNone at tokens.now) (λ found. (tokens.now ≡ token.Operator found.0 ∷ found.1.now) × (level_of found.0 ≡ at)) }
+// The operator of a level or a tighter one at the front, and what is behind it.
+fn operator_from(at: u8, tokens: &[Token]) -> Option<(BinaryOp, &[Token])>
+    ensures { MatchOption result
+        (HasNoneFrom at tokens.now)
+        (λ found. (tokens.now ≡ token.Operator found.0 ∷ found.1.now) × (at ≤ level_of found.0)) }
 {
     match tokens.split_first() {
-        Some((Token::Operator(op), behind)) if level(*op) == at => Some((*op, behind)),
+        Some((Token::Operator(op), behind)) if level(*op) >= at => Some((*op, behind)),
         _ => None,
     }
 }
@@ -218,8 +222,9 @@ fn under_signs(alloc: Global, mut signs: Vec<PrefixOp>, operand: Node) -> Result
 
 /// Reads an expression whose operators have a level or tighter ones: 0 for all, 4 for signs alone.
 ///
-/// The calls nest as deep as parentheses do, and at most five for each; signs and chains of operators of
-/// one level are read by loops.
+/// The operand behind an operator is read with the tighter levels alone, so that operators of one level group
+/// from the left. The calls nest as deep as parentheses and operators that grow tighter do; signs and chains
+/// of operators are read by loops.
 #[cycle(reading)]
 pub(crate) fn expression(
     alloc: Global,
@@ -229,13 +234,14 @@ pub(crate) fn expression(
     requires { at < 5 }
     ensures read { Answers (λ n. read n at tokens.now) (steps at tokens.now) result }
     ensures shorter { IfOk result (λ found. length found.1.now < length tokens.now) }
+    ensures looser { IfOk result (λ found. HasNoneFrom at found.1.now) }
 {
     if at == 4 {
         return signed(alloc, tokens);
     }
-    let (mut left, mut rest) = expression(alloc, at + 1, tokens)?;
-    while let Some((op, behind)) = operator_at(at, rest) {
-        let (right, behind) = expression(alloc, at + 1, behind)?;
+    let (mut left, mut rest) = signed(alloc, tokens)?;
+    while let Some((op, behind)) = operator_from(at, rest) {
+        let (right, behind) = expression(alloc, level(op) + 1, behind)?;
         left = binary_of(alloc, op, left, right)?;
         rest = behind;
     }
@@ -247,6 +253,7 @@ pub(crate) fn expression(
 fn signed(alloc: Global, tokens: &[Token]) -> Result<(Node, &[Token]), Unread>
     ensures read { Answers (λ n. read n 4 tokens.now) (steps 4 tokens.now) result }
     ensures shorter { IfOk result (λ found. length found.1.now < length tokens.now) }
+    ensures looser { IfOk result (λ found. HasNoneFrom 4 found.1.now) }
 {
     let (signs, operand) = signs(alloc, tokens)?;
     let (node, rest) = primary(alloc, operand)?;

@@ -1,7 +1,8 @@
-// What no clause says: that the grammar has the texts that a person who knows spreadsheets expects, and that
-// memory is left for a formula.
+// What no clause says: that the grammar has the texts that a person who knows spreadsheets expects, and groups
+// them so, which shows in what is printed; and that memory is left for a formula.
 use crate::*;
 use std::alloc::Global;
+use std::fmt::Write;
 use std::test::Fail;
 
 // So often a front, then a middle, then so often an end.
@@ -31,41 +32,121 @@ fn answer(alloc: Global, text: &str) -> Option<ReadRefused> {
     read_formula(alloc, text.as_bytes()).err()
 }
 
-#[test]
-fn formulas_are_read(rt: HostRuntime) {
-    for text in [
-        "=0",
-        "=007",
-        "=9007199254740991",
-        "of:= 1 ",
-        "=2^3^2",
-        "=-2^2",
-        "=- -1",
-        "=1+2*3-4",
-        "=1<=2+3=4",
-        "=1<>2",
-        "=1<-2",
-        "=6/3*2",
-        "= ( 1 + 2 )\t*\n3\r",
-        "=((1))",
-        "=$b$3:a$7",
-        "=A1:a1",
-        "=xfd1048576",
-        "=[.A1]",
-        "=[.$A1:.B$2]",
-        "=IF1+MOD1+NA1",
-        "=TRUE",
-        "=false ( )",
-        "=#DIV/0!",
-        "=#N/A+#REF!",
-        "=sum (A1,B2;3)",
-        "=NA()",
-        "=If(1;2;3)",
-        "=COUNTBLANK(A1:B2)",
-        "=SUM(a5:$A$3 ; (1+2)*(-3))",
-    ] {
-        assert_eq!(rt; answer(rt.alloc(), text), None, "{text}");
+// What is printed of the formula that a text spells; or why it isn't read.
+fn reprinted(alloc: Global, text: &str) -> Result<String, Fail> {
+    let mut shown = String::new(alloc);
+    if text.len() > MAX_TEXT {
+        return Ok(shown);
     }
+    match read_formula(alloc, text.as_bytes()) {
+        Ok(formula) => {
+            let printed = print(alloc, &formula)?;
+            shown.push_str(std::str::from_utf8(&printed)?)?;
+        }
+        Err(refused) => write!(shown, "{refused:?}")?,
+    }
+    Ok(shown)
+}
+
+// The ranges of the formula that a text spells, with a space before each.
+fn ranges_of(alloc: Global, text: &str) -> Result<String, Fail> {
+    let mut shown = String::new(alloc);
+    if text.len() > MAX_TEXT {
+        return Ok(shown);
+    }
+    if let Ok(formula) = read_formula(alloc, text.as_bytes()) {
+        let refs = refs(alloc, &formula)?;
+        for range in refs.ranges() {
+            write!(shown, " {range}")?;
+        }
+    }
+    Ok(shown)
+}
+
+#[test]
+fn formulas_are_printed(rt: HostRuntime) -> Result<(), Fail> {
+    for (text, expected) in [
+        ("=0", "=0"),
+        ("=007", "=7"),
+        ("=9007199254740991", "=9007199254740991"),
+        ("of:= 1 ", "=1"),
+        ("= ( 1 + 2 )\t*\n3\r", "=(1+2)*3"),
+        ("=((1))", "=1"),
+        ("=2^3^2", "=2^3^2"),
+        ("=(2^3)^2", "=2^3^2"),
+        ("=2^(3^2)", "=2^(3^2)"),
+        ("=-2^2", "=-2^2"),
+        ("=(-2)^2", "=-2^2"),
+        ("=-(2^2)", "=-(2^2)"),
+        ("=2^-2", "=2^-2"),
+        ("=- + -1", "=-+-1"),
+        ("=1+2*3-4", "=1+2*3-4"),
+        ("=(1+(2*3))-4", "=1+2*3-4"),
+        ("=1+(2-3)", "=1+(2-3)"),
+        ("=6/(3*2)", "=6/(3*2)"),
+        ("=(6/3)*2", "=6/3*2"),
+        ("=(1*2)^3", "=(1*2)^3"),
+        ("=1*2^3", "=1*2^3"),
+        ("=1<=2+3=4", "=1<=2+3=4"),
+        ("=1=(2<>3)", "=1=(2<>3)"),
+        ("=(1>2)*(3>=4)", "=(1>2)*(3>=4)"),
+        ("=1< -2", "=1<-2"),
+        ("=TRUE", "=TRUE"),
+        ("=false ( )", "=FALSE"),
+        ("=#DIV/0!", "=#DIV/0!"),
+        ("=#N/A+#REF!", "=#N/A+#REF!"),
+        ("=IF1+mod1+NA1", "=IF1+MOD1+NA1"),
+        ("=SUM1*max2-Not3", "=SUM1*MAX2-NOT3"),
+        ("=NA()", "=NA()"),
+        ("=sum (A1,B2;(3))", "=SUM(A1;B2;3)"),
+        ("=If(1=2;-(3+4);5)", "=IF(1=2;-(3+4);5)"),
+        ("= COUNTBLANK ( A1:B2 ) ", "=COUNTBLANK(A1:B2)"),
+        ("=IFERROR(1 , - 2)", "=IFERROR(1;-2)"),
+        ("=SUM(a5:$A$3 ; (1+2)*(-3))", "=SUM(A$3:$A5;(1+2)*-3)"),
+    ] {
+        assert_eq!(rt; reprinted(rt.alloc(), text)?.as_str(), expected, "{text}");
+    }
+    Ok(())
+}
+
+#[test]
+fn references_are_printed(rt: HostRuntime) -> Result<(), Fail> {
+    for (text, expected) in [
+        ("=a1", "=A1"),
+        ("=$a1", "=$A1"),
+        ("=a$1", "=A$1"),
+        ("=$a$1", "=$A$1"),
+        ("=z9+aa10+zz99+aaa100", "=Z9+AA10+ZZ99+AAA100"),
+        ("=xfd1048576", "=XFD1048576"),
+        ("=A1:a1", "=A1:A1"),
+        ("=$b$3:a$7", "=A$3:$B$7"),
+        ("=$B1:A$2", "=A1:$B$2"),
+        ("=B$2:$A1", "=$A1:B$2"),
+        ("=[.A1]", "=A1"),
+        ("=[.$A1:.B$2]", "=$A1:B$2"),
+        ("=[.B2:.A1]", "=A1:B2"),
+    ] {
+        assert_eq!(rt; reprinted(rt.alloc(), text)?.as_str(), expected, "{text}");
+    }
+    Ok(())
+}
+
+#[test]
+fn ranges_are_listed(rt: HostRuntime) -> Result<(), Fail> {
+    for (text, expected) in [
+        ("=1", ""),
+        ("=A1", " A1:A1"),
+        ("=B2+A1*B2", " B2:B2 A1:A1"),
+        (
+            "=SUM(C3;B2:A1;-D4)-C3^(A1:$B$2+E5)",
+            " C3:C3 A1:B2 D4:D4 E5:E5",
+        ),
+        ("=A1+$A$1+[.A1:.A1]", " A1:A1"),
+        ("=IF(A1:B2=A1;B1;A1:A2)", " A1:B2 A1:A1 B1:B1 A1:A2"),
+    ] {
+        assert_eq!(rt; ranges_of(rt.alloc(), text)?.as_str(), expected, "{text}");
+    }
+    Ok(())
 }
 
 #[test]
@@ -91,6 +172,16 @@ fn other_texts_are_no_formulas(rt: HostRuntime) {
         "=[A1]",
         "=[.A1:B2]",
         "=[ .A1]",
+        "=[.A1 ]",
+        "=[.A1: .B2]",
+        "=$ A1",
+        "=$A $1",
+        "=A 1",
+        "=A0",
+        "=SIGN1",
+        "=SU M(1)",
+        "=# N/A",
+        "of:= =1",
         "=A1.",
         "=A1_",
         "=1$",
@@ -134,7 +225,7 @@ fn other_texts_are_no_formulas(rt: HostRuntime) {
 fn limits_hold(rt: HostRuntime) -> Result<(), Fail> {
     let alloc = rt.alloc();
     let deepest = repeated(alloc, 64, "(", "1", ")")?;
-    assert_eq!(rt; answer(alloc, deepest.as_str()), None);
+    assert_eq!(rt; reprinted(alloc, deepest.as_str())?.as_str(), "=1");
     let deeper = repeated(alloc, 65, "(", "1", ")")?;
     assert_eq!(rt; answer(alloc, deeper.as_str()), Some(ReadRefused::TooDeep));
     let open = repeated(alloc, 65, "(", "", "")?;
@@ -155,14 +246,16 @@ fn limits_hold(rt: HostRuntime) -> Result<(), Fail> {
 }
 
 #[test]
-fn long_formulas_are_read_and_dropped(rt: HostRuntime) -> Result<(), Fail> {
+fn long_formulas_need_no_deep_stack(rt: HostRuntime) -> Result<(), Fail> {
     let alloc = rt.alloc();
     let signs = repeated(alloc, 8_190, "-", "1", "")?;
     assert_eq!(rt; signs.len(), MAX_TEXT);
-    assert_eq!(rt; answer(alloc, signs.as_str()), None);
     let sum = repeated(alloc, 4_000, "8+", "8", "")?;
-    assert_eq!(rt; answer(alloc, sum.as_str()), None);
-    let nested = repeated(alloc, 64, "IF(1=1+1*1^", "1", ";2)")?;
-    assert_eq!(rt; answer(alloc, nested.as_str()), None);
+    let nested = repeated(alloc, 64, "IF(1=1+1*1^", "A1", ";2)")?;
+    let groups = repeated(alloc, 64, "1=-(", "A1+1", ")")?;
+    for text in [signs, sum, nested, groups] {
+        assert!(rt; reprinted(alloc, text.as_str())?.as_str() == text.as_str());
+        assert!(rt; ranges_of(alloc, text.as_str())?.len() <= 6);
+    }
     Ok(())
 }

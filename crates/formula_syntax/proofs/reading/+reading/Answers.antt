@@ -1,46 +1,50 @@
-use Rattle.std.proofs.Common.{◌≡◌, ◌+◌, ◌∷◌, ◌++◌, [], length, map, rules, arith, sym, ap, ◌∙◌}
+use Rattle.std.proofs.Common.{◌≡◌, suc, ◌+◌, ◌≤◌, ◌∷◌, ◌++◌, [], length, map, rules, arith, sym, ap, ◌∙◌}
 use Rattle.std.proofs.lemmas.Result.{err_from_is_err_and}
 use Rattle.std.proofs.lemmas.List.{map-append}
-use Rattle.std.proofs.Math.Numerals.{add-one}
 use Rattle.formula_syntax.specs.declared.tokens.Token.TheVariants as token
 use Rattle.formula_syntax.specs.Grammar.{level_of}
 use Rattle.formula_syntax.specs.Reading.{with_signs}
 use Rattle.formula_syntax.specs.Tree.{tree_of, binary}
-use Rattle.formula_syntax.proofs.Steps.{chain_starts, chain_fails, chain_ends, chain_more, chain_breaks, signs_read, signs_fail, primary_answers, nothing_reads, all_start, all_more, all_end, all_stop, all_fail}
+use Rattle.formula_syntax.proofs.Steps.{climb_starts, climb_fails, climb_ends, climb_more, climb_breaks, none_tighter, signs_read, signs_fail, primary_answers, nothing_reads, all_start, all_more, all_end, all_stop, all_fail}
 use Rattle.formula_syntax.proofs.reading.+reading.Goals as goal
 
 pub expression-returns-in_err-left-clause-read : goal.expression-returns-in_err-left-clause-read
 expression-returns-in_err-left-clause-read t c =
     let p = err_from_is_err_and c.from_residual.result c.from_residual.ensures.1 in
-    rw (p.1, p.2) (chain_fails c.args.at (c.args.at + 1) c.args.tokens.now _ (add-one c.args.at) (omega arith) c.in_err-left.ensures.read)
+    rw (p.1, p.2) (climb_fails c.args.at c.args.tokens.now _ (omega arith) c.in_err-left.ensures.read)
 
 pub expression-loop-op-init : goal.expression-loop-op-init
 expression-loop-op-init t c = record {
   small = omega arith;
   within = c.in_ok-left.ensures.shorter;
-  leads = chain_starts c.args.at (c.args.at + 1) c.args.tokens.now c.in_ok-left.rest.now (tree_of c.in_ok-left.left) (add-one c.args.at) (omega arith) c.in_ok-left.ensures.shorter c.in_ok-left.ensures.read;
+  climbs = climb_starts c.args.at c.args.tokens.now c.in_ok-left.rest.now (tree_of c.in_ok-left.left) (omega arith) c.in_ok-left.ensures.shorter c.in_ok-left.ensures.read;
 }
 
 pub expression-returns-in_err-right-clause-read : goal.expression-returns-in_err-right-clause-read
 expression-returns-in_err-right-clause-read t c =
     let p = err_from_is_err_and c.from_residual-in_err-right.result c.from_residual-in_err-right.ensures.1 in
     let split : c.loop-op.rest.now ≡ token.Operator c.in-Some.op ∷ c.in-Some.behind.now = search rules in
-    let level : level_of c.in-Some.op ≡ c.args.at = search rules in
-    rw (p.1, p.2) (chain_breaks c.args.at (c.args.at + 1) c.in-Some.op c.args.tokens.now c.loop-op.rest.now c.in-Some.behind.now (tree_of c.loop-op.left) _ (add-one c.args.at) c.loop-op.invariant.small level split c.in_err-right.ensures.read c.loop-op.invariant.leads)
+    let from : c.args.at ≤ level_of c.in-Some.op = search rules in
+    let next : c.level.result + 1 ≡ suc (level_of c.in-Some.op) = omega (arith, c.level.ensures.level) in
+    rw (p.1, p.2) (climb_breaks c.args.at (c.level.result + 1) c.in-Some.op c.args.tokens.now c.loop-op.rest.now c.in-Some.behind.now (tree_of c.loop-op.left) _ next from c.loop-op.invariant.within split c.in_err-right.ensures.read c.loop-op.invariant.climbs)
 
 pub expression-loop-op-preserved : goal.expression-loop-op-preserved
 expression-loop-op-preserved t c =
     let split : c.loop-op.rest.now ≡ token.Operator c.in-Some.op ∷ c.in-Some.behind.now = search rules in
-    let level : level_of c.in-Some.op ≡ c.args.at = search rules in
+    let from : c.args.at ≤ level_of c.in-Some.op = search rules in
+    let next : c.level.result + 1 ≡ suc (level_of c.in-Some.op) = omega (arith, c.level.ensures.level) in
     let joined : tree_of c.in_ok-left-2.left ≡ binary c.in-Some.op (tree_of c.loop-op.left) (tree_of c.in_ok-right.right) = c.in_ok-left-2.ensures in
     record {
       small = c.loop-op.invariant.small;
       within = omega (arith, c.loop-op.invariant.within, c.in_ok-right.ensures.shorter, ap length split);
-      leads = chain_more c.args.at (c.args.at + 1) c.in-Some.op c.args.tokens.now c.loop-op.rest.now c.in-Some.behind.now c.in_ok-right.behind.now (tree_of c.loop-op.left) (tree_of c.in_ok-right.right) (tree_of c.in_ok-left-2.left) (add-one c.args.at) c.loop-op.invariant.small level split joined c.in_ok-right.ensures.shorter c.in_ok-right.ensures.read c.loop-op.invariant.leads;
+      climbs = climb_more c.args.at (c.level.result + 1) c.in-Some.op c.args.tokens.now c.loop-op.rest.now c.in-Some.behind.now c.in_ok-right.behind.now (tree_of c.loop-op.left) (tree_of c.in_ok-right.right) (tree_of c.in_ok-left-2.left) next from c.loop-op.invariant.within split joined c.in_ok-right.ensures.shorter c.in_ok-right.ensures.read c.in_ok-right.ensures.looser c.loop-op.invariant.climbs;
     }
 
 pub expression-returns-clause-read : goal.expression-returns-clause-read
-expression-returns-clause-read t c = chain_ends c.args.at c.args.tokens.now c.loop-op.rest.now (tree_of c.loop-op.left) (search rules) c.loop-op.invariant.leads
+expression-returns-clause-read t c = climb_ends c.args.at c.args.tokens.now c.loop-op.rest.now (tree_of c.loop-op.left) c.loop-op.invariant.within (search rules) c.loop-op.invariant.climbs
+
+pub signed-returns-clause-looser : goal.signed-returns-clause-looser
+signed-returns-clause-looser t c = none_tighter c.in_ok-node.rest.now
 
 pub signed-returns-in_err-node-clause-read : goal.signed-returns-in_err-node-clause-read
 signed-returns-in_err-node-clause-read t c =

@@ -1,6 +1,6 @@
 use Rattle.std.proofs.Common.{◌<◌, ◌≤◌, ◌+◌, ◌-◌, ◌*◌, length, map}
 use Rattle.formula_syntax.specs.Tree.{tree_of}
-use Rattle.formula_syntax.proofs.Steps.{Leads, LeadsAll}
+use Rattle.formula_syntax.proofs.Steps.{Climbs, LeadsAll}
 use Rattle.formula_syntax.proofs.reading.+reading.Given as goal
 
 abbrev pub decreases-call : goal.decreases-call
@@ -31,7 +31,7 @@ abbrev pub invariant-expression-loop-op : goal.invariant-expression-loop-op
 invariant-expression-loop-op l = record {
   small : l.at < 4;
   within : length l.rest < length l.tokens;
-  leads : Leads l.at l.tokens (tree_of l.left) l.rest;
+  climbs : Climbs l.at l.tokens (tree_of l.left) l.rest;
 }
 
 abbrev pub decreases-expression-loop-op : goal.decreases-expression-loop-op

@@ -1,0 +1,176 @@
+-- What the functions mean, over the values of their parameters. The names are those of OpenFormula; where the meanings differ from it, these hold.
+use Rattle.std.specs.Prelude.{ℕ, ℤ, pos, neg_ℤ, ◌+ℤ◌, ◌*ℤ◌, int_lt, int_div, nat_abs, Bool, true, false, not, if◌then◌else◌, List, [], ◌∷◌, map, filter, fold, length, slice_index_or, Option, Some, None, Result, Ok, Err}
+use Rattle.std.specs.Int.{int_min, int_max, int_rem_euclid}
+use Rattle.std.specs.Ordering.{int_eq}
+use Rattle.value_core.specs.declared.value.ErrorKind.{ErrorKind}
+use Rattle.value_core.specs.declared.value.ErrorKind.TheVariants as error
+use Rattle.value_core.specs.declared.value.Value.{Value}
+use Rattle.value_core.specs.declared.value.Value.TheVariants.{Number, Truth, Error, Label}
+use Rattle.value_core.specs.Conversions.{as_number, as_truth, truth_number, in_range}
+use Rattle.formula_syntax.specs.declared.functions.Function.{Function}
+use Rattle.formula_syntax.specs.declared.functions.Function.TheVariants.{Sum, Product, Min, Max, Count, Counta, If, Iferror, And, Or, Not, Abs, Sign, Mod, Quotient, Iserror, Isnumber, Islogical, Istext, Isblank}
+use Rattle.formula_syntax.specs.declared.functions.Place.{Place}
+use Rattle.formula_syntax.specs.declared.functions.Place.TheVariants.{Sequence, Scalar, OnlyReference}
+use Rattle.formula_syntax.specs.Functions.{shape_of}
+use Rattle.formula_eval.specs.declared.items.Item.{Item}
+use Rattle.formula_eval.specs.declared.items.Item.TheVariants.{Cell, Alone}
+use Rattle.formula_eval.specs.Items.{Parameter, is_empty, items_of}
+
+-- what one value of a sequence adds to it: a number, nothing or an error
+abbrev pub Contribution : Type 0
+Contribution = Result (Option ℤ) ErrorKind
+
+abbrev pub some_of : {A : Type 0} → Result A ErrorKind → (A → ℤ) → Contribution
+some_of (Err kind) number = Err kind
+some_of (Ok value) number = Ok (Some (number value))
+
+-- in a sequence of numbers a cell that is no number is left out, and another parameter is taken as a number
+abbrev pub number_in : Item → Contribution
+number_in (Cell (Number n)) = Ok (Some n)
+number_in (Cell (Error kind)) = Err kind
+number_in (Cell _) = Ok None
+number_in (Alone value) = some_of (as_number value) (λ n. n)
+
+-- in a sequence of truths cells that are truths or numbers count, and another parameter is taken as a truth; FALSE is 0 and TRUE 1
+abbrev pub truth_in : Item → Contribution
+truth_in (Cell (Number n)) = some_of (as_truth (Number n)) truth_number
+truth_in (Cell (Truth truth)) = Ok (Some (truth_number truth))
+truth_in (Cell (Error kind)) = Err kind
+truth_in (Cell _) = Ok None
+truth_in (Alone value) = some_of (as_truth value) truth_number
+
+-- numbers alone are counted, and no error is handed on
+abbrev pub if_number : Value → Contribution
+if_number (Number n) = Ok (Some (pos 1))
+if_number _ = Ok None
+
+abbrev pub count_in : Item → Contribution
+count_in (Cell value) = if_number value
+count_in (Alone value) = if_number value
+
+-- what an item adds for a function
+abbrev pub contribution : Function → Item → Contribution
+contribution Count item = count_in item
+contribution Counta item = Ok (Some (pos 1))
+contribution And item = truth_in item
+contribution Or item = truth_in item
+contribution _ item = number_in item
+
+-- all that items add, or the first error
+abbrev pub added : Contribution → Result (List ℤ) ErrorKind → Result (List ℤ) ErrorKind
+added (Err kind) rest = Err kind
+added (Ok number) (Err kind) = Err kind
+added (Ok None) (Ok numbers) = Ok numbers
+added (Ok (Some number)) (Ok numbers) = Ok (number ∷ numbers)
+
+abbrev pub contributions : Function → List Item → Result (List ℤ) ErrorKind
+contributions f [] = Ok []
+contributions f (item ∷ rest) = added (contribution f item) (contributions f rest)
+
+-- the least and the greatest of numbers; 0 of none
+abbrev pub least : List ℤ → ℤ
+least [] = pos 0
+least (n ∷ rest) = fold int_min n rest
+
+abbrev pub greatest : List ℤ → ℤ
+greatest [] = pos 0
+greatest (n ∷ rest) = fold int_max n rest
+
+-- a truth that stands for a number, where there are any numbers
+abbrev pub truth_of_some : List ℤ → ℤ → Value
+truth_of_some [] n = Error error.Value
+truth_of_some (_ ∷ _) n = Truth (not (int_eq n (pos 0)))
+
+-- the result of a function of a sequence: AND is the least of the truths, and OR the greatest
+abbrev pub total_of : Function → List ℤ → Value
+total_of Sum numbers = in_range (fold ◌+ℤ◌ (pos 0) numbers)
+total_of Product numbers = in_range (fold ◌*ℤ◌ (pos 1) numbers)
+total_of Min numbers = Number (least numbers)
+total_of Max numbers = Number (greatest numbers)
+total_of And numbers = truth_of_some numbers (least numbers)
+total_of Or numbers = truth_of_some numbers (greatest numbers)
+total_of _ numbers = Number (pos (length numbers))
+
+abbrev pub or_error : {A : Type 0} → Result A ErrorKind → (A → Value) → Value
+or_error (Err kind) value = Error kind
+or_error (Ok a) value = value a
+
+abbrev pub sequence_value : Function → List Item → Value
+sequence_value f items = or_error (contributions f items) (total_of f)
+
+-- how many cells of a range are empty
+abbrev pub empty_cells : Option (List Value) → Value
+empty_cells None = Number (pos 0)
+empty_cells (Some cells) = Number (pos (length (filter is_empty cells)))
+
+abbrev pub blank_count : List Parameter → Value
+blank_count [] = Number (pos 0)
+blank_count (parameter ∷ _) = empty_cells parameter.cells
+
+-- two numbers, of which the left one's error wins
+abbrev pub on_both : Result ℤ ErrorKind → Result ℤ ErrorKind → (ℤ → ℤ → Value) → Value
+on_both (Err kind) right value = Error kind
+on_both (Ok m) (Err kind) value = Error kind
+on_both (Ok m) (Ok n) value = value m n
+
+abbrev pub chosen : Bool → Value → Value → Value
+chosen true first second = first
+chosen false first second = second
+
+abbrev pub unless_error : Value → Value → Value
+unless_error (Error kind) other = other
+unless_error value other = value
+
+abbrev pub sign_of : ℤ → ℤ
+sign_of n = if int_lt n (pos 0) then neg_ℤ (pos 1) else (if int_eq n (pos 0) then pos 0 else pos 1)
+
+-- the remainder with the divisor's sign: `m - n * floor(m / n)`
+abbrev pub floor_remainder : ℤ → ℤ → ℤ
+floor_remainder m n = if int_lt n (pos 0) then neg_ℤ (int_rem_euclid (neg_ℤ m) (neg_ℤ n)) else int_rem_euclid m n
+
+abbrev pub divided : (ℤ → ℤ → ℤ) → ℤ → ℤ → Value
+divided f m n = if int_eq n (pos 0) then Error error.Div0 else in_range (f m n)
+
+abbrev pub is_error : Value → Bool
+is_error (Error kind) = true
+is_error _ = false
+
+abbrev pub is_number : Value → Bool
+is_number (Number n) = true
+is_number _ = false
+
+abbrev pub is_truth : Value → Bool
+is_truth (Truth truth) = true
+is_truth _ = false
+
+abbrev pub is_label : Value → Bool
+is_label (Label place) = true
+is_label _ = false
+
+-- the result of a function of scalars, of which there are up to three; one that isn't written is FALSE
+abbrev pub scalar_value : Function → Value → Value → Value → Value
+scalar_value If a b c = or_error (as_truth a) (λ truth. chosen truth b c)
+scalar_value Iferror a b c = unless_error a b
+scalar_value Not a b c = or_error (as_truth a) (λ truth. Truth (not truth))
+scalar_value Abs a b c = or_error (as_number a) (λ n. Number (pos (nat_abs n)))
+scalar_value Sign a b c = or_error (as_number a) (λ n. Number (sign_of n))
+scalar_value Mod a b c = on_both (as_number a) (as_number b) (divided floor_remainder)
+scalar_value Quotient a b c = on_both (as_number a) (as_number b) (divided int_div)
+scalar_value Iserror a b c = Truth (is_error a)
+scalar_value Isnumber a b c = Truth (is_number a)
+scalar_value Islogical a b c = Truth (is_truth a)
+scalar_value Istext a b c = Truth (is_label a)
+scalar_value Isblank a b c = Truth (is_empty a)
+scalar_value _ a b c = Error error.Na
+
+abbrev pub scalar_at : List Parameter → ℕ → Value
+scalar_at parameters i = slice_index_or (map (λ (p : Parameter). p.scalar) parameters) i (Truth false)
+
+abbrev pub by_place : Place → Function → List Parameter → Value
+by_place Sequence f parameters = sequence_value f (items_of parameters)
+by_place OnlyReference f parameters = blank_count parameters
+by_place Scalar f parameters = scalar_value f (scalar_at parameters 0) (scalar_at parameters 1) (scalar_at parameters 2)
+
+-- the value of a call
+abbrev pub function_value : Function → List Parameter → Value
+function_value f parameters = by_place (shape_of f).place f parameters

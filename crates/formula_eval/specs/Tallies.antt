@@ -1,0 +1,57 @@
+-- What a tally keeps of the numbers of a sequence.
+use Rattle.std.specs.Prelude.{◌≡◌, ℕ, ℤ, pos, ◌+ℤ◌, ◌*ℤ◌, nat_abs, ◌+◌, ◌*◌, ◌^◌, ◌≤◌, Bool, true, false, List, [], ◌∷◌, ◌++◌, length, fold, Option, Some, None, Ok}
+use Rattle.value_core.specs.Wholes.{IsWhole}
+use Rattle.formula_syntax.specs.declared.functions.Function.{Function}
+use Rattle.formula_syntax.specs.declared.functions.Function.TheVariants as function
+use Rattle.formula_eval.specs.declared.items.Item.{Item}
+use Rattle.formula_eval.specs.declared.tally.Running.{Running}
+use Rattle.formula_eval.specs.declared.tally.Running.TheVariants.{Sum, Product, Least, Greatest, All, Any, Count}
+use Rattle.formula_eval.specs.declared.tally.Tally.{Tally}
+use Rattle.formula_eval.specs.Functions.{least, greatest, contributions}
+
+-- the magnitude of a sum
+abbrev pub sum_size : Running → ℕ
+sum_size (Sum total) = nat_abs total
+sum_size _ = 0
+
+abbrev pub is_counting : Function → Bool
+is_counting function.Count = true
+is_counting function.Counta = true
+is_counting _ = false
+
+-- whether there are no numbers
+abbrev pub are_none : List ℤ → Bool
+are_none [] = true
+are_none (_ ∷ _) = false
+
+-- what is kept of a product: itself, or that it is out of range
+abbrev pub KeepsProduct : Option ℤ → ℤ → Type 0
+KeepsProduct (Some kept) product = kept ≡ product
+KeepsProduct None product = IsWhole product → ⊥
+
+-- what is kept of numbers for a function
+abbrev pub Keeps : Function → Running → List ℤ → Type 0
+Keeps f (Sum total) numbers = (f ≡ function.Sum) × (total ≡ fold ◌+ℤ◌ (pos 0) numbers)
+Keeps f (Product product) numbers = (f ≡ function.Product) × KeepsProduct product (fold ◌*ℤ◌ (pos 1) numbers)
+Keeps f (Least m) numbers = (f ≡ function.Min) × (m ≡ least numbers)
+Keeps f (Greatest m) numbers = (f ≡ function.Max) × (m ≡ greatest numbers)
+Keeps f (All m) numbers = (f ≡ function.And) × (m ≡ least numbers)
+Keeps f (Any m) numbers = (f ≡ function.Or) × (m ≡ greatest numbers)
+Keeps f Count numbers = is_counting f ≡ true
+
+-- a tally of numbers
+pub record Tallies (f : Function) (tally : Tally) (numbers : List ℤ) : Type 0 where
+  pub count : tally.count ≡ length numbers
+  pub keeps : Keeps f tally.running numbers
+
+-- a sum is no larger than its numbers can make it
+pub record IsBounded (tally : Tally) : Type 0 where
+  pub small : sum_size tally.running ≤ tally.count * 2 ^ 53
+
+-- a tally after more items, none of which is an error
+pub record Adds (f : Function) (old new : Tally) (items : List Item) : Type 0 where
+  pub numbers : List ℤ
+  pub given : contributions f items ≡ Ok numbers
+  pub tallied : (before : List ℤ) → Tallies f old before → Tallies f new (before ++ numbers)
+  pub bounded : IsBounded new
+  pub count : new.count ≤ old.count + length items

@@ -1,0 +1,65 @@
+ghost use Rattle.std.specs.Prelude.{◌≡◌, ◌<◌, ◌≤◌, ◌+◌, ◌^◌, IsTrue, OnOk, IfErr, Err, map, [], ◌∷◌};
+ghost use Rattle.sheet_refs.specs.Cells.{cells_of};
+ghost use Rattle.sheet_refs.specs.Sizes.{is_inside};
+ghost use Rattle.formula_eval.specs.Functions.{contributions};
+ghost use Rattle.formula_eval.specs.Inputs.{IsPlainRange, IsKnownPlain, seen};
+ghost use Rattle.formula_eval.specs.Items.{items_of_cells};
+ghost use Rattle.formula_eval.specs.Tallies.{Adds, IsBounded};
+
+use crate::inputs::Inputs;
+use crate::items::Item;
+use crate::scan::sizes;
+use crate::tally::{Tally, add};
+use formula_syntax::Function;
+use sheet_refs::{Cell, Range};
+use value_core::{ErrorKind, Value, decode};
+
+/// The value of a cell of the rectangle.
+pub(crate) fn value_at<I: Inputs>(inputs: &I, cell: Cell) -> Value
+    requires inside { IsTrue (is_inside (I.sizes inputs.now) cell) }
+    requires known { IsKnownPlain (I.codes inputs.now) cell }
+    ensures { result ≡ seen (I.sizes inputs.now) (I.codes inputs.now) cell }
+{
+    let word = inputs.get(cell).unwrap();
+    decode(word).unwrap()
+}
+
+/// Adds the cells of a range to the sequence of a function, row by row, up to the first error that is
+/// handed on. It looks at each cell of the rectangle once; cells past it take no time.
+pub(crate) fn add_cells<I: Inputs>(
+    inputs: &I,
+    function: Function,
+    range: Range,
+    tally: &mut Tally,
+) -> Result<(), ErrorKind>
+    requires plain { IsPlainRange (I.sizes inputs.now) (I.codes inputs.now) range }
+    requires bounded { IsBounded tally.old }
+    requires room { tally.old.count < 2 ^ 59 }
+    ensures ok { OnOk result (Adds function tally.old tally.new
+        (items_of_cells (map (seen (I.sizes inputs.now) (I.codes inputs.now)) (cells_of range)))) }
+    ensures few { OnOk result (tally.new.count ≤ tally.old.count + 17179869184) }
+    ensures err { IfErr result (λ kind. contributions function
+        (items_of_cells (map (seen (I.sizes inputs.now) (I.codes inputs.now)) (cells_of range))) ≡ Err kind) }
+{
+    let Some(part) = sizes(inputs).clip(range) else {
+        return Ok(());
+    };
+    for place in 0..part.cells() {
+        let value = value_at(inputs, part.cell_at(place));
+        add_cell(function, value, tally)?;
+    }
+    Ok(())
+}
+
+// Adds one cell of a range; an empty one adds nothing.
+fn add_cell(function: Function, value: Value, tally: &mut Tally) -> Result<(), ErrorKind>
+    requires bounded { IsBounded tally.old }
+    requires room { tally.old.count < 2 ^ 60 }
+    ensures ok { OnOk result (Adds function tally.old tally.new (items_of_cells (value ∷ []))) }
+    ensures err { IfErr result (λ kind. contributions function (items_of_cells (value ∷ [])) ≡ Err kind) }
+{
+    match &value {
+        Value::Empty => Ok(()),
+        _ => add(function, Item::Cell(value), tally),
+    }
+}

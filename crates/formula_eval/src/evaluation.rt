@@ -1,0 +1,49 @@
+ghost use Rattle.std.specs.Prelude.{◌≡◌, ◌↔◌, None, IfOk, IfErr, IsErr};
+ghost use Rattle.value_core.specs.declared.value.Value.TheVariants.{Error};
+ghost use Rattle.value_core.specs.declared.value.ErrorKind.TheVariants.{Circ};
+ghost use Rattle.formula_eval.specs.Meaning.{IsFormulaValue};
+ghost use Rattle.formula_eval.specs.Stops.{IsMissing, stop_cell, stop_code};
+
+use crate::inputs::{Inputs, Missing};
+use crate::machine::value;
+use crate::scan::{Stop, scan};
+use crate::stack::Stack;
+use formula_syntax::Formula;
+use sheet_refs::Cell;
+use value_core::{ErrorKind, Value, never_empty};
+
+/// The value of a formula: `#CIRC!` where a cell that it names has that value, and else what it means. A
+/// cell past the rectangle is empty.
+///
+/// Refuses only with a cell that the formula names, that lies in the rectangle and whose value isn't
+/// known: so it answers a value wherever all such cells are known. It takes no memory, and looks at each
+/// cell at most twice each time that the formula names it; cells past the rectangle take no time. Left
+/// operands and signs are walked by loops; right operands and parameters by calls, which nest no deeper
+/// than parentheses and the levels of operators do.
+pub fn eval<I: Inputs>(formula: &Formula, inputs: &I, stack: &mut Stack) -> Result<Value, Missing>
+    ensures value { IfOk result (IsFormulaValue (I.sizes inputs.now) (I.codes inputs.now) formula.now) }
+    ensures missing { IfErr result
+        (λ missing. IsMissing (I.sizes inputs.now) (I.codes inputs.now) formula.now missing.cell) }
+{
+    let root = formula.root();
+    if let Err(stop) = scan(inputs, root) {
+        return stopped(stop);
+    }
+    let value = value(inputs, root, &mut stack.pending);
+    Ok(never_empty(value))
+}
+
+// What evaluation answers at a cell that it can't read past.
+fn stopped(stop: Stop) -> Result<Value, Missing>
+    ensures circular { IfOk result (λ v. v ≡ Error Circ) }
+    ensures missing { IfErr result (λ missing. missing.cell ≡ stop_cell stop) }
+    ensures kind { stop_code stop ≡ None ↔ IsErr result }
+{
+    match &stop {
+        Stop::Missing(cell) => {
+            let cell: Cell = *cell;
+            Err(Missing { cell })
+        }
+        Stop::Circular(_) => Ok(Value::Error(ErrorKind::Circ)),
+    }
+}

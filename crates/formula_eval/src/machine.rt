@@ -1,0 +1,250 @@
+ghost use Rattle.std.specs.Prelude.{◌≡◌, ◌≤◌, ◌<◌, ◌+◌, ◌^◌, ◌++◌, length, vec_len, vec_capacity, List, IfErr, OnOk, Err, MatchOption};
+ghost use Rattle.formula_syntax.specs.Tree.{tree_of, trees_of, references_of, all_references, node_count, all_nodes, reference};
+ghost use Rattle.formula_syntax.specs.Functions.{shape_of};
+ghost use Rattle.formula_syntax.specs.declared.functions.Place.TheVariants.{Sequence as SequencePlace};
+ghost use Rattle.formula_eval.specs.Functions.{function_value, sequence_value, contributions, scalar_at, blank_count};
+ghost use Rattle.formula_eval.specs.Inputs.{ArePlain, IsPlainRange, seen};
+ghost use Rattle.formula_eval.specs.Items.{items_of, items_of_parameter};
+ghost use Rattle.formula_eval.specs.Meaning.{meaning, parameter_values, parameter_value, IsNoReference, scalar_of_range};
+ghost use Rattle.formula_eval.specs.Pending.{unwound, applied};
+ghost use Rattle.formula_eval.specs.Tallies.{Adds, IsBounded};
+ghost use Rattle.formula_eval.specs.declared.machine.Pending.{Pending as PendingOperator};
+
+use crate::cells::{add_cells, value_at};
+use crate::inputs::Inputs;
+use crate::items::Item;
+use crate::scalars::scalar_value;
+use crate::scan::sizes;
+use crate::tally::{Tally, add};
+use formula_syntax::{Function, Node, Place};
+use sheet_refs::{Range, Ref};
+use value_core::{BinaryOp, ErrorKind, PrefixOp, Value, binary, in_range, never_empty, prefix};
+
+/// An operator that waits for the value of the operand at its right or of its left operand.
+#[derive(Clone, Copy)]
+pub(crate) enum Pending {
+    Prefix(PrefixOp),
+    /// The operator, and the value of its right operand.
+    Binary(BinaryOp, Value),
+}
+
+fn apply(pending: Pending, value: Value) -> Value
+    ensures { result ≡ applied pending value }
+{
+    match &pending {
+        Pending::Prefix(op) => prefix(*op, value),
+        Pending::Binary(op, right) => binary(*op, value, *right),
+    }
+}
+
+// Applies all that waits past the first ones, the last first.
+fn unwind(pending: &mut Vec<Pending>, first: usize, value: Value) -> Value
+    ensures value { (front rest : List PendingOperator)
+        → pending.old.items ≡ front ++ rest → length front ≡ first → result ≡ unwound rest value }
+    ensures items { (front rest : List PendingOperator)
+        → pending.old.items ≡ front ++ rest → length front ≡ first → pending.new.items ≡ front }
+    ensures capacity { vec_capacity pending.new ≡ vec_capacity pending.old }
+{
+    let mut value = value;
+    while pending.len() > first {
+        let Some(last) = pending.pop() else {
+            return value;
+        };
+        value = apply(last, value);
+    }
+    value
+}
+
+// The value of a range where one value is wanted.
+fn scalar_of<I: Inputs>(inputs: &I, range: Range) -> Value
+    requires { IsPlainRange (I.sizes inputs.now) (I.codes inputs.now) range }
+    ensures { result ≡ scalar_of_range (seen (I.sizes inputs.now) (I.codes inputs.now)) range }
+{
+    let head = range.head();
+    if head != range.tail() {
+        return Value::Error(ErrorKind::Value);
+    }
+    if sizes(inputs).holds(head) {
+        value_at(inputs, head)
+    } else {
+        Value::Empty
+    }
+}
+
+// The reference that a tree is, if it is one.
+fn as_reference(node: &Node) -> Option<Ref>
+    ensures { MatchOption result (IsNoReference (tree_of node.now)) (λ r. tree_of node.now ≡ reference r) }
+{
+    match node {
+        Node::Reference(r) => Some(*r),
+        Node::Number(_) | Node::Truth(_) | Node::Error(_) => None,
+        Node::Prefix(_, _) => None,
+        Node::Binary(_, _, _) => None,
+        Node::Call(_, _) => None,
+    }
+}
+
+/// The value of a tree, over values that are all held. It goes down left operands by a loop, and looks at
+/// each node once. What waited before waits afterwards.
+#[cycle(machine)]
+pub(crate) fn value<I: Inputs>(inputs: &I, root: &Node, pending: &mut Vec<Pending>) -> Value
+    requires plain { ArePlain (I.sizes inputs.now) (I.codes inputs.now) (references_of (tree_of root.now)) }
+    requires small { node_count (tree_of root.now) ≤ 8192 }
+    requires room { vec_len pending.old + node_count (tree_of root.now) ≤ vec_capacity pending.old }
+    ensures value { result ≡ meaning (seen (I.sizes inputs.now) (I.codes inputs.now)) (tree_of root.now) }
+    ensures items { pending.new.items ≡ pending.old.items }
+    ensures capacity { vec_capacity pending.new ≡ vec_capacity pending.old }
+{
+    let first = pending.len();
+    let mut node = root;
+    loop {
+        match node {
+            Node::Number(number) => return unwind(pending, first, Value::Number(*number)),
+            Node::Truth(truth) => return unwind(pending, first, Value::Truth(*truth)),
+            Node::Error(kind) => return unwind(pending, first, Value::Error(*kind)),
+            Node::Reference(r) => {
+                let value = scalar_of(inputs, r.range());
+                return unwind(pending, first, value);
+            }
+            Node::Prefix(op, operand) => {
+                pending.push_reserved(Pending::Prefix(*op));
+                node = operand;
+            }
+            Node::Binary(op, left, right) => {
+                let right = value(inputs, right, pending);
+                pending.push_reserved(Pending::Binary(*op, right));
+                node = left;
+            }
+            Node::Call(function, parameters) => {
+                let value = call(inputs, *function, parameters.items(), pending);
+                return unwind(pending, first, never_empty(value));
+            }
+        }
+    }
+}
+
+// The value of a function of parameters.
+#[cycle(machine)]
+fn call<I: Inputs>(
+    inputs: &I,
+    function: Function,
+    parameters: &[Node],
+    pending: &mut Vec<Pending>,
+) -> Value
+    requires plain { ArePlain (I.sizes inputs.now) (I.codes inputs.now) (all_references (trees_of parameters.now)) }
+    requires small { all_nodes (trees_of parameters.now) < 8192 }
+    requires room { vec_len pending.old + all_nodes (trees_of parameters.now) ≤ vec_capacity pending.old }
+    ensures value { result ≡ function_value function
+        (parameter_values (seen (I.sizes inputs.now) (I.codes inputs.now)) (trees_of parameters.now)) }
+    ensures items { pending.new.items ≡ pending.old.items }
+    ensures capacity { vec_capacity pending.new ≡ vec_capacity pending.old }
+{
+    match function.place() {
+        Place::Sequence => sequence(inputs, function, parameters, pending),
+        Place::OnlyReference => count_blank(inputs, parameters),
+        Place::Scalar => {
+            let first = scalar(inputs, parameters, 0, pending);
+            let second = scalar(inputs, parameters, 1, pending);
+            let third = scalar(inputs, parameters, 2, pending);
+            scalar_value(function, first, second, third)
+        }
+    }
+}
+
+// The value of a parameter, from 0; FALSE for one that isn't written.
+#[cycle(machine)]
+fn scalar<I: Inputs>(
+    inputs: &I,
+    parameters: &[Node],
+    place: usize,
+    pending: &mut Vec<Pending>,
+) -> Value
+    requires plain { ArePlain (I.sizes inputs.now) (I.codes inputs.now) (all_references (trees_of parameters.now)) }
+    requires small { all_nodes (trees_of parameters.now) < 8192 }
+    requires room { vec_len pending.old + all_nodes (trees_of parameters.now) ≤ vec_capacity pending.old }
+    ensures value { result ≡ scalar_at
+        (parameter_values (seen (I.sizes inputs.now) (I.codes inputs.now)) (trees_of parameters.now)) place }
+    ensures items { pending.new.items ≡ pending.old.items }
+    ensures capacity { vec_capacity pending.new ≡ vec_capacity pending.old }
+{
+    if place < parameters.len() {
+        value(inputs, &parameters[place], pending)
+    } else {
+        Value::Truth(false)
+    }
+}
+
+// The value of a function of a sequence. It looks at each cell of the parameters' ranges once, up to the
+// first error.
+#[cycle(machine)]
+fn sequence<I: Inputs>(
+    inputs: &I,
+    function: Function,
+    parameters: &[Node],
+    pending: &mut Vec<Pending>,
+) -> Value
+    requires place { (shape_of function).place ≡ SequencePlace }
+    requires plain { ArePlain (I.sizes inputs.now) (I.codes inputs.now) (all_references (trees_of parameters.now)) }
+    requires small { all_nodes (trees_of parameters.now) < 8192 }
+    requires room { vec_len pending.old + all_nodes (trees_of parameters.now) ≤ vec_capacity pending.old }
+    ensures value { result ≡ sequence_value function
+        (items_of (parameter_values (seen (I.sizes inputs.now) (I.codes inputs.now)) (trees_of parameters.now))) }
+    ensures items { pending.new.items ≡ pending.old.items }
+    ensures capacity { vec_capacity pending.new ≡ vec_capacity pending.old }
+{
+    let mut tally = Tally::new(function);
+    for parameter in parameters {
+        if let Err(kind) = add_parameter(inputs, function, parameter, pending, &mut tally) {
+            return Value::Error(kind);
+        }
+    }
+    tally.finish()
+}
+
+// Adds a parameter to the sequence of a function.
+#[cycle(machine)]
+fn add_parameter<I: Inputs>(
+    inputs: &I,
+    function: Function,
+    parameter: &Node,
+    pending: &mut Vec<Pending>,
+    tally: &mut Tally,
+) -> Result<(), ErrorKind>
+    requires plain { ArePlain (I.sizes inputs.now) (I.codes inputs.now) (references_of (tree_of parameter.now)) }
+    requires small { node_count (tree_of parameter.now) ≤ 8192 }
+    requires room { vec_len pending.old + node_count (tree_of parameter.now) ≤ vec_capacity pending.old }
+    requires bounded { IsBounded tally.old }
+    requires few { tally.old.count < 2 ^ 59 }
+    ensures ok { OnOk result (Adds function tally.old tally.new (items_of_parameter
+        (parameter_value (seen (I.sizes inputs.now) (I.codes inputs.now)) (tree_of parameter.now)))) }
+    ensures few { OnOk result (tally.new.count ≤ tally.old.count + 17179869184) }
+    ensures err { IfErr result (λ kind. contributions function (items_of_parameter
+        (parameter_value (seen (I.sizes inputs.now) (I.codes inputs.now)) (tree_of parameter.now))) ≡ Err kind) }
+    ensures items { pending.new.items ≡ pending.old.items }
+    ensures capacity { vec_capacity pending.new ≡ vec_capacity pending.old }
+{
+    match as_reference(parameter) {
+        Some(r) => add_cells(inputs, function, r.range(), tally),
+        None => {
+            let value = value(inputs, parameter, pending);
+            add(function, Item::Alone(value), tally)
+        }
+    }
+}
+
+// How many cells of a range are empty, those past the rectangle too.
+fn count_blank<I: Inputs>(inputs: &I, parameters: &[Node]) -> Value
+    requires plain { ArePlain (I.sizes inputs.now) (I.codes inputs.now) (all_references (trees_of parameters.now)) }
+    ensures { result ≡ blank_count
+        (parameter_values (seen (I.sizes inputs.now) (I.codes inputs.now)) (trees_of parameters.now)) }
+{
+    if parameters.is_empty() {
+        return in_range(0);
+    }
+    let Some(r) = as_reference(&parameters[0]) else {
+        return in_range(0);
+    };
+    let mut tally = Tally::new(Function::Counta);
+    let _ = add_cells(inputs, Function::Counta, r.range(), &mut tally);
+    in_range((r.range().cells() - tally.count) as i64)
+}

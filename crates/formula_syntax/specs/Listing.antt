@@ -1,0 +1,36 @@
+-- The ranges of a formula: each once, in the order in which they first stand.
+use Rattle.std.specs.Prelude.{◌≡◌, ℕ, ◌+◌, ◌<◌, List, [], ◌∷◌, ◌++◌, Contains, map}
+use Rattle.std.specs.Borrow.{Bor}
+use Rattle.sheet_refs.specs.Cells.{Corners}
+use Rattle.sheet_refs.specs.Ends.{Reference, corners_of}
+use Rattle.formula_syntax.specs.declared.tree.Node.{Node}
+use Rattle.formula_syntax.specs.Tree.{Tree, references_of, all_references, trees_of}
+use Rattle.formula_syntax.specs.Printing.{all_pieces}
+
+-- the ranges of a list, each once in the order in which it first stands: one that stood before adds nothing
+pub data IsOnceEach : List Corners → List Corners → Type 0 where
+  nothing : IsOnceEach [] []
+  again : (all ranges longer : List Corners) (range : Corners) → IsOnceEach all ranges → Contains all range → longer ≡ all ++ range ∷ [] → IsOnceEach longer ranges
+  first : (all ranges longer more : List Corners) (range : Corners) → IsOnceEach all ranges → ¬ Contains all range → longer ≡ all ++ range ∷ [] → more ≡ ranges ++ range ∷ [] → IsOnceEach longer more
+
+-- the ranges that a tree names, as they are written
+abbrev pub ranges_of : Tree → List Corners
+ranges_of tree = map corners_of (references_of tree)
+
+-- the references of the nodes that are left, of which the last list comes first; and a bound on the lists to come
+abbrev pub references_left : List (Bor (List Node)) → List Reference
+references_left [] = []
+references_left (nodes ∷ rest) = references_left rest ++ all_references (trees_of nodes.now)
+
+abbrev pub lists_left : List (Bor (List Node)) → ℕ
+lists_left [] = 0
+lists_left (nodes ∷ rest) = 1 + all_pieces (trees_of nodes.now) + lists_left rest
+
+-- some references are listed up to a place, and the others are left as nodes of fewer lists
+pub record Lists (own : List Reference) (count : ℕ) (left next : List (Bor (List Node))) (ranges more : List Corners) : Type 0 where
+  pub said : List Reference
+  pub added : List (Bor (List Node))
+  pub kept : next ≡ left ++ added
+  pub whole : own ≡ said ++ references_left added
+  pub fewer : lists_left added < count
+  pub listed : (all : List Corners) → IsOnceEach all ranges → IsOnceEach (all ++ map corners_of said) more
