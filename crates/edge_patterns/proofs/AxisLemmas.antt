@@ -13,10 +13,10 @@ use Rattle.edge_patterns.proofs.Crossings.{cell_again}
 
 -- the pairs of an edge by a direction
 pub record IsPairAlong (axis : Axis) (edge : EdgeValue) (range : Corners) (cell : Position) : Type 0 where
-  pub place : ℕ
-  pub within : place < count_along axis edge.dep
-  pub cell_is : cell ≡ cell_along axis edge.dep place
-  pub range_is : range ≡ range_along axis edge place
+  pub index : ℕ
+  pub within : index < count_along axis edge.dep
+  pub cell_is : cell ≡ cell_along axis edge.dep index
+  pub range_is : range ≡ range_along axis edge index
 
 -- cells with the same coordinates are the same
 pub same_position : (a b : Position) → a.row ≡ b.row → a.col ≡ b.col → a ≡ b
@@ -60,17 +60,17 @@ module _ (edge : EdgeValue) (is : IsEdge edge) (axis : Axis) (line : IsLine axis
     where
       either : (axis_of edge.dep ≡ axis) ⊎ (edge.dep.head ≡ edge.dep.tail) → IsPairAlong axis edge range cell
       either (inl same) =
-          subst (λ (direction : Axis). IsPairAlong direction edge range cell) same (record { place = pair.place; within = pair.within; cell_is = pair.cell_is; range_is = pair.range_is })
+          subst (λ (direction : Axis). IsPairAlong direction edge range cell) same (record { index = pair.index; within = pair.within; cell_is = pair.cell_is; range_is = pair.range_is })
       either (inr cell_alone) =
           let one = count_one (axis_of edge.dep) edge.dep cell_alone in
           let single = one_cell (axis_of edge.dep) edge.pattern edge is.shape one in
-          let place : pair.place ≡ 0 = let within = pair.within in omega (arith, within, one) in
+          let index : pair.index ≡ 0 = let within = pair.within in omega (arith, within, one) in
           let here = count_one axis edge.dep cell_alone in
           record {
-            place = 0;
+            index = 0;
             within = omega (arith, here);
-            cell_is = pair.cell_is ∙ ap (run_cell edge) place ∙ first_cell (axis_of edge.dep) edge.dep ∙ sym (first_cell axis edge.dep);
-            range_is = pair.range_is ∙ ap (range_at edge) place ∙ single_range (axis_of edge.dep) edge single ∙ sym (single_range axis edge single);
+            cell_is = pair.cell_is ∙ ap (run_cell edge) index ∙ first_cell (axis_of edge.dep) edge.dep ∙ sym (first_cell axis edge.dep);
+            range_is = pair.range_is ∙ ap (range_at edge) index ∙ single_range (axis_of edge.dep) edge single ∙ sym (single_range axis edge single);
           }
 
   pub from_along : (range : Corners) (cell : Position) → IsPairAlong axis edge range cell → IsPair edge range cell
@@ -79,15 +79,15 @@ module _ (edge : EdgeValue) (is : IsEdge edge) (axis : Axis) (line : IsLine axis
       either : (axis_of edge.dep ≡ axis) ⊎ (edge.dep.head ≡ edge.dep.tail) → IsPair edge range cell
       either (inl same) =
           let there = subst (λ (direction : Axis). IsPairAlong direction edge range cell) (sym same) pair in
-          record { place = there.place; within = there.within; cell_is = there.cell_is; range_is = there.range_is }
+          record { index = there.index; within = there.within; cell_is = there.cell_is; range_is = there.range_is }
       either (inr cell_alone) =
           let one = count_one (axis_of edge.dep) edge.dep cell_alone in
           let single = one_cell (axis_of edge.dep) edge.pattern edge is.shape one in
           let here = count_one axis edge.dep cell_alone in
-          let place : pair.place ≡ 0 = let within = pair.within in omega (arith, within, here) in
+          let index : pair.index ≡ 0 = let within = pair.within in omega (arith, within, here) in
           record {
-            place = 0;
+            index = 0;
             within = omega (arith, one);
-            cell_is = pair.cell_is ∙ ap (cell_along axis edge.dep) place ∙ first_cell axis edge.dep ∙ sym (first_cell (axis_of edge.dep) edge.dep);
-            range_is = pair.range_is ∙ ap (range_along axis edge) place ∙ single_range axis edge single ∙ sym (single_range (axis_of edge.dep) edge single);
+            cell_is = pair.cell_is ∙ ap (cell_along axis edge.dep) index ∙ first_cell axis edge.dep ∙ sym (first_cell (axis_of edge.dep) edge.dep);
+            range_is = pair.range_is ∙ ap (range_along axis edge) index ∙ single_range axis edge single ∙ sym (single_range (axis_of edge.dep) edge single);
           }

@@ -51,13 +51,13 @@ overlap Down a b a_ordered b_ordered is = overlap_from a b a_ordered b_ordered (
 overlap Right a b a_ordered b_ordered is = overlap_from a b a_ordered b_ordered (record { rows = is.left; rows_back = is.right; cols = is.begins; cols_back = is.ends })
 
 -- the coordinates of a cell that is made of them, and the cell that is made of a cell's
-pub along_of : (axis : Axis) (line place : ℕ) → along axis (position_at axis line place) ≡ line
-along_of Down line place = refl
-along_of Right line place = refl
+pub along_of : (axis : Axis) (line index : ℕ) → along axis (position_at axis line index) ≡ line
+along_of Down line index = refl
+along_of Right line index = refl
 
-pub across_of : (axis : Axis) (line place : ℕ) → across axis (position_at axis line place) ≡ place
-across_of Down line place = refl
-across_of Right line place = refl
+pub across_of : (axis : Axis) (line index : ℕ) → across axis (position_at axis line index) ≡ index
+across_of Down line index = refl
+across_of Right line index = refl
 
 pub cell_again : (axis : Axis) (cell : Position) → position_at axis (along axis cell) (across axis cell) ≡ cell
 cell_again Down cell = refl

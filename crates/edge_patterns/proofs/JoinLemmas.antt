@@ -31,15 +31,15 @@ shape_along edge is axis line = either (line_or_cell axis edge.dep line)
         let single = one_cell (axis_of edge.dep) edge.pattern edge is.shape (count_one (axis_of edge.dep) edge.dep alone) in
         subst (λ (pattern : Pattern). IsShapeOf axis pattern edge) (sym single) (count_one axis edge.dep alone)
 
-pub range_either : (edge : EdgeValue) → IsEdge edge → (axis : Axis) → IsLine axis edge.dep → (place : ℕ) → place < run_length edge → range_at edge place ≡ range_along axis edge place
-range_either edge is axis line place within = either (line_or_cell axis edge.dep line)
+pub range_either : (edge : EdgeValue) → IsEdge edge → (axis : Axis) → IsLine axis edge.dep → (index : ℕ) → index < run_length edge → range_at edge index ≡ range_along axis edge index
+range_either edge is axis line index within = either (line_or_cell axis edge.dep line)
   where
-    either : (axis_of edge.dep ≡ axis) ⊎ (edge.dep.head ≡ edge.dep.tail) → range_at edge place ≡ range_along axis edge place
-    either (inl same) = ap (λ (direction : Axis). range_along direction edge place) same
+    either : (axis_of edge.dep ≡ axis) ⊎ (edge.dep.head ≡ edge.dep.tail) → range_at edge index ≡ range_along axis edge index
+    either (inl same) = ap (λ (direction : Axis). range_along direction edge index) same
     either (inr alone) =
         let one = count_one (axis_of edge.dep) edge.dep alone in
         let single = one_cell (axis_of edge.dep) edge.pattern edge is.shape one in
-        let first : place ≡ 0 = omega (arith, within, one) in
+        let first : index ≡ 0 = omega (arith, within, one) in
         ap (range_at edge) first ∙ single_range (axis_of edge.dep) edge single ∙ sym (single_range axis edge single) ∙ ap (range_along axis edge) (sym first)
 
 pub length_either : (edge : EdgeValue) (axis : Axis) → IsLine axis edge.dep → run_length edge ≡ count_along axis edge.dep

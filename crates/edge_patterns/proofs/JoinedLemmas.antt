@@ -79,50 +79,50 @@ ends_tell axis dep first last a b line several has other =
     let same : edge_of a.dep a.prec a.pattern ≡ edge_of b.dep b.prec b.pattern = rw (has.dep_is, other.dep_is, prec, pattern) refl in
     same
 
-module _ (axis : Axis) (front back : EdgeValue) (front_is : IsEdge front) (back_is : IsEdge back) (follows : Follows axis front.dep back.dep) where
+module _ (axis : Axis) (front rear : EdgeValue) (front_is : IsEdge front) (rear_is : IsEdge rear) (follows : Follows axis front.dep rear.dep) where
   -- the run of both
   abbrev pub whole : Corners
-  whole = record { head = front.dep.head; tail = back.dep.tail }
+  whole = record { head = front.dep.head; tail = rear.dep.tail }
 
   pub whole_line : IsLine axis whole
-  whole_line = follows.same_line ∙ follows.back_line
+  whole_line = follows.same_line ∙ follows.rear_line
 
-  pub whole_count : count_along axis whole ≡ count_along axis front.dep + count_along axis back.dep
+  pub whole_count : count_along axis whole ≡ count_along axis front.dep + count_along axis rear.dep
   whole_count =
       let a = ordered axis front.dep front_is.dep.ordered in
-      let b = ordered axis back.dep back_is.dep.ordered in
+      let b = ordered axis rear.dep rear_is.dep.ordered in
       let front_line = a.line in
-      let back_line = b.line in
+      let rear_line = b.line in
       let next = follows.next in
-      omega (arith, front_line, back_line, next)
+      omega (arith, front_line, rear_line, next)
 
   pub front_some : 0 < count_along axis front.dep
   front_some = let a = ordered axis front.dep front_is.dep.ordered in let line = a.line in omega (arith, line)
 
-  pub back_some : 0 < count_along axis back.dep
-  back_some = let b = ordered axis back.dep back_is.dep.ordered in let line = b.line in omega (arith, line)
+  pub rear_some : 0 < count_along axis rear.dep
+  rear_some = let b = ordered axis rear.dep rear_is.dep.ordered in let line = b.line in omega (arith, line)
 
   pub whole_several : 2 ≤ count_along axis whole
-  whole_several = omega (arith, whole_count, front_some, back_some)
+  whole_several = omega (arith, whole_count, front_some, rear_some)
 
-  pub whole_ordered : IsOrdered front.dep.head back.dep.tail
+  pub whole_ordered : IsOrdered front.dep.head rear.dep.tail
   whole_ordered =
       let a = ordered axis front.dep front_is.dep.ordered in
-      let b = ordered axis back.dep back_is.dep.ordered in
+      let b = ordered axis rear.dep rear_is.dep.ordered in
       let front_line = a.line in
-      let back_line = b.line in
+      let rear_line = b.line in
       let next = follows.next in
-      is_ordered axis whole (record { line = omega (arith, front_line, back_line, next); width = omega (arith, whole_line) })
+      is_ordered axis whole (record { line = omega (arith, front_line, rear_line, next); width = omega (arith, whole_line) })
 
-  front_cell : (place : ℕ) → cell_along axis whole place ≡ cell_along axis front.dep place
-  front_cell place = refl
+  front_cell : (index : ℕ) → cell_along axis whole index ≡ cell_along axis front.dep index
+  front_cell index = refl
 
-  back_cell : (place : ℕ) → cell_along axis whole (count_along axis front.dep + place) ≡ cell_along axis back.dep place
-  back_cell place =
+  rear_cell : (index : ℕ) → cell_along axis whole (count_along axis front.dep + index) ≡ cell_along axis rear.dep index
+  rear_cell index =
       let a = ordered axis front.dep front_is.dep.ordered in
       let front_line = a.line in
       let next = follows.next in
-      let same : along axis front.dep.head + (count_along axis front.dep + place) ≡ along axis back.dep.head + place = omega (arith, front_line, next) in
+      let same : along axis front.dep.head + (count_along axis front.dep + index) ≡ along axis rear.dep.head + index = omega (arith, front_line, next) in
       rw (same, follows.same_line) refl
 
   -- the ranges where the runs meet, by the direction
@@ -130,110 +130,110 @@ module _ (axis : Axis) (front back : EdgeValue) (front_is : IsEdge front) (back_
     edge_line : IsLine axis edge.dep
     edge_line = rw dep_is whole_line
 
-    edge_count : count_along axis edge.dep ≡ count_along axis front.dep + count_along axis back.dep
+    edge_count : count_along axis edge.dep ≡ count_along axis front.dep + count_along axis rear.dep
     edge_count = ap (count_along axis) dep_is ∙ whole_count
 
-    pub edge_length : run_length edge ≡ run_length front + run_length back
-    edge_length = length_either edge axis edge_line ∙ edge_count ∙ sym (rw (length_either front axis follows.front_line, length_either back axis follows.back_line) refl)
+    pub edge_length : run_length edge ≡ run_length front + run_length rear
+    edge_length = length_either edge axis edge_line ∙ edge_count ∙ sym (rw (length_either front axis follows.front_line, length_either rear axis follows.rear_line) refl)
 
-    range_of_edge : (place : ℕ) → place < count_along axis front.dep + count_along axis back.dep → range_at edge place ≡ range_along axis edge place
-    range_of_edge place within = range_either edge edge_is axis edge_line place (let length = length_either edge axis edge_line in omega (arith, length, edge_count, within))
+    range_of_edge : (index : ℕ) → index < count_along axis front.dep + count_along axis rear.dep → range_at edge index ≡ range_along axis edge index
+    range_of_edge index within = range_either edge edge_is axis edge_line index (let length = length_either edge axis edge_line in omega (arith, length, edge_count, within))
 
-    range_of_front : (place : ℕ) → place < count_along axis front.dep → range_at front place ≡ range_along axis front place
-    range_of_front place within = range_either front front_is axis follows.front_line place (let length = length_either front axis follows.front_line in omega (arith, length, within))
+    range_of_front : (index : ℕ) → index < count_along axis front.dep → range_at front index ≡ range_along axis front index
+    range_of_front index within = range_either front front_is axis follows.front_line index (let length = length_either front axis follows.front_line in omega (arith, length, within))
 
-    range_of_back : (place : ℕ) → place < count_along axis back.dep → range_at back place ≡ range_along axis back place
-    range_of_back place within = range_either back back_is axis follows.back_line place (let length = length_either back axis follows.back_line in omega (arith, length, within))
+    range_of_rear : (index : ℕ) → index < count_along axis rear.dep → range_at rear index ≡ range_along axis rear index
+    range_of_rear index within = range_either rear rear_is axis follows.rear_line index (let length = length_either rear axis follows.rear_line in omega (arith, length, within))
 
-    front_last_along : HasInnerRanges edge front back → range_along axis edge (count_along axis front.dep - 1) ≡ range_along axis front (count_along axis front.dep - 1)
+    front_last_along : HasInnerRanges edge front rear → range_along axis edge (count_along axis front.dep - 1) ≡ range_along axis front (count_along axis front.dep - 1)
     front_last_along inner =
         let at = subst (λ (count : ℕ). range_at edge (count - 1) ≡ range_at front (count - 1)) (length_either front axis follows.front_line) inner.front_last in
         let last = count_along axis front.dep - 1 in
-        sym (range_of_edge last (omega (arith, front_some, back_some))) ∙ at ∙ range_of_front last (omega (arith, front_some))
+        sym (range_of_edge last (omega (arith, front_some, rear_some))) ∙ at ∙ range_of_front last (omega (arith, front_some))
 
-    back_first_along : HasInnerRanges edge front back → range_along axis edge (count_along axis front.dep) ≡ range_along axis back 0
-    back_first_along inner =
-        let at = subst (λ (count : ℕ). range_at edge count ≡ range_at back 0) (length_either front axis follows.front_line) inner.back_first in
-        sym (range_of_edge (count_along axis front.dep) (omega (arith, front_some, back_some))) ∙ at ∙ range_of_back 0 back_some
+    rear_first_along : HasInnerRanges edge front rear → range_along axis edge (count_along axis front.dep) ≡ range_along axis rear 0
+    rear_first_along inner =
+        let at = subst (λ (count : ℕ). range_at edge count ≡ range_at rear 0) (length_either front axis follows.front_line) inner.rear_first in
+        sym (range_of_edge (count_along axis front.dep) (omega (arith, front_some, rear_some))) ∙ at ∙ range_of_rear 0 rear_some
 
     -- with its ends and these ranges the edge has all pairs of both
-    module _ (has : HasEnds axis whole (range_along axis front 0) (range_along axis back (count_along axis back.dep - 1)) edge) (inner : HasInnerRanges edge front back) where
-      front_range : (place : ℕ) → place < count_along axis front.dep → range_along axis edge place ≡ range_along axis front place
-      front_range place within =
+    module _ (has : HasEnds axis whole (range_along axis front 0) (range_along axis rear (count_along axis rear.dep - 1)) edge) (inner : HasInnerRanges edge front rear) where
+      front_range : (index : ℕ) → index < count_along axis front.dep → range_along axis edge index ≡ range_along axis front index
+      front_range index within =
           let none : (k : ℕ) → 0 + k ≡ k = λ k. omega arith in
           let fits : 0 + count_along axis front.dep ≤ count_along axis edge.dep = omega (arith, edge_count) in
           let last = ap (range_along axis edge) (none (count_along axis front.dep - 1)) ∙ front_last_along inner in
-          sym (ap (range_along axis edge) (none place)) ∙ agree axis edge front (shape_along edge edge_is axis edge_line) (shape_along front front_is axis follows.front_line) 0 fits has.first_is last place within
+          sym (ap (range_along axis edge) (none index)) ∙ agree axis edge front (shape_along edge edge_is axis edge_line) (shape_along front front_is axis follows.front_line) 0 fits has.first_is last index within
 
-      back_range : (place : ℕ) → place < count_along axis back.dep → range_along axis edge (count_along axis front.dep + place) ≡ range_along axis back place
-      back_range place within =
+      rear_range : (index : ℕ) → index < count_along axis rear.dep → range_along axis edge (count_along axis front.dep + index) ≡ range_along axis rear index
+      rear_range index within =
           let count = count_along axis front.dep in
-          let fits : count + count_along axis back.dep ≤ count_along axis edge.dep = omega (arith, edge_count) in
+          let fits : count + count_along axis rear.dep ≤ count_along axis edge.dep = omega (arith, edge_count) in
           let start : count + 0 ≡ count = omega arith in
-          let end : count + (count_along axis back.dep - 1) ≡ count_along axis whole - 1 = omega (arith, whole_count, back_some) in
-          agree axis edge back (shape_along edge edge_is axis edge_line) (shape_along back back_is axis follows.back_line) count fits (back_first_along inner) (ap (range_along axis edge) end ∙ has.last_is) place within
+          let end : count + (count_along axis rear.dep - 1) ≡ count_along axis whole - 1 = omega (arith, whole_count, rear_some) in
+          agree axis edge rear (shape_along edge edge_is axis edge_line) (shape_along rear rear_is axis follows.rear_line) count fits (rear_first_along inner) (ap (range_along axis edge) end ∙ has.last_is) index within
 
-      pub has_pairs : HasBothPairs front back edge
+      pub has_pairs : HasBothPairs front rear edge
       has_pairs = record {
         is_edge = edge_is;
         pairs = λ range cell. (
           λ pair.
               let at = to_along edge edge_is axis edge_line range cell pair in
-              let place = at.place in
+              let index = at.index in
               let within = at.within in
-              let here : cell ≡ cell_along axis whole place = at.cell_is ∙ ap (λ (run : Corners). cell_along axis run place) dep_is in
-              elim (cases_lt place (count_along axis front.dep)) [
-                | inl early ↦ inl (from_along front front_is axis follows.front_line range cell (record { place = place; within = early; cell_is = here; range_is = at.range_is ∙ front_range place early }))
+              let here : cell ≡ cell_along axis whole index = at.cell_is ∙ ap (λ (run : Corners). cell_along axis run index) dep_is in
+              elim (cases_lt index (count_along axis front.dep)) [
+                | inl early ↦ inl (from_along front front_is axis follows.front_line range cell (record { index = index; within = early; cell_is = here; range_is = at.range_is ∙ front_range index early }))
                 | inr late ↦
                     let count = count_along axis front.dep in
-                    let left : place - count < count_along axis back.dep = omega (arith, late, within, edge_count) in
-                    let same : count + (place - count) ≡ place = omega (arith, late) in
-                    inr (from_along back back_is axis follows.back_line range cell (record {
-                      place = place - count;
+                    let left : index - count < count_along axis rear.dep = omega (arith, late, within, edge_count) in
+                    let same : count + (index - count) ≡ index = omega (arith, late) in
+                    inr (from_along rear rear_is axis follows.rear_line range cell (record {
+                      index = index - count;
                       within = left;
-                      cell_is = here ∙ sym (ap (cell_along axis whole) same) ∙ back_cell (place - count);
-                      range_is = at.range_is ∙ sym (ap (range_along axis edge) same) ∙ back_range (place - count) left;
+                      cell_is = here ∙ sym (ap (cell_along axis whole) same) ∙ rear_cell (index - count);
+                      range_is = at.range_is ∙ sym (ap (range_along axis edge) same) ∙ rear_range (index - count) left;
                     }))
               ],
           λ either. from_either range cell either,
         );
       }
         where
-          from_either : (range : Corners) (cell : Position) → IsPair front range cell ⊎ IsPair back range cell → IsPair edge range cell
+          from_either : (range : Corners) (cell : Position) → IsPair front range cell ⊎ IsPair rear range cell → IsPair edge range cell
           from_either range cell (inl pair) =
               let at = to_along front front_is axis follows.front_line range cell pair in
               let within = at.within in
               from_along edge edge_is axis edge_line range cell (record {
-                place = at.place;
+                index = at.index;
                 within = omega (arith, within, edge_count);
-                cell_is = at.cell_is ∙ sym (ap (λ (run : Corners). cell_along axis run at.place) dep_is);
-                range_is = at.range_is ∙ sym (front_range at.place at.within);
+                cell_is = at.cell_is ∙ sym (ap (λ (run : Corners). cell_along axis run at.index) dep_is);
+                range_is = at.range_is ∙ sym (front_range at.index at.within);
               })
           from_either range cell (inr pair) =
-              let at = to_along back back_is axis follows.back_line range cell pair in
+              let at = to_along rear rear_is axis follows.rear_line range cell pair in
               let within = at.within in
               from_along edge edge_is axis edge_line range cell (record {
-                place = count_along axis front.dep + at.place;
+                index = count_along axis front.dep + at.index;
                 within = omega (arith, within, edge_count);
-                cell_is = at.cell_is ∙ sym (back_cell at.place) ∙ sym (ap (λ (run : Corners). cell_along axis run (count_along axis front.dep + at.place)) dep_is);
-                range_is = at.range_is ∙ sym (back_range at.place at.within);
+                cell_is = at.cell_is ∙ sym (rear_cell at.index) ∙ sym (ap (λ (run : Corners). cell_along axis run (count_along axis front.dep + at.index)) dep_is);
+                range_is = at.range_is ∙ sym (rear_range at.index at.within);
               })
 
   -- the cells of the whole run are those of both
   front_inside : (cell : Position) → IsIn cell front.dep → IsIn cell whole
   front_inside cell inside =
       let at = lies axis cell front.dep inside in
-      let b = ordered axis back.dep back_is.dep.ordered in
+      let b = ordered axis rear.dep rear_is.dep.ordered in
       let to = at.to in
       let right = at.right in
-      let back_line = b.line in
+      let rear_line = b.line in
       let next = follows.next in
       let front_wide = follows.front_line in
-      is_in axis cell whole (record { from = at.from; to = omega (arith, to, back_line, next); left = at.left; right = omega (arith, right, front_wide, whole_line) })
+      is_in axis cell whole (record { from = at.from; to = omega (arith, to, rear_line, next); left = at.left; right = omega (arith, right, front_wide, whole_line) })
 
-  back_inside : (cell : Position) → IsIn cell back.dep → IsIn cell whole
-  back_inside cell inside =
-      let at = lies axis cell back.dep inside in
+  rear_inside : (cell : Position) → IsIn cell rear.dep → IsIn cell whole
+  rear_inside cell inside =
+      let at = lies axis cell rear.dep inside in
       let a = ordered axis front.dep front_is.dep.ordered in
       let from = at.from in
       let left = at.left in
@@ -242,7 +242,7 @@ module _ (axis : Axis) (front back : EdgeValue) (front_is : IsEdge front) (back_
       let same = follows.same_line in
       is_in axis cell whole (record { from = omega (arith, from, front_line, next); to = at.to; left = omega (arith, left, same); right = at.right })
 
-  inside_either : (cell : Position) → IsIn cell whole → IsIn cell front.dep ⊎ IsIn cell back.dep
+  inside_either : (cell : Position) → IsIn cell whole → IsIn cell front.dep ⊎ IsIn cell rear.dep
   inside_either cell inside =
       let at = lies axis cell whole inside in
       let left = at.left in
@@ -251,22 +251,22 @@ module _ (axis : Axis) (front back : EdgeValue) (front_is : IsEdge front) (back_
       let same = follows.same_line in
       let front_wide = follows.front_line in
       elim (cases_lt (along axis front.dep.tail) (along axis cell)) [
-        | inl past ↦ inr (is_in axis cell back.dep (record { from = omega (arith, past, next); to = at.to; left = omega (arith, left, same); right = right }))
+        | inl past ↦ inr (is_in axis cell rear.dep (record { from = omega (arith, past, next); to = at.to; left = omega (arith, left, same); right = right }))
         | inr within ↦ inl (is_in axis cell front.dep (record { from = at.from; to = within; left = left; right = omega (arith, right, front_wide, whole_line) }))
       ]
 
   -- a union has these ends and these ranges
-  module _ (edge : EdgeValue) (union : HasBothPairs front back edge) where
-    pair_inside : (range : Corners) (cell : Position) → IsPair front range cell ⊎ IsPair back range cell → IsIn cell whole
+  module _ (edge : EdgeValue) (union : HasBothPairs front rear edge) where
+    pair_inside : (range : Corners) (cell : Position) → IsPair front range cell ⊎ IsPair rear range cell → IsIn cell whole
     pair_inside range cell (inl pair) = front_inside cell ((run_has_ranges front front_is cell).1 (range, pair))
-    pair_inside range cell (inr pair) = back_inside cell ((run_has_ranges back back_is cell).1 (range, pair))
+    pair_inside range cell (inr pair) = rear_inside cell ((run_has_ranges rear rear_is cell).1 (range, pair))
 
-    inside_union : (cell : Position) → IsIn cell front.dep ⊎ IsIn cell back.dep → IsIn cell edge.dep
+    inside_union : (cell : Position) → IsIn cell front.dep ⊎ IsIn cell rear.dep → IsIn cell edge.dep
     inside_union cell (inl inside) =
         let has = (run_has_ranges front front_is cell).0 inside in
         (run_has_ranges edge union.is_edge cell).1 (has.0, (union.pairs has.0 cell).1 (inl has.1))
     inside_union cell (inr inside) =
-        let has = (run_has_ranges back back_is cell).0 inside in
+        let has = (run_has_ranges rear rear_is cell).0 inside in
         (run_has_ranges edge union.is_edge cell).1 (has.0, (union.pairs has.0 cell).1 (inr has.1))
 
     pub union_run : edge.dep ≡ whole
@@ -278,53 +278,53 @@ module _ (axis : Axis) (front back : EdgeValue) (front_is : IsEdge front) (back_
     union_line : IsLine axis edge.dep
     union_line = rw union_run whole_line
 
-    -- a pair of the union at a place of the whole run
-    union_at : (place : ℕ) (range : Corners) → place < count_along axis whole → IsPair edge range (cell_along axis whole place) → range ≡ range_along axis edge place
-    union_at place range within pair =
+    -- a pair of the union at a index of the whole run
+    union_at : (index : ℕ) (range : Corners) → index < count_along axis whole → IsPair edge range (cell_along axis whole index) → range ≡ range_along axis edge index
+    union_at index range within pair =
         let count = ap (count_along axis) union_run in
-        one_range edge range (range_along axis edge place) (cell_along axis whole place) pair (from_along edge union.is_edge axis union_line (range_along axis edge place) (cell_along axis whole place) (record {
-          place = place;
+        one_range edge range (range_along axis edge index) (cell_along axis whole index) pair (from_along edge union.is_edge axis union_line (range_along axis edge index) (cell_along axis whole index) (record {
+          index = index;
           within = omega (arith, count, within);
-          cell_is = ap (λ (run : Corners). cell_along axis run place) (sym union_run);
+          cell_is = ap (λ (run : Corners). cell_along axis run index) (sym union_run);
           range_is = refl;
         }))
 
-    union_front : (place : ℕ) → place < count_along axis front.dep → range_along axis front place ≡ range_along axis edge place
-    union_front place within =
-        union_at place (range_along axis front place) (omega (arith, within, whole_count)) ((union.pairs _ _).1 (inl (from_along front front_is axis follows.front_line _ _ (record { place = place; within = within; cell_is = refl; range_is = refl }))))
+    union_front : (index : ℕ) → index < count_along axis front.dep → range_along axis front index ≡ range_along axis edge index
+    union_front index within =
+        union_at index (range_along axis front index) (omega (arith, within, whole_count)) ((union.pairs _ _).1 (inl (from_along front front_is axis follows.front_line _ _ (record { index = index; within = within; cell_is = refl; range_is = refl }))))
 
-    union_back : (place : ℕ) → place < count_along axis back.dep → range_along axis back place ≡ range_along axis edge (count_along axis front.dep + place)
-    union_back place within =
-        union_at (count_along axis front.dep + place) (range_along axis back place) (omega (arith, within, whole_count)) ((union.pairs _ _).1 (inr (from_along back back_is axis follows.back_line _ _ (record { place = place; within = within; cell_is = back_cell place; range_is = refl }))))
+    union_rear : (index : ℕ) → index < count_along axis rear.dep → range_along axis rear index ≡ range_along axis edge (count_along axis front.dep + index)
+    union_rear index within =
+        union_at (count_along axis front.dep + index) (range_along axis rear index) (omega (arith, within, whole_count)) ((union.pairs _ _).1 (inr (from_along rear rear_is axis follows.rear_line _ _ (record { index = index; within = within; cell_is = rear_cell index; range_is = refl }))))
 
-    pub union_ends : HasEnds axis whole (range_along axis front 0) (range_along axis back (count_along axis back.dep - 1)) edge
+    pub union_ends : HasEnds axis whole (range_along axis front 0) (range_along axis rear (count_along axis rear.dep - 1)) edge
     union_ends =
-        let last : count_along axis front.dep + (count_along axis back.dep - 1) ≡ count_along axis whole - 1 = omega (arith, whole_count, back_some) in
+        let last : count_along axis front.dep + (count_along axis rear.dep - 1) ≡ count_along axis whole - 1 = omega (arith, whole_count, rear_some) in
         record {
           is_edge = union.is_edge;
           dep_is = union_run;
           first_is = sym (union_front 0 front_some);
-          last_is = sym (ap (range_along axis edge) last) ∙ sym (union_back (count_along axis back.dep - 1) (omega (arith, back_some)));
+          last_is = sym (ap (range_along axis edge) last) ∙ sym (union_rear (count_along axis rear.dep - 1) (omega (arith, rear_some)));
         }
 
-    pub union_inner : HasInnerRanges edge front back
+    pub union_inner : HasInnerRanges edge front rear
     union_inner =
         let count = length_either front axis follows.front_line in
         let start : count_along axis front.dep + 0 ≡ count_along axis front.dep = omega arith in
         let last = count_along axis front.dep - 1 in
         record {
-          front_last = subst (λ (k : ℕ). range_at edge (k - 1) ≡ range_at front (k - 1)) (sym count) (range_of_edge edge union.is_edge union_run last (omega (arith, front_some, back_some)) ∙ sym (union_front last (omega (arith, front_some))) ∙ sym (range_of_front edge union.is_edge union_run last (omega (arith, front_some))));
-          back_first = subst (λ (k : ℕ). range_at edge k ≡ range_at back 0) (sym count) (range_of_edge edge union.is_edge union_run (count_along axis front.dep) (omega (arith, front_some, back_some)) ∙ ap (range_along axis edge) (sym start) ∙ sym (union_back 0 back_some) ∙ sym (range_of_back edge union.is_edge union_run 0 back_some));
+          front_last = subst (λ (k : ℕ). range_at edge (k - 1) ≡ range_at front (k - 1)) (sym count) (range_of_edge edge union.is_edge union_run last (omega (arith, front_some, rear_some)) ∙ sym (union_front last (omega (arith, front_some))) ∙ sym (range_of_front edge union.is_edge union_run last (omega (arith, front_some))));
+          rear_first = subst (λ (k : ℕ). range_at edge k ≡ range_at rear 0) (sym count) (range_of_edge edge union.is_edge union_run (count_along axis front.dep) (omega (arith, front_some, rear_some)) ∙ ap (range_along axis edge) (sym start) ∙ sym (union_rear 0 rear_some) ∙ sym (range_of_rear edge union.is_edge union_run 0 rear_some));
         }
 
   -- what is known of the rectangle of both runs and of their outer ranges
-  pub outer : (Known : Corners → Corners → Corners → Type 0) (dep first last : Corners) → dep ≡ spanned front.dep.head back.dep.tail → first ≡ range_at front 0 → last ≡ range_at back (run_length back - 1) → Known dep first last → Known whole (range_along axis front 0) (range_along axis back (count_along axis back.dep - 1))
+  pub outer : (Known : Corners → Corners → Corners → Type 0) (dep first last : Corners) → dep ≡ spanned front.dep.head rear.dep.tail → first ≡ range_at front 0 → last ≡ range_at rear (run_length rear - 1) → Known dep first last → Known whole (range_along axis front 0) (range_along axis rear (count_along axis rear.dep - 1))
   outer Known dep first last dep_is first_is last_is known =
       let front_length = length_either front axis follows.front_line in
-      let back_length = length_either back axis follows.back_line in
+      let rear_length = length_either rear axis follows.rear_line in
       let first_along = first_is ∙ range_either front front_is axis follows.front_line 0 (omega (arith, front_length, front_some)) in
-      let last_along = last_is ∙ range_either back back_is axis follows.back_line (run_length back - 1) (omega (arith, back_length, back_some)) ∙ ap (λ (k : ℕ). range_along axis back (k - 1)) back_length in
-      let run = dep_is ∙ spanned_ordered front.dep.head back.dep.tail whole_ordered in
-      subst (λ (d : Corners). Known d (range_along axis front 0) (range_along axis back (count_along axis back.dep - 1))) run
-      (subst (λ (f : Corners). Known dep f (range_along axis back (count_along axis back.dep - 1))) first_along
+      let last_along = last_is ∙ range_either rear rear_is axis follows.rear_line (run_length rear - 1) (omega (arith, rear_length, rear_some)) ∙ ap (λ (k : ℕ). range_along axis rear (k - 1)) rear_length in
+      let run = dep_is ∙ spanned_ordered front.dep.head rear.dep.tail whole_ordered in
+      subst (λ (d : Corners). Known d (range_along axis front 0) (range_along axis rear (count_along axis rear.dep - 1))) run
+      (subst (λ (f : Corners). Known dep f (range_along axis rear (count_along axis rear.dep - 1))) first_along
       (subst (λ (l : Corners). Known dep first l) last_along known))

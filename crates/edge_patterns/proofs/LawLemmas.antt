@@ -13,13 +13,13 @@ use Rattle.edge_patterns.proofs.FlipLemmas.{union_flipped}
 use Rattle.edge_patterns.proofs.JoinedLemmas.{ends_tell}
 use Rattle.edge_patterns.proofs.UnionLemmas.{one_range, same_run}
 
--- at each place of the run the ranges are the same
-same_ranges : (a b : EdgeValue) → a.dep ≡ b.dep → AlikeInPairs a b → (place : ℕ) → place < run_length a → range_at a place ≡ range_at b place
-same_ranges a b run same place within =
+-- at each index of the run the ranges are the same
+same_ranges : (a b : EdgeValue) → a.dep ≡ b.dep → AlikeInPairs a b → (index : ℕ) → index < run_length a → range_at a index ≡ range_at b index
+same_ranges a b run same index within =
     let length : run_length a ≡ run_length b = ap (λ (dep : Corners). count_along (axis_of dep) dep) run in
-    let there : run_cell a place ≡ run_cell b place = ap (λ (dep : Corners). run_cell (edge_of dep a.prec a.pattern) place) run in
-    let pair = (same (range_at a place) (run_cell a place)).0 (record { place = place; within = within; cell_is = refl; range_is = refl }) in
-    one_range b (range_at a place) (range_at b place) (run_cell a place) pair (record { place = place; within = omega (arith, length, within); cell_is = there; range_is = refl })
+    let there : run_cell a index ≡ run_cell b index = ap (λ (dep : Corners). run_cell (edge_of dep a.prec a.pattern) index) run in
+    let pair = (same (range_at a index) (run_cell a index)).0 (record { index = index; within = within; cell_is = refl; range_is = refl }) in
+    one_range b (range_at a index) (range_at b index) (run_cell a index) pair (record { index = index; within = omega (arith, length, within); cell_is = there; range_is = refl })
 
 pub pairs_tell : (a b : EdgeValue) → IsEdge a → IsEdge b → AlikeInPairs a b → a ≡ b
 pairs_tell a b a_is b_is same =

@@ -12,88 +12,88 @@ use Rattle.edge_patterns.proofs.EdgeLemmas.{spans}
 use Rattle.edge_patterns.proofs.ChainLemmas.{IsChain, is_chain, prec_head, run_head}
 
 same_corner : (axis : Axis) (a b : Position) → along axis a ≡ along axis b → across axis a ≡ across axis b → a ≡ b
-same_corner axis a b line place =
-    sym (cell_again axis a) ∙ ap (λ (k : ℕ). position_at axis k (across axis a)) line ∙ ap (position_at axis (along axis b)) place ∙ cell_again axis b
+same_corner axis a b line index =
+    sym (cell_again axis a) ∙ ap (λ (k : ℕ). position_at axis k (across axis a)) line ∙ ap (position_at axis (along axis b)) index ∙ cell_again axis b
 
 -- the range of a chain's cell is one cell of its line
-record IsPoint (edge : EdgeValue) (place : ℕ) (range : Corners) : Type 0 where
+record IsPoint (edge : EdgeValue) (index : ℕ) (range : Corners) : Type 0 where
   one : range.head ≡ range.tail
-  at : along (axis_of edge.dep) range.head ≡ prec_head edge + place
+  at : along (axis_of edge.dep) range.head ≡ prec_head edge + index
   in_line : across (axis_of edge.dep) range.head ≡ across (axis_of edge.dep) edge.dep.head
 
-chain_point : (edge : EdgeValue) → IsChain edge → (place : ℕ) → place < run_length edge → IsPoint edge place (range_at edge place)
-chain_point edge chain place within =
+chain_point : (edge : EdgeValue) → IsChain edge → (index : ℕ) → index < run_length edge → IsPoint edge index (range_at edge index)
+chain_point edge chain index within =
     let axis = axis_of edge.dep in
-    let range = spans axis edge place in
-    let first : first_along axis edge place ≡ prec_head edge + place = rw chain.pattern refl in
-    let last : last_along axis edge place ≡ prec_head edge + place = rw (chain.pattern, chain.last) (omega (arith, within)) in
+    let range = spans axis edge index in
+    let first : first_along axis edge index ≡ prec_head edge + index = rw chain.pattern refl in
+    let last : last_along axis edge index ≡ prec_head edge + index = rw (chain.pattern, chain.last) (omega (arith, within)) in
     record {
       one = same_corner axis _ _ (range.head ∙ first ∙ sym last ∙ sym range.tail) (range.left ∙ chain.thin ∙ sym range.right);
       at = range.head ∙ first;
       in_line = range.left ∙ chain.line;
     }
 
-cell_line : (edge : EdgeValue) (place : ℕ) → along (axis_of edge.dep) (run_cell edge place) ≡ run_head edge + place
-cell_line edge place = along_of (axis_of edge.dep) _ _
+cell_line : (edge : EdgeValue) (index : ℕ) → along (axis_of edge.dep) (run_cell edge index) ≡ run_head edge + index
+cell_line edge index = along_of (axis_of edge.dep) _ _
 
-cell_across : (edge : EdgeValue) (place : ℕ) → across (axis_of edge.dep) (run_cell edge place) ≡ across (axis_of edge.dep) edge.dep.head
-cell_across edge place = across_of (axis_of edge.dep) _ _
+cell_across : (edge : EdgeValue) (index : ℕ) → across (axis_of edge.dep) (run_cell edge index) ≡ across (axis_of edge.dep) edge.dep.head
+cell_across edge index = across_of (axis_of edge.dep) _ _
 
 pub chain_refers : (edge : EdgeValue) → IsEdge edge → edge.pattern ≡ Chain → AllReferBefore edge ⊎ AllReferBehind edge
 chain_refers edge is same = either (is_chain edge is same).beside
   where
     either : (prec_head edge ≡ run_head edge + 1) ⊎ (prec_head edge + 1 ≡ run_head edge) → AllReferBefore edge ⊎ AllReferBehind edge
     either (inl behind) = inr (λ range cell pair.
-        let point = subst (IsPoint edge pair.place) (sym pair.range_is) (chain_point edge (is_chain edge is same) pair.place pair.within) in
+        let point = subst (IsPoint edge pair.index) (sym pair.range_is) (chain_point edge (is_chain edge is same) pair.index pair.within) in
         let at = point.at in
-        let line : along (axis_of edge.dep) cell ≡ run_head edge + pair.place = ap (along (axis_of edge.dep)) pair.cell_is ∙ cell_line edge pair.place in
-        let place : across (axis_of edge.dep) cell ≡ across (axis_of edge.dep) edge.dep.head = ap (across (axis_of edge.dep)) pair.cell_is ∙ cell_across edge pair.place in
-        (point.one, record { same_line = point.in_line ∙ sym place; one_on = omega (arith, at, line, behind) }))
+        let line : along (axis_of edge.dep) cell ≡ run_head edge + pair.index = ap (along (axis_of edge.dep)) pair.cell_is ∙ cell_line edge pair.index in
+        let index : across (axis_of edge.dep) cell ≡ across (axis_of edge.dep) edge.dep.head = ap (across (axis_of edge.dep)) pair.cell_is ∙ cell_across edge pair.index in
+        (point.one, record { same_line = point.in_line ∙ sym index; one_on = omega (arith, at, line, behind) }))
     either (inr before) = inl (λ range cell pair.
-        let point = subst (IsPoint edge pair.place) (sym pair.range_is) (chain_point edge (is_chain edge is same) pair.place pair.within) in
+        let point = subst (IsPoint edge pair.index) (sym pair.range_is) (chain_point edge (is_chain edge is same) pair.index pair.within) in
         let at = point.at in
-        let line : along (axis_of edge.dep) cell ≡ run_head edge + pair.place = ap (along (axis_of edge.dep)) pair.cell_is ∙ cell_line edge pair.place in
-        let place : across (axis_of edge.dep) cell ≡ across (axis_of edge.dep) edge.dep.head = ap (across (axis_of edge.dep)) pair.cell_is ∙ cell_across edge pair.place in
-        (point.one, record { same_line = place ∙ sym point.in_line; one_on = omega (arith, at, line, before) }))
+        let line : along (axis_of edge.dep) cell ≡ run_head edge + pair.index = ap (along (axis_of edge.dep)) pair.cell_is ∙ cell_line edge pair.index in
+        let index : across (axis_of edge.dep) cell ≡ across (axis_of edge.dep) edge.dep.head = ap (across (axis_of edge.dep)) pair.cell_is ∙ cell_across edge pair.index in
+        (point.one, record { same_line = index ∙ sym point.in_line; one_on = omega (arith, at, line, before) }))
 
--- at a place the range is one cell, so many before the cell of the run or so many behind it
-record Near (edge : EdgeValue) (before behind place : ℕ) : Type 0 where
-  one : first_along (axis_of edge.dep) edge place ≡ last_along (axis_of edge.dep) edge place
-  at : first_along (axis_of edge.dep) edge place + before ≡ run_head edge + place + behind
+-- at a index the range is one cell, so many before the cell of the run or so many behind it
+record Near (edge : EdgeValue) (before behind index : ℕ) : Type 0 where
+  one : first_along (axis_of edge.dep) edge index ≡ last_along (axis_of edge.dep) edge index
+  at : first_along (axis_of edge.dep) edge index + before ≡ run_head edge + index + behind
   left : across (axis_of edge.dep) edge.prec.head ≡ across (axis_of edge.dep) edge.dep.head
   right : across (axis_of edge.dep) edge.prec.tail ≡ across (axis_of edge.dep) edge.dep.head
 
-pair_here : (edge : EdgeValue) (place : ℕ) → place < run_length edge → IsPair edge (range_at edge place) (run_cell edge place)
-pair_here edge place within = record { place = place; within = within; cell_is = refl; range_is = refl }
+pair_here : (edge : EdgeValue) (index : ℕ) → index < run_length edge → IsPair edge (range_at edge index) (run_cell edge index)
+pair_here edge index within = record { index = index; within = within; cell_is = refl; range_is = refl }
 
-near_before : (edge : EdgeValue) → AllReferBefore edge → (place : ℕ) → place < run_length edge → Near edge 1 0 place
-near_before edge refers place within =
+near_before : (edge : EdgeValue) → AllReferBefore edge → (index : ℕ) → index < run_length edge → Near edge 1 0 index
+near_before edge refers index within =
     let axis = axis_of edge.dep in
-    let range = spans axis edge place in
-    let (one, next) = refers (range_at edge place) (run_cell edge place) (pair_here edge place within) in
+    let range = spans axis edge index in
+    let (one, next) = refers (range_at edge index) (run_cell edge index) (pair_here edge index within) in
     let step = next.one_on in
     let head = range.head in
-    let line = cell_line edge place in
+    let line = cell_line edge index in
     record {
       one = sym range.head ∙ ap (along axis) one ∙ range.tail;
       at = omega (arith, step, head, line);
-      left = sym range.left ∙ sym next.same_line ∙ cell_across edge place;
-      right = sym range.right ∙ ap (across axis) (sym one) ∙ sym next.same_line ∙ cell_across edge place;
+      left = sym range.left ∙ sym next.same_line ∙ cell_across edge index;
+      right = sym range.right ∙ ap (across axis) (sym one) ∙ sym next.same_line ∙ cell_across edge index;
     }
 
-near_behind : (edge : EdgeValue) → AllReferBehind edge → (place : ℕ) → place < run_length edge → Near edge 0 1 place
-near_behind edge refers place within =
+near_behind : (edge : EdgeValue) → AllReferBehind edge → (index : ℕ) → index < run_length edge → Near edge 0 1 index
+near_behind edge refers index within =
     let axis = axis_of edge.dep in
-    let range = spans axis edge place in
-    let (one, next) = refers (range_at edge place) (run_cell edge place) (pair_here edge place within) in
+    let range = spans axis edge index in
+    let (one, next) = refers (range_at edge index) (run_cell edge index) (pair_here edge index within) in
     let step = next.one_on in
     let head = range.head in
-    let line = cell_line edge place in
+    let line = cell_line edge index in
     record {
       one = sym range.head ∙ ap (along axis) one ∙ range.tail;
       at = omega (arith, step, head, line);
-      left = sym range.left ∙ next.same_line ∙ cell_across edge place;
-      right = sym range.right ∙ ap (across axis) (sym one) ∙ next.same_line ∙ cell_across edge place;
+      left = sym range.left ∙ next.same_line ∙ cell_across edge index;
+      right = sym range.right ∙ ap (across axis) (sym one) ∙ next.same_line ∙ cell_across edge index;
     }
 
 -- an edge whose first and last ranges are such is a chain, as no other pattern's are

@@ -5,10 +5,10 @@ use Rattle.sheet_refs.specs.Cells.{Position, Corners, IsIn}
 use Rattle.sheet_refs.specs.Rectangles.{Overlap}
 use Rattle.edge_patterns.specs.declared.axis.Axis.{Axis}
 use Rattle.edge_patterns.specs.declared.axis.Axis.TheVariants.{Down, Right}
-use Rattle.edge_patterns.specs.declared.queries.Places.{Places}
+use Rattle.edge_patterns.specs.declared.queries.Indices.{Indices}
 use Rattle.edge_patterns.specs.Axes.{along, across, position_at, slice_of, IsLine, axis_of}
 use Rattle.edge_patterns.specs.Edges.{EdgeValue, IsEdge, run_length, run_cell, range_at, part_of_run}
-use Rattle.edge_patterns.specs.Places.{AreMeant, IsHit, IsAsked}
+use Rattle.edge_patterns.specs.Indices.{AreMeant, IsHit, IsAsked}
 use Rattle.edge_patterns.specs.Queries.{IsDirect, IsSpreadTo, IsReferred, IsLedTo}
 use Rattle.edge_patterns.specs.Queries.IsSpreadTo.{at_once as reach_at_once, onward as reach_onward}
 use Rattle.edge_patterns.specs.Queries.IsLedTo.{at_once as led_at_once, onward as led_onward}
@@ -50,7 +50,7 @@ in_line axis range first last coordinate line from to =
     })
 
 -- the cells of a part of a run, by their numbers
-pub cells_in : (edge : EdgeValue) → IsEdge edge → (from to : ℕ) (cell : Position) → IsIn cell (part_of_run edge from to) → (place : ℕ) × (from ≤ place) × (place ≤ to) × (cell ≡ run_cell edge place)
+pub cells_in : (edge : EdgeValue) → IsEdge edge → (from to : ℕ) (cell : Position) → IsIn cell (part_of_run edge from to) → (index : ℕ) × (from ≤ index) × (index ≤ to) × (cell ≡ run_cell edge index)
 cells_in edge is from to cell inside =
     let axis = axis_of edge.dep in
     let head = along axis edge.dep.head in
@@ -60,47 +60,47 @@ cells_in edge is from to cell inside =
     let same : along axis cell ≡ head + (along axis cell - head) = omega (arith, begins) in
     (along axis cell - head, omega (arith, begins), omega (arith, ends), at.2 ∙ ap (λ (coordinate : ℕ). position_at axis coordinate (across axis edge.dep.head)) same)
 
-pub cell_in : (edge : EdgeValue) → IsEdge edge → (from to place : ℕ) → from ≤ place → place ≤ to → IsIn (run_cell edge place) (part_of_run edge from to)
-cell_in edge is from to place begins ends =
+pub cell_in : (edge : EdgeValue) → IsEdge edge → (from to index : ℕ) → from ≤ index → index ≤ to → IsIn (run_cell edge index) (part_of_run edge from to)
+cell_in edge is from to index begins ends =
     let axis = axis_of edge.dep in
     let head = along axis edge.dep.head in
-    in_line axis edge.dep (head + from) (head + to) (head + place) is.line (omega (arith, begins)) (omega (arith, ends))
+    in_line axis edge.dep (head + from) (head + to) (head + index) is.line (omega (arith, begins)) (omega (arith, ends))
 
 -- the cells with a range that overlaps the query are those whose numbers are hit
-pub direct_place : (edge : EdgeValue) (query : Corners) (cell : Position) → IsDirect edge query cell → (place : ℕ) × (place < run_length edge) × (cell ≡ run_cell edge place) × IsHit edge query place
-direct_place edge query cell direct =
-    (direct.pair.place, direct.pair.within, direct.pair.cell_is, subst (λ (range : Corners). Overlap range query) direct.pair.range_is direct.overlaps)
+pub direct_index : (edge : EdgeValue) (query : Corners) (cell : Position) → IsDirect edge query cell → (index : ℕ) × (index < run_length edge) × (cell ≡ run_cell edge index) × IsHit edge query index
+direct_index edge query cell direct =
+    (direct.pair.index, direct.pair.within, direct.pair.cell_is, subst (λ (range : Corners). Overlap range query) direct.pair.range_is direct.overlaps)
 
-pub hit_direct : (edge : EdgeValue) (query : Corners) (place : ℕ) → place < run_length edge → IsHit edge query place → IsDirect edge query (run_cell edge place)
-hit_direct edge query place within hit =
-    record { range = range_at edge place; pair = record { place = place; within = within; cell_is = refl; range_is = refl }; overlaps = hit }
+pub hit_direct : (edge : EdgeValue) (query : Corners) (index : ℕ) → index < run_length edge → IsHit edge query index → IsDirect edge query (run_cell edge index)
+hit_direct edge query index within hit =
+    record { range = range_at edge index; pair = record { index = index; within = within; cell_is = refl; range_is = refl }; overlaps = hit }
 
-pub direct_covers : (edge : EdgeValue) → IsEdge edge → (query : Corners) (places : Places) → AreMeant (run_length edge) (IsHit edge query) places → (cell : Position) → IsIn cell (part_of_run edge places.from places.to) ↔ IsDirect edge query cell
-direct_covers edge is query places meant cell = (
+pub direct_covers : (edge : EdgeValue) → IsEdge edge → (query : Corners) (indices : Indices) → AreMeant (run_length edge) (IsHit edge query) indices → (cell : Position) → IsIn cell (part_of_run edge indices.from indices.to) ↔ IsDirect edge query cell
+direct_covers edge is query indices meant cell = (
   λ inside.
-      let (place, from, to, same) = cells_in edge is places.from places.to cell inside in
-      let within : place < run_length edge = omega (arith, to, meant.within) in
-      subst (λ (c : Position). IsDirect edge query c) (sym same) (hit_direct edge query place within ((meant.meant place within).0 (from, to))),
+      let (index, from, to, same) = cells_in edge is indices.from indices.to cell inside in
+      let within : index < run_length edge = omega (arith, to, meant.within) in
+      subst (λ (c : Position). IsDirect edge query c) (sym same) (hit_direct edge query index within ((meant.meant index within).0 (from, to))),
   λ direct.
-      let (place, within, same, hit) = direct_place edge query cell direct in
-      let (from, to) = (meant.meant place within).1 hit in
-      subst (λ (c : Position). IsIn c (part_of_run edge places.from places.to)) (sym same) (cell_in edge is places.from places.to place from to),
+      let (index, within, same, hit) = direct_index edge query cell direct in
+      let (from, to) = (meant.meant index within).1 hit in
+      subst (λ (c : Position). IsIn c (part_of_run edge indices.from indices.to)) (sym same) (cell_in edge is indices.from indices.to index from to),
 )
 
-pub no_direct : (edge : EdgeValue) (query : Corners) → ((place : ℕ) → place < run_length edge → ¬ IsHit edge query place) → (cell : Position) → ¬ IsDirect edge query cell
+pub no_direct : (edge : EdgeValue) (query : Corners) → ((index : ℕ) → index < run_length edge → ¬ IsHit edge query index) → (cell : Position) → ¬ IsDirect edge query cell
 no_direct edge query none cell direct =
-    let (place, within, same, hit) = direct_place edge query cell direct in
-    none place within hit
+    let (index, within, same, hit) = direct_index edge query cell direct in
+    none index within hit
 
 -- nothing is reached where nothing is hit
-pub no_reached : (edge : EdgeValue) (query : Corners) → ((place : ℕ) → place < run_length edge → ¬ IsHit edge query place) → (cell : Position) → ¬ IsSpreadTo edge query cell
+pub no_reached : (edge : EdgeValue) (query : Corners) → ((index : ℕ) → index < run_length edge → ¬ IsHit edge query index) → (cell : Position) → ¬ IsSpreadTo edge query cell
 no_reached edge query none cell (reach_at_once _ direct) = no_direct edge query none cell direct
 no_reached edge query none cell (reach_onward from _ range before pair inside) = no_reached edge query none from before
 
-pub no_referred : (edge : EdgeValue) (query : Corners) → ((place : ℕ) → place < run_length edge → ¬ IsAsked edge query place) → (cell : Position) → ¬ IsReferred edge query cell
+pub no_referred : (edge : EdgeValue) (query : Corners) → ((index : ℕ) → index < run_length edge → ¬ IsAsked edge query index) → (cell : Position) → ¬ IsReferred edge query cell
 no_referred edge query none cell referred =
-    none referred.pair.place referred.pair.within (subst (λ (c : Position). IsIn c query) referred.pair.cell_is referred.asked)
+    none referred.pair.index referred.pair.within (subst (λ (c : Position). IsIn c query) referred.pair.cell_is referred.asked)
 
-pub no_led : (edge : EdgeValue) (query : Corners) → ((place : ℕ) → place < run_length edge → ¬ IsAsked edge query place) → (cell : Position) → ¬ IsLedTo edge query cell
+pub no_led : (edge : EdgeValue) (query : Corners) → ((index : ℕ) → index < run_length edge → ¬ IsAsked edge query index) → (cell : Position) → ¬ IsLedTo edge query cell
 no_led edge query none cell (led_at_once _ referred) = no_referred edge query none cell referred
 no_led edge query none cell (led_onward from _ range before pair inside) = no_led edge query none from before

@@ -3,10 +3,10 @@ use Rattle.std.proofs.Common.{◌≡◌, ℕ, ◌-◌, ◌<◌, arith, refl, sym
 use Rattle.std.specs.Prelude.{◌↔◌, Bool, true, false}
 use Rattle.sheet_refs.specs.Cells.{Position, Corners, IsIn, IsOrdered}
 use Rattle.sheet_refs.specs.Rectangles.{Overlap}
-use Rattle.edge_patterns.specs.declared.queries.Places.{Places}
+use Rattle.edge_patterns.specs.declared.queries.Indices.{Indices}
 use Rattle.edge_patterns.specs.Axes.{along, axis_of}
 use Rattle.edge_patterns.specs.Edges.{EdgeValue, IsEdge, IsPair, run_length, run_cell, range_at, first_along, last_along, part_of_prec, steps_if, head_moves, tail_moves, single_edge}
-use Rattle.edge_patterns.specs.Places.{AreMeant, IsAsked, IsHit}
+use Rattle.edge_patterns.specs.Indices.{AreMeant, IsAsked, IsHit}
 use Rattle.edge_patterns.specs.Queries.{IsReferred}
 use Rattle.edge_patterns.proofs.Crossings.{ordered, cell_again}
 use Rattle.edge_patterns.proofs.AxisLemmas.{count_one, single_range, first_cell}
@@ -17,7 +17,7 @@ use Rattle.edge_patterns.proofs.UnionLemmas.{run_has_ranges}
 
 pub pair_ordered : (edge : EdgeValue) → IsEdge edge → (range : Corners) (cell : Position) → IsPair edge range cell → IsOrdered range.head range.tail
 pair_ordered edge is range cell pair =
-    subst (λ (r : Corners). IsOrdered r.head r.tail) (sym pair.range_is) (range_ordered edge is pair.place pair.within)
+    subst (λ (r : Corners). IsOrdered r.head r.tail) (sym pair.range_is) (range_ordered edge is pair.index pair.within)
 
 no_steps_left : (moves : Bool) (last count : ℕ) → last - steps_if moves (count - 1 - (count - 1)) ≡ last
 no_steps_left true last count = omega arith
@@ -38,8 +38,8 @@ all_asked edge is =
     record {
       ordered = omega arith;
       within = omega (arith, line);
-      meant = λ place within. (
-        λ _. (run_has_ranges edge is (run_cell edge place)).1 (range_at edge place, record { place = place; within = within; cell_is = refl; range_is = refl }),
+      meant = λ index within. (
+        λ _. (run_has_ranges edge is (run_cell edge index)).1 (range_at edge index, record { index = index; within = within; cell_is = refl; range_is = refl }),
         λ _. (omega arith, omega (arith, within)),
       );
     }
@@ -70,35 +70,35 @@ run_asked edge is query = (
 )
 
 -- a query asks for a cell of the run exactly where it shares one with it
-pub asked_overlap : (edge : EdgeValue) → IsEdge edge → (query : Corners) (places : Places) → AreMeant (run_length edge) (IsAsked edge query) places → Overlap query edge.dep
-asked_overlap edge is query places meant =
+pub asked_overlap : (edge : EdgeValue) → IsEdge edge → (query : Corners) (indices : Indices) → AreMeant (run_length edge) (IsAsked edge query) indices → Overlap query edge.dep
+asked_overlap edge is query indices meant =
     let order = meant.ordered in
     let below = meant.within in
-    let within : places.from < run_length edge = omega (arith, order, below) in
-    let pair : IsPair edge (range_at edge places.from) (run_cell edge places.from) = record { place = places.from; within = within; cell_is = refl; range_is = refl } in
-    (run_cell edge places.from, record { first = (meant.meant places.from within).0 (omega arith, order); second = (run_has_ranges edge is (run_cell edge places.from)).1 (range_at edge places.from, pair) })
+    let within : indices.from < run_length edge = omega (arith, order, below) in
+    let pair : IsPair edge (range_at edge indices.from) (run_cell edge indices.from) = record { index = indices.from; within = within; cell_is = refl; range_is = refl } in
+    (run_cell edge indices.from, record { first = (meant.meant indices.from within).0 (omega arith, order); second = (run_has_ranges edge is (run_cell edge indices.from)).1 (range_at edge indices.from, pair) })
 
-pub none_asked : (edge : EdgeValue) → IsEdge edge → (query : Corners) → ((place : ℕ) → place < run_length edge → ¬ IsAsked edge query place) → ¬ Overlap query edge.dep
+pub none_asked : (edge : EdgeValue) → IsEdge edge → (query : Corners) → ((index : ℕ) → index < run_length edge → ¬ IsAsked edge query index) → ¬ Overlap query edge.dep
 none_asked edge is query none shared =
     let (cell, both) = shared in
     let (range, pair) = (run_has_ranges edge is cell).0 both.second in
-    none pair.place pair.within (subst (λ (c : Position). IsIn c query) pair.cell_is both.first)
+    none pair.index pair.within (subst (λ (c : Position). IsIn c query) pair.cell_is both.first)
 
 -- and hits a range exactly where it shares a cell with the rectangle
-pub hit_overlap : (edge : EdgeValue) → IsEdge edge → (query : Corners) (places : Places) → AreMeant (run_length edge) (IsHit edge query) places → Overlap edge.prec query
-hit_overlap edge is query places meant =
+pub hit_overlap : (edge : EdgeValue) → IsEdge edge → (query : Corners) (indices : Indices) → AreMeant (run_length edge) (IsHit edge query) indices → Overlap edge.prec query
+hit_overlap edge is query indices meant =
     let order = meant.ordered in
     let below = meant.within in
-    let within : places.from < run_length edge = omega (arith, order, below) in
-    let (cell, both) = (meant.meant places.from within).0 (omega arith, order) in
-    let pair : IsPair edge (range_at edge places.from) (run_cell edge places.from) = record { place = places.from; within = within; cell_is = refl; range_is = refl } in
-    (cell, record { first = (rectangle_has edge is cell).1 (run_cell edge places.from, range_at edge places.from, pair, both.first); second = both.second })
+    let within : indices.from < run_length edge = omega (arith, order, below) in
+    let (cell, both) = (meant.meant indices.from within).0 (omega arith, order) in
+    let pair : IsPair edge (range_at edge indices.from) (run_cell edge indices.from) = record { index = indices.from; within = within; cell_is = refl; range_is = refl } in
+    (cell, record { first = (rectangle_has edge is cell).1 (run_cell edge indices.from, range_at edge indices.from, pair, both.first); second = both.second })
 
-pub none_hit : (edge : EdgeValue) → IsEdge edge → (query : Corners) → ((place : ℕ) → place < run_length edge → ¬ IsHit edge query place) → ¬ Overlap edge.prec query
+pub none_hit : (edge : EdgeValue) → IsEdge edge → (query : Corners) → ((index : ℕ) → index < run_length edge → ¬ IsHit edge query index) → ¬ Overlap edge.prec query
 none_hit edge is query none shared =
     let (cell, both) = shared in
     let (from, range, pair, inside) = (rectangle_has edge is cell).0 both.first in
-    none pair.place pair.within (subst (λ (r : Corners). Overlap r query) pair.range_is (cell, record { first = inside; second = both.second }))
+    none pair.index pair.within (subst (λ (r : Corners). Overlap r query) pair.range_is (cell, record { first = inside; second = both.second }))
 
 pub single_pair : (cell at : Position) (range other : Corners) → IsPair (single_edge cell range) other at ↔ ((other ≡ range) × (at ≡ cell))
 single_pair cell at range other =
@@ -109,7 +109,7 @@ single_pair cell at range other =
     let first = first_cell axis edge.dep in (
       λ pair.
           let within = pair.within in
-          let start : pair.place ≡ 0 = omega (arith, within, one) in
+          let start : pair.index ≡ 0 = omega (arith, within, one) in
           (pair.range_is ∙ ap (range_at edge) start ∙ whole, pair.cell_is ∙ ap (run_cell edge) start ∙ first),
-      λ both. record { place = 0; within = omega (arith, one); cell_is = both.1 ∙ sym first; range_is = both.0 ∙ sym whole },
+      λ both. record { index = 0; within = omega (arith, one); cell_is = both.1 ∙ sym first; range_is = both.0 ∙ sym whole },
     )

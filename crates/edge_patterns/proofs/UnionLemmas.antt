@@ -9,25 +9,25 @@ use Rattle.edge_patterns.specs.Edges.{EdgeValue, IsEdge, IsShapeOf, IsPair, run_
 use Rattle.edge_patterns.specs.Laws.{AlikeInPairs}
 use Rattle.edge_patterns.proofs.Crossings.{lies, is_in, along_of, across_of, cell_again}
 use Rattle.edge_patterns.proofs.EdgeLemmas.{spans}
-use Rattle.edge_patterns.proofs.PartLemmas.{one_place, place_in_run}
+use Rattle.edge_patterns.proofs.PartLemmas.{one_index, index_in_run}
 use Rattle.edge_patterns.proofs.JoinLemmas.{same_range, tail_room}
 
--- coordinates that move alike and agree at two places agree between them
-heads_agree : (m k : Bool) (first other offset count place : ℕ) → first + steps_if m offset ≡ other + steps_if k 0 → first + steps_if m (offset + (count - 1)) ≡ other + steps_if k (count - 1) → place < count → first + steps_if m (offset + place) ≡ other + steps_if k place
-heads_agree true true first other offset count place start end within = omega (arith, start, end, within)
-heads_agree true false first other offset count place start end within = omega (arith, start, end, within)
-heads_agree false true first other offset count place start end within = omega (arith, start, end, within)
-heads_agree false false first other offset count place start end within = omega (arith, start, end, within)
+-- coordinates that move alike and agree at two indices agree between them
+heads_agree : (m k : Bool) (first other offset count index : ℕ) → first + steps_if m offset ≡ other + steps_if k 0 → first + steps_if m (offset + (count - 1)) ≡ other + steps_if k (count - 1) → index < count → first + steps_if m (offset + index) ≡ other + steps_if k index
+heads_agree true true first other offset count index start end within = omega (arith, start, end, within)
+heads_agree true false first other offset count index start end within = omega (arith, start, end, within)
+heads_agree false true first other offset count index start end within = omega (arith, start, end, within)
+heads_agree false false first other offset count index start end within = omega (arith, start, end, within)
 
-tails_agree : (m k : Bool) (last other whole offset count place : ℕ) → offset + count ≤ whole → steps_if m (whole - 1) ≤ last → steps_if k (count - 1) ≤ other → last - steps_if m (whole - 1 - offset) ≡ other - steps_if k (count - 1 - 0) → last - steps_if m (whole - 1 - (offset + (count - 1))) ≡ other - steps_if k (count - 1 - (count - 1)) → place < count → last - steps_if m (whole - 1 - (offset + place)) ≡ other - steps_if k (count - 1 - place)
-tails_agree true true last other whole offset count place fits room other_room start end within = omega (arith, fits, room, other_room, start, end, within)
-tails_agree true false last other whole offset count place fits room other_room start end within = omega (arith, fits, room, other_room, start, end, within)
-tails_agree false true last other whole offset count place fits room other_room start end within = omega (arith, fits, room, other_room, start, end, within)
-tails_agree false false last other whole offset count place fits room other_room start end within = omega (arith, fits, room, other_room, start, end, within)
+tails_agree : (m k : Bool) (last other whole offset count index : ℕ) → offset + count ≤ whole → steps_if m (whole - 1) ≤ last → steps_if k (count - 1) ≤ other → last - steps_if m (whole - 1 - offset) ≡ other - steps_if k (count - 1 - 0) → last - steps_if m (whole - 1 - (offset + (count - 1))) ≡ other - steps_if k (count - 1 - (count - 1)) → index < count → last - steps_if m (whole - 1 - (offset + index)) ≡ other - steps_if k (count - 1 - index)
+tails_agree true true last other whole offset count index fits room other_room start end within = omega (arith, fits, room, other_room, start, end, within)
+tails_agree true false last other whole offset count index fits room other_room start end within = omega (arith, fits, room, other_room, start, end, within)
+tails_agree false true last other whole offset count index fits room other_room start end within = omega (arith, fits, room, other_room, start, end, within)
+tails_agree false false last other whole offset count index fits room other_room start end within = omega (arith, fits, room, other_room, start, end, within)
 
 -- and so do the ranges of two edges
-pub agree : (axis : Axis) (edge part : EdgeValue) → IsShapeOf axis edge.pattern edge → IsShapeOf axis part.pattern part → (offset : ℕ) → offset + count_along axis part.dep ≤ count_along axis edge.dep → range_along axis edge offset ≡ range_along axis part 0 → range_along axis edge (offset + (count_along axis part.dep - 1)) ≡ range_along axis part (count_along axis part.dep - 1) → (place : ℕ) → place < count_along axis part.dep → range_along axis edge (offset + place) ≡ range_along axis part place
-agree axis edge part shape part_shape offset fits start end place within =
+pub agree : (axis : Axis) (edge part : EdgeValue) → IsShapeOf axis edge.pattern edge → IsShapeOf axis part.pattern part → (offset : ℕ) → offset + count_along axis part.dep ≤ count_along axis edge.dep → range_along axis edge offset ≡ range_along axis part 0 → range_along axis edge (offset + (count_along axis part.dep - 1)) ≡ range_along axis part (count_along axis part.dep - 1) → (index : ℕ) → index < count_along axis part.dep → range_along axis edge (offset + index) ≡ range_along axis part index
+agree axis edge part shape part_shape offset fits start end index within =
     let count = count_along axis part.dep in
     let head = λ (r : Corners). along axis r.head in
     let tail = λ (r : Corners). along axis r.tail in
@@ -35,13 +35,13 @@ agree axis edge part shape part_shape offset fits start end place within =
     let last = sym (spans axis edge (offset + (count - 1))).head ∙ ap head end ∙ (spans axis part (count - 1)).head in
     let first_tail = sym (spans axis edge offset).tail ∙ ap tail start ∙ (spans axis part 0).tail in
     let last_tail = sym (spans axis edge (offset + (count - 1))).tail ∙ ap tail end ∙ (spans axis part (count - 1)).tail in
-    let at = spans axis edge (offset + place) in
-    let there = spans axis part place in
+    let at = spans axis edge (offset + index) in
+    let there = spans axis part index in
     let left = sym (spans axis edge offset).left ∙ ap (λ (r : Corners). across axis r.head) start ∙ (spans axis part 0).left in
     let right = sym (spans axis edge offset).right ∙ ap (λ (r : Corners). across axis r.tail) start ∙ (spans axis part 0).right in
-    same_range axis (range_along axis edge (offset + place)) (range_along axis part place)
-    (at.head ∙ heads_agree (head_moves edge.pattern) (head_moves part.pattern) _ _ offset count place first last within ∙ sym there.head)
-    (at.tail ∙ tails_agree (tail_moves edge.pattern) (tail_moves part.pattern) _ _ (count_along axis edge.dep) offset count place fits (tail_room axis edge.pattern edge shape) (tail_room axis part.pattern part part_shape) first_tail last_tail within ∙ sym there.tail)
+    same_range axis (range_along axis edge (offset + index)) (range_along axis part index)
+    (at.head ∙ heads_agree (head_moves edge.pattern) (head_moves part.pattern) _ _ offset count index first last within ∙ sym there.head)
+    (at.tail ∙ tails_agree (tail_moves edge.pattern) (tail_moves part.pattern) _ _ (count_along axis edge.dep) offset count index fits (tail_room axis edge.pattern edge shape) (tail_room axis part.pattern part part_shape) first_tail last_tail within ∙ sym there.tail)
     (at.left ∙ left ∙ sym there.left)
     (at.right ∙ right ∙ sym there.right)
 
@@ -71,15 +71,15 @@ run_has_ranges edge is cell =
           let at = lies axis cell edge.dep inside in
           let left = at.left in
           let right = at.right in
-          let number = place_in_run edge is cell inside in
+          let number = index_in_run edge is cell inside in
           let width : across axis cell ≡ across axis edge.dep.head = omega (arith, left, right, line) in
-          let place = along axis cell - along axis edge.dep.head in
-          let here : cell ≡ run_cell edge place = sym (cell_again axis cell) ∙ ap (λ (k : ℕ). position_at axis k (across axis cell)) number.0 ∙ ap (position_at axis (along axis edge.dep.head + place)) width in
-          (range_at edge place, record { place = place; within = number.1; cell_is = here; range_is = refl }),
+          let index = along axis cell - along axis edge.dep.head in
+          let here : cell ≡ run_cell edge index = sym (cell_again axis cell) ∙ ap (λ (k : ℕ). position_at axis k (across axis cell)) number.0 ∙ ap (position_at axis (along axis edge.dep.head + index)) width in
+          (range_at edge index, record { index = index; within = number.1; cell_is = here; range_is = refl }),
       λ has.
           let pair = has.1 in
           let within = pair.within in
-          let coordinate : along axis cell ≡ along axis edge.dep.head + pair.place = ap (along axis) pair.cell_is ∙ along_of axis _ _ in
+          let coordinate : along axis cell ≡ along axis edge.dep.head + pair.index = ap (along axis) pair.cell_is ∙ along_of axis _ _ in
           let width : across axis cell ≡ across axis edge.dep.head = ap (across axis) pair.cell_is ∙ across_of axis _ _ in
           is_in axis cell edge.dep (record { from = omega (arith, coordinate); to = omega (arith, coordinate, within); left = omega (arith, width); right = omega (arith, width, line) }),
     )
@@ -87,7 +87,7 @@ run_has_ranges edge is cell =
 -- a cell has one range
 pub one_range : (edge : EdgeValue) (range other : Corners) (cell : Position) → IsPair edge range cell → IsPair edge other cell → range ≡ other
 one_range edge range other cell a b =
-    let same = one_place edge a.place b.place (sym a.cell_is ∙ b.cell_is) in
+    let same = one_index edge a.index b.index (sym a.cell_is ∙ b.cell_is) in
     a.range_is ∙ ap (range_at edge) same ∙ sym b.range_is
 
 -- two edges with the same pairs have the same run

@@ -15,8 +15,8 @@ across Right cell = cell.row
 
 -- the cell with these two coordinates
 abbrev pub position_at : Axis → ℕ → ℕ → Position
-position_at Down line place = record { row = line; col = place }
-position_at Right line place = record { row = place; col = line }
+position_at Down line index = record { row = line; col = index }
+position_at Right line index = record { row = index; col = line }
 
 -- as wide as the range across a direction, and along it from one coordinate to another
 abbrev pub slice_of : Axis → Corners → ℕ → ℕ → Corners
@@ -39,4 +39,4 @@ count_along axis run = along axis run.tail + 1 - along axis run.head
 
 -- its cells, numbered from 0 at the head
 abbrev pub cell_along : Axis → Corners → ℕ → Position
-cell_along axis run place = position_at axis (along axis run.head + place) (across axis run.head)
+cell_along axis run index = position_at axis (along axis run.head + index) (across axis run.head)

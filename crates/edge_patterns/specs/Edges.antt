@@ -39,7 +39,7 @@ run_length edge = count_along (axis_of edge.dep) edge.dep
 
 -- the cells of the run, numbered from 0
 abbrev pub run_cell : EdgeValue → ℕ → Position
-run_cell edge place = cell_along (axis_of edge.dep) edge.dep place
+run_cell edge index = cell_along (axis_of edge.dep) edge.dep index
 
 -- the cells of the run from one number to another
 abbrev pub part_of_run : EdgeValue → ℕ → ℕ → Corners
@@ -51,13 +51,13 @@ part_of_run edge from to =
 -- along a direction, where the range of a cell begins and where it ends: a moving head sets out from the head of `prec`, and a moving
 -- tail comes to the tail of `prec` at the last cell
 abbrev pub first_along : Axis → EdgeValue → ℕ → ℕ
-first_along axis edge place = along axis edge.prec.head + steps_if (head_moves edge.pattern) place
+first_along axis edge index = along axis edge.prec.head + steps_if (head_moves edge.pattern) index
 
 abbrev pub last_along : Axis → EdgeValue → ℕ → ℕ
-last_along axis edge place = along axis edge.prec.tail - steps_if (tail_moves edge.pattern) (count_along axis edge.dep - 1 - place)
+last_along axis edge index = along axis edge.prec.tail - steps_if (tail_moves edge.pattern) (count_along axis edge.dep - 1 - index)
 
 abbrev pub range_along : Axis → EdgeValue → ℕ → Corners
-range_along axis edge place = slice_of axis edge.prec (first_along axis edge place) (last_along axis edge place)
+range_along axis edge index = slice_of axis edge.prec (first_along axis edge index) (last_along axis edge index)
 
 -- the smallest rectangle with the ranges of the cells from one number to another
 abbrev pub part_of_prec : EdgeValue → ℕ → ℕ → Corners
@@ -65,16 +65,16 @@ part_of_prec edge from to =
     let axis = axis_of edge.dep in
     slice_of axis edge.prec (first_along axis edge from) (last_along axis edge to)
 
--- the range to which the cell with this number refers
+-- the range to which the cell with this index refers
 abbrev pub range_at : EdgeValue → ℕ → Corners
-range_at edge place = range_along (axis_of edge.dep) edge place
+range_at edge index = range_along (axis_of edge.dep) edge index
 
 -- the pairs that an edge stands for: each cell of its run with its range
 pub record IsPair (edge : EdgeValue) (range : Corners) (cell : Position) : Type 0 where
-  pub place : ℕ
-  pub within : place < run_length edge
-  pub cell_is : cell ≡ run_cell edge place
-  pub range_is : range ≡ range_at edge place
+  pub index : ℕ
+  pub within : index < run_length edge
+  pub cell_is : cell ≡ run_cell edge index
+  pub range_is : range ≡ range_at edge index
 
 -- one range is the other, moved on or back by one cell along a direction
 pub record IsBeside (axis : Axis) (run range : Corners) : Type 0 where
@@ -83,18 +83,18 @@ pub record IsBeside (axis : Axis) (run range : Corners) : Type 0 where
   pub moved : ((along axis range.head ≡ along axis run.head + 1) × (along axis range.tail ≡ along axis run.tail + 1)) ⊎ ((along axis range.head + 1 ≡ along axis run.head) × (along axis range.tail + 1 ≡ along axis run.tail))
 
 -- a run of at least two cells, over which a head or a tail that moves doesn't make a range whose head is past its tail
-pub record IsSpread (axis : Axis) (edge : EdgeValue) : Type 0 where
+pub record HasRoom (axis : Axis) (edge : EdgeValue) : Type 0 where
   pub several : 2 ≤ count_along axis edge.dep
   pub fits : along axis edge.prec.head + (count_along axis edge.dep - 1) ≤ along axis edge.prec.tail
 
 -- what each pattern asks of run and rectangle
 abbrev pub IsShapeOf : Axis → Pattern → EdgeValue → Type 0
 IsShapeOf axis Single edge = count_along axis edge.dep ≡ 1
-IsShapeOf axis Rr edge = IsSpread axis edge × ¬ IsBeside axis edge.dep edge.prec
-IsShapeOf axis Rf edge = IsSpread axis edge
-IsShapeOf axis Fr edge = IsSpread axis edge
+IsShapeOf axis Rr edge = HasRoom axis edge × ¬ IsBeside axis edge.dep edge.prec
+IsShapeOf axis Rf edge = HasRoom axis edge
+IsShapeOf axis Fr edge = HasRoom axis edge
 IsShapeOf axis Ff edge = 2 ≤ count_along axis edge.dep
-IsShapeOf axis Chain edge = IsSpread axis edge × IsBeside axis edge.dep edge.prec
+IsShapeOf axis Chain edge = HasRoom axis edge × IsBeside axis edge.dep edge.prec
 
 -- a cell that has a name
 abbrev pub HasName : Position → Type 0

@@ -7,11 +7,11 @@ use Rattle.edge_patterns.specs.Axes.{along, across, IsLine, axis_of, count_along
 use Rattle.edge_patterns.specs.Edges.{EdgeValue, IsEdge, IsPair, run_length, range_at, range_along, steps_if}
 
 -- the second run goes on where the first ends, in one line
-pub record Follows (axis : Axis) (front back : Corners) : Type 0 where
+pub record Follows (axis : Axis) (front rear : Corners) : Type 0 where
   pub front_line : IsLine axis front
-  pub back_line : IsLine axis back
-  pub same_line : across axis front.head ≡ across axis back.head
-  pub next : along axis front.tail + 1 ≡ along axis back.head
+  pub rear_line : IsLine axis rear
+  pub same_line : across axis front.head ≡ across axis rear.head
+  pub next : along axis front.tail + 1 ≡ along axis rear.head
 
 -- two runs are neighbours in one line
 abbrev pub AreNeighbours : Corners → Corners → Type 0
@@ -35,9 +35,9 @@ pub record HasEnds (axis : Axis) (dep first last : Corners) (edge : EdgeValue) :
   pub last_is : range_along axis edge (count_along axis dep - 1) ≡ last
 
 -- an edge has the last range of one edge and the first range of another where their runs meet
-pub record HasInnerRanges (edge front back : EdgeValue) : Type 0 where
+pub record HasInnerRanges (edge front rear : EdgeValue) : Type 0 where
   pub front_last : range_at edge (run_length front - 1) ≡ range_at front (run_length front - 1)
-  pub back_first : range_at edge (run_length front) ≡ range_at back 0
+  pub rear_first : range_at edge (run_length front) ≡ range_at rear 0
 
 -- two ranges lie between the same coordinates across a direction
 pub record IsAsWide (axis : Axis) (a b : Corners) : Type 0 where

@@ -1,6 +1,6 @@
 pub mod Axes
 pub mod Edges
+pub mod Indices
 pub mod Joins
 pub mod Laws
-pub mod Places
 pub mod Queries

@@ -1,7 +1,8 @@
 // The two directions of a run, so that a row is treated as a column is.
 ghost use Rattle.std.specs.Prelude.{◌≡◌, ◌+◌, ◌-◌, ◌<◌, ◌≤◌, ◌↔◌, IsTrue};
 ghost use Rattle.sheet_refs.specs.Cells.{IsOrdered};
-ghost use Rattle.edge_patterns.specs.Axes.{along, across, position_at, slice_of, IsLine, axis_of, count_along};
+ghost use Rattle.edge_patterns.specs.Axes.{along, across, position_at, slice_of, IsLine, axis_of};
+ghost use Rattle.edge_patterns.specs.Axes.{count_along};
 ghost use Rattle.edge_patterns.specs.Edges.{HasName, IsRange};
 
 use sheet_refs::{Cell, Range};
@@ -79,13 +80,13 @@ impl Axis {
     }
 
     // The cell with another coordinate in this direction.
-    fn with_coordinate(self, cell: Cell, place: u32) -> Cell
-        requires { HasName (position_at self place (across self cell)) }
-        ensures { result ≡ position_at self place (across self cell) }
+    fn with_coordinate(self, cell: Cell, coordinate: u32) -> Cell
+        requires { HasName (position_at self coordinate (across self cell)) }
+        ensures { result ≡ position_at self coordinate (across self cell) }
     {
         match self {
-            Axis::Down => Cell::new(place, cell.col()).unwrap(),
-            Axis::Right => Cell::new(cell.row(), place).unwrap(),
+            Axis::Down => Cell::new(coordinate, cell.col()).unwrap(),
+            Axis::Right => Cell::new(cell.row(), coordinate).unwrap(),
         }
     }
 }

@@ -65,7 +65,9 @@ impl Model for Edge {
 
 impl Edge {
     ghost use Rattle.edge_patterns.specs.Axes.{axis_of, along, slice_of};
-    ghost use Rattle.edge_patterns.specs.Edges.{IsEdge, IsRange, run_length, range_at, first_along, last_along, part_of_run, part_of_prec, part_of, edge_of, BeginsBefore, single_edge};
+    ghost use Rattle.edge_patterns.specs.Edges.{IsEdge, IsRange, run_length, range_at, first_along};
+    ghost use Rattle.edge_patterns.specs.Edges.{last_along, part_of_run, part_of_prec, part_of};
+    ghost use Rattle.edge_patterns.specs.Edges.{edge_of, BeginsBefore, single_edge};
 
     /// The edge of one cell and the range to which it refers.
     pub fn single(cell: Cell, range: Range) -> Edge
@@ -123,26 +125,26 @@ impl Edge {
         self.axis().count(&self.dep)
     }
 
-    /// Where the range of the cell with this number begins, along the run.
-    fn first(&self, place: u32) -> u32
-        requires { place < run_length self.now }
-        ensures first { result ≡ first_along (axis_of self.now.dep) self.now place }
+    /// Where the range of the cell with this index begins, along the run.
+    fn first(&self, index: u32) -> u32
+        requires { index < run_length self.now }
+        ensures first { result ≡ first_along (axis_of self.now.dep) self.now index }
     {
         let first = self.axis().along(self.prec.head());
         if self.pattern.head_moves() {
-            first + place
+            first + index
         } else {
             first
         }
     }
 
-    /// Where the range of the cell with this number ends, along the run.
-    fn last(&self, place: u32) -> u32
-        requires { place < run_length self.now }
-        ensures last { result ≡ last_along (axis_of self.now.dep) self.now place }
+    /// Where the range of the cell with this index ends, along the run.
+    fn last(&self, index: u32) -> u32
+        requires { index < run_length self.now }
+        ensures last { result ≡ last_along (axis_of self.now.dep) self.now index }
     {
         let last = self.axis().along(self.prec.tail());
-        let left = self.len() - 1 - place;
+        let left = self.len() - 1 - index;
         if self.pattern.tail_moves() {
             last - left
         } else {
@@ -150,17 +152,17 @@ impl Edge {
         }
     }
 
-    /// The range to which the cell with this number refers.
-    pub(crate) fn range_at(&self, place: u32) -> Range
-        requires { place < run_length self.now }
-        ensures range { result ≡ range_at self.now place }
+    /// The range to which the cell with this index refers.
+    pub(crate) fn range_at(&self, index: u32) -> Range
+        requires { index < run_length self.now }
+        ensures range { result ≡ range_at self.now index }
         ensures named { IsRange result }
     {
         self.axis()
-            .slice(&self.prec, self.first(place), self.last(place))
+            .slice(&self.prec, self.first(index), self.last(index))
     }
 
-    /// The cells with these numbers, from one to another.
+    /// The cells with these indices, from one to another.
     pub(crate) fn cells(&self, from: u32, to: u32) -> Range
         requires ordered { from ≤ to }
         requires within { to < run_length self.now }
@@ -172,7 +174,7 @@ impl Edge {
         axis.slice(&self.dep, head + from, head + to)
     }
 
-    /// The smallest rectangle with the ranges of the cells with these numbers, from one to another.
+    /// The smallest rectangle with the ranges of the cells with these indices, from one to another.
     pub(crate) fn ranges(&self, from: u32, to: u32) -> Range
         requires ordered { from ≤ to }
         requires within { to < run_length self.now }
@@ -192,7 +194,7 @@ impl Edge {
         axis.along(self.prec.head()) < axis.along(self.dep.head())
     }
 
-    /// The edge of the cells with these numbers, from one to another, and of their ranges.
+    /// The edge of the cells with these indices, from one to another, and of their ranges.
     pub(crate) fn part(&self, from: u32, to: u32) -> Edge
         requires ordered { from ≤ to }
         requires within { to < run_length self.now }

@@ -3,7 +3,8 @@ ghost use Rattle.std.specs.Prelude.{◌≡◌, ◌≢◌, ◌+◌, ◌-◌, ◌<
 ghost use Rattle.sheet_refs.specs.Names.{Finds};
 ghost use Rattle.edge_patterns.specs.Axes.{IsLine, count_along};
 ghost use Rattle.edge_patterns.specs.Edges.{run_length, IsBeside, steps_if, head_moves, tail_moves};
-ghost use Rattle.edge_patterns.specs.Joins.{Follows, HasBothPairs, IsJoin, HasEnds, HasInnerRanges, IsAsWide, Moves};
+ghost use Rattle.edge_patterns.specs.Joins.{Follows, HasBothPairs, IsJoin, HasEnds, HasInnerRanges};
+ghost use Rattle.edge_patterns.specs.Joins.{IsAsWide, Moves};
 ghost use Rattle.edge_patterns.specs.declared.edge.Pattern.TheVariants.{Single, Chain};
 
 use crate::axis::Axis;
@@ -32,11 +33,11 @@ pub fn join(a: &Edge, b: &Edge) -> Option<Edge>
 }
 
 // Whether the second run goes on where the first one ends.
-fn follows(axis: Axis, front: &Edge, back: &Edge) -> bool
-    ensures { IsTrue result ↔ Follows axis front.now.dep back.now.dep }
+fn follows(axis: Axis, front: &Edge, rear: &Edge) -> bool
+    ensures { IsTrue result ↔ Follows axis front.now.dep rear.now.dep }
 {
     let first = front.dep();
-    let second = back.dep();
+    let second = rear.dep();
     axis.is_line(&first)
         && axis.is_line(&second)
         && axis.across(first.head()) == axis.across(second.head())
@@ -45,30 +46,30 @@ fn follows(axis: Axis, front: &Edge, back: &Edge) -> bool
 
 // The edge with the pairs of both: the one with their outer ranges at its ends, if it has their inner ranges too, since
 // ranges that move alike and agree at two cells agree at all between them.
-fn union_of(axis: Axis, front: &Edge, back: &Edge) -> Option<Edge>
-    requires { Follows axis front.now.dep back.now.dep }
-    ensures { Finds result (HasBothPairs front.now back.now) }
+fn union_of(axis: Axis, front: &Edge, rear: &Edge) -> Option<Edge>
+    requires { Follows axis front.now.dep rear.now.dep }
+    ensures { Finds result (HasBothPairs front.now rear.now) }
 {
-    let dep = Range::of(front.dep().head(), back.dep().tail());
-    let outer = over(axis, dep, front.range_at(0), back.range_at(back.len() - 1));
+    let dep = Range::of(front.dep().head(), rear.dep().tail());
+    let outer = over(axis, dep, front.range_at(0), rear.range_at(rear.len() - 1));
     let Some(edge) = outer else {
         return None;
     };
-    if !has_inner_ranges(&edge, front, back) {
+    if !has_inner_ranges(&edge, front, rear) {
         return None;
     }
     Some(edge)
 }
 
 // Whether an edge has the last range of one edge and the first range of another where their runs meet.
-fn has_inner_ranges(edge: &Edge, front: &Edge, back: &Edge) -> bool
+fn has_inner_ranges(edge: &Edge, front: &Edge, rear: &Edge) -> bool
     requires longer { run_length front.now < run_length edge.now }
-    requires some { 0 < run_length back.now }
-    ensures { IsTrue result ↔ HasInnerRanges edge.now front.now back.now }
+    requires some { 0 < run_length rear.now }
+    ensures { IsTrue result ↔ HasInnerRanges edge.now front.now rear.now }
 {
     let inner = front.len();
     edge.range_at(inner - 1) == front.range_at(inner - 1)
-        && edge.range_at(inner) == back.range_at(0)
+        && edge.range_at(inner) == rear.range_at(0)
 }
 
 // The edge with this run whose first and last cells have these ranges.

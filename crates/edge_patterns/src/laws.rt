@@ -1,4 +1,6 @@
-ghost use Rattle.edge_patterns.specs.Laws.{CellsHaveOneRange, RunsHaveRanges, SinglesHaveOnePair, RangesAreOrdered, RectanglesHaveTheRanges, RunsAreAsked, ChainsReferToNeighbours, PairsTellTheEdge, UnionsAreOne};
+ghost use Rattle.edge_patterns.specs.Laws.{CellsHaveOneRange, RunsHaveRanges, SinglesHaveOnePair};
+ghost use Rattle.edge_patterns.specs.Laws.{RangesAreOrdered, RectanglesHaveTheRanges, RunsAreAsked};
+ghost use Rattle.edge_patterns.specs.Laws.{ChainsReferToNeighbours, PairsTellTheEdge, UnionsAreOne};
 
 /// What holds of edges: each cell of a run has one range, and no other cell has any; a `Single` has its one pair; no range
 /// has its head past its tail, and the rectangle has exactly the cells of the ranges; a query refers to some cell exactly

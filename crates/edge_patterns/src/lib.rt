@@ -17,6 +17,8 @@ mod laws;
 mod queries;
 #[cfg(test)]
 mod small_edges;
+#[cfg(test)]
+mod small_grid;
 mod splits;
 #[cfg(test)]
 mod tests;

@@ -3,17 +3,20 @@ ghost use Rattle.std.specs.Prelude.{◌≡◌, ◌≢◌, ℕ, ◌<◌, ◌≤�
 ghost use Rattle.sheet_refs.specs.Cells.{IsIn};
 ghost use Rattle.sheet_refs.specs.Rectangles.{Overlap};
 ghost use Rattle.edge_patterns.specs.Axes.{along, axis_of};
-ghost use Rattle.edge_patterns.specs.Edges.{IsEdge, run_length, first_along, last_along, run_cell, range_at};
-ghost use Rattle.edge_patterns.specs.Places.{IsFirst, IsLast, EndsFrom, BeginsBy, FindsPlaces, IsHit, IsAsked};
-ghost use Rattle.edge_patterns.specs.Queries.{Covers, IsDirect, IsSpreadTo, IsReferred, IsLedTo, AnswersWhere};
+ghost use Rattle.edge_patterns.specs.Edges.{IsEdge, run_length, first_along, last_along, run_cell};
+ghost use Rattle.edge_patterns.specs.Edges.{range_at};
+ghost use Rattle.edge_patterns.specs.Indices.{IsFirst, IsLast, EndsFrom, BeginsBy, FindsIndices};
+ghost use Rattle.edge_patterns.specs.Indices.{IsHit, IsAsked};
+ghost use Rattle.edge_patterns.specs.Queries.{Covers, IsDirect, IsSpreadTo, IsReferred, IsLedTo};
+ghost use Rattle.edge_patterns.specs.Queries.{AnswersWhere};
 ghost use Rattle.edge_patterns.specs.declared.edge.Pattern.TheVariants.{Chain};
 
 use crate::{Edge, Pattern};
 use sheet_refs::Range;
 
-/// The numbers of some cells of a run that follow one another, from 0.
+/// The indices of some cells of a run that follow one another, from 0.
 #[derive(Clone, Copy)]
-pub(crate) struct Places {
+pub(crate) struct Indices {
     pub(crate) from: u32,
     pub(crate) to: u32,
 }
@@ -23,10 +26,10 @@ fn first_ending_from(e: &Edge, coordinate: u32) -> u32
     requires { coordinate ≤ along (axis_of e.now.dep) e.now.prec.tail }
     ensures { IsFirst (run_length e.now) (EndsFrom e.now coordinate) result }
 {
-    let last_place = e.len() - 1;
+    let last_index = e.len() - 1;
     let last = e.axis().along(e.prec().tail());
     if e.pattern().tail_moves() {
-        (coordinate + last_place).saturating_sub(last)
+        (coordinate + last_index).saturating_sub(last)
     } else {
         0
     }
@@ -37,18 +40,18 @@ fn last_beginning_by(e: &Edge, coordinate: u32) -> u32
     requires { along (axis_of e.now.dep) e.now.prec.head ≤ coordinate }
     ensures { IsLast (run_length e.now) (BeginsBy e.now coordinate) result }
 {
-    let last_place = e.len() - 1;
+    let last_index = e.len() - 1;
     let first = e.axis().along(e.prec().head());
     if e.pattern().head_moves() {
-        last_place.min(coordinate - first)
+        last_index.min(coordinate - first)
     } else {
-        last_place
+        last_index
     }
 }
 
 // The cells whose ranges overlap the query.
-fn hit_places(e: &Edge, q: Range) -> Option<Places>
-    ensures hit { FindsPlaces (run_length e.now) (IsHit e.now q) result }
+fn hit_indices(e: &Edge, q: Range) -> Option<Indices>
+    ensures hit { FindsIndices (run_length e.now) (IsHit e.now q) result }
     ensures edge { IsEdge e.now }
 {
     if !e.prec().overlaps(&q) {
@@ -59,12 +62,12 @@ fn hit_places(e: &Edge, q: Range) -> Option<Places>
     if from > to {
         return None;
     }
-    Some(Places { from, to })
+    Some(Indices { from, to })
 }
 
 // The cells that are in the query.
-fn asked_places(e: &Edge, q: Range) -> Option<Places>
-    ensures asked { FindsPlaces (run_length e.now) (IsAsked e.now q) result }
+fn asked_indices(e: &Edge, q: Range) -> Option<Indices>
+    ensures asked { FindsIndices (run_length e.now) (IsAsked e.now q) result }
     ensures edge { IsEdge e.now }
 {
     if !e.dep().overlaps(&q) {
@@ -73,7 +76,7 @@ fn asked_places(e: &Edge, q: Range) -> Option<Places>
     let head = e.axis().along(e.dep().head());
     let from = e.axis().along(q.head()).saturating_sub(head);
     let to = (e.len() - 1).min(e.axis().along(q.tail()) - head);
-    Some(Places { from, to })
+    Some(Indices { from, to })
 }
 
 /// The cells of the run whose range overlaps the query, in constant time; None exactly where there is none.
@@ -81,7 +84,7 @@ pub fn direct(e: &Edge, q: Range) -> Option<Range>
     ensures covers { Covers result (IsDirect e.now q) }
     ensures none { AnswersWhere result e.now.prec q }
 {
-    let Some(hit) = hit_places(e, q) else {
+    let Some(hit) = hit_indices(e, q) else {
         return None;
     };
     Some(e.cells(hit.from, hit.to))
@@ -94,7 +97,7 @@ pub fn spread(e: &Edge, q: Range) -> Option<Range>
     ensures others { e.now.pattern ≢ Chain → Covers result (IsDirect e.now q) }
     ensures none { AnswersWhere result e.now.prec q }
 {
-    let Some(hit) = hit_places(e, q) else {
+    let Some(hit) = hit_indices(e, q) else {
         return None;
     };
     if e.pattern() != Pattern::Chain {
@@ -114,7 +117,7 @@ pub fn back(e: &Edge, q: Range) -> Option<Range>
     ensures others { e.now.pattern ≢ Chain → Covers result (IsReferred e.now q) }
     ensures none { AnswersWhere result q e.now.dep }
 {
-    let Some(asked) = asked_places(e, q) else {
+    let Some(asked) = asked_indices(e, q) else {
         return None;
     };
     if e.pattern() != Pattern::Chain {

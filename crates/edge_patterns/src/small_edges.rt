@@ -1,181 +1,126 @@
-// The edges of a small grid, held against plain lists of pairs, where a set of cells is a word with a bit for each cell.
+// The edges of a small grid, held against plain lists of pairs: what an edge says of itself, the three queries, `split`
+// and `join`. What an edge stands for is read off its three parts, by the table of patterns and by no code under test.
+use crate::small_grid::{
+    Area, Drawn, Pair, all_dependents, all_precedents, are_regular, cells_of, count_of, dependents,
+    drawn_from, follow, grid_areas, pair_at, pairs_of, precedents, stepped,
+};
 use crate::{Edge, Pattern, back, direct, join, split, spread};
-use sheet_refs::{Cell, Range};
+use sheet_refs::{Cell, Range, range_of};
 use std::alloc::Global;
 use std::test::Fail;
 
-// A range with its cells, and a pair with the bit of its cell, so that queries cost little.
-#[derive(Clone, Copy, PartialEq)]
-struct Area {
-    range: Range,
-    cells: u32,
+// An edge with the pairs that it has to stand for.
+#[derive(Drop)]
+struct Small {
+    drawn: Drawn,
+    pairs: Vec<Pair>,
+    edge: Edge,
 }
 
-#[derive(Clone, Copy, PartialEq)]
-struct Pair {
-    cell: Cell,
-    at: u32,
-    area: Area,
-}
-
-impl Pair {
-    fn new(cell: Cell, range: Range) -> Pair {
-        let at = cells_of(Range::of(cell, cell));
-        let cells = cells_of(range);
-        let area = Area { range, cells };
-        Pair { cell, at, area }
-    }
-}
-
-// The cells of a range in a grid of 5 by 5, as bits of a word, row by row.
-fn cells_of(range: Range) -> u32 {
-    let mut columns = 0;
-    for col in 0..5 {
-        if range.head().col() <= col + 1 && col < range.tail().col() {
-            columns |= 1 << col;
-        }
-    }
-    let mut cells = 0;
-    for row in 0..5 {
-        if range.head().row() <= row + 1 && row < range.tail().row() {
-            cells |= columns << (row * 5);
-        }
-    }
-    cells
-}
-
-fn cells_in(range: Option<Range>) -> u32 {
-    range.map_or(0, cells_of)
-}
-
-// All ranges of the grid.
-fn grid_areas(alloc: Global) -> Result<Vec<Area>, Fail> {
-    let mut areas = Vec::new(alloc);
-    for head in 0..25 {
-        for tail in 0..25 {
-            let (top, left) = (head / 5 + 1, head % 5 + 1);
-            let (bottom, right) = (tail / 5 + 1, tail % 5 + 1);
-            if top <= bottom && left <= right {
-                let head = Cell::new(top, left).ok_or("no cell")?;
-                let tail = Cell::new(bottom, right).ok_or("no cell")?;
-                let range = Range::of(head, tail);
-                let cells = cells_of(range);
-                areas.push(Area { range, cells })?;
-            }
-        }
-    }
-    Ok(areas)
-}
-
-// A cell moved by some steps, down or to the right; None outside the grid.
-fn stepped(cell: Cell, down: bool, steps: u32) -> Option<Cell> {
-    let row = if down {
-        cell.row().checked_add(steps)?
+// The tail of the first range of an edge whose tail moves: that of its rectangle moved back over the run.
+fn first_tail(edge: &Edge, down: bool) -> Option<Cell> {
+    let tail = edge.prec().tail();
+    let run = edge.dep();
+    let rows = run.tail().row().checked_sub(run.head().row())?;
+    let cols = run.tail().col().checked_sub(run.head().col())?;
+    if down {
+        Cell::new(tail.row().checked_sub(rows)?, tail.col())
     } else {
-        cell.row()
+        Cell::new(tail.row(), tail.col().checked_sub(cols)?)
+    }
+}
+
+// What an edge stands for, by its run, its rectangle and its pattern.
+fn drawing_of(edge: &Edge) -> Option<Drawn> {
+    let first = edge.dep().head();
+    let down = first.col() == edge.dep().tail().col();
+    let (head, tail) = match edge.pattern() {
+        Pattern::Single | Pattern::Ff => (false, false),
+        Pattern::Rr | Pattern::Chain => (true, true),
+        Pattern::Rf => (true, false),
+        Pattern::Fr => (false, true),
     };
-    let col = if down {
-        cell.col()
+    let first_tail = if tail {
+        first_tail(edge, down)?
     } else {
-        cell.col().checked_add(steps)?
+        edge.prec().tail()
     };
-    if row > 5 || col > 5 {
-        return None;
-    }
-    Cell::new(row, col)
+    let range = Range::of(edge.prec().head(), first_tail);
+    Some(Drawn {
+        first,
+        range,
+        down,
+        head,
+        tail,
+        count: 0,
+    })
 }
 
-// How the pairs of an edge are drawn: the first cell and its range, the direction, what moves, and how many there are.
-#[derive(Clone, Copy)]
-struct Drawn {
-    first: Cell,
-    range: Range,
-    down: bool,
-    head: bool,
-    tail: bool,
-    count: u32,
-}
-
-// The pair at a place; None where it leaves the grid, or its range has its head past its tail.
-fn pair_at(drawn: &Drawn, place: u32) -> Option<Pair> {
-    let at = stepped(drawn.first, drawn.down, place)?;
-    let head = stepped(
-        drawn.range.head(),
-        drawn.down,
-        if drawn.head { place } else { 0 },
-    )?;
-    let tail = stepped(
-        drawn.range.tail(),
-        drawn.down,
-        if drawn.tail { place } else { 0 },
-    )?;
-    if head.row() > tail.row() || head.col() > tail.col() {
-        return None;
-    }
-    Some(Pair::new(at, Range::of(head, tail)))
-}
-
-// All its pairs, as cells and as words of cells; None where there is no such edge.
-fn pairs_of(alloc: Global, drawn: &Drawn) -> Result<Option<Vec<Pair>>, Fail> {
-    let mut pairs = Vec::new(alloc);
-    for place in 0..drawn.count {
-        let Some(pair) = pair_at(drawn, place) else {
-            return Ok(None);
-        };
-        pairs.push(pair)?;
-    }
-    Ok(Some(pairs))
-}
-
-// The cells whose ranges share a cell with those asked for, and the cells to which those asked for refer.
-fn dependents(pairs: &[Pair], asked: u32) -> u32 {
-    let mut found = 0;
+// Whether the cells of a run all refer to the ones before them alone, or all to the next ones.
+fn are_neighbours(drawn: &Drawn, pairs: &[Pair]) -> bool {
+    let mut before = true;
+    let mut behind = true;
     for pair in pairs {
-        if pair.area.cells & asked != 0 {
-            found |= pair.at;
-        }
+        let head = pair.area.range.head();
+        let alone = pair.area.range.cells() == 1;
+        before = before && alone && stepped(head, drawn.down, 1) == Some(pair.cell);
+        behind = behind && alone && stepped(pair.cell, drawn.down, 1) == Some(head);
     }
-    found
+    before || behind
 }
 
-fn precedents(pairs: &[Pair], asked: u32) -> u32 {
-    let mut found = 0;
+// The cells of some pairs, and those of their ranges.
+fn extent_of(pairs: &[Pair]) -> (u32, u32) {
+    let mut run = 0;
+    let mut rectangle = 0;
     for pair in pairs {
-        if pair.at & asked != 0 {
-            found |= pair.area.cells;
-        }
+        run |= pair.at;
+        rectangle |= pair.area.cells;
     }
-    found
+    (run, rectangle)
 }
 
-// In any number of steps; four are enough for a run of four cells.
-fn all_dependents(pairs: &[Pair], asked: u32) -> u32 {
-    let mut found = dependents(pairs, asked);
-    for _ in 0..4 {
-        found |= dependents(pairs, found);
-    }
-    found
+// Whether an edge stands for exactly the pairs of two parts, one behind the other, has the run and the rectangle that
+// hold them, and is called a Single and a Chain where it has to be.
+fn stands_for(edge: &Edge, front: &[Pair], rear: &[Pair]) -> bool {
+    let Some(drawn) = drawing_of(edge) else {
+        return false;
+    };
+    let (front_run, front_cells) = extent_of(front);
+    let (rear_run, rear_cells) = extent_of(rear);
+    let single = front.len() == 1 && rear.is_empty();
+    let chain = !single && are_neighbours(&drawn, front) && are_neighbours(&drawn, rear);
+    follow(&drawn, 0, front)
+        && follow(&drawn, count_of(front), rear)
+        && cells_of(edge.dep()) == front_run | rear_run
+        && cells_of(edge.prec()) == front_cells | rear_cells
+        && (edge.pattern() == Pattern::Single) == single
+        && (edge.pattern() == Pattern::Chain) == chain
 }
 
-fn all_precedents(pairs: &[Pair], asked: u32) -> u32 {
-    let mut found = precedents(pairs, asked);
-    for _ in 0..4 {
-        found |= precedents(pairs, found);
+// Whether there is an edge that stands for these pairs, and none exactly where there are no pairs.
+fn finds(edge: &Option<Edge>, pairs: &[Pair]) -> bool {
+    match edge {
+        None => pairs.is_empty(),
+        Some(edge) => stands_for(edge, pairs, &[]),
     }
-    found
 }
 
 // The edge with these pairs, by joining them one after the other.
 fn edge_of(pairs: &[Pair]) -> Option<Edge> {
     let mut joined: Option<Edge> = None;
     for pair in pairs {
-        let single = Edge::single(pair.cell, pair.area.range);
+        let single = pair.single();
         joined = match &joined {
             None => Some(single),
             Some(front) => Some(join(front, &single)?),
         };
     }
     joined
+}
+
+fn cells_in(range: Option<Range>) -> u32 {
+    range.map_or(0, cells_of)
 }
 
 // Whether an edge answers a query as its pairs do.
@@ -197,68 +142,33 @@ fn agrees(edge: &Edge, pairs: &[Pair], query: &Area) -> bool {
         && cells_in(back(edge, query.range)) == behind
 }
 
-// Whether an edge is that of its pairs, or is None where there are none.
-fn is_edge_of(edge: &Option<Edge>, pairs: &[Pair]) -> bool {
-    match (edge, edge_of(pairs)) {
-        (None, None) => true,
-        (Some(edge), Some(wanted)) => *edge == wanted,
-        _ => false,
-    }
-}
-
-// Whether each cell can be taken out of an edge, and the two parts joined again exactly where one cell is between them.
+// Whether each cell can be taken out of an edge, so that the parts stand for the pairs before it and for those after it.
 fn splits(edge: &Edge, pairs: &[Pair]) -> bool {
-    for (place, pair) in pairs.iter().enumerate() {
+    for (index, pair) in pairs.iter().enumerate() {
         if !edge.dep().contains(pair.cell) {
             return false;
         }
         let (before, after) = split(edge, pair.cell);
-        if !is_edge_of(&before, &pairs[..place]) || !is_edge_of(&after, &pairs[place + 1..]) {
-            return false;
-        }
-        let single = Edge::single(pair.cell, pair.area.range);
-        let front = before.map_or(Some(single), |before| join(&before, &single));
-        let whole = match (front, &after) {
-            (Some(front), Some(after)) => join(&front, after),
-            (front, _) => front,
-        };
-        if whole != Some(*edge) {
+        let (front, rear) = (&pairs[..index], &pairs[index + 1..]);
+        if !finds(&before, front)
+            || !finds(&after, rear)
+            || !joins_again(edge, before, pair, after)
+        {
             return false;
         }
     }
     true
 }
 
-// Whether the pattern of the edge is the one that what moves asks for.
-fn has_pattern(edge: &Edge, drawn: &Drawn, pairs: &[Pair]) -> bool {
-    let mut on = true;
-    let mut ahead = true;
-    for pair in pairs {
-        let head = pair.area.range.head();
-        let alone = pair.area.range.cells() == 1;
-        on = on && alone && stepped(head, drawn.down, 1) == Some(pair.cell);
-        ahead = ahead && alone && stepped(pair.cell, drawn.down, 1) == Some(head);
-    }
-    let wanted = match (drawn.head, drawn.tail) {
-        _ if drawn.count == 1 => Pattern::Single,
-        (true, true) if on || ahead => Pattern::Chain,
-        (true, true) => Pattern::Rr,
-        (true, false) => Pattern::Rf,
-        (false, true) => Pattern::Fr,
-        (false, false) => Pattern::Ff,
+// Whether the cell that was taken out can be put between the parts again.
+fn joins_again(edge: &Edge, before: Option<Edge>, pair: &Pair, after: Option<Edge>) -> bool {
+    let single = pair.single();
+    let front = before.map_or(Some(single), |before| join(&before, &single));
+    let whole = match (front, &after) {
+        (Some(front), Some(after)) => join(&front, after),
+        (front, _) => front,
     };
-    edge.pattern() == wanted
-}
-
-// Whether the run and the rectangle of an edge are those of its pairs.
-fn has_parts(edge: &Edge, pairs: &[Pair]) -> bool {
-    let mut run = 0;
-    let mut rectangle = 0;
-    for pair in pairs {
-        run |= pair.at;
-        rectangle |= pair.area.cells;
-    }
-    cells_of(edge.dep()) == run && cells_of(edge.prec()) == rectangle
+    whole == Some(*edge)
 }
 
 // Whether an edge goes on with a range at the next cell; one cell goes on whatever moves.
@@ -278,66 +188,197 @@ fn continues(drawn: &Drawn, area: &Area) -> bool {
 }
 
 // Whether one more pair next to the last can be joined exactly where it goes on as the edge does, in either order.
-fn goes_on(edge: &Edge, drawn: &Drawn, areas: &[Area]) -> bool {
-    let Some(at) = stepped(drawn.first, drawn.down, drawn.count) else {
+fn goes_on(small: &Small, areas: &[Area]) -> bool {
+    let Some(at) = stepped(small.drawn.first, small.drawn.down, small.drawn.count) else {
         return true;
     };
     areas.iter().all(|area| {
         let single = Edge::single(at, area.range);
-        let joined = join(edge, &single);
-        joined.is_some() == continues(drawn, area) && join(&single, edge) == joined
+        let joined = join(&small.edge, &single);
+        joined.is_some() == continues(&small.drawn, area) && join(&single, &small.edge) == joined
     })
 }
 
-// Whether no pair past a gap can be joined.
-fn stops(edge: &Edge, drawn: &Drawn, areas: &[Area]) -> bool {
-    let Some(beyond) = stepped(drawn.first, drawn.down, drawn.count.saturating_add(1)) else {
-        return true;
-    };
-    areas.iter().all(|area| join(edge, &Edge::single(beyond, area.range)).is_none())
+// Whether two edges are joined exactly where one edge can stand for the pairs of both, into one that does.
+fn joins(a: &Small, b: &Small) -> bool {
+    match join(&a.edge, &b.edge) {
+        None => !are_regular(&a.pairs, &b.pairs) && !are_regular(&b.pairs, &a.pairs),
+        Some(joined) => {
+            (are_regular(&a.pairs, &b.pairs) && stands_for(&joined, &a.pairs, &b.pairs))
+                || (are_regular(&b.pairs, &a.pairs) && stands_for(&joined, &b.pairs, &a.pairs))
+        }
+    }
 }
 
-fn check_drawn(alloc: Global, drawn: &Drawn, areas: &[Area]) -> Result<bool, Fail> {
-    let Some(pairs) = pairs_of(alloc, drawn)? else {
-        return Ok(true);
-    };
-    let Some(edge) = edge_of(&pairs) else {
-        return Ok(false);
-    };
-    let answers = areas.iter().all(|query| agrees(&edge, &pairs, query));
-    Ok(
-        answers
-            && has_parts(&edge, &pairs)
-            && has_pattern(&edge, drawn, &pairs)
-            && splits(&edge, &pairs)
-            && goes_on(&edge, drawn, areas)
-            && stops(&edge, drawn, areas),
-    )
+// Which edges of a grid are drawn: how many rows and columns it has, and how many cells they have at least and at most.
+#[derive(Clone, Copy)]
+struct Kind {
+    side: u32,
+    least: u32,
+    most: u32,
+}
+
+// Whether a cell and a range stand in a grid with so many rows and columns.
+fn fits(pair: &Pair, side: u32) -> bool {
+    let tail = pair.area.range.tail();
+    pair.cell.row() <= side && pair.cell.col() <= side && tail.row() <= side && tail.col() <= side
+}
+
+// The edges that are drawn from a cell and a range, each with its pairs.
+fn edges_from(alloc: Global, first: Cell, range: Range, kind: Kind) -> Result<Vec<Small>, Fail> {
+    let mut edges = Vec::new(alloc);
+    for choice in 0..32u32 {
+        let Some(drawn) = drawn_from(first, range, choice) else {
+            continue;
+        };
+        if drawn.count < kind.least || drawn.count > kind.most {
+            continue;
+        }
+        let Some(pairs) = pairs_of(alloc, &drawn)? else {
+            continue;
+        };
+        if pairs.iter().all(|pair| fits(pair, kind.side)) {
+            let edge = edge_of(&pairs).ok_or("not joined")?;
+            edges.push(Small { drawn, pairs, edge })?;
+        }
+    }
+    Ok(edges)
+}
+
+// All edges of a kind.
+fn grid_edges(alloc: Global, kind: Kind) -> Result<Vec<Small>, Fail> {
+    let areas = grid_areas(alloc, kind.side)?;
+    let mut edges = Vec::new(alloc);
+    for first in areas.iter().filter(|area| area.range.cells() == 1) {
+        for area in &areas {
+            for small in edges_from(alloc, first.range.head(), area.range, kind)? {
+                edges.push(small)?;
+            }
+        }
+    }
+    Ok(edges)
 }
 
 #[test]
 fn small_edges_answer_as_their_pairs_do(rt: HostRuntime) -> Result<(), Fail> {
     let alloc = rt.alloc();
-    let areas = grid_areas(alloc)?;
-    for place in 0..25 {
-        let first = Cell::new(place / 5 + 1, place % 5 + 1).ok_or("no cell")?;
+    let areas = grid_areas(alloc, 5)?;
+    let kind = Kind {
+        side: 5,
+        least: 1,
+        most: 4,
+    };
+    for first in areas.iter().filter(|area| area.range.cells() == 1) {
         for area in &areas {
-            for choice in 0..32u32 {
-                let drawn = Drawn {
-                    first,
-                    range: area.range,
-                    down: choice % 2 == 0,
-                    head: choice / 2 % 2 == 0,
-                    tail: choice / 4 % 2 == 0,
-                    count: choice / 8 + 1,
-                };
-                // What moves makes no difference to one cell.
-                if choice > 1 && choice < 8 {
-                    continue;
-                }
-                assert!(rt; check_drawn(alloc, &drawn, &areas)?, "{place} {choice}");
+            for small in &edges_from(alloc, first.range.head(), area.range, kind)? {
+                let (edge, pairs) = (&small.edge, &small.pairs);
+                assert!(rt; stands_for(edge, pairs, &[]));
+                assert!(rt; areas.iter().all(|query| agrees(edge, pairs, query)));
+                assert!(rt; splits(edge, pairs));
+                assert!(rt; goes_on(small, &areas));
             }
         }
     }
     Ok(())
+}
+
+// All edges of a grid of 3 by 3 with all, so those that cross, overlap, leave a gap or run beside one another too.
+#[test]
+fn small_edges_are_joined_where_one_edge_has_their_pairs(rt: HostRuntime) -> Result<(), Fail> {
+    let kind = Kind {
+        side: 3,
+        least: 1,
+        most: 3,
+    };
+    let edges = grid_edges(rt.alloc(), kind)?;
+    for a in &edges {
+        for b in &edges {
+            assert!(rt; joins(a, b));
+        }
+    }
+    Ok(())
+}
+
+// The runs of two cells in a grid of 4 by 4, each with all that go on where it ends.
+#[test]
+fn pairs_of_small_runs_are_joined_where_one_edge_has_their_pairs(
+    rt: HostRuntime,
+) -> Result<(), Fail> {
+    let kind = Kind {
+        side: 4,
+        least: 2,
+        most: 2,
+    };
+    let edges = grid_edges(rt.alloc(), kind)?;
+    for a in &edges {
+        let next = stepped(a.edge.dep().tail(), a.drawn.down, 1);
+        for b in edges.iter().filter(|b| next == Some(b.drawn.first)) {
+            assert!(rt; joins(a, b) && joins(b, a));
+        }
+    }
+    Ok(())
+}
+
+// The chain of the last row, up to the last column that has a name.
+fn row_chain() -> Result<Edge, Fail> {
+    let mut before = Cell::new(1048576, 1).ok_or("no cell")?;
+    let mut chain: Option<Edge> = None;
+    for col in 2..16385u32 {
+        let cell = Cell::new(1048576, col).ok_or("no cell")?;
+        let single = Edge::single(cell, Range::of(before, before));
+        chain = match &chain {
+            None => Some(single),
+            Some(chain) => Some(join(chain, &single).ok_or("not joined")?),
+        };
+        before = cell;
+    }
+    Ok(chain.ok_or("no chain")?)
+}
+
+#[test]
+fn edges_reach_the_ends_of_names(rt: HostRuntime) -> Result<(), Fail> {
+    let chain = row_chain()?;
+    let whole = range("A1:XFD1048576")?;
+    assert_eq!(rt; chain.pattern(), Pattern::Chain);
+    assert_eq!(rt; chain.dep(), range("B1048576:XFD1048576")?);
+    assert_eq!(rt; chain.prec(), range("A1048576:XFC1048576")?);
+    assert_eq!(rt; direct(&chain, whole), Some(chain.dep()));
+    assert_eq!(rt;
+        spread(&chain, range("XFC1048576")?),
+        Some(range("XFD1048576")?)
+    );
+    assert_eq!(rt; spread(&chain, range("XFD1048576")?), None);
+    assert_eq!(rt; back(&chain, range("XFD1048576")?), Some(chain.prec()));
+    assert_eq!(rt; back(&chain, range("A1048576")?), None);
+    let last = Cell::new(1048576, 16384).ok_or("no cell")?;
+    if !chain.dep().contains(last) {
+        return Err(Fail::from("not in the run"));
+    }
+    let (before, after) = split(&chain, last);
+    assert_eq!(rt;
+        before.map(|edge| edge.dep()),
+        Some(range("B1048576:XFC1048576")?)
+    );
+    assert_eq!(rt; after, None);
+    Ok(())
+}
+
+#[test]
+fn edges_refer_to_the_whole_space_of_names(rt: HostRuntime) -> Result<(), Fail> {
+    let whole = range("A1:XFD1048576")?;
+    let last = Cell::new(1048576, 16384).ok_or("no cell")?;
+    let above = Cell::new(1048575, 16384).ok_or("no cell")?;
+    let run = join(&Edge::single(last, whole), &Edge::single(above, whole)).ok_or("not joined")?;
+    assert_eq!(rt; run.pattern(), Pattern::Ff);
+    assert_eq!(rt; back(&run, range("XFD1048575")?), Some(whole));
+    assert_eq!(rt;
+        direct(&run, range("A1")?),
+        Some(range("XFD1048575:XFD1048576")?)
+    );
+    assert_eq!(rt; spread(&run, whole), Some(range("XFD1048575:XFD1048576")?));
+    Ok(())
+}
+
+fn range(text: &str) -> Result<Range, Fail> {
+    Ok(range_of(text.as_bytes()).ok_or("no range")?)
 }

@@ -3,7 +3,7 @@ ghost use Rattle.std.specs.Prelude.{◌≤◌};
 ghost use Rattle.sheet_refs.specs.Cells.{IsIn};
 ghost use Rattle.edge_patterns.specs.Edges.{run_length};
 ghost use Rattle.edge_patterns.specs.Joins.{StandsBefore, IsPartOrNone, LeaveOut};
-ghost use Rattle.edge_patterns.specs.Places.{StandsBetween};
+ghost use Rattle.edge_patterns.specs.Indices.{StandsBetween};
 
 use crate::Edge;
 use sheet_refs::Cell;
@@ -17,11 +17,11 @@ pub fn split(e: &Edge, cell: Cell) -> (Option<Edge>, Option<Edge>)
     ensures parts { LeaveOut result.0 result.1 e.now cell }
 {
     let axis = e.axis();
-    let place = axis.along(cell) - axis.along(e.dep().head());
-    (between(e, 0, place), between(e, place + 1, e.len()))
+    let index = axis.along(cell) - axis.along(e.dep().head());
+    (between(e, 0, index), between(e, index + 1, e.len()))
 }
 
-/// The edge of the cells from a number up to another, which is left out.
+/// The edge of the cells from an index up to another, which is left out.
 fn between(e: &Edge, from: u32, end: u32) -> Option<Edge>
     requires { end ≤ run_length e.now }
     ensures { IsPartOrNone result e.now (StandsBetween e.now from end) }

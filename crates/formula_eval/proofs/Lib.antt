@@ -1,3 +1,5 @@
+pub mod CircularFunctions
+pub mod CircularMeaning
 pub mod ClipLemmas
 pub mod MachineLemmas
 pub mod MeaningLemmas

@@ -19,14 +19,14 @@ use Rattle.formula_eval.specs.declared.machine.Pending.{Pending}
 use Rattle.formula_eval.specs.declared.machine.Pending.TheVariants as pending
 use Rattle.formula_eval.specs.Inputs.{ArePlain, IsPlainRange, seen}
 use Rattle.formula_eval.specs.Meaning.{meaning, parameter_values, parameter_value, cells_of_tree, IsNoReference}
-use Rattle.formula_eval.specs.Pending.{applied, unwound}
-use Rattle.formula_eval.proofs.PendingLemmas.{unwound-push}
+use Rattle.formula_eval.specs.Pending.{value_of_one, value_of_all}
+use Rattle.formula_eval.proofs.PendingLemmas.{value_of_all-push}
 
 -- what waits beside a part of a tree makes the value of the whole of the part's value
 pub record HasLeft (sizes : Sizes) (codes : Position → Option ℕ) (whole part : Tree) (old now : List Pending) : Type 0 where
   pub waiting : List Pending
   pub items : now ≡ old ++ waiting
-  pub means : meaning (seen sizes codes) whole ≡ unwound waiting (meaning (seen sizes codes) part)
+  pub means : meaning (seen sizes codes) whole ≡ value_of_all waiting (meaning (seen sizes codes) part)
   pub plain : ArePlain sizes codes (references_of part)
   pub count : length waiting + node_count part ≤ node_count whole
 
@@ -38,7 +38,7 @@ module _ (sizes : Sizes) (codes : Position → Option ℕ) (whole : Tree) (old n
   left_prefix op operand left = record {
     waiting = left.waiting ++ pending.Prefix op ∷ [];
     items = ap (λ xs. xs ++ pending.Prefix op ∷ []) left.items ∙ append_assoc old left.waiting (pending.Prefix op ∷ []);
-    means = left.means ∙ sym (unwound-push left.waiting (pending.Prefix op) (meaning (seen sizes codes) operand));
+    means = left.means ∙ sym (value_of_all-push left.waiting (pending.Prefix op) (meaning (seen sizes codes) operand));
     plain = left.plain;
     count = (let h = left.count in omega (arith, length-append left.waiting (pending.Prefix op ∷ [])));
   }
@@ -47,7 +47,7 @@ module _ (sizes : Sizes) (codes : Position → Option ℕ) (whole : Tree) (old n
   left_binary op first second value is left plain = record {
     waiting = left.waiting ++ pending.Binary op value ∷ [];
     items = ap (λ xs. xs ++ pending.Binary op value ∷ []) left.items ∙ append_assoc old left.waiting (pending.Binary op value ∷ []);
-    means = left.means ∙ ap (λ v. unwound left.waiting (applied (pending.Binary op v) (meaning (seen sizes codes) first))) (sym is) ∙ sym (unwound-push left.waiting (pending.Binary op value) (meaning (seen sizes codes) first));
+    means = left.means ∙ ap (λ v. value_of_all left.waiting (value_of_one (pending.Binary op v) (meaning (seen sizes codes) first))) (sym is) ∙ sym (value_of_all-push left.waiting (pending.Binary op value) (meaning (seen sizes codes) first));
     plain = plain;
     count = (let h = left.count in omega (arith, length-append left.waiting (pending.Binary op value ∷ [])));
   }

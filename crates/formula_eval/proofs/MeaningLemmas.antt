@@ -37,7 +37,7 @@ cells_all P range holds k d below =
     rw here (holds (cell_of_place range k) inside)
 
 -- the one cell of a range that is one cell
-head_in : (range : Corners) → is_one_cell range ≡ true → IsIn range.head range
+pub head_in : (range : Corners) → is_one_cell range ≡ true → IsIn range.head range
 head_in range one = record { row_from = omega arith; row_to = grind (arith, nat_tests); col_from = omega arith; col_to = grind (arith, nat_tests) }
 
 -- a value with another code than #CIRC! is another value
@@ -59,13 +59,13 @@ or_true : (b : Bool) → (b || true) ≡ true
 or_true true = refl
 or_true false = refl
 
-any_at : (p : Reference → Bool) (rs : List Reference) (i : ℕ) (r : Reference) → slice_get rs i ≡ Some r → p r ≡ true → list_any p rs ≡ true
+pub any_at : (p : Reference → Bool) (rs : List Reference) (i : ℕ) (r : Reference) → slice_get rs i ≡ Some r → p r ≡ true → list_any p rs ≡ true
 any_at p [] i r at is = absurd (cc)
 any_at p (x ∷ xs) zero r at is = let same : x ≡ r = cc in rw (same, is) refl
 any_at p (x ∷ xs) (suc i) r at is = rw (any_at p xs i r at is) (or_true (p x))
 
 -- a list with a cell that passes a test
-cell_any : (p : Position → Bool) (range : Corners) (cell : Position) → IsIn cell range → p cell ≡ true → list_any p (cells_of range) ≡ true
+pub cell_any : (p : Position → Bool) (range : Corners) (cell : Position) → IsIn cell range → p cell ≡ true → list_any p (cells_of range) ≡ true
 cell_any p range cell inside is =
     let ordered : IsOrdered range.head range.tail = record { rows = omega (arith, inside.row_from, inside.row_to); cols = omega (arith, inside.col_from, inside.col_to) } in
     let found = (cells_listed range ordered cell).1 inside in

@@ -6,10 +6,10 @@ use Rattle.formula_syntax.specs.declared.functions.Function.{Function}
 use Rattle.formula_syntax.specs.declared.functions.Function.TheVariants.{Counta}
 use Rattle.formula_eval.specs.declared.items.Item.{Item}
 use Rattle.formula_eval.specs.declared.tally.Tally.{Tally}
-use Rattle.formula_eval.specs.Functions.{Contribution, contribution, contributions, added}
+use Rattle.formula_eval.specs.Functions.{Contribution, contribution, contributions, add_contribution}
 use Rattle.formula_eval.specs.Tallies.{Tallies, Adds, IsBounded}
 
-added_ok : (c : Contribution) (r t : Result (List ℤ) ErrorKind) (ms ns : List ℤ) → added c r ≡ Ok ms → ((front : List ℤ) → r ≡ Ok front → t ≡ Ok (front ++ ns)) → added c t ≡ Ok (ms ++ ns)
+added_ok : (c : Contribution) (r t : Result (List ℤ) ErrorKind) (ms ns : List ℤ) → add_contribution c r ≡ Ok ms → ((front : List ℤ) → r ≡ Ok front → t ≡ Ok (front ++ ns)) → add_contribution c t ≡ Ok (ms ++ ns)
 added_ok (Err kind) r t ms ns is go = absurd (cc)
 added_ok (Ok None) (Err kind) t ms ns is go = absurd (cc)
 added_ok (Ok (Some n)) (Err kind) t ms ns is go = absurd (cc)
@@ -20,14 +20,14 @@ added_ok (Ok (Some n)) (Ok front) t ms ns is go =
     let same : n ∷ front ≡ ms = cc in
     rw (go front refl) (ap (λ xs. Ok (xs ++ ns)) same)
 
-added_err : (c : Contribution) (r t : Result (List ℤ) ErrorKind) (ms : List ℤ) (kind : ErrorKind) → added c r ≡ Ok ms → ((front : List ℤ) → r ≡ Ok front → t ≡ Err kind) → added c t ≡ Err kind
+added_err : (c : Contribution) (r t : Result (List ℤ) ErrorKind) (ms : List ℤ) (kind : ErrorKind) → add_contribution c r ≡ Ok ms → ((front : List ℤ) → r ≡ Ok front → t ≡ Err kind) → add_contribution c t ≡ Err kind
 added_err (Err k) r t ms kind is go = absurd (cc)
 added_err (Ok None) (Err k) t ms kind is go = absurd (cc)
 added_err (Ok (Some n)) (Err k) t ms kind is go = absurd (cc)
 added_err (Ok None) (Ok front) t ms kind is go = rw (go front refl) refl
 added_err (Ok (Some n)) (Ok front) t ms kind is go = rw (go front refl) refl
 
-added_first : (c : Contribution) (r t : Result (List ℤ) ErrorKind) (kind : ErrorKind) → added c r ≡ Err kind → (r ≡ Err kind → t ≡ Err kind) → added c t ≡ Err kind
+added_first : (c : Contribution) (r t : Result (List ℤ) ErrorKind) (kind : ErrorKind) → add_contribution c r ≡ Err kind → (r ≡ Err kind → t ≡ Err kind) → add_contribution c t ≡ Err kind
 added_first (Err k) r t kind is go = is
 added_first (Ok None) (Err k) t kind is go = rw (go is) refl
 added_first (Ok (Some n)) (Err k) t kind is go = rw (go is) refl
@@ -85,7 +85,7 @@ pub counta_ok : (items : List Item) → (numbers : List ℤ) × (contributions C
 counta_ok [] = ([], refl, refl)
 counta_ok (item ∷ items) =
     let rest = counta_ok items in
-    (pos 1 ∷ rest.0, ap (added (Ok (Some (pos 1)))) rest.1, omega (arith, rest.2))
+    (pos 1 ∷ rest.0, ap (add_contribution (Ok (Some (pos 1)))) rest.1, omega (arith, rest.2))
 
 pub counta_err : (items : List Item) (kind : ErrorKind) → contributions Counta items ≡ Err kind → ⊥
 counta_err items kind is = let ok = counta_ok items in cc (ok.1, is)

@@ -57,15 +57,15 @@ contribution Or item = truth_in item
 contribution _ item = number_in item
 
 -- all that items add, or the first error
-abbrev pub added : Contribution → Result (List ℤ) ErrorKind → Result (List ℤ) ErrorKind
-added (Err kind) rest = Err kind
-added (Ok number) (Err kind) = Err kind
-added (Ok None) (Ok numbers) = Ok numbers
-added (Ok (Some number)) (Ok numbers) = Ok (number ∷ numbers)
+abbrev pub add_contribution : Contribution → Result (List ℤ) ErrorKind → Result (List ℤ) ErrorKind
+add_contribution (Err kind) rest = Err kind
+add_contribution (Ok number) (Err kind) = Err kind
+add_contribution (Ok None) (Ok numbers) = Ok numbers
+add_contribution (Ok (Some number)) (Ok numbers) = Ok (number ∷ numbers)
 
 abbrev pub contributions : Function → List Item → Result (List ℤ) ErrorKind
 contributions f [] = Ok []
-contributions f (item ∷ rest) = added (contribution f item) (contributions f rest)
+contributions f (item ∷ rest) = add_contribution (contribution f item) (contributions f rest)
 
 -- the least and the greatest of numbers; 0 of none
 abbrev pub least : List ℤ → ℤ
@@ -128,8 +128,8 @@ sign_of n = if int_lt n (pos 0) then neg_ℤ (pos 1) else (if int_eq n (pos 0) t
 abbrev pub floor_remainder : ℤ → ℤ → ℤ
 floor_remainder m n = if int_lt n (pos 0) then neg_ℤ (int_rem_euclid (neg_ℤ m) (neg_ℤ n)) else int_rem_euclid m n
 
-abbrev pub divided : (ℤ → ℤ → ℤ) → ℤ → ℤ → Value
-divided f m n = if int_eq n (pos 0) then Error error.Div0 else in_range (f m n)
+abbrev pub division_value : (ℤ → ℤ → ℤ) → ℤ → ℤ → Value
+division_value f m n = if int_eq n (pos 0) then Error error.Div0 else in_range (f m n)
 
 abbrev pub is_error : Value → Bool
 is_error (Error kind) = true
@@ -154,8 +154,8 @@ scalar_value Iferror a b c = unless_error a b
 scalar_value Not a b c = or_error (as_truth a) (λ truth. Truth (not truth))
 scalar_value Abs a b c = or_error (as_number a) (λ n. Number (pos (nat_abs n)))
 scalar_value Sign a b c = or_error (as_number a) (λ n. Number (sign_of n))
-scalar_value Mod a b c = on_both (as_number a) (as_number b) (divided floor_remainder)
-scalar_value Quotient a b c = on_both (as_number a) (as_number b) (divided int_div)
+scalar_value Mod a b c = on_both (as_number a) (as_number b) (division_value floor_remainder)
+scalar_value Quotient a b c = on_both (as_number a) (as_number b) (division_value int_div)
 scalar_value Iserror a b c = Truth (is_error a)
 scalar_value Isnumber a b c = Truth (is_number a)
 scalar_value Islogical a b c = Truth (is_truth a)

@@ -1,7 +1,8 @@
+pub mod Functions
 pub mod Inputs
 pub mod Items
 pub mod Meaning
-pub mod Functions
 pub mod Pending
+pub mod Seen
 pub mod Stops
 pub mod Tallies

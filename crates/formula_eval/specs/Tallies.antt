@@ -1,13 +1,14 @@
 -- What a tally keeps of the numbers of a sequence.
 use Rattle.std.specs.Prelude.{◌≡◌, ℕ, ℤ, pos, ◌+ℤ◌, ◌*ℤ◌, nat_abs, ◌+◌, ◌*◌, ◌^◌, ◌≤◌, Bool, true, false, List, [], ◌∷◌, ◌++◌, length, fold, Option, Some, None, Ok}
 use Rattle.value_core.specs.Wholes.{IsWhole}
+use Rattle.value_core.specs.declared.value.Value.{Value}
 use Rattle.formula_syntax.specs.declared.functions.Function.{Function}
 use Rattle.formula_syntax.specs.declared.functions.Function.TheVariants as function
 use Rattle.formula_eval.specs.declared.items.Item.{Item}
 use Rattle.formula_eval.specs.declared.tally.Running.{Running}
 use Rattle.formula_eval.specs.declared.tally.Running.TheVariants.{Sum, Product, Least, Greatest, All, Any, Count}
 use Rattle.formula_eval.specs.declared.tally.Tally.{Tally}
-use Rattle.formula_eval.specs.Functions.{least, greatest, contributions}
+use Rattle.formula_eval.specs.Functions.{least, greatest, contributions, total_of, truth_of_some}
 
 -- the magnitude of a sum
 abbrev pub sum_size : Running → ℕ
@@ -43,6 +44,23 @@ Keeps f Count numbers = is_counting f ≡ true
 pub record Tallies (f : Function) (tally : Tally) (numbers : List ℤ) : Type 0 where
   pub count : tally.count ≡ length numbers
   pub keeps : Keeps f tally.running numbers
+
+-- what is kept of numbers becomes what is kept of one more, given whether there were none
+abbrev pub KeepsOneMore : Running → Bool → ℤ → Running → Type 0
+KeepsOneMore old none number new =
+    (f : Function) (numbers : List ℤ) → Keeps f old numbers → none ≡ are_none numbers → Keeps f new (numbers ++ number ∷ [])
+
+-- a tally of numbers becomes one of one more
+abbrev pub TalliesOneMore : Tally → ℤ → Tally → Type 0
+TalliesOneMore old number new = (f : Function) (numbers : List ℤ) → Tallies f old numbers → Tallies f new (numbers ++ number ∷ [])
+
+-- the function's result of the numbers of a tally
+abbrev pub IsTotalOf : Tally → Value → Type 0
+IsTotalOf tally value = (f : Function) (numbers : List ℤ) → Tallies f tally numbers → value ≡ total_of f numbers
+
+-- the truth that a number stands for, where there are so many numbers
+abbrev pub IsTruthOfSome : ℕ → ℤ → Value → Type 0
+IsTruthOfSome count number value = (numbers : List ℤ) → count ≡ length numbers → value ≡ truth_of_some numbers number
 
 -- a sum is no larger than its numbers can make it
 pub record IsBounded (tally : Tally) : Type 0 where

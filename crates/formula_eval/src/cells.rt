@@ -1,9 +1,10 @@
-ghost use Rattle.std.specs.Prelude.{◌≡◌, ◌<◌, ◌≤◌, ◌+◌, ◌^◌, IsTrue, OnOk, IfErr, Err, map, [], ◌∷◌};
-ghost use Rattle.sheet_refs.specs.Cells.{cells_of};
+ghost use Rattle.std.specs.Prelude.{◌≡◌, ◌<◌, ◌≤◌, ◌+◌, ◌^◌, IsTrue, OnOk, IfErr, Err, []};
+ghost use Rattle.std.specs.Prelude.{◌∷◌};
 ghost use Rattle.sheet_refs.specs.Sizes.{is_inside};
 ghost use Rattle.formula_eval.specs.Functions.{contributions};
 ghost use Rattle.formula_eval.specs.Inputs.{IsPlainRange, IsKnownPlain, seen};
 ghost use Rattle.formula_eval.specs.Items.{items_of_cells};
+ghost use Rattle.formula_eval.specs.Seen.{seen_items};
 ghost use Rattle.formula_eval.specs.Tallies.{Adds, IsBounded};
 
 use crate::inputs::Inputs;
@@ -36,10 +37,10 @@ pub(crate) fn add_cells<I: Inputs>(
     requires bounded { IsBounded tally.old }
     requires room { tally.old.count < 2 ^ 59 }
     ensures ok { OnOk result (Adds function tally.old tally.new
-        (items_of_cells (map (seen (I.sizes inputs.now) (I.codes inputs.now)) (cells_of range)))) }
+        (seen_items (I.sizes inputs.now) (I.codes inputs.now) range)) }
     ensures few { OnOk result (tally.new.count ≤ tally.old.count + 17179869184) }
     ensures err { IfErr result (λ kind. contributions function
-        (items_of_cells (map (seen (I.sizes inputs.now) (I.codes inputs.now)) (cells_of range))) ≡ Err kind) }
+        (seen_items (I.sizes inputs.now) (I.codes inputs.now) range) ≡ Err kind) }
 {
     let Some(part) = sizes(inputs).clip(range) else {
         return Ok(());
@@ -56,7 +57,8 @@ fn add_cell(function: Function, value: Value, tally: &mut Tally) -> Result<(), E
     requires bounded { IsBounded tally.old }
     requires room { tally.old.count < 2 ^ 60 }
     ensures ok { OnOk result (Adds function tally.old tally.new (items_of_cells (value ∷ []))) }
-    ensures err { IfErr result (λ kind. contributions function (items_of_cells (value ∷ [])) ≡ Err kind) }
+    ensures err { IfErr result
+        (λ kind. contributions function (items_of_cells (value ∷ [])) ≡ Err kind) }
 {
     match &value {
         Value::Empty => Ok(()),

@@ -21,20 +21,21 @@ use value_core::{ErrorKind, Value, never_empty};
 /// operands and signs are walked by loops; right operands and parameters by calls, which nest no deeper
 /// than parentheses and the levels of operators do.
 pub fn eval<I: Inputs>(formula: &Formula, inputs: &I, stack: &mut Stack) -> Result<Value, Missing>
-    ensures value { IfOk result (IsFormulaValue (I.sizes inputs.now) (I.codes inputs.now) formula.now) }
+    ensures value { IfOk result
+        (IsFormulaValue (I.sizes inputs.now) (I.codes inputs.now) formula.now) }
     ensures missing { IfErr result
         (λ missing. IsMissing (I.sizes inputs.now) (I.codes inputs.now) formula.now missing.cell) }
 {
     let root = formula.root();
     if let Err(stop) = scan(inputs, root) {
-        return stopped(stop);
+        return answer_at(stop);
     }
     let value = value(inputs, root, &mut stack.pending);
     Ok(never_empty(value))
 }
 
 // What evaluation answers at a cell that it can't read past.
-fn stopped(stop: Stop) -> Result<Value, Missing>
+fn answer_at(stop: Stop) -> Result<Value, Missing>
     ensures circular { IfOk result (λ v. v ≡ Error Circ) }
     ensures missing { IfErr result (λ missing. missing.cell ≡ stop_cell stop) }
     ensures kind { stop_code stop ≡ None ↔ IsErr result }

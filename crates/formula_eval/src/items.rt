@@ -1,5 +1,8 @@
 ghost use Rattle.std.specs.Prelude.{◌≡◌};
-ghost use Rattle.formula_eval.specs.Functions.{contribution as contribution_of, number_in as number_of_item, truth_in as truth_of_item, count_in as count_of_item};
+ghost use Rattle.formula_eval.specs.Functions.{contribution as contribution_of};
+ghost use Rattle.formula_eval.specs.Functions.{number_in as number_of_item};
+ghost use Rattle.formula_eval.specs.Functions.{truth_in as truth_of_item};
+ghost use Rattle.formula_eval.specs.Functions.{count_in as count_of_item};
 
 use formula_syntax::Function;
 use value_core::{ErrorKind, Value, Whole, as_number, as_truth, truth_number};

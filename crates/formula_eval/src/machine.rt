@@ -1,12 +1,17 @@
-ghost use Rattle.std.specs.Prelude.{◌≡◌, ◌≤◌, ◌<◌, ◌+◌, ◌^◌, ◌++◌, length, vec_len, vec_capacity, List, IfErr, OnOk, Err, MatchOption};
-ghost use Rattle.formula_syntax.specs.Tree.{tree_of, trees_of, references_of, all_references, node_count, all_nodes, reference};
+ghost use Rattle.std.specs.Prelude.{◌≡◌, ◌≤◌, ◌<◌, ◌+◌, ◌^◌, ◌++◌, length, vec_capacity};
+ghost use Rattle.std.specs.Prelude.{List, IfErr, OnOk, Err, MatchOption};
+ghost use Rattle.formula_syntax.specs.Tree.{tree_of, trees_of};
+ghost use Rattle.formula_syntax.specs.Tree.{node_count, all_nodes, reference};
 ghost use Rattle.formula_syntax.specs.Functions.{shape_of};
 ghost use Rattle.formula_syntax.specs.declared.functions.Place.TheVariants.{Sequence as SequencePlace};
-ghost use Rattle.formula_eval.specs.Functions.{function_value, sequence_value, contributions, scalar_at, blank_count};
-ghost use Rattle.formula_eval.specs.Inputs.{ArePlain, IsPlainRange, seen};
+ghost use Rattle.formula_eval.specs.Functions.{function_value, sequence_value, contributions};
+ghost use Rattle.formula_eval.specs.Functions.{scalar_at, blank_count};
+ghost use Rattle.formula_eval.specs.Inputs.{IsPlainRange, seen};
 ghost use Rattle.formula_eval.specs.Items.{items_of, items_of_parameter};
-ghost use Rattle.formula_eval.specs.Meaning.{meaning, parameter_values, parameter_value, IsNoReference, scalar_of_range};
-ghost use Rattle.formula_eval.specs.Pending.{unwound, applied};
+ghost use Rattle.formula_eval.specs.Meaning.{IsNoReference, scalar_of_range};
+ghost use Rattle.formula_eval.specs.Pending.{value_of_all, value_of_one, HasRoomFor};
+ghost use Rattle.formula_eval.specs.Seen.{IsPlainTree, AllPlain, seen_value};
+ghost use Rattle.formula_eval.specs.Seen.{seen_parameter, seen_parameters};
 ghost use Rattle.formula_eval.specs.Tallies.{Adds, IsBounded};
 ghost use Rattle.formula_eval.specs.declared.machine.Pending.{Pending as PendingOperator};
 
@@ -29,7 +34,7 @@ pub(crate) enum Pending {
 }
 
 fn apply(pending: Pending, value: Value) -> Value
-    ensures { result ≡ applied pending value }
+    ensures { result ≡ value_of_one pending value }
 {
     match &pending {
         Pending::Prefix(op) => prefix(*op, value),
@@ -40,7 +45,8 @@ fn apply(pending: Pending, value: Value) -> Value
 // Applies all that waits past the first ones, the last first.
 fn unwind(pending: &mut Vec<Pending>, first: usize, value: Value) -> Value
     ensures value { (front rest : List PendingOperator)
-        → pending.old.items ≡ front ++ rest → length front ≡ first → result ≡ unwound rest value }
+        → pending.old.items ≡ front ++ rest → length front ≡ first
+        → result ≡ value_of_all rest value }
     ensures items { (front rest : List PendingOperator)
         → pending.old.items ≡ front ++ rest → length front ≡ first → pending.new.items ≡ front }
     ensures capacity { vec_capacity pending.new ≡ vec_capacity pending.old }
@@ -73,7 +79,9 @@ fn scalar_of<I: Inputs>(inputs: &I, range: Range) -> Value
 
 // The reference that a tree is, if it is one.
 fn as_reference(node: &Node) -> Option<Ref>
-    ensures { MatchOption result (IsNoReference (tree_of node.now)) (λ r. tree_of node.now ≡ reference r) }
+    ensures { MatchOption result
+        (IsNoReference (tree_of node.now))
+        (λ r. tree_of node.now ≡ reference r) }
 {
     match node {
         Node::Reference(r) => Some(*r),
@@ -88,10 +96,11 @@ fn as_reference(node: &Node) -> Option<Ref>
 /// each node once. What waited before waits afterwards.
 #[cycle(machine)]
 pub(crate) fn value<I: Inputs>(inputs: &I, root: &Node, pending: &mut Vec<Pending>) -> Value
-    requires plain { ArePlain (I.sizes inputs.now) (I.codes inputs.now) (references_of (tree_of root.now)) }
+    requires plain { IsPlainTree (I.sizes inputs.now) (I.codes inputs.now) (tree_of root.now) }
     requires small { node_count (tree_of root.now) ≤ 8192 }
-    requires room { vec_len pending.old + node_count (tree_of root.now) ≤ vec_capacity pending.old }
-    ensures value { result ≡ meaning (seen (I.sizes inputs.now) (I.codes inputs.now)) (tree_of root.now) }
+    requires room { HasRoomFor pending.old (node_count (tree_of root.now)) }
+    ensures value { result
+        ≡ seen_value (I.sizes inputs.now) (I.codes inputs.now) (tree_of root.now) }
     ensures items { pending.new.items ≡ pending.old.items }
     ensures capacity { vec_capacity pending.new ≡ vec_capacity pending.old }
 {
@@ -131,11 +140,11 @@ fn call<I: Inputs>(
     parameters: &[Node],
     pending: &mut Vec<Pending>,
 ) -> Value
-    requires plain { ArePlain (I.sizes inputs.now) (I.codes inputs.now) (all_references (trees_of parameters.now)) }
+    requires plain { AllPlain (I.sizes inputs.now) (I.codes inputs.now) (trees_of parameters.now) }
     requires small { all_nodes (trees_of parameters.now) < 8192 }
-    requires room { vec_len pending.old + all_nodes (trees_of parameters.now) ≤ vec_capacity pending.old }
+    requires room { HasRoomFor pending.old (all_nodes (trees_of parameters.now)) }
     ensures value { result ≡ function_value function
-        (parameter_values (seen (I.sizes inputs.now) (I.codes inputs.now)) (trees_of parameters.now)) }
+        (seen_parameters (I.sizes inputs.now) (I.codes inputs.now) (trees_of parameters.now)) }
     ensures items { pending.new.items ≡ pending.old.items }
     ensures capacity { vec_capacity pending.new ≡ vec_capacity pending.old }
 {
@@ -159,11 +168,12 @@ fn scalar<I: Inputs>(
     place: usize,
     pending: &mut Vec<Pending>,
 ) -> Value
-    requires plain { ArePlain (I.sizes inputs.now) (I.codes inputs.now) (all_references (trees_of parameters.now)) }
+    requires plain { AllPlain (I.sizes inputs.now) (I.codes inputs.now) (trees_of parameters.now) }
     requires small { all_nodes (trees_of parameters.now) < 8192 }
-    requires room { vec_len pending.old + all_nodes (trees_of parameters.now) ≤ vec_capacity pending.old }
+    requires room { HasRoomFor pending.old (all_nodes (trees_of parameters.now)) }
     ensures value { result ≡ scalar_at
-        (parameter_values (seen (I.sizes inputs.now) (I.codes inputs.now)) (trees_of parameters.now)) place }
+        (seen_parameters (I.sizes inputs.now) (I.codes inputs.now) (trees_of parameters.now))
+        place }
     ensures items { pending.new.items ≡ pending.old.items }
     ensures capacity { vec_capacity pending.new ≡ vec_capacity pending.old }
 {
@@ -184,11 +194,12 @@ fn sequence<I: Inputs>(
     pending: &mut Vec<Pending>,
 ) -> Value
     requires place { (shape_of function).place ≡ SequencePlace }
-    requires plain { ArePlain (I.sizes inputs.now) (I.codes inputs.now) (all_references (trees_of parameters.now)) }
+    requires plain { AllPlain (I.sizes inputs.now) (I.codes inputs.now) (trees_of parameters.now) }
     requires small { all_nodes (trees_of parameters.now) < 8192 }
-    requires room { vec_len pending.old + all_nodes (trees_of parameters.now) ≤ vec_capacity pending.old }
+    requires room { HasRoomFor pending.old (all_nodes (trees_of parameters.now)) }
     ensures value { result ≡ sequence_value function
-        (items_of (parameter_values (seen (I.sizes inputs.now) (I.codes inputs.now)) (trees_of parameters.now))) }
+        (items_of
+        (seen_parameters (I.sizes inputs.now) (I.codes inputs.now) (trees_of parameters.now))) }
     ensures items { pending.new.items ≡ pending.old.items }
     ensures capacity { vec_capacity pending.new ≡ vec_capacity pending.old }
 {
@@ -210,16 +221,17 @@ fn add_parameter<I: Inputs>(
     pending: &mut Vec<Pending>,
     tally: &mut Tally,
 ) -> Result<(), ErrorKind>
-    requires plain { ArePlain (I.sizes inputs.now) (I.codes inputs.now) (references_of (tree_of parameter.now)) }
+    requires plain { IsPlainTree (I.sizes inputs.now) (I.codes inputs.now) (tree_of parameter.now) }
     requires small { node_count (tree_of parameter.now) ≤ 8192 }
-    requires room { vec_len pending.old + node_count (tree_of parameter.now) ≤ vec_capacity pending.old }
+    requires room { HasRoomFor pending.old (node_count (tree_of parameter.now)) }
     requires bounded { IsBounded tally.old }
     requires few { tally.old.count < 2 ^ 59 }
     ensures ok { OnOk result (Adds function tally.old tally.new (items_of_parameter
-        (parameter_value (seen (I.sizes inputs.now) (I.codes inputs.now)) (tree_of parameter.now)))) }
+        (seen_parameter (I.sizes inputs.now) (I.codes inputs.now) (tree_of parameter.now)))) }
     ensures few { OnOk result (tally.new.count ≤ tally.old.count + 17179869184) }
     ensures err { IfErr result (λ kind. contributions function (items_of_parameter
-        (parameter_value (seen (I.sizes inputs.now) (I.codes inputs.now)) (tree_of parameter.now))) ≡ Err kind) }
+        (seen_parameter (I.sizes inputs.now) (I.codes inputs.now) (tree_of parameter.now)))
+        ≡ Err kind) }
     ensures items { pending.new.items ≡ pending.old.items }
     ensures capacity { vec_capacity pending.new ≡ vec_capacity pending.old }
 {
@@ -234,9 +246,9 @@ fn add_parameter<I: Inputs>(
 
 // How many cells of a range are empty, those past the rectangle too.
 fn count_blank<I: Inputs>(inputs: &I, parameters: &[Node]) -> Value
-    requires plain { ArePlain (I.sizes inputs.now) (I.codes inputs.now) (all_references (trees_of parameters.now)) }
+    requires plain { AllPlain (I.sizes inputs.now) (I.codes inputs.now) (trees_of parameters.now) }
     ensures { result ≡ blank_count
-        (parameter_values (seen (I.sizes inputs.now) (I.codes inputs.now)) (trees_of parameters.now)) }
+        (seen_parameters (I.sizes inputs.now) (I.codes inputs.now) (trees_of parameters.now)) }
 {
     if parameters.is_empty() {
         return in_range(0);

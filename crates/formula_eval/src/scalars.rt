@@ -1,7 +1,10 @@
-ghost use Rattle.std.specs.Prelude.{◌≡◌, ℤ, pos, not, int_div, nat_abs};
+ghost use Rattle.std.specs.Prelude.{◌≡◌, pos, not, int_div, nat_abs};
 ghost use Rattle.value_core.specs.declared.value.Value.TheVariants.{Number, Truth};
 ghost use Rattle.value_core.specs.Wholes.{IsWhole};
-ghost use Rattle.formula_eval.specs.Functions.{scalar_value as scalar_value_of, floor_remainder as remainder_of, or_error, unless_error as value_unless_error, chosen, on_both, divided, sign_of};
+ghost use Rattle.formula_eval.specs.Functions.{scalar_value as scalar_value_of};
+ghost use Rattle.formula_eval.specs.Functions.{floor_remainder as remainder_of, or_error};
+ghost use Rattle.formula_eval.specs.Functions.{unless_error as value_unless_error, chosen, on_both};
+ghost use Rattle.formula_eval.specs.Functions.{division_value, sign_of};
 
 use formula_syntax::Function;
 use value_core::{ErrorKind, Value, Whole, as_number, as_truth, in_range};
@@ -74,7 +77,7 @@ fn sign(number: Result<Whole, ErrorKind>) -> Value
 }
 
 fn modulo(left: Result<Whole, ErrorKind>, right: Result<Whole, ErrorKind>) -> Value
-    ensures { result ≡ on_both left right (divided remainder_of) }
+    ensures { result ≡ on_both left right (division_value remainder_of) }
 {
     match (&left, &right) {
         (Err(kind), _) => Value::Error(*kind),
@@ -87,7 +90,7 @@ fn modulo(left: Result<Whole, ErrorKind>, right: Result<Whole, ErrorKind>) -> Va
 fn floor_remainder(left: i64, right: i64) -> Value
     requires left { IsWhole left }
     requires right { IsWhole right }
-    ensures { result ≡ divided remainder_of left right }
+    ensures { result ≡ division_value remainder_of left right }
 {
     if right == 0 {
         Value::Error(ErrorKind::Div0)
@@ -99,7 +102,7 @@ fn floor_remainder(left: i64, right: i64) -> Value
 }
 
 fn quotient(left: Result<Whole, ErrorKind>, right: Result<Whole, ErrorKind>) -> Value
-    ensures { result ≡ on_both left right (divided int_div) }
+    ensures { result ≡ on_both left right (division_value int_div) }
 {
     match (&left, &right) {
         (Err(kind), _) => Value::Error(*kind),
@@ -111,7 +114,7 @@ fn quotient(left: Result<Whole, ErrorKind>, right: Result<Whole, ErrorKind>) -> 
 // The quotient, cut towards zero.
 fn cut_quotient(left: i64, right: i64) -> Value
     requires { IsWhole left }
-    ensures { result ≡ divided int_div left right }
+    ensures { result ≡ division_value int_div left right }
 {
     if right == 0 {
         Value::Error(ErrorKind::Div0)

@@ -1,9 +1,8 @@
-ghost use Rattle.std.specs.Prelude.{◌≡◌, ℕ, ◌<◌, IsTrue, Some, slice_get, OnOk, IfErr, All};
-ghost use Rattle.sheet_refs.specs.Cells.{Position, IsIn, cells_of};
-ghost use Rattle.sheet_refs.specs.Sizes.{is_inside};
-ghost use Rattle.formula_syntax.specs.Tree.{tree_of, trees_of, references_of, all_references};
-ghost use Rattle.formula_eval.specs.Inputs.{IsPlainRange, ArePlain};
-ghost use Rattle.formula_eval.specs.Stops.{StopsIn, StopsAt};
+ghost use Rattle.std.specs.Prelude.{◌≡◌, ◌<◌, Some, OnOk, IfErr};
+ghost use Rattle.formula_syntax.specs.Tree.{tree_of, trees_of};
+ghost use Rattle.formula_eval.specs.Inputs.{IsPlainRange};
+ghost use Rattle.formula_eval.specs.Stops.{StopsIn};
+ghost use Rattle.formula_eval.specs.Seen.{IsPlainTree, AllPlain, StopsTree, StopsTrees};
 
 use crate::inputs::Inputs;
 use formula_syntax::Node;
@@ -34,8 +33,10 @@ pub(crate) fn sizes<I: Inputs>(inputs: &I) -> Sizes
 /// evaluation can't read past. It goes down left operands by a loop.
 #[cycle(scan)]
 pub(crate) fn scan<I: Inputs>(inputs: &I, root: &Node) -> Result<(), Stop>
-    ensures plain { OnOk result (ArePlain (I.sizes inputs.now) (I.codes inputs.now) (references_of (tree_of root.now))) }
-    ensures stop { IfErr result (StopsAt (I.sizes inputs.now) (I.codes inputs.now) (references_of (tree_of root.now))) }
+    ensures plain { OnOk result
+        (IsPlainTree (I.sizes inputs.now) (I.codes inputs.now) (tree_of root.now)) }
+    ensures stop { IfErr result
+        (StopsTree (I.sizes inputs.now) (I.codes inputs.now) (tree_of root.now)) }
 {
     let mut node = root;
     loop {
@@ -55,8 +56,10 @@ pub(crate) fn scan<I: Inputs>(inputs: &I, root: &Node) -> Result<(), Stop>
 // The same of several trees.
 #[cycle(scan)]
 fn scan_all<I: Inputs>(inputs: &I, roots: &[Node]) -> Result<(), Stop>
-    ensures plain { OnOk result (ArePlain (I.sizes inputs.now) (I.codes inputs.now) (all_references (trees_of roots.now))) }
-    ensures stop { IfErr result (StopsAt (I.sizes inputs.now) (I.codes inputs.now) (all_references (trees_of roots.now))) }
+    ensures plain { OnOk result
+        (AllPlain (I.sizes inputs.now) (I.codes inputs.now) (trees_of roots.now)) }
+    ensures stop { IfErr result
+        (StopsTrees (I.sizes inputs.now) (I.codes inputs.now) (trees_of roots.now)) }
 {
     for root in roots {
         scan(inputs, root)?;

@@ -1,11 +1,14 @@
-ghost use Rattle.std.specs.Prelude.{◌≡◌, ℕ, ℤ, pos, ◌+◌, ◌*ℤ◌, ◌+ℤ◌, ◌<◌, ◌≤◌, ◌^◌, [], ◌∷◌, ◌++◌, List, nat_abs, OnOk, IfErr, Err, length, if◌then◌else◌};
-ghost use Rattle.value_core.specs.Wholes.{IsWhole};
+ghost use Rattle.std.specs.Prelude.{◌≡◌, ℤ, ◌+◌, ◌*ℤ◌, ◌<◌, ◌≤◌, ◌^◌, [], ◌∷◌};
+ghost use Rattle.std.specs.Prelude.{OnOk, IfErr, Err, if◌then◌else◌};
 ghost use Rattle.formula_syntax.specs.Functions.{shape_of};
-ghost use Rattle.formula_syntax.specs.declared.functions.Function.{Function as FunctionName};
 ghost use Rattle.formula_syntax.specs.declared.functions.Place.TheVariants.{Sequence};
-ghost use Rattle.formula_eval.specs.Functions.{total_of, contributions, truth_of_some as truth_of_some_of};
+ghost use Rattle.formula_eval.specs.Functions.{contributions};
 ghost use Rattle.value_core.specs.Conversions.{in_range as ranged};
-ghost use Rattle.formula_eval.specs.Tallies.{Tallies, Keeps, KeepsProduct, Adds, IsBounded, are_none, sum_size};
+ghost use Rattle.formula_eval.specs.Tallies.{Tallies, KeepsProduct, KeepsOneMore, TalliesOneMore};
+ghost use Rattle.formula_eval.specs.Tallies.{IsTotalOf};
+ghost use Rattle.formula_eval.specs.Tallies.{IsTruthOfSome};
+ghost use Rattle.formula_eval.specs.Tallies.{Adds, IsBounded};
+ghost use Rattle.formula_eval.specs.Tallies.{sum_size};
 ghost use Rattle.std.specs.Int.{int_min, int_max};
 
 use crate::items::{Item, contribution};
@@ -56,8 +59,7 @@ impl Tally {
     pub(crate) fn with(&self, number: Whole) -> Tally
         requires bounded { IsBounded self.now }
         requires room { self.now.count < 2 ^ 60 }
-        ensures tallies { (f : FunctionName) (numbers : List ℤ)
-            → Tallies f self.now numbers → Tallies f result (numbers ++ number ∷ []) }
+        ensures tallies { TalliesOneMore self.now number result }
         ensures bounded { IsBounded result }
         ensures count { result.count ≡ self.now.count + 1 }
     {
@@ -72,7 +74,7 @@ impl Tally {
     /// The function's result of the numbers.
     pub(crate) fn finish(&self) -> Value
         requires { self.now.count < 2 ^ 53 }
-        ensures { (f : FunctionName) (numbers : List ℤ) → Tallies f self.now numbers → result ≡ total_of f numbers }
+        ensures { IsTotalOf self.now result }
     {
         match &self.running {
             Running::Sum(total) => sum_value(*total),
@@ -103,8 +105,7 @@ impl Running {
     // What is kept with one more number, given whether there was none.
     fn with(&self, none: bool, number: Whole) -> Running
         requires { sum_size self.now < 2 ^ 120 }
-        ensures keeps { (f : FunctionName) (numbers : List ℤ)
-            → Keeps f self.now numbers → none ≡ are_none numbers → Keeps f result (numbers ++ number ∷ []) }
+        ensures keeps { KeepsOneMore self.now none number result }
         ensures size { sum_size result ≤ sum_size self.now + 2 ^ 53 }
     {
         match self {
@@ -179,7 +180,7 @@ fn product_value(product: Option<Whole>) -> Value
 
 // The truth that a number stands for, where there are any numbers.
 fn truth_of_some(count: u64, number: Whole) -> Value
-    ensures { (numbers : List ℤ) → count ≡ length numbers → result ≡ truth_of_some_of numbers number }
+    ensures { IsTruthOfSome count number result }
 {
     if count == 0 {
         Value::Error(ErrorKind::Value)

@@ -26,7 +26,8 @@ impl<'a> Inputs for Known<'a> {
 
     ghost sizes = { λ known. known.sizes };
 
-    ghost codes = { λ known cell. option_map code_of (slice_index_or known.values.now (place_of known.sizes cell) None) };
+    ghost codes = { λ known cell.
+        option_map code_of (slice_index_or known.values.now (place_of known.sizes cell) None) };
 
     fn rows(&self) -> u32 {
         self.sizes.rows

@@ -1,5 +1,5 @@
 -- The first half of the grammar of formulas: which tokens a text has. Each token is the longest that fits.
-use Rattle.std.specs.Prelude.{◌≡◌, ◌≢◌, ◌<◌, ◌≤◌, ℕ, length, take, drop, pos, Bool, true, false, ◌||◌, ◌==◌, List, [], ◌∷◌, ◌++◌, map, codes, if◌then◌else◌}
+use Rattle.std.specs.Prelude.{◌≡◌, ◌≢◌, ◌<◌, ◌≤◌, ℕ, length, take, drop, pos, Bool, true, false, ◌||◌, ◌==◌, List, [], ◌∷◌, ◌++◌, map, codes, if◌then◌else◌, Option, MatchOption}
 use Rattle.std.specs.Char.{is_ascii_alphanumeric, to_ascii_lowercase}
 use Rattle.sheet_refs.specs.Names.{IsDecimal}
 use Rattle.sheet_refs.specs.Ends.{Reference, IsReferenceName}
@@ -22,6 +22,10 @@ is_blank b = b == 32 || (b == 9 || (b == 10 || b == 13))
 abbrev pub is_word : ℕ → Bool
 is_word b = is_ascii_alphanumeric b || (b == 36 || (b == 95 || (b == 46 || b == 58)))
 
+-- a text doesn't begin with a byte
+abbrev pub BeginsOtherwise : ℕ → List ℕ → Type 0
+BeginsOtherwise byte text = (tail : List ℕ) → text ≢ byte ∷ tail
+
 -- what follows a token doesn't go on with it
 abbrev pub HasEnded : List ℕ → Type 0
 HasEnded [] = Unit {0}
@@ -35,6 +39,11 @@ StartsWord (b ∷ rest) = is_word b ≡ true
 -- the same letters, in either case
 abbrev pub IsSpelt : List ℕ → List ℕ → Type 0
 IsSpelt text name = map to_ascii_lowercase text ≡ map to_ascii_lowercase name
+
+-- the function that a word names in either case, and None exactly where it names none
+abbrev pub IsFunctionOf : List ℕ → Option Function → Type 0
+IsFunctionOf word result =
+    MatchOption result ((f : Function) → ¬ IsSpelt word (function_name f)) (λ f. IsSpelt word (function_name f))
 
 -- what a word of letters, digits, `$`, `_`, `.` and colons stands for
 pub data IsWord : List ℕ → Token → Type 0 where

@@ -129,6 +129,10 @@ abbrev pub under_all : List PrefixOp → Tree → Tree
 under_all [] t = t
 under_all (op ∷ ops) t = prefix op (under_all ops t)
 
+-- these are the signs with which tokens begin
+abbrev pub AreSigns : List Token → List PrefixOp → Type 0
+AreSigns tokens signs = (t : Tree) → with_signs tokens t ≡ under_all signs t
+
 -- no operator of a level at the front
 abbrev pub HasNone : ℕ → List Token → Type 0
 HasNone level ts = (op : BinaryOp) (rest : List Token) → ts ≡ token.Operator op ∷ rest → level_of op ≢ level

@@ -16,6 +16,10 @@ pub data IsIntroduced : List ℕ → List ℕ → Type 0 where
   plain : (text rest : List ℕ) → text ≡ 61 ∷ rest → IsIntroduced text rest
   prefixed : (text rest : List ℕ) → text ≡ codes "of:=" ++ rest → IsIntroduced text rest
 
+-- a text has no such beginning
+abbrev pub HasNoIntroduction : List ℕ → Type 0
+HasNoIntroduction text = (rest : List ℕ) → ¬ IsIntroduced text rest
+
 -- a text spells a tree where the tokens behind its introduction derive the tree
 pub record Spells (text : List ℕ) (tree : Tree) : Type 0 where
   pub rest : List ℕ

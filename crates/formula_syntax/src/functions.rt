@@ -1,4 +1,4 @@
-ghost use Rattle.std.specs.Prelude.{◌≡◌, option_map};
+ghost use Rattle.std.specs.Prelude.{◌≡◌};
 ghost use Rattle.formula_syntax.specs.Functions.{function_name, shape_of};
 
 /// How a function reads its parameters.

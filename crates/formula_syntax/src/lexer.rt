@@ -1,6 +1,8 @@
-ghost use Rattle.std.specs.Prelude.{◌≡◌, ◌≢◌, ℕ, ◌<◌, ◌≤◌, ◌^◌, ◌∷◌, List, length, MatchOption, IfOk};
+ghost use Rattle.std.specs.Prelude.{◌≡◌, ◌<◌, ◌≤◌, ◌^◌, ◌∷◌, List, length, MatchOption};
+ghost use Rattle.std.specs.Prelude.{IfOk};
 ghost use Rattle.formula_syntax.specs.Fixed.{single_of, less_of, greater_of, error_of, fixed_of};
-ghost use Rattle.formula_syntax.specs.Lexing.{StartsWord, IsFront, HasNoToken, HasTokens, past_blanks};
+ghost use Rattle.formula_syntax.specs.Lexing.{StartsWord, IsFront, HasNoToken, HasTokens};
+ghost use Rattle.formula_syntax.specs.Lexing.{BeginsOtherwise, past_blanks};
 ghost use Rattle.formula_syntax.specs.declared.tokens.Token.{Token as AToken};
 
 use crate::reading::Unread;
@@ -79,7 +81,7 @@ fn error(rest: &[u8]) -> Option<(Token, usize)>
 }
 
 // A token that is always written alike, by its first byte and what follows.
-fn fixed(first: u8, rest: &[u8]) -> Option<(Token, usize)>
+fn fixed_token(first: u8, rest: &[u8]) -> Option<(Token, usize)>
     ensures { result ≡ fixed_of first rest.now }
 {
     match first {
@@ -105,7 +107,7 @@ fn word_at(text: &[u8]) -> Option<(Token, usize)>
 
 // What is behind a closing bracket at the front.
 fn behind_bracket(text: &[u8]) -> Option<&[u8]>
-    ensures { MatchOption result ((tail : List ℕ) → text.now ≢ 93 ∷ tail) (λ tail. text.now ≡ 93 ∷ tail.now) }
+    ensures { MatchOption result (BeginsOtherwise 93 text.now) (λ tail. text.now ≡ 93 ∷ tail.now) }
 {
     match text.split_first() {
         Some((b']', tail)) => Some(tail),
@@ -138,7 +140,7 @@ fn token_at(text: &[u8]) -> Option<(Token, usize)>
     if *first == b'[' {
         return bracketed_at(rest);
     }
-    fixed(*first, rest)
+    fixed_token(*first, rest)
 }
 
 // A text without the white space at its front.

@@ -20,7 +20,6 @@ mod listing;
 mod printer;
 mod reader;
 mod reading;
-mod reference_text;
 #[cfg(test)]
 mod tests;
 mod tokens;

@@ -88,7 +88,7 @@ fn visit_first<'a>(
 }
 
 // The ranges that a tree names.
-fn listed(alloc: Global, root: &Node) -> Result<Vec<Range>, AllocError>
+fn list_ranges(alloc: Global, root: &Node) -> Result<Vec<Range>, AllocError>
     ensures { IfOk result (λ ranges. IsOnceEach (ranges_of (tree_of root.now)) ranges.items) }
 {
     let mut ranges = Vec::new(alloc);
@@ -107,6 +107,6 @@ fn listed(alloc: Global, root: &Node) -> Result<Vec<Range>, AllocError>
 pub fn refs(alloc: Global, formula: &Formula) -> Result<Refs, Memory>
     ensures { IfOk result (IsOnceEach (ranges_of formula.now)) }
 {
-    let ranges = listed(alloc, formula.root())?;
+    let ranges = list_ranges(alloc, formula.root())?;
     Refs::of(alloc, &ranges)
 }

@@ -3,12 +3,13 @@ ghost use Rattle.formula_syntax.specs.Functions.{function_name};
 ghost use Rattle.formula_syntax.specs.Grammar.{level_of, sign_written};
 ghost use Rattle.formula_syntax.specs.Lexing.{operator_text};
 ghost use Rattle.formula_syntax.specs.Tree.{tree_of, trees_of};
-ghost use Rattle.formula_syntax.specs.Printing.{top_level as level_at_top, tree_text, others_text, parameters_text, in_parentheses, piece_count, all_pieces, plain, text_of, count_of, Prints};
+ghost use Rattle.formula_syntax.specs.Printing.{top_level as level_at_top, tree_text, others_text};
+ghost use Rattle.formula_syntax.specs.Printing.{parameters_text, in_parentheses, piece_count};
+ghost use Rattle.formula_syntax.specs.Printing.{all_pieces, plain, text_of, count_of, Prints};
 ghost use Rattle.formula_syntax.specs.Spelling.{Spells};
 
 use crate::functions::Function;
 use crate::reading::level;
-use crate::reference_text::write_reference;
 use crate::tree::{Formula, Node};
 use sheet_refs::Memory;
 use std::alloc::{AllocError, Global};
@@ -76,7 +77,8 @@ fn push_operands<'a>(
     right: &'a Node,
     pieces: &mut Vec<Piece<'a>>,
 ) -> Result<(), AllocError>
-    ensures { IfOk result (λ _. pieces.new.items ≡ pieces.old.items ++ (Piece.Tree right.entry (suc (level_of op))
+    ensures { IfOk result (λ _. pieces.new.items ≡ pieces.old.items
+        ++ (Piece.Tree right.entry (suc (level_of op))
         ∷ Piece.Operator op ∷ Piece.Tree left.entry (level_of op) ∷ [])) }
 {
     let least = level(op);
@@ -153,7 +155,7 @@ fn write_tree<'a>(
         Node::Truth(true) => text.push_str("TRUE"),
         Node::Truth(false) => text.push_str("FALSE"),
         Node::Error(kind) => write!(text, "{kind}"),
-        Node::Reference(reference) => write_reference(*reference, text),
+        Node::Reference(reference) => write!(text, "{reference}"),
         Node::Prefix(op, operand) => {
             text.push_str(sign_symbol(*op))?;
             pieces.push(Piece::Tree(operand, 4))?;
@@ -206,7 +208,7 @@ fn write_piece<'a>(
 }
 
 // The plain text of a tree.
-fn printed(alloc: Global, root: &Node) -> Result<String, AllocError>
+fn print_tree(alloc: Global, root: &Node) -> Result<String, AllocError>
     ensures { IfOk result (λ text. string_bytes text ≡ plain (tree_of root.now)) }
 {
     let mut text = String::from_str(alloc, "=")?;
@@ -228,6 +230,6 @@ pub fn print(alloc: Global, formula: &Formula) -> Result<Vec<u8>, Memory>
     ensures plain { IfOk result (λ text. text.items ≡ plain formula.now) }
     ensures reads_back { IfOk result (λ text. Spells text.items formula.now) }
 {
-    let text = printed(alloc, formula.root())?;
+    let text = print_tree(alloc, formula.root())?;
     Ok(text.into_bytes())
 }

@@ -1,5 +1,9 @@
-ghost use Rattle.std.specs.Prelude.{◌≡◌, ◌≢◌, ℕ, ◌+◌, ◌∷◌, ◌<◌, ◌≤◌, ◌↔◌, ◌==◌, ◌^◌, List, length, count_by, IsTrue, MatchOption, IfOk, cond};
-ghost use Rattle.formula_syntax.specs.Spelling.{IsIntroduced, IsTooDeep, IsNoFormula, HasTooManyRefs, IsRead, IsAnswer, is_reference_token};
+ghost use Rattle.std.specs.Prelude.{◌≡◌, ◌≢◌, ◌+◌, ◌∷◌, ◌<◌, ◌≤◌, ◌↔◌, ◌==◌, ◌^◌, length};
+ghost use Rattle.std.specs.Prelude.{count_by, IsTrue, MatchOption, IfOk, cond};
+ghost use Rattle.formula_syntax.specs.Spelling.{IsIntroduced, IsTooDeep, IsNoFormula};
+ghost use Rattle.formula_syntax.specs.Spelling.{HasTooManyRefs, IsRead, IsAnswer};
+ghost use Rattle.formula_syntax.specs.Spelling.{is_reference_token, HasNoIntroduction};
+ghost use Rattle.formula_syntax.specs.Lexing.{BeginsOtherwise};
 ghost use Rattle.formula_syntax.specs.Grammar.{Derives};
 ghost use Rattle.formula_syntax.specs.Tree.{Tree, tree_of};
 ghost use Rattle.formula_syntax.specs.declared.reader.TheConstants.{MAX_TEXT};
@@ -40,7 +44,7 @@ fn too_deep(text: &[u8]) -> bool
     let mut opened = 0;
     let mut closed = 0;
     for byte in text {
-        (opened, closed) = counted(*byte, opened, closed);
+        (opened, closed) = count_parentheses(*byte, opened, closed);
         if opened > closed + MAX_DEPTH {
             return true;
         }
@@ -49,7 +53,7 @@ fn too_deep(text: &[u8]) -> bool
 }
 
 // The numbers of opening and of closing parentheses, with one byte more.
-fn counted(byte: u8, opened: usize, closed: usize) -> (usize, usize)
+fn count_parentheses(byte: u8, opened: usize, closed: usize) -> (usize, usize)
     requires opened { opened < 2 ^ 32 }
     requires closed { closed < 2 ^ 32 }
     ensures opened { result.0 ≡ opened + cond (byte == 40) 1 0 }
@@ -64,7 +68,7 @@ fn counted(byte: u8, opened: usize, closed: usize) -> (usize, usize)
 
 // What is behind the equals sign at the front.
 fn behind_equals(text: &[u8]) -> Option<&[u8]>
-    ensures { MatchOption result ((rest : List ℕ) → text.now ≢ 61 ∷ rest) (λ rest. text.now ≡ 61 ∷ rest.now) }
+    ensures { MatchOption result (BeginsOtherwise 61 text.now) (λ rest. text.now ≡ 61 ∷ rest.now) }
 {
     match text.split_first() {
         Some((b'=', rest)) => Some(rest),
@@ -73,8 +77,10 @@ fn behind_equals(text: &[u8]) -> Option<&[u8]>
 }
 
 // What is behind the introduction of a formula.
-fn introduced(text: &[u8]) -> Option<&[u8]>
-    ensures { MatchOption result ((rest : List ℕ) → ¬ IsIntroduced text.now rest) (λ rest. IsIntroduced text.now rest.now) }
+fn behind_introduction(text: &[u8]) -> Option<&[u8]>
+    ensures { MatchOption result
+        (HasNoIntroduction text.now)
+        (λ rest. IsIntroduced text.now rest.now) }
 {
     if let Some(rest) = behind_equals(text) {
         return Some(rest);
@@ -122,7 +128,7 @@ impl From<Unread> for ReadRefused {
 }
 
 // The tree that all tokens derive.
-fn derived(alloc: Global, tokens: &[Token]) -> Result<Node, Unread>
+fn read_tree(alloc: Global, tokens: &[Token]) -> Result<Node, Unread>
     ensures read { IfOk result (λ node. Derives 0 tokens.now (tree_of node)) }
     ensures not { result ≡ Err Unread.NotFormula → (t : Tree) → ¬ Derives 0 tokens.now t }
 {
@@ -141,11 +147,11 @@ fn read(alloc: Global, text: &[u8]) -> Result<Formula, ReadRefused>
     if too_deep(text) {
         return Err(ReadRefused::TooDeep);
     }
-    let Some(rest) = introduced(text) else {
+    let Some(rest) = behind_introduction(text) else {
         return Err(ReadRefused::NotFormula);
     };
     let tokens = tokens(alloc, rest)?;
-    let root = derived(alloc, &tokens)?;
+    let root = read_tree(alloc, &tokens)?;
     if reference_count(&tokens) > MAX_REFERENCES {
         return Err(ReadRefused::TooManyRefs);
     }

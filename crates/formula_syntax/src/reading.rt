@@ -1,8 +1,13 @@
-ghost use Rattle.std.specs.Prelude.{◌≡◌, ◌<◌, ◌≤◌, ◌+◌, ◌*◌, ◌∷◌, [], length, map, IfOk, MatchOption};
+ghost use Rattle.std.specs.Prelude.{◌≡◌, ◌<◌, ◌≤◌, ◌+◌, ◌*◌, ◌∷◌, [], length, map, IfOk};
+ghost use Rattle.std.specs.Prelude.{MatchOption};
 ghost use Rattle.formula_syntax.specs.Functions.{shape_of};
 ghost use Rattle.formula_syntax.specs.Grammar.{level_of, sign_written};
-ghost use Rattle.formula_syntax.specs.Reading.{sign_of, after_signs, with_signs, under_all, after_truth, is_fitting, only_references, read, several, primary_at, grouped_at, parameters_at, call_at, HasNoneFrom, HasNoSign, HasNoClose, HasNoSeparator, Answers, AnswersAll, steps};
-ghost use Rattle.formula_syntax.specs.Tree.{Tree, tree_of, trees_from, prefix, binary};
+ghost use Rattle.formula_syntax.specs.Reading.{sign_of, after_signs, under_all, AreSigns};
+ghost use Rattle.formula_syntax.specs.Reading.{after_truth, is_fitting, only_references, read};
+ghost use Rattle.formula_syntax.specs.Reading.{several, primary_at, grouped_at, parameters_at};
+ghost use Rattle.formula_syntax.specs.Reading.{call_at, HasNoneFrom, HasNoSign, HasNoClose};
+ghost use Rattle.formula_syntax.specs.Reading.{HasNoSeparator, Answers, AnswersAll, steps};
+ghost use Rattle.formula_syntax.specs.Tree.{tree_of, trees_from, prefix, binary};
 ghost use Rattle.formula_syntax.specs.Tree as tree;
 ghost use Rattle.formula_syntax.specs.declared.tokens.Token.TheVariants as token;
 
@@ -84,7 +89,9 @@ fn sign(op: BinaryOp) -> Option<PrefixOp>
 
 // What is behind a closing parenthesis at the front.
 fn behind_close(tokens: &[Token]) -> Option<&[Token]>
-    ensures { MatchOption result (HasNoClose tokens.now) (λ behind. tokens.now ≡ token.Close ∷ behind.now) }
+    ensures { MatchOption result
+        (HasNoClose tokens.now)
+        (λ behind. tokens.now ≡ token.Close ∷ behind.now) }
 {
     match tokens.split_first() {
         Some((Token::Close, behind)) => Some(behind),
@@ -94,7 +101,9 @@ fn behind_close(tokens: &[Token]) -> Option<&[Token]>
 
 // What is behind a separator at the front.
 fn behind_separator(tokens: &[Token]) -> Option<&[Token]>
-    ensures { MatchOption result (HasNoSeparator tokens.now) (λ behind. tokens.now ≡ token.Separator ∷ behind.now) }
+    ensures { MatchOption result
+        (HasNoSeparator tokens.now)
+        (λ behind. tokens.now ≡ token.Separator ∷ behind.now) }
 {
     match tokens.split_first() {
         Some((Token::Separator, behind)) => Some(behind),
@@ -197,7 +206,7 @@ fn sign_at(tokens: &[Token]) -> Option<(PrefixOp, &[Token])>
 // The signs at the front, and what is behind them.
 fn signs(alloc: Global, tokens: &[Token]) -> Result<(Vec<PrefixOp>, &[Token]), AllocError>
     ensures behind { IfOk result (λ found. found.1.now ≡ after_signs tokens.now) }
-    ensures signs { IfOk result (λ found. (t : Tree) → with_signs tokens.now t ≡ under_all found.0.items t) }
+    ensures signs { IfOk result (λ found. AreSigns tokens.now found.0.items) }
     ensures within { IfOk result (λ found. length found.1.now ≤ length tokens.now) }
 {
     let mut signs = Vec::new(alloc);
@@ -237,9 +246,9 @@ pub(crate) fn expression(
     ensures looser { IfOk result (λ found. HasNoneFrom at found.1.now) }
 {
     if at == 4 {
-        return signed(alloc, tokens);
+        return signed_operand(alloc, tokens);
     }
-    let (mut left, mut rest) = signed(alloc, tokens)?;
+    let (mut left, mut rest) = signed_operand(alloc, tokens)?;
     while let Some((op, behind)) = operator_from(at, rest) {
         let (right, behind) = expression(alloc, level(op) + 1, behind)?;
         left = binary_of(alloc, op, left, right)?;
@@ -250,7 +259,7 @@ pub(crate) fn expression(
 
 // Reads signs and the operand behind them.
 #[cycle(reading)]
-fn signed(alloc: Global, tokens: &[Token]) -> Result<(Node, &[Token]), Unread>
+fn signed_operand(alloc: Global, tokens: &[Token]) -> Result<(Node, &[Token]), Unread>
     ensures read { Answers (λ n. read n 4 tokens.now) (steps 4 tokens.now) result }
     ensures shorter { IfOk result (λ found. length found.1.now < length tokens.now) }
     ensures looser { IfOk result (λ found. HasNoneFrom 4 found.1.now) }
@@ -280,7 +289,8 @@ fn primary_from<'a>(
     first: &Token,
     rest: &'a [Token],
 ) -> Result<(Node, &'a [Token]), Unread>
-    ensures read { Answers (λ n. primary_at n (first.now ∷ rest.now)) (8 * length rest.now + 8) result }
+    ensures read { Answers
+        (λ n. primary_at n (first.now ∷ rest.now)) (8 * length rest.now + 8) result }
     ensures within { IfOk result (λ found. length found.1.now ≤ length rest.now) }
 {
     match first {
@@ -288,7 +298,7 @@ fn primary_from<'a>(
         Token::Truth(b) => truth(*b, rest),
         Token::Error(kind) => Ok((error_of(*kind), rest)),
         Token::Reference(reference) => Ok((reference_of(*reference), rest)),
-        Token::Open => grouped(alloc, rest),
+        Token::Open => group(alloc, rest),
         Token::Function(function) => call(alloc, *function, rest),
         Token::Operator(_) => Err(Unread::NotFormula),
         Token::Close => Err(Unread::NotFormula),
@@ -298,7 +308,7 @@ fn primary_from<'a>(
 
 // Reads an expression and the parenthesis that closes it.
 #[cycle(reading)]
-fn grouped(alloc: Global, tokens: &[Token]) -> Result<(Node, &[Token]), Unread>
+fn group(alloc: Global, tokens: &[Token]) -> Result<(Node, &[Token]), Unread>
     ensures read { Answers (λ n. grouped_at n tokens.now) (steps 0 tokens.now) result }
     ensures shorter { IfOk result (λ found. length found.1.now < length tokens.now) }
 {

@@ -1,8 +1,6 @@
-ghost use Rattle.std.specs.Prelude.{◌≡◌, ◌≢◌, ◌<◌, ◌≤◌, ◌↔◌, ℕ, length, take, drop, MatchOption, IsTrue};
+ghost use Rattle.std.specs.Prelude.{◌≡◌, ◌<◌, ◌≤◌, length, MatchOption};
 ghost use Rattle.std.specs.List.{prefix_len};
-ghost use Rattle.formula_syntax.specs.Lexing.{is_blank, is_word, IsWord, IsSpelt};
-ghost use Rattle.formula_syntax.specs.Functions.{function_name};
-ghost use Rattle.formula_syntax.specs.declared.functions.Function.{Function as FunctionName};
+ghost use Rattle.formula_syntax.specs.Lexing.{is_blank, is_word, IsWord, IsFunctionOf};
 ghost use Rattle.formula_syntax.specs.declared.tokens.Token.{Token as AToken};
 
 use crate::functions::Function;
@@ -55,7 +53,7 @@ pub(crate) fn word_of(word: &[u8]) -> Option<Token>
 
 // The function of this name, in either case.
 fn function_of(word: &[u8]) -> Option<Function>
-    ensures { MatchOption result ((f : FunctionName) → ¬ IsSpelt word.now (function_name f)) (λ f. IsSpelt word.now (function_name f)) }
+    ensures { IsFunctionOf word.now result }
 {
     for function in Function::ALL {
         if word.eq_ignore_ascii_case(function.name().as_bytes()) {

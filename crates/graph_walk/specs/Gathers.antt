@@ -1,7 +1,7 @@
 -- How a set of cells and a list of ranges to be walked on from grow.
 use Rattle.std.specs.Prelude.{◌≡◌, ℕ, ◌+◌, ◌≤◌, ◌⊎◌, ◌↔◌, ◌&&◌, not, nat_le, Bool, List, [], ◌∷◌, ◌++◌, length, if◌then◌else◌}
 use Rattle.std.specs.List.{list_any}
-use Rattle.sheet_refs.specs.Cells.{Position, Corners, cells_of}
+use Rattle.sheet_refs.specs.Cells.{Position, Corners, IsIn, cells_of}
 use Rattle.sheet_refs.specs.Rectangles.{IsAmong}
 
 -- whether a cell is in a range, or in one of some ranges
@@ -32,3 +32,10 @@ pub record Gathers (old new waited waiting : List Corners) (cells : Position →
   pub only : (cell : Position) → IsAmong added cell → cells cell
   pub all : (cell : Position) → cells cell → IsAmong new cell
   pub fewer : absent new + length added ≤ absent old
+
+-- the same of the cells of one range, and of those of some ranges
+abbrev pub Admits : List Corners → List Corners → List Corners → List Corners → Corners → Type 0
+Admits old new waited waiting range = Gathers old new waited waiting (λ cell. IsIn cell range)
+
+abbrev pub GathersAll : List Corners → List Corners → List Corners → List Corners → List Corners → Type 0
+GathersAll old new waited waiting found = Gathers old new waited waiting (IsAmong found)

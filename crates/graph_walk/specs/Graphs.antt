@@ -59,6 +59,20 @@ pub record Adds (old new : List Corners) (least most : Position → Type 0) : Ty
   pub all : (cell : Position) → least cell → IsAmong added cell
   pub only : (cell : Position) → IsAmong added cell → most cell
 
+-- ranges were added whose cells are exactly the direct dependents, or the direct precedents, of a range
+abbrev pub AddsDirectDependents : List Pair → Corners → List Corners → List Corners → Type 0
+AddsDirectDependents pairs range old new = Adds old new (IsDirectDependent pairs range) (IsDirectDependent pairs range)
+
+abbrev pub AddsDirectPrecedents : List Pair → Corners → List Corners → List Corners → Type 0
+AddsDirectPrecedents pairs range old new = Adds old new (IsDirectPrecedent pairs range) (IsDirectPrecedent pairs range)
+
+-- ranges were added that hold all of these, and only cells at least one step away in the same direction
+abbrev pub AddsAhead : List Pair → Corners → List Corners → List Corners → Type 0
+AddsAhead pairs range old new = Adds old new (IsDirectDependent pairs range) (IsDependent pairs range)
+
+abbrev pub AddsBehind : List Pair → Corners → List Corners → List Corners → Type 0
+AddsBehind pairs range old new = Adds old new (IsDirectPrecedent pairs range) (IsPrecedent pairs range)
+
 -- the same pairs
 abbrev pub SamePairs : List Pair → List Pair → Type 0
 SamePairs old new = (pair : Pair) → Contains new pair ↔ Contains old pair
@@ -78,3 +92,10 @@ IsClosed pairs set = (from to : Position) → Step pairs from to → IsTrue (set
 
 abbrev pub IsClosedBack : List Pair → (Position → Bool) → Type 0
 IsClosedBack pairs set = (from to : Position) → Step pairs from to → IsTrue (set to) → IsTrue (set from)
+
+-- a set has exactly the cells of a range and all that depend on them, or on which they depend
+abbrev pub HoldsReach : List Pair → Corners → List Corners → Type 0
+HoldsReach pairs range set = (cell : Position) → IsAmong set cell ↔ Reach pairs range cell
+
+abbrev pub HoldsBack : List Pair → Corners → List Corners → Type 0
+HoldsBack pairs range set = (cell : Position) → IsAmong set cell ↔ Back pairs range cell

@@ -1,4 +1,5 @@
 pub mod Gathers
 pub mod Graphs
+pub mod Laws
 pub mod Paths
 pub mod Walks

@@ -2,7 +2,7 @@
 use Rattle.std.specs.Prelude.{◌⊎◌, ◌↔◌, List}
 use Rattle.sheet_refs.specs.Cells.{Position, Corners, IsIn}
 use Rattle.sheet_refs.specs.Rectangles.{IsAmong}
-use Rattle.graph_walk.specs.Graphs.{Pair, Step}
+use Rattle.graph_walk.specs.Graphs.{Pair, Step, Adds}
 use Rattle.graph_walk.specs.Paths.{IsReached, LeadsTo, back}
 use Rattle.graph_walk.specs.declared.walk.Direction.{Direction}
 use Rattle.graph_walk.specs.declared.walk.Direction.TheVariants.{Ahead, Behind}
@@ -18,6 +18,11 @@ IsNext step range cell = (from : Position) × IsIn from range × step from cell
 
 abbrev pub IsBeyond : (Position → Position → Type 0) → Corners → Position → Type 0
 IsBeyond step range cell = (from : Position) × IsIn from range × LeadsTo step from cell
+
+-- ranges were added that hold all next cells of a range, and only cells at least one step from it
+abbrev pub AddsNext : Direction → List Pair → Corners → List Corners → List Corners → Type 0
+AddsNext direction pairs range old new =
+    Adds old new (IsNext (step_in direction pairs) range) (IsBeyond (step_in direction pairs) range)
 
 -- a set has exactly the cells that a walk reaches from some ranges
 abbrev pub IsWalk : Direction → List Pair → List Corners → List Corners → Type 0

@@ -1,13 +1,11 @@
 ghost use Rattle.std.specs.Prelude.{OnOk};
-ghost use Rattle.sheet_refs.specs.Cells.{IsIn};
-ghost use Rattle.sheet_refs.specs.Rectangles.{IsAmong};
-ghost use Rattle.graph_walk.specs.Gathers.{Gathers};
+ghost use Rattle.graph_walk.specs.Gathers.{Admits, GathersAll};
 
 use sheet_refs::{Memory, Range, RectSet};
 
 // Adds the cells of a range to a set, and the ranges of those that are new to the waiting ones.
 fn admit(set: &mut RectSet, waiting: &mut Vec<Range>, range: Range) -> Result<(), Memory>
-    ensures { OnOk result (Gathers set.old set.new waiting.old.items waiting.new.items (λ cell. IsIn cell range)) }
+    ensures { OnOk result (Admits set.old set.new waiting.old.items waiting.new.items range) }
 {
     let parts = set.new_part(range)?;
     for part in &parts {
@@ -26,7 +24,8 @@ pub(crate) fn gather(
     waiting: &mut Vec<Range>,
     found: &[Range],
 ) -> Result<(), Memory>
-    ensures { OnOk result (Gathers set.old set.new waiting.old.items waiting.new.items (IsAmong found.now)) }
+    ensures { OnOk result
+        (GathersAll set.old set.new waiting.old.items waiting.new.items found.now) }
 {
     for range in found {
         admit(set, waiting, *range)?;

@@ -1,5 +1,7 @@
 ghost use Rattle.std.specs.Prelude.{ℕ, ◌+◌, ◌≤◌, List, OnOk};
-ghost use Rattle.graph_walk.specs.Graphs.{Pair, Adds, Keeps, IsDirectDependent, IsDependent, IsDirectPrecedent, IsPrecedent, SamePairs, Replaces};
+ghost use Rattle.graph_walk.specs.Graphs.{Pair, Keeps, SamePairs, Replaces};
+ghost use Rattle.graph_walk.specs.Graphs.{AddsDirectDependents, AddsDirectPrecedents, AddsAhead};
+ghost use Rattle.graph_walk.specs.Graphs.{AddsBehind};
 
 use sheet_refs::{Cell, Memory, Range, Refs};
 
@@ -15,22 +17,24 @@ pub trait Graph {
 
     /// Adds ranges whose cells are exactly those that refer to a range that shares a cell with `q`.
     fn direct_dependents(&self, q: Range, out: &mut Vec<Range>) -> Result<(), Memory>
-        ensures found { OnOk result (Adds out.old.items out.new.items (IsDirectDependent (pairs self.now) q) (IsDirectDependent (pairs self.now) q)) }
+        ensures found { OnOk result
+            (AddsDirectDependents (pairs self.now) q out.old.items out.new.items) }
         ensures kept { Keeps out.old.items out.new.items };
 
     /// Adds ranges whose cells are exactly those of the ranges to which cells of `q` refer.
     fn direct_precedents(&self, q: Range, out: &mut Vec<Range>) -> Result<(), Memory>
-        ensures found { OnOk result (Adds out.old.items out.new.items (IsDirectPrecedent (pairs self.now) q) (IsDirectPrecedent (pairs self.now) q)) }
+        ensures found { OnOk result
+            (AddsDirectPrecedents (pairs self.now) q out.old.items out.new.items) }
         ensures kept { Keeps out.old.items out.new.items };
 
     /// Adds ranges that hold all direct dependents of `q` and only cells that depend on it, in at least one step.
     fn ahead(&self, q: Range, out: &mut Vec<Range>) -> Result<(), Memory>
-        ensures found { OnOk result (Adds out.old.items out.new.items (IsDirectDependent (pairs self.now) q) (IsDependent (pairs self.now) q)) }
+        ensures found { OnOk result (AddsAhead (pairs self.now) q out.old.items out.new.items) }
         ensures kept { Keeps out.old.items out.new.items };
 
     /// Adds ranges that hold all direct precedents of `q` and only cells on which it depends, in at least one step.
     fn behind(&self, q: Range, out: &mut Vec<Range>) -> Result<(), Memory>
-        ensures found { OnOk result (Adds out.old.items out.new.items (IsDirectPrecedent (pairs self.now) q) (IsPrecedent (pairs self.now) q)) }
+        ensures found { OnOk result (AddsBehind (pairs self.now) q out.old.items out.new.items) }
         ensures kept { Keeps out.old.items out.new.items };
 
     /// Makes room for so many calls of `replace`, at most 1,048,576. The pairs stay, after Memory too.

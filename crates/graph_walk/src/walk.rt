@@ -1,8 +1,6 @@
-ghost use Rattle.std.specs.Prelude.{◌↔◌, List, IfOk, OnOk, IsTrue};
-ghost use Rattle.sheet_refs.specs.Cells.{Position, IsIn};
-ghost use Rattle.sheet_refs.specs.Rectangles.{IsAmong};
-ghost use Rattle.graph_walk.specs.Graphs.{Adds, Reach, Back, IsOnCycle};
-ghost use Rattle.graph_walk.specs.Walks.{step_in, IsNext, IsBeyond, IsWalk};
+ghost use Rattle.std.specs.Prelude.{◌↔◌, IfOk, OnOk, IsTrue};
+ghost use Rattle.graph_walk.specs.Graphs.{HoldsReach, HoldsBack, IsOnCycle};
+ghost use Rattle.graph_walk.specs.Walks.{AddsNext, IsWalk};
 
 use crate::gather::gather;
 use crate::graph::Graph;
@@ -25,7 +23,8 @@ fn next_ranges<G: Graph>(
     range: Range,
     out: &mut Vec<Range>,
 ) -> Result<(), Memory>
-    ensures { OnOk result (Adds out.old.items out.new.items (IsNext (step_in direction (G.pairs graph.now)) range) (IsBeyond (step_in direction (G.pairs graph.now)) range)) }
+    ensures { OnOk result
+        (AddsNext direction (G.pairs graph.now) range out.old.items out.new.items) }
 {
     match direction {
         Direction::Ahead => graph.ahead(range, out),
@@ -56,14 +55,14 @@ fn walk<G: Graph>(
 
 /// The cells of a range and all cells that depend on them in any number of steps.
 pub fn dependents<G: Graph>(alloc: Global, graph: &G, q: Range) -> Result<RectSet, Memory>
-    ensures { IfOk result (λ set. (cell : Position) → IsAmong set cell ↔ Reach (G.pairs graph.now) q cell) }
+    ensures { IfOk result (HoldsReach (G.pairs graph.now) q) }
 {
     walk(alloc, graph, Direction::Ahead, &[q])
 }
 
 /// The cells of a range and all cells on which they depend in any number of steps.
 pub fn precedents<G: Graph>(alloc: Global, graph: &G, q: Range) -> Result<RectSet, Memory>
-    ensures { IfOk result (λ set. (cell : Position) → IsAmong set cell ↔ Back (G.pairs graph.now) q cell) }
+    ensures { IfOk result (HoldsBack (G.pairs graph.now) q) }
 {
     walk(alloc, graph, Direction::Behind, &[q])
 }

@@ -1,11 +1,14 @@
 #![tactic(auto)]
 
-ghost use Rattle.std.specs.Prelude.{◌≡◌, ◌<◌, ◌+◌, ◌↔◌, ◌⊎◌, ◌^◌, ◌≤◌, ℕ, length, IsTrue, IfOk, Contains, Any, Some, None};
+ghost use Rattle.std.specs.Prelude.{◌≡◌, ◌<◌, ◌+◌, ◌↔◌, ◌⊎◌, ◌^◌, ◌≤◌, ℕ, length, IsTrue, IfOk};
+ghost use Rattle.std.specs.Prelude.{Contains, Any, Some, None};
 ghost use Rattle.mark_core.specs.declared.events.Event.{Event};
 ghost use Rattle.mark_core.specs.Mark.{IsTouched, IsLastMark, NoneTouches};
 ghost use Rattle.mark_core.specs.State.{State, view_at};
 ghost use Rattle.mark_core.specs.Core.{state_of, Allows};
-ghost use Rattle.mark_core.specs.Permission.{IsLive, MayMark, MayCommit, MayJoin, MayClaim, MayPut, MayFinish, IsWorthKnown, IsWorthMarked, IsGround, IsMarkedHold, Belong};
+ghost use Rattle.mark_core.specs.Permission.{IsLive, MayMark, MayCommit, MayJoin, MayClaim, MayPut};
+ghost use Rattle.mark_core.specs.Permission.{MayFinish, IsWorthKnown, IsWorthMarked, IsGround};
+ghost use Rattle.mark_core.specs.Permission.{IsMarkedHold, Belong};
 
 use crate::events::Event;
 use crate::protocol::Core;
@@ -14,7 +17,7 @@ use crate::words::{Clean, Finished, Held, Memory};
 use std::alloc::Global;
 
 /// Whether the entry at this index touches the place after the entries before it.
-fn touched<S: Judge>(
+fn touches_at<S: Judge>(
     alloc: Global,
     subject: &S,
     log: &[S::Entry],
@@ -41,7 +44,7 @@ fn is_last_mark<S: Judge>(
     if mark > log.len() || !is_mark(alloc, subject, log, place, mark)? {
         return Ok(false);
     }
-    none_touched(alloc, subject, log, place, mark)
+    none_touches(alloc, subject, log, place, mark)
 }
 
 /// Whether the mark is 0 or the number of an entry that touches the place.
@@ -59,11 +62,11 @@ fn is_mark<S: Judge>(
     if mark == 0 {
         return Ok(true);
     }
-    touched(alloc, subject, log, place, mark - 1)
+    touches_at(alloc, subject, log, place, mark - 1)
 }
 
 /// Whether no entry from this index on touches the place.
-fn none_touched<S: Judge>(
+fn none_touches<S: Judge>(
     alloc: Global,
     subject: &S,
     log: &[S::Entry],
@@ -74,7 +77,7 @@ fn none_touched<S: Judge>(
         (λ b. IsTrue b ↔ NoneTouches (S.touches subject.now) log.now place from) }
 {
     for index in from..log.len() {
-        if touched(alloc, subject, log, place, index)? {
+        if touches_at(alloc, subject, log, place, index)? {
             return Ok(false);
         }
     }
@@ -148,8 +151,8 @@ fn any_marked<S: Judge>(
     mark: u64,
 ) -> Result<bool, Memory>
     ensures { IfOk result
-        (λ b. IsTrue b ↔ Any (λ hold.
-        IsMarkedHold (S.worth subject.now) (S.touches subject.now) log.now place mark hold) holds.now) }
+        (λ b. IsTrue b ↔ Any (λ hold. IsMarkedHold
+        (S.worth subject.now) (S.touches subject.now) log.now place mark hold) holds.now) }
 {
     for hold in holds {
         if is_marked_hold(alloc, subject, log, *hold, place, mark)? {
@@ -212,7 +215,8 @@ fn is_covered<S: Judge>(
     place: u32,
 ) -> Result<bool, Memory>
     ensures { IfOk result
-        (λ b. IsTrue b ↔ (S.touches subject.now log.now entry.now place → Contains marked.now place)) }
+        (λ b. IsTrue b
+        ↔ (S.touches subject.now log.now entry.now place → Contains marked.now place)) }
 {
     if marked.contains(&place) {
         return Ok(true);
@@ -274,7 +278,7 @@ impl<S: Judge> Core<S> {
         }
         let alloc = self.state().allocator();
         self.subject()
-            .touches_now(alloc, self.state().known(view), entry, place)
+            .touches_now(alloc, self.state().log_of(view), entry, place)
     }
 
     /// Whether nothing is pending, or this entry is.
@@ -282,7 +286,7 @@ impl<S: Judge> Core<S> {
         ensures { IsTrue result ↔ (((state_of self.now).edits.pending ≡ None)
             ⊎ ((state_of self.now).edits.pending ≡ Some entry.now)) }
     {
-        match self.state().pending() {
+        match self.state().pending_entry() {
             None => true,
             Some(pending) => self.subject().same_now(pending, entry),
         }
@@ -292,7 +296,7 @@ impl<S: Judge> Core<S> {
     fn is_pending(&self, entry: &S::Entry) -> bool
         ensures { IsTrue result ↔ ((state_of self.now).edits.pending ≡ Some entry.now) }
     {
-        match self.state().pending() {
+        match self.state().pending_entry() {
             None => false,
             Some(pending) => self.subject().same_now(pending, entry),
         }
@@ -310,9 +314,9 @@ impl<S: Judge> Core<S> {
         all_marked(
             state.allocator(),
             self.subject(),
-            state.known(view),
+            state.log_of(view),
             entry,
-            state.marked(),
+            state.marked_places(),
             state.place_count(),
         )
     }
@@ -349,7 +353,7 @@ impl<S: Judge> Core<S> {
         knows_worth(
             state.allocator(),
             self.subject(),
-            state.known(view),
+            state.log_of(view),
             place,
             word,
         )
@@ -367,7 +371,7 @@ impl<S: Judge> Core<S> {
         any_marked(
             state.allocator(),
             self.subject(),
-            state.known(view),
+            state.log_of(view),
             state.holds(view),
             place,
             mark,

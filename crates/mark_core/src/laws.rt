@@ -1,8 +1,12 @@
 #![tactic(auto)]
 
-ghost use Rattle.mark_core.specs.Law.{OpeningsAreHonest, EventsKeepHonest, ValuesAreWorths, NewerMarksTouch, StaleMarksTouch, CellsAreLegal, ReadsAreLegal};
-ghost use Rattle.mark_core.specs.Law.{ReadsBegin, ReadsGoOn, ReadsEnd, SeesAnswerTheCount, SplitsHandOn, JoinsHandOn, ViewsGrow};
-ghost use Rattle.mark_core.specs.Law.{EventsHappenInOrder, RunsStayHonest, StaleForLaterEdits, LastMarksAreUnique};
+ghost use Rattle.mark_core.specs.Law.{OpeningsAreHonest, EventsKeepHonest, ValuesAreWorths};
+ghost use Rattle.mark_core.specs.Law.{NewerMarksTouch, StaleMarksTouch, CellsAreLegal};
+ghost use Rattle.mark_core.specs.Law.{ReadsAreLegal};
+ghost use Rattle.mark_core.specs.Law.{ReadsBegin, ReadsGoOn, ReadsEnd, SeesAnswerTheCount};
+ghost use Rattle.mark_core.specs.Law.{SplitsHandOn, JoinsHandOn, ViewsGrow};
+ghost use Rattle.mark_core.specs.Law.{EventsHappenInOrder, RunsStayHonest, StaleForLaterEdits};
+ghost use Rattle.mark_core.specs.Law.{LastMarksAreUnique};
 
 use crate::subjects::Subject;
 

@@ -33,7 +33,8 @@ impl<E> Model for Machine<E> {
 
     ghost Value = { State E };
 
-    ghost view = { λ m. kept_state m.log.items m.pending m.marked.items m.places.items m.views.items };
+    ghost view = { λ m.
+        kept_state m.log.items m.pending m.marked.items m.places.items m.views.items };
 
     ghost invariant = { λ m. IsKept m.log.items m.places.items m.views.items };
 }

@@ -1,5 +1,5 @@
-ghost use Rattle.std.specs.Prelude.{◌≡◌, ◌≢◌, ◌≤◌, ◌↔◌, [], Contains, IsTrue, vec_len, vec_capacity};
-ghost use Rattle.graph_walk.specs.Graphs.{Pair};
+ghost use Rattle.std.specs.Prelude.{◌≡◌, ◌≤◌, ◌↔◌, [], IsTrue, vec_len, vec_capacity};
+ghost use Rattle.plain_graph.specs.Plain.{DropsPairs};
 
 use graph_walk::Graph;
 use sheet_refs::{Cell, Memory, Range, Refs};
@@ -35,7 +35,7 @@ fn is_of(pair: &Dependency, cell: Cell) -> bool
 
 // Takes out the pairs of a cell, each in place of which the last one goes. It takes no memory.
 fn drop_pairs(pairs: &mut Vec<Dependency>, cell: Cell)
-    ensures kept { (pair : Pair) → Contains pairs.new.items pair ↔ ((pair.cell ≢ cell) × Contains pairs.old.items pair) }
+    ensures kept { DropsPairs pairs.old.items pairs.new.items cell }
     ensures len { vec_len pairs.new ≤ vec_len pairs.old }
     ensures capacity { vec_capacity pairs.new ≡ vec_capacity pairs.old }
 {
@@ -62,7 +62,8 @@ impl Model for PlainGraph {
     ghost Value = { PlainValue };
 
     // A change adds at most 255 pairs.
-    ghost view = { λ g. record { pairs = g.pairs.items; spare = (vec_capacity g.pairs - vec_len g.pairs) / 255 } };
+    ghost view = { λ g.
+        record { pairs = g.pairs.items; spare = (vec_capacity g.pairs - vec_len g.pairs) / 255 } };
 }
 
 impl PlainGraph {

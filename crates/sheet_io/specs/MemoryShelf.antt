@@ -1,5 +1,5 @@
 -- What a shelf in memory keeps.
-use Rattle.std.specs.Prelude.{ℕ, List, ◌⊎◌, Contains, IsNone}
+use Rattle.std.specs.Prelude.{ℕ, ◌<◌, List, length, ◌⊎◌, Contains, IsNone, IsSomeAnd}
 use Rattle.std.specs.declared.option.Option.{Option}
 use Rattle.sheet_io.specs.Schedule.{next_call}
 use Rattle.sheet_io.specs.Texts.{text_under}
@@ -24,3 +24,7 @@ fetch_faults shelf = shelf.schedule.faults
 -- the next fetch is listed, or its name stands nowhere
 abbrev pub FetchFails : MemoryShelf → List ℕ → Type 0
 FetchFails shelf name = Contains (fetches_to_fail shelf) (next_call (fetch_calls shelf)) ⊎ IsNone (memory_holds shelf name)
+
+-- the next fetch of a name doesn't fail, and its text has more bytes than are asked for
+abbrev pub HoldsTooMuch : MemoryShelf → List ℕ → ℕ → Type 0
+HoldsTooMuch shelf name limit = ¬ FetchFails shelf name × IsSomeAnd (memory_holds shelf name) (λ text. limit < length text)

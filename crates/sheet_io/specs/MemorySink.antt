@@ -1,5 +1,5 @@
 -- What a sink in memory keeps.
-use Rattle.std.specs.Prelude.{ℕ, List, Contains}
+use Rattle.std.specs.Prelude.{◌≡◌, ℕ, ◌+◌, ◌-◌, ◌<◌, List, ◌++◌, length, take, Contains}
 use Rattle.sheet_io.specs.Schedule.{next_call}
 use Rattle.sheet_io.specs.declared.memory_sink.MemorySink.{MemorySink}
 
@@ -26,3 +26,11 @@ put_faults sink = sink.schedule.faults
 -- the next put is to fail
 abbrev pub IsListed : MemorySink → Type 0
 IsListed sink = Contains (puts_to_fail sink) (next_call (put_calls sink))
+
+-- it takes as much of a piece as there is room for
+abbrev pub TakesWhatFits : MemorySink → MemorySink → List ℕ → Type 0
+TakesWhatFits old new piece = sink_bytes new ≡ sink_bytes old ++ take (sink_room old - length (sink_bytes old)) piece
+
+-- a piece is longer than what there is room for
+abbrev pub IsPastRoom : MemorySink → List ℕ → Type 0
+IsPastRoom sink piece = sink_room sink < length (sink_bytes sink) + length piece

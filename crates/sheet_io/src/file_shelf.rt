@@ -43,7 +43,8 @@ impl<'a, R: Files> Shelf for FileShelf<'a, R> {
         ensures cause { IsErrOf result Failed → Rose (file_faults self.old) (file_faults self.new) }
 
         // Each failed fetch is one fault, and nothing else is.
-        ensures rises { IsErrOf result Failed → file_faults self.new ≡ next_fault (file_faults self.old) }
+        ensures rises { IsErrOf result Failed
+            → file_faults self.new ≡ next_fault (file_faults self.old) }
         ensures stays { ¬ IsErrOf result Failed → file_faults self.new ≡ file_faults self.old }
     {
         let result = match File::open(self.rt, name) {

@@ -1,9 +1,10 @@
 // A shelf whose texts stand in memory.
-ghost use Rattle.std.specs.Prelude.{◌≡◌, ◌<◌, ◌≤◌, ◌↔◌, length, OnErr, IsErrOf, IsSomeAnd};
+ghost use Rattle.std.specs.Prelude.{◌≡◌, ◌<◌, ◌≤◌, ◌↔◌, OnErr, IsErrOf};
 ghost use Rattle.sheet_io.specs.Faults.{Rose};
 ghost use Rattle.sheet_io.specs.Schedule.{next_call, next_fault};
 ghost use Rattle.sheet_io.specs.Shelf.{Fetches};
-ghost use Rattle.sheet_io.specs.MemoryShelf.{memory_holds, fetches_to_fail, fetch_calls, fetch_faults, FetchFails};
+ghost use Rattle.sheet_io.specs.MemoryShelf.{memory_holds, fetches_to_fail, fetch_calls};
+ghost use Rattle.sheet_io.specs.MemoryShelf.{fetch_faults, FetchFails, HoldsTooMuch};
 ghost use Rattle.sheet_io.specs.Texts.{text_under};
 ghost use Rattle.sheet_io.specs.declared.refusals.Fetch.TheVariants.{Failed, TooLong};
 
@@ -57,21 +58,23 @@ impl Shelf for MemoryShelf {
 
     /// Looks at the names one after the other.
     fn fetch(&mut self, name: &str, limit: usize, into: &mut Vec<u8>) -> Result<(), Fetch>
-        ensures fetched { Fetches (memory_holds self.old name.now) limit into.old.items into.new.items result }
+        ensures fetched { Fetches
+            (memory_holds self.old name.now) limit into.old.items into.new.items result }
         ensures held { memory_holds self.new ≡ memory_holds self.old }
         ensures counted { fetch_faults self.old ≤ fetch_faults self.new }
-        ensures cause { IsErrOf result Failed → Rose (fetch_faults self.old) (fetch_faults self.new) }
+        ensures cause { IsErrOf result Failed
+            → Rose (fetch_faults self.old) (fetch_faults self.new) }
 
         // Each answer but `Memory` has its cause both ways.
         ensures fails { IsErrOf result Failed ↔ FetchFails self.old name.now }
-        ensures too_long { IsErrOf result TooLong
-            ↔ (¬ FetchFails self.old name.now × IsSomeAnd (memory_holds self.old name.now) (λ text. limit < length text)) }
+        ensures too_long { IsErrOf result TooLong ↔ HoldsTooMuch self.old name.now limit }
 
         ensures refused { OnErr result (into.new.items ≡ into.old.items) }
 
         ensures fail { fetches_to_fail self.new ≡ fetches_to_fail self.old }
         ensures calls { fetch_calls self.new ≡ next_call (fetch_calls self.old) }
-        ensures rises { IsErrOf result Failed → fetch_faults self.new ≡ next_fault (fetch_faults self.old) }
+        ensures rises { IsErrOf result Failed
+            → fetch_faults self.new ≡ next_fault (fetch_faults self.old) }
         ensures stays { ¬ IsErrOf result Failed → fetch_faults self.new ≡ fetch_faults self.old }
     {
         if self.schedule.begin() {

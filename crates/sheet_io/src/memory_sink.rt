@@ -21,7 +21,8 @@ pub struct MemorySink {
 
 impl MemorySink {
     ghost use Rattle.std.specs.Prelude.{[], IfOk};
-    ghost use Rattle.sheet_io.specs.MemorySink.{sink_bytes, sink_room, puts_to_fail, put_calls, put_faults};
+    ghost use Rattle.sheet_io.specs.MemorySink.{sink_bytes, sink_room, puts_to_fail, put_calls};
+    ghost use Rattle.sheet_io.specs.MemorySink.{put_faults};
 
     /// A sink that takes `room` bytes in all, of which the calls with the numbers in `fail`, from 1, are to
     /// fail. The room is reserved here, and no put takes memory.
@@ -49,9 +50,11 @@ impl MemorySink {
 }
 
 impl Sink for MemorySink {
-    ghost use Rattle.std.specs.Prelude.{◌<◌, ◌+◌, ◌-◌, ◌++◌, ◌⊎◌, ◌↔◌, Some, length, take, Contains, IsErr, OnOk, OnErr};
+    ghost use Rattle.std.specs.Prelude.{◌<◌, ◌+◌, ◌-◌, ◌++◌, ◌⊎◌, ◌↔◌, Some, length, take};
+    ghost use Rattle.std.specs.Prelude.{Contains, IsErr, OnOk, OnErr};
     ghost use Rattle.sheet_io.specs.Faults.{Rose};
-    ghost use Rattle.sheet_io.specs.MemorySink.{sink_bytes, sink_room, puts_to_fail, put_calls, put_faults, IsListed};
+    ghost use Rattle.sheet_io.specs.MemorySink.{sink_bytes, sink_room, puts_to_fail, put_calls};
+    ghost use Rattle.sheet_io.specs.MemorySink.{put_faults, IsListed, TakesWhatFits, IsPastRoom};
     ghost use Rattle.sheet_io.specs.Schedule.{next_call, next_fault};
     ghost use Rattle.sheet_io.specs.Sink.{Puts};
 
@@ -60,15 +63,15 @@ impl Sink for MemorySink {
     ghost faults = { put_faults };
 
     fn put(&mut self, bytes: &[u8]) -> Result<(), Failed>
-        ensures taken { Puts (Some (sink_bytes self.old)) (Some (sink_bytes self.new)) bytes.now result }
+        ensures taken { Puts
+            (Some (sink_bytes self.old)) (Some (sink_bytes self.new)) bytes.now result }
         ensures counted { put_faults self.old ≤ put_faults self.new }
         ensures cause { OnErr result (Rose (put_faults self.old) (put_faults self.new)) }
 
         // What it takes, and that it fails exactly where it is listed or the piece doesn't fit.
         ensures nothing { IsListed self.old → sink_bytes self.new ≡ sink_bytes self.old }
-        ensures what_fits { ¬ IsListed self.old
-            → sink_bytes self.new ≡ sink_bytes self.old ++ take (sink_room self.old - length (sink_bytes self.old)) bytes.now }
-        ensures fails { IsErr result ↔ (IsListed self.old ⊎ (sink_room self.old < length (sink_bytes self.old) + length bytes.now)) }
+        ensures what_fits { ¬ IsListed self.old → TakesWhatFits self.old self.new bytes.now }
+        ensures fails { IsErr result ↔ (IsListed self.old ⊎ IsPastRoom self.old bytes.now) }
 
         ensures room { sink_room self.new ≡ sink_room self.old }
         ensures fail { puts_to_fail self.new ≡ puts_to_fail self.old }

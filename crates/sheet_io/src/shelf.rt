@@ -21,7 +21,8 @@ pub trait Shelf {
     /// `Failed` comes only where the faults rose in this call. Where the shelf tells the text, `TooLong`
     /// comes exactly where it has more than `limit` bytes, unless `Failed` or `Memory` came first.
     fn fetch(&mut self, name: &str, limit: usize, into: &mut Vec<u8>) -> Result<(), Fetch>
-        ensures fetched { Fetches (holds self.old name.now) limit into.old.items into.new.items result }
+        ensures fetched { Fetches
+            (holds self.old name.now) limit into.old.items into.new.items result }
         ensures held { holds self.new ≡ holds self.old }
         ensures counted { faults self.old ≤ faults self.new }
         ensures cause { IsErrOf result Failed → Rose (faults self.old) (faults self.new) };

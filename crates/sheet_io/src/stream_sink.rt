@@ -35,12 +35,15 @@ impl<W: Write> Sink for StreamSink<W> {
     ghost faults = { stream_faults };
 
     fn put(&mut self, bytes: &[u8]) -> Result<(), Failed>
-        ensures taken { Puts (W.contents (stream_writer self.old)) (W.contents (stream_writer self.new)) bytes.now result }
+        ensures taken { Puts
+            (W.contents (stream_writer self.old)) (W.contents (stream_writer self.new))
+            bytes.now result }
         ensures counted { stream_faults self.old ≤ stream_faults self.new }
         ensures cause { OnErr result (Rose (stream_faults self.old) (stream_faults self.new)) }
 
         // Each failed put is one fault, and nothing else is.
-        ensures rises { OnErr result (stream_faults self.new ≡ next_fault (stream_faults self.old)) }
+        ensures rises { OnErr result
+            (stream_faults self.new ≡ next_fault (stream_faults self.old)) }
         ensures stays { OnOk result (stream_faults self.new ≡ stream_faults self.old) }
     {
         let result = write_through(&mut self.writer, bytes);

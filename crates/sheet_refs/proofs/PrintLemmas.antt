@@ -1,15 +1,17 @@
--- What a cell and a range print are names of them.
-use Rattle.std.proofs.Common.{◌≡◌, ℕ, zero, suc, ◌*◌, ◌-◌, ◌+◌, ◌/◌, ◌%◌, ◌^◌, ◌<◌, ◌≤◌, false, List, [], ◌∷◌, ◌++◌, length, decimal, refl, sym, subst, arith, inl}
+-- What a cell, a range and a reference print are names of them.
+use Rattle.std.proofs.Common.{◌≡◌, ℕ, zero, suc, ◌*◌, ◌-◌, ◌+◌, ◌/◌, ◌%◌, ◌^◌, ◌<◌, ◌≤◌, Bool, true, false, List, [], ◌∷◌, ◌++◌, length, decimal, refl, sym, subst, arith, inl}
 use Rattle.std.specs.List.{All}
-use Rattle.std.specs.Prelude.{◌==◌}
+use Rattle.std.specs.Prelude.{◌==◌, nat_le, min, max}
 use Rattle.std.proofs.lemmas.Fmt.{decimal_by_steps, length-decimal-le, first_decimal, decimal_nonempty}
 use Rattle.std.proofs.lemmas.List.{length-append}
 use Rattle.std.proofs.lemmas.List.Elements.{All-append}
 use Rattle.std.proofs.lemmas.List.Sums.{fold-append}
 use Rattle.std.proofs.lemmas.Bool.Decides.{nat_tests}
 use Rattle.sheet_refs.specs.Cells.{Position, Corners, IsNamed, IsOrdered, spanned}
-use Rattle.sheet_refs.specs.Names.{IsLetter, IsDigit, IsColumnName, IsRowName, IsCellName, IsRangeName, letter_number, decimal_number, column_number, last_letters, cell_text, range_text}
+use Rattle.sheet_refs.specs.Names.{IsLetter, IsDigit, IsDecimal, IsColumnName, IsRowName, IsCellName, IsRangeName, letter_number, decimal_number, column_number, last_letters, cell_text, range_text}
 use Rattle.sheet_refs.specs.Names.IsRangeName.{two}
+use Rattle.sheet_refs.specs.Ends.{Anchor, Reference, IsReference, IsAnchorName, IsReferenceName, anchor_text, reference_text, lesser, greater, one_end, two_ends}
+use Rattle.sheet_refs.specs.Ends.IsReferenceName.{alone as one_name, joined as two_names}
 
 -- one element has the property of all
 alone : (P : ℕ → Type 0) (x : ℕ) → P x → All P (x ∷ [])
@@ -25,19 +27,18 @@ digits_written = decimal_by_steps (λ m ds. All IsDigit ds × (decimal_number ds
       rw (fold-append (λ number digit. 10 * number + (digit - 48)) 0 ds ((48 + m % 10) ∷ [])) (omega (arith, front.1)),
     ))
 
+pub decimal_printed : (most n : ℕ) → n ≤ most → n < 2 ^ 64 → IsDecimal (decimal n) most n
+decimal_printed most n within small =
+    let digits = digits_written n small in
+    record { some = decimal_nonempty n small; digits = digits.0; value = sym digits.1; within = within }
+
 row_printed : (row : ℕ) → 1 ≤ row → row ≤ 1048576 → IsRowName (decimal row) row
 row_printed row from to =
-    let digits = digits_written row (omega arith) in
     let first = first_decimal row (omega arith) (omega arith) in
     record {
       few = length-decimal-le 7 row (omega arith) (omega arith) (omega arith);
       first = λ is. absurd (omega (arith, first, is));
-      number = record {
-        some = decimal_nonempty row (omega arith);
-        digits = digits.0;
-        value = sym digits.1;
-        within = to;
-      };
+      number = decimal_printed 1048576 row to (omega arith);
     }
 
 -- the greatest column whose name has so many letters
@@ -103,3 +104,47 @@ range_printed range head tail ordered =
     let same : spanned range.head range.tail ≡ range = grind (arith, ordered.rows, ordered.cols) in
     subst (λ corners. IsRangeName (range_text range) corners) same
     (two _ (cell_text range.head) (cell_text range.tail) range.head range.tail refl (cell_printed range.head head) (cell_printed range.tail tail))
+
+anchor_printed : (a : Anchor) → IsNamed a.cell.row a.cell.col → IsAnchorName (anchor_text a) a
+anchor_printed a named = record {
+  letters = last_letters 3 a.cell.col;
+  digits = decimal a.cell.row;
+  text_is = refl;
+  column = column_printed a.cell.col named.col_from named.col_to;
+  row = row_printed a.cell.row named.row_from named.row_to;
+}
+
+-- ends in order stay as they are
+lesser_is : (a b : Anchor) → a.cell.row ≤ b.cell.row → a.cell.col ≤ b.cell.col → lesser a b ≡ a
+lesser_is a b rows cols =
+    let row : min a.cell.row b.cell.row ≡ a.cell.row = omega arith in
+    let col : min a.cell.col b.cell.col ≡ a.cell.col = omega arith in
+    let row_test : nat_le a.cell.row b.cell.row ≡ true = grind (arith, nat_tests) in
+    let col_test : nat_le a.cell.col b.cell.col ≡ true = grind (arith, nat_tests) in
+    rw (row_test, col_test, row, col) refl
+
+greater_is : (a b : Anchor) → a.cell.row ≤ b.cell.row → a.cell.col ≤ b.cell.col → greater a b ≡ b
+greater_is a b rows cols =
+    let row : max a.cell.row b.cell.row ≡ b.cell.row = omega arith in
+    let col : max a.cell.col b.cell.col ≡ b.cell.col = omega arith in
+    let row_test : nat_le a.cell.row b.cell.row ≡ true = grind (arith, nat_tests) in
+    let col_test : nat_le a.cell.col b.cell.col ≡ true = grind (arith, nat_tests) in
+    rw (row_test, col_test, row, col) refl
+
+abbrev at_reference : Anchor → Anchor → Bool → Reference
+at_reference head tail single = record { head = head; tail = tail; single = single }
+
+same_reference : {a b c d : Anchor} {s t : Bool} → a ≡ b → c ≡ d → s ≡ t → at_reference a c s ≡ at_reference b d t
+same_reference head tail single = cc
+
+pub reference_printed : (r : Reference) → IsReference r.head r.tail r.single → IsReferenceName false (reference_text r) r
+reference_printed r is = by_single r.single refl
+  where
+    by_single : (single : Bool) → r.single ≡ single → IsReferenceName false (reference_text r) r
+    by_single true e =
+        let same : one_end r.head ≡ r = same_reference {b = r.head} {d = r.tail} {t = r.single} refl (is.one_end e) (sym e) in
+        subst (λ (v : Reference). IsReferenceName false (reference_text r) v) same (rw e (one_name false (anchor_text r.head) r.head (anchor_printed r.head is.head_named)))
+    by_single false e =
+        let same : two_ends r.head r.tail ≡ r = same_reference {b = r.head} {d = r.tail} {t = r.single} (lesser_is r.head r.tail is.ordered.rows is.ordered.cols) (greater_is r.head r.tail is.ordered.rows is.ordered.cols) (sym e) in
+        subst (λ (v : Reference). IsReferenceName false (reference_text r) v) same
+        (rw e (two_names false (anchor_text r.head ++ 58 ∷ anchor_text r.tail) (anchor_text r.head) (anchor_text r.tail) r.head r.tail refl (anchor_printed r.head is.head_named) (anchor_printed r.tail is.tail_named)))

@@ -1,5 +1,5 @@
 -- Cells and ranges, as positions and as sets of positions.
-use Rattle.std.specs.Prelude.{ℕ, ◌+◌, ◌-◌, ◌≤◌, min, max, List, map, flat_map}
+use Rattle.std.specs.Prelude.{ℕ, ◌+◌, ◌-◌, ◌≤◌, ◌↔◌, min, max, List, map, flat_map, Contains}
 use Rattle.std.specs.List.{range_with_len}
 
 -- where a cell is: its row and its column, both counted from 1
@@ -35,6 +35,10 @@ pub record IsIn (cell : Position) (range : Corners) : Type 0 where
 abbrev pub IsWithin : Corners → Corners → Type 0
 IsWithin inner outer = (cell : Position) → IsIn cell inner → IsIn cell outer
 
+-- a range lies within every range that has both cells
+abbrev pub IsSmallestWith : Position → Position → Corners → Type 0
+IsSmallestWith a b smallest = (range : Corners) → IsIn a range → IsIn b range → IsWithin smallest range
+
 -- the corners of the smallest rectangle with both cells
 abbrev pub spanned : Position → Position → Corners
 spanned a b = record {
@@ -63,3 +67,7 @@ row_cells range row = map (λ col. record { row = row; col = col }) (cols_of ran
 -- all cells of a range, row by row
 abbrev pub cells_of : Corners → List Position
 cells_of range = flat_map (row_cells range) (rows_of range)
+
+-- a list has exactly the cells of a range
+abbrev pub ListsCells : List Position → Corners → Type 0
+ListsCells cells range = (cell : Position) → Contains cells cell ↔ IsIn cell range

@@ -1,6 +1,7 @@
--- What is true of the names of cells and ranges.
-use Rattle.std.specs.Prelude.{◌≡◌, ℕ, List}
+-- What is true of the names of cells, ranges and references.
+use Rattle.std.specs.Prelude.{◌≡◌, ℕ, List, false}
 use Rattle.sheet_refs.specs.Cells.{Position, Corners, IsNamed, IsOrdered}
+use Rattle.sheet_refs.specs.Ends.{Reference, IsReference, IsReferenceName, reference_text}
 use Rattle.sheet_refs.specs.Names.{IsCellName, IsRangeName, cell_text, range_text}
 
 -- what a cell prints is a name of it
@@ -10,6 +11,10 @@ CellsPrintNames = (cell : Position) → IsNamed cell.row cell.col → IsCellName
 -- what a range prints is a name of it
 abbrev pub RangesPrintNames : Type 0
 RangesPrintNames = (range : Corners) → IsNamed range.head.row range.head.col → IsNamed range.tail.row range.tail.col → IsOrdered range.head range.tail → IsRangeName (range_text range) range
+
+-- what a reference prints is a name of it
+abbrev pub ReferencesPrintNames : Type 0
+ReferencesPrintNames = (r : Reference) → IsReference r.head r.tail r.single → IsReferenceName false (reference_text r) r
 
 -- no text names two cells
 abbrev pub NamesOneCell : Type 0

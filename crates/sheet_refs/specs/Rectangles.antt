@@ -7,6 +7,10 @@ pub record IsShared (a b : Corners) (cell : Position) : Type 0 where
   pub first : IsIn cell a
   pub second : IsIn cell b
 
+-- a range has exactly the cells that two others share
+abbrev pub HoldsShared : Corners → Corners → Corners → Type 0
+HoldsShared a b range = (cell : Position) → IsIn cell range ↔ IsShared a b cell
+
 -- two ranges overlap where they share a cell
 abbrev pub Overlap : Corners → Corners → Type 0
 Overlap a b = (cell : Position) × IsShared a b cell

@@ -24,6 +24,13 @@ pub record Holds (last_of : ℕ → Option ℕ) (row : ℕ) : Type 0 where
   pub from : first ≤ row
   pub to : row ≤ last
 
+-- all rows from one to another are held, or none is
+abbrev pub HoldsAll : (ℕ → Option ℕ) → ℕ → ℕ → Type 0
+HoldsAll last_of from to = (row : ℕ) → from ≤ row → row ≤ to → Holds last_of row
+
+abbrev pub HoldsNone : (ℕ → Option ℕ) → ℕ → ℕ → Type 0
+HoldsNone last_of from to = (row : ℕ) → from ≤ row → row ≤ to → ¬ Holds last_of row
+
 -- the last entry that begins at this row or above it
 abbrev pub IsLastUpTo : (ℕ → Option ℕ) → ℕ → Option (ℕ × ℕ) → Type 0
 IsLastUpTo last_of row found =
@@ -80,6 +87,10 @@ abbrev pub HasRow : List (ℕ × ℕ) → ℕ → Type 0
 HasRow [] row = ⊥
 HasRow (r ∷ runs) row = ((r.0 ≤ row) × (row ≤ r.1)) ⊎ HasRow runs row
 
+-- some rows join those of a list
+abbrev pub GainsRows : List (ℕ × ℕ) → List (ℕ × ℕ) → ℕ → ℕ → Type 0
+GainsRows old new first last = (row : ℕ) → HasRow new row ↔ (HasRow old row ⊎ ((first ≤ row) × (row ≤ last)))
+
 -- the rows of a stretch, from a first to the one before the end, that are not held, as runs that stand in order
 pub record AreGaps (held : ℕ → Type 0) (first end : ℕ) (gaps : List (ℕ × ℕ)) : Type 0 where
   pub each : All (λ g. (first ≤ g.0) × (g.0 ≤ g.1) × (g.1 < end)) gaps
@@ -94,6 +105,10 @@ strip left right run = record { head = record { row = run.0; col = left }; tail 
 abbrev pub column_ranges : ℕ → List (ℕ × ℕ) → List Corners
 column_ranges col [] = []
 column_ranges col (r ∷ runs) = if nat_le r.0 r.1 then strip col col r ∷ column_ranges col runs else column_ranges col runs
+
+-- two lists of runs have the same ranges in every column
+abbrev pub HaveSameRanges : List (ℕ × ℕ) → List (ℕ × ℕ) → Type 0
+HaveSameRanges old new = (col : ℕ) → column_ranges col new ≡ column_ranges col old
 
 -- the runs of columns side by side, from a first column on
 abbrev pub ranges_from : ℕ → List (List (ℕ × ℕ)) → List Corners

@@ -1,6 +1,6 @@
 -- Rectangles that begin at A1, by their sizes, and the places of cells in them.
-use Rattle.std.specs.Prelude.{ℕ, ◌+◌, ◌-◌, ◌*◌, ◌/◌, ◌%◌, ◌≤◌, min, nat_le, Bool, ◌&&◌}
-use Rattle.sheet_refs.specs.Cells.{Position, Corners, width}
+use Rattle.std.specs.Prelude.{ℕ, ◌+◌, ◌-◌, ◌*◌, ◌/◌, ◌%◌, ◌≤◌, ◌↔◌, min, nat_le, Bool, ◌&&◌, IsTrue, IsFalse}
+use Rattle.sheet_refs.specs.Cells.{Position, Corners, IsIn, width}
 use Rattle.sheet_refs.specs.declared.sizes.Sizes.{Sizes}
 
 -- whether the position lies in the rectangle
@@ -26,6 +26,14 @@ clipped sizes range = record {
   head = range.head;
   tail = record { row = min range.tail.row sizes.rows; col = min range.tail.col sizes.cols };
 }
+
+-- a part of a range has exactly its cells in the rectangle
+abbrev pub HoldsPart : Sizes → Corners → Corners → Type 0
+HoldsPart sizes range part = (cell : Position) → IsIn cell part ↔ (IsIn cell range × IsTrue (is_inside sizes cell))
+
+-- no cell of a range lies in the rectangle
+abbrev pub MissesRange : Sizes → Corners → Type 0
+MissesRange sizes range = (cell : Position) → IsIn cell range → IsFalse (is_inside sizes cell)
 
 -- the cell at a place of a range, row by row, counted from 0
 abbrev pub cell_of_place : Corners → ℕ → Position

@@ -1,5 +1,6 @@
-ghost use Rattle.std.specs.Prelude.{◌≡◌, ℕ, ◌+◌, ◌%◌, ◌<◌, ◌≤◌, ◌↔◌, IsSome, IfSome, Some};
+ghost use Rattle.std.specs.Prelude.{◌≡◌, ◌<◌, ◌↔◌, IsSome, IfSome, Some};
 
+use crate::ends::End;
 use std::fmt;
 use std::marker::Model;
 
@@ -68,25 +69,11 @@ impl fmt::Display for Cell {
     ghost output = { λ cell. Some (cell_text cell) };
 
     fn fmt<W: fmt::Write>(&self, f: &mut fmt::Formatter<W>) -> fmt::Result {
-        let row = self.row;
-        let last = letter(self.col - 1);
-        let before_last = (self.col - 1) / 26;
-        if before_last == 0 {
-            return write!(f, "{last}{row}");
-        }
-        let middle = letter(before_last - 1);
-        let first = (before_last - 1) / 26;
-        if first == 0 {
-            return write!(f, "{middle}{last}{row}");
-        }
-        let first = letter(first - 1);
-        write!(f, "{first}{middle}{last}{row}")
+        let end = End {
+            cell: *self,
+            col_fixed: false,
+            row_fixed: false,
+        };
+        write!(f, "{end}")
     }
-}
-
-// The upper-case letter at a place of the alphabet, from 0; past Z it begins again.
-fn letter(place: u32) -> char
-    ensures { result ≡ 65 + place % 26 }
-{
-    char::from(b'A' + (place % 26) as u8)
 }

@@ -1,9 +1,13 @@
 ghost use Rattle.std.specs.Bool.{OnTrue, OnFalse};
-ghost use Rattle.std.specs.Prelude.{IfOk, IsTrue, ◌↔◌, ◌⊎◌, ◌++◌, ◌<◌, vec_len, ◌≡◌, ℕ, ◌+◌, ◌-◌, ◌≤◌, [], Some, None, IsSome, OnOk, OnErr};
+ghost use Rattle.std.specs.Prelude.{IfOk, IsTrue, ◌↔◌, ◌++◌, ◌<◌, ◌≡◌, ℕ, ◌+◌, ◌-◌};
+ghost use Rattle.std.specs.Prelude.{◌≤◌, [], Some, None, OnOk, OnErr};
 ghost use Rattle.std.specs.Ordering.{nat_cmp};
 ghost use Rattle.std.specs.BTreeMap.{get, IsOrdered, IsUnchanged};
-ghost use Rattle.sheet_refs.specs.Runs.{IsColumn, Holds, IsLastUpTo, IsNextFrom, IsRunAt, IsStart, IsEnd, HasRoom, SameRows, RowsJoin, HasRow, AreGaps, column_ranges, last_from, strip};
-ghost use Rattle.sheet_refs.specs.Rectangles.{IsBefore, IsVertical, AreMaximalRuns};
+ghost use Rattle.sheet_refs.specs.Runs.{IsColumn, Holds, HoldsAll, HoldsNone, IsLastUpTo};
+ghost use Rattle.sheet_refs.specs.Runs.{IsNextFrom, IsRunAt, IsStart, IsEnd};
+ghost use Rattle.sheet_refs.specs.Runs.{HasRoom, SameRows, RowsJoin, HasRow, GainsRows, AreGaps};
+ghost use Rattle.sheet_refs.specs.Runs.{column_ranges, HaveSameRanges, last_from, strip};
+ghost use Rattle.sheet_refs.specs.Rectangles.{AreMaximalRuns};
 
 use crate::cell::Cell;
 use crate::memory::Memory;
@@ -68,7 +72,7 @@ fn reserve(runs: &mut BTreeMap<u32, u32>, row: u32) -> Result<(), Memory>
     requires row { (1 ≤ row) × (row ≤ 1048576) }
     ensures spaced { IsColumn runs.new }
     ensures same { SameRows (get nat_cmp runs.old) (get nat_cmp runs.new) }
-    ensures same_ranges { (col : ℕ) → column_ranges col runs.new.entries ≡ column_ranges col runs.old.entries }
+    ensures same_ranges { HaveSameRanges runs.old.entries runs.new.entries }
     ensures room { OnOk result (HasRoom (get nat_cmp runs.new) row) }
     ensures err { OnErr result (IsUnchanged runs.old runs.new) }
 {
@@ -113,8 +117,8 @@ fn stretch(runs: &BTreeMap<u32, u32>, row: u32, last: u32) -> (bool, u32)
     requires spaced { IsColumn runs.now }
     requires rows { (row ≤ last) × (last ≤ 1048576) }
     ensures within { (row ≤ result.1) × (result.1 ≤ last) }
-    ensures held { OnTrue result.0 ((r : ℕ) → row ≤ r → r ≤ result.1 → Holds (get nat_cmp runs.now) r) }
-    ensures free { OnFalse result.0 ((r : ℕ) → row ≤ r → r ≤ result.1 → ¬ Holds (get nat_cmp runs.now) r) }
+    ensures held { OnTrue result.0 (HoldsAll (get nat_cmp runs.now) row result.1) }
+    ensures free { OnFalse result.0 (HoldsNone (get nat_cmp runs.now) row result.1) }
 {
     if let Some((_, end)) = run_at(runs, row) {
         return (true, end.min(last));
@@ -134,7 +138,8 @@ fn gaps(
 ) -> Result<Vec<(u32, u32)>, Memory>
     requires spaced { IsColumn runs.now }
     requires rows { (first ≤ last) × (last ≤ 1048576) }
-    ensures { IfOk result (λ gaps. AreGaps (Holds (get nat_cmp runs.now)) first (last + 1) gaps.items) }
+    ensures { IfOk result
+        (λ gaps. AreGaps (Holds (get nat_cmp runs.now)) first (last + 1) gaps.items) }
 {
     let mut gaps = Vec::new(alloc);
     let mut row = first;
@@ -163,7 +168,8 @@ pub(crate) fn strip(first: u32, last: u32, left: u32, right: u32) -> Range
 fn push_ranges(runs: &BTreeMap<u32, u32>, col: u32, ranges: &mut Vec<Range>) -> Result<(), Memory>
     requires spaced { IsColumn runs.now }
     requires col { (1 ≤ col) × (col ≤ 16384) }
-    ensures { OnOk result (ranges.new.items ≡ ranges.old.items ++ column_ranges col runs.now.entries) }
+    ensures { OnOk result
+        (ranges.new.items ≡ ranges.old.items ++ column_ranges col runs.now.entries) }
 {
     for (first, last) in runs.iter() {
         if *first <= *last {
@@ -209,7 +215,7 @@ impl Column {
     /// Takes the memory that a fill from this row on needs. The rows stay as they are.
     pub(crate) fn reserve(&mut self, row: u32) -> Result<(), Memory>
         requires { (1 ≤ row) × (row ≤ 1048576) }
-        ensures same_ranges { (col : ℕ) → column_ranges col self.new ≡ column_ranges col self.old }
+        ensures same_ranges { HaveSameRanges self.old self.new }
         ensures room { OnOk result (HasRoom (last_from self.new) row) }
     {
         reserve(&mut self.runs, row)
@@ -219,7 +225,7 @@ impl Column {
     pub(crate) fn fill(&mut self, first: u32, last: u32)
         requires rows { (1 ≤ first) × (first ≤ last) × (last ≤ 1048576) }
         requires room { HasRoom (last_from self.old) first }
-        ensures { (row : ℕ) → HasRow self.new row ↔ (HasRow self.old row ⊎ ((first ≤ row) × (row ≤ last))) }
+        ensures { GainsRows self.old self.new first last }
     {
         fill(&mut self.runs, first, last);
     }
@@ -241,7 +247,8 @@ impl Column {
     /// Adds the runs that have a row to a list, as ranges of the column with this number.
     pub(crate) fn push_ranges(&self, col: u32, ranges: &mut Vec<Range>) -> Result<(), Memory>
         requires { (1 ≤ col) × (col ≤ 16384) }
-        ensures pushed { OnOk result (ranges.new.items ≡ ranges.old.items ++ column_ranges col self.now) }
+        ensures pushed { OnOk result
+            (ranges.new.items ≡ ranges.old.items ++ column_ranges col self.now) }
         ensures runs { AreMaximalRuns (column_ranges col self.now) }
     {
         push_ranges(&self.runs, col, ranges)

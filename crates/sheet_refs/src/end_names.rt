@@ -1,6 +1,7 @@
 ghost use Rattle.std.specs.Prelude.{◌≡◌};
 ghost use Rattle.sheet_refs.specs.Names.{Finds};
-ghost use Rattle.sheet_refs.specs.Ends.{IsAnchorName, IsEndName, IsReferenceName, has_dollar, past_dollar};
+ghost use Rattle.sheet_refs.specs.Ends.{IsAnchorName, IsEndName, IsReferenceName, has_dollar};
+ghost use Rattle.sheet_refs.specs.Ends.{past_dollar};
 
 use crate::cell::Cell;
 use crate::ends::{End, Ref};

@@ -1,8 +1,9 @@
-ghost use Rattle.std.specs.Prelude.{◌≡◌};
-ghost use Rattle.sheet_refs.specs.Ends.{lesser, greater};
+ghost use Rattle.std.specs.Prelude.{◌≡◌, ◌+◌, ◌%◌};
+ghost use Rattle.sheet_refs.specs.Ends.{lesser, greater, dollar};
 
 use crate::cell::Cell;
 use crate::range::Range;
+use std::fmt;
 use std::marker::Model;
 
 /// An end of a reference: a cell, and which of its parts are fixed, that is written behind a `$`.
@@ -21,9 +22,11 @@ impl Model for End {
 
     ghost Value = { Anchor };
 
-    ghost view = { λ e. record { cell = e.cell; col_fixed = e.col_fixed; row_fixed = e.row_fixed } };
+    ghost view = { λ e.
+        record { cell = e.cell; col_fixed = e.col_fixed; row_fixed = e.row_fixed } };
 
-    ghost inverse = { λ a. record { cell = a.cell; col_fixed = a.col_fixed; row_fixed = a.row_fixed } };
+    ghost inverse = { λ a.
+        record { cell = a.cell; col_fixed = a.col_fixed; row_fixed = a.row_fixed } };
 }
 
 /// A reference as it is written: one end, or two whose rows and columns are in order.
@@ -141,4 +144,60 @@ fn greater_end(a: End, b: End) -> End
             a.row_fixed
         },
     }
+}
+
+/// Prints the column in upper-case letters and the row, each behind a `$` where it is fixed, as `$AA10`.
+impl fmt::Display for End {
+    ghost use Rattle.std.specs.Prelude.{Some};
+    ghost use Rattle.sheet_refs.specs.Ends.{anchor_text};
+
+    ghost output = { λ end. Some (anchor_text end) };
+
+    fn fmt<W: fmt::Write>(&self, f: &mut fmt::Formatter<W>) -> fmt::Result {
+        let (col_mark, row_mark) = (mark(self.col_fixed), mark(self.row_fixed));
+        let (row, col) = (self.cell.row(), self.cell.col());
+        let last = letter(col - 1);
+        let before_last = (col - 1) / 26;
+        if before_last == 0 {
+            return write!(f, "{col_mark}{last}{row_mark}{row}");
+        }
+        let middle = letter(before_last - 1);
+        let first = (before_last - 1) / 26;
+        if first == 0 {
+            return write!(f, "{col_mark}{middle}{last}{row_mark}{row}");
+        }
+        let first = letter(first - 1);
+        write!(f, "{col_mark}{first}{middle}{last}{row_mark}{row}")
+    }
+}
+
+/// Prints one end where it is written as one, and else both, joined by a colon, as `A$1:B2`.
+impl fmt::Display for Ref {
+    ghost use Rattle.std.specs.Prelude.{Some};
+    ghost use Rattle.sheet_refs.specs.Ends.{reference_text};
+
+    ghost output = { λ reference. Some (reference_text reference) };
+
+    fn fmt<W: fmt::Write>(&self, f: &mut fmt::Formatter<W>) -> fmt::Result {
+        let head = self.head;
+        if self.single {
+            return write!(f, "{head}");
+        }
+        let tail = self.tail;
+        write!(f, "{head}:{tail}")
+    }
+}
+
+// What stands before a part of an end.
+fn mark(fixed: bool) -> &'static str
+    ensures { result.now ≡ dollar fixed }
+{
+    if fixed { "$" } else { "" }
+}
+
+// The upper-case letter at a place of the alphabet, from 0; past Z it begins again.
+fn letter(place: u32) -> char
+    ensures { result ≡ 65 + place % 26 }
+{
+    char::from(b'A' + (place % 26) as u8)
 }

@@ -1,10 +1,12 @@
-ghost use Rattle.sheet_refs.specs.NameLaws.{CellsPrintNames, RangesPrintNames, NamesOneCell, NamesOneRange};
+ghost use Rattle.sheet_refs.specs.NameLaws.{CellsPrintNames, RangesPrintNames, NamesOneCell};
+ghost use Rattle.sheet_refs.specs.NameLaws.{NamesOneRange, ReferencesPrintNames};
 
-/// What holds of names: what a cell or a range prints is a name of it, so that it can be read back, and
-/// no text names two cells or two ranges.
+/// What holds of names: what a cell, a range or a reference prints is a name of it, so that it can be read
+/// back, and no text names two cells or two ranges.
 pub fn name_laws()
     ensures cells_print_names { CellsPrintNames }
     ensures ranges_print_names { RangesPrintNames }
+    ensures references_print_names { ReferencesPrintNames }
     ensures names_one_cell { NamesOneCell }
     ensures names_one_range { NamesOneRange }
 {}

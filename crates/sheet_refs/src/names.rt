@@ -1,7 +1,8 @@
-ghost use Rattle.std.specs.Prelude.{◌≡◌, ℕ, ◌≤◌, ◌<◌, ◌^◌, ◌-◌, length, ◌==◌};
+ghost use Rattle.std.specs.Prelude.{◌≡◌, ◌≤◌, ◌<◌, ◌^◌, ◌-◌, length, ◌==◌};
 ghost use Rattle.std.specs.Char.{is_ascii_alphabetic};
 ghost use Rattle.std.specs.List.{prefix_len, position};
-ghost use Rattle.sheet_refs.specs.Names.{Finds, IsDecimal, IsColumnName, IsRowName, IsCellName, IsRangeName, letter_number, IsLetter};
+ghost use Rattle.sheet_refs.specs.Names.{Finds, IsDecimal, IsColumnName, IsRowName, IsCellName};
+ghost use Rattle.sheet_refs.specs.Names.{IsRangeName, letter_number, IsLetter};
 
 use crate::Range;
 use crate::cell::{Cell, MAX_COLS, MAX_ROWS};

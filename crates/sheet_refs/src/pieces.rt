@@ -1,4 +1,4 @@
-ghost use Rattle.std.specs.Prelude.{◌≡◌, ℕ, ◌+◌, ◌≤◌, ◌<◌, [], ◌++◌, length, List};
+ghost use Rattle.std.specs.Prelude.{◌≡◌, ◌+◌, ◌≤◌, ◌<◌, [], ◌++◌, length, List};
 ghost use Rattle.std.specs.Option.{option_to_list};
 ghost use Rattle.sheet_refs.specs.Rectangles.{Tile, IsLeft, IsBetween};
 

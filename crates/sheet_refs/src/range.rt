@@ -1,4 +1,4 @@
-ghost use Rattle.std.specs.Prelude.{◌≡◌, ℕ, ◌*◌, ◌≤◌, ◌↔◌, length, Contains, IsTrue, IsSome, IfSome};
+ghost use Rattle.std.specs.Prelude.{◌≡◌, ◌*◌, ◌≤◌, ◌↔◌, length, IsTrue, IsSome, IfSome};
 
 use crate::Cell;
 use std::fmt;
@@ -24,14 +24,16 @@ impl Model for Range {
 }
 
 impl Range {
-    ghost use Rattle.sheet_refs.specs.Cells.{Position, Corners, IsIn, IsOrdered, IsWithin, spanned, height, width, cells_of};
-    ghost use Rattle.sheet_refs.specs.Rectangles.{IsShared, Overlap};
+    ghost use Rattle.sheet_refs.specs.Cells.{IsIn, IsOrdered, IsSmallestWith, spanned, height};
+    ghost use Rattle.sheet_refs.specs.Cells.{width};
+    ghost use Rattle.sheet_refs.specs.Cells.{cells_of, ListsCells};
+    ghost use Rattle.sheet_refs.specs.Rectangles.{HoldsShared, Overlap};
 
     /// The smallest rectangle with both cells.
     pub fn of(a: Cell, b: Cell) -> Range
         ensures corners { result ≡ spanned a b }
         ensures both { IsIn a result × IsIn b result }
-        ensures smallest { (range : Corners) → IsIn a range → IsIn b range → IsWithin result range }
+        ensures smallest { IsSmallestWith a b result }
     {
         let head = Cell::new(a.row().min(b.row()), a.col().min(b.col())).unwrap();
         let tail = Cell::new(a.row().max(b.row()), a.col().max(b.col())).unwrap();
@@ -59,7 +61,7 @@ impl Range {
         ensures product { result ≡ height self.now * width self.now }
         ensures small { result ≤ 17179869184 }
         ensures count { result ≡ length (cells_of self.now) }
-        ensures listed { (cell : Position) → Contains (cells_of self.now) cell ↔ IsIn cell self.now }
+        ensures listed { ListsCells (cells_of self.now) self.now }
     {
         let rows = self.tail.row() - self.head.row() + 1;
         let cols = self.tail.col() - self.head.col() + 1;
@@ -86,7 +88,7 @@ impl Range {
     /// The range of the cells that the two ranges share; None exactly where they share none.
     pub fn meet(&self, other: &Range) -> Option<Range>
         ensures some { IsSome result ↔ Overlap self.now other.now }
-        ensures shared { IfSome result (λ range. (cell : Position) → IsIn cell range ↔ IsShared self.now other.now cell) }
+        ensures shared { IfSome result (HoldsShared self.now other.now) }
     {
         if !self.overlaps(other) {
             return None;

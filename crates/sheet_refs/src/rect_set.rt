@@ -1,4 +1,5 @@
-ghost use Rattle.std.specs.Prelude.{◌≡◌, ℕ, ◌+◌, ◌-◌, ◌≤◌, ◌<◌, ◌↔◌, ◌++◌, [], length, map, slice_index_or, vec_len, All, IsTrue, IfOk, OnOk, OnErr};
+ghost use Rattle.std.specs.Prelude.{◌≡◌, ◌+◌, ◌-◌, ◌≤◌, ◌<◌, ◌↔◌, ◌++◌, [], map};
+ghost use Rattle.std.specs.Prelude.{vec_len, All, IsTrue, IfOk, OnOk, OnErr};
 ghost use Rattle.sheet_refs.specs.Columns.{column_at, HaveRoom, AreFilled, LackRows};
 ghost use Rattle.sheet_refs.specs.Rectangles.{IsAmong, IsNew, Joins, Tile, AreMaximalRuns};
 ghost use Rattle.sheet_refs.specs.Runs.{AreGaps, HasRow, ranges_from, strip};
@@ -60,7 +61,8 @@ fn gaps_at(
 ) -> Result<Vec<(u32, u32)>, Memory>
     requires rows { (first ≤ last) × (last ≤ 1048576) }
     requires col { 1 ≤ col }
-    ensures { IfOk result (λ gaps. AreGaps (HasRow (column_at columns.now col)) first (last + 1) gaps.items) }
+    ensures { IfOk result
+        (λ gaps. AreGaps (HasRow (column_at columns.now col)) first (last + 1) gaps.items) }
 {
     match columns.get(col as usize - 1) {
         Some(column) => column.gaps(alloc, first, last),
@@ -103,7 +105,8 @@ fn last_alike(
     requires cols { (1 ≤ left) × (left ≤ right) × (right ≤ 16384) }
     requires gaps { AreGaps (HasRow (column_at columns.now left)) first (last + 1) gaps.now }
     ensures within { IfOk result (λ end. (left ≤ end) × (end ≤ right)) }
-    ensures alike { IfOk result (λ end. LackRows columns.now left (end + 1) first (last + 1) gaps.now) }
+    ensures alike { IfOk result
+        (λ end. LackRows columns.now left (end + 1) first (last + 1) gaps.now) }
 {
     for col in left + 1..right + 1 {
         let others = gaps_at(columns, alloc, col, first, last)?;

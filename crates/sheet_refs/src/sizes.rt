@@ -1,5 +1,4 @@
-ghost use Rattle.std.specs.Prelude.{◌≡◌, ◌↔◌, ℕ, ◌<◌, length, IsTrue, IsFalse, IsSome, IsNone, IfSome};
-ghost use Rattle.sheet_refs.specs.Cells.{Position, IsIn};
+ghost use Rattle.std.specs.Prelude.{◌≡◌, ◌↔◌, ◌<◌, IsTrue, IsSome, IsNone, IfSome};
 
 use crate::cell::Cell;
 use crate::range::Range;
@@ -15,6 +14,7 @@ pub struct Sizes {
 
 impl Sizes {
     ghost use Rattle.sheet_refs.specs.Sizes.{is_inside, cell_count, place_of, AreNamed, clipped};
+    ghost use Rattle.sheet_refs.specs.Sizes.{HoldsPart, MissesRange};
 
     /// Whether the cell lies in the rectangle.
     pub fn holds(self, cell: Cell) -> bool
@@ -51,9 +51,8 @@ impl Sizes {
     pub fn clip(self, range: Range) -> Option<Range>
         ensures some { IsSome result ↔ IsTrue (is_inside self range.head) }
         ensures corners { IfSome result (λ part. part ≡ clipped self range) }
-        ensures cells { IfSome result
-            (λ part. (cell : Position) → IsIn cell part ↔ (IsIn cell range × IsTrue (is_inside self cell))) }
-        ensures nothing { IsNone result → (cell : Position) → IsIn cell range → IsFalse (is_inside self cell) }
+        ensures cells { IfSome result (HoldsPart self range) }
+        ensures nothing { IsNone result → MissesRange self range }
     {
         let head = range.head();
         if !self.holds(head) {
@@ -66,8 +65,8 @@ impl Sizes {
 }
 
 impl Range {
-    ghost use Rattle.std.specs.Prelude.{slice_get, Some};
-    ghost use Rattle.sheet_refs.specs.Cells.{cells_of};
+    ghost use Rattle.std.specs.Prelude.{length, slice_get, Some};
+    ghost use Rattle.sheet_refs.specs.Cells.{IsIn, cells_of};
     ghost use Rattle.sheet_refs.specs.Sizes.{cell_of_place};
 
     /// The cell at a place among the range's cells, row by row, counted from 0.

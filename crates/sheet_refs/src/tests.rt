@@ -137,3 +137,43 @@ fn ranges_hold_cells(rt: HostRuntime) -> Result<(), Fail> {
 fn named(name: &str) -> Result<Cell, Fail> {
     Ok(cell_of(name.as_bytes()).ok_or("no such cell")?)
 }
+
+#[test]
+fn references_are_read_and_printed(rt: HostRuntime) -> Result<(), Fail> {
+    for (dotted, text, printed) in [
+        (false, "a1", "A1"),
+        (false, "$xfd$1048576", "$XFD$1048576"),
+        (false, "A1:A1", "A1:A1"),
+        (false, "A1:$A$1", "A1:$A$1"),
+        (false, "$A$1:A1", "$A$1:A1"),
+        (false, "B$2:$A1", "$A1:B$2"),
+        (false, "A3:B$1", "A$1:B3"),
+        (false, "$C1:A$3", "A1:$C$3"),
+        (true, ".A1", "A1"),
+        (true, ".$B$2:.A1", "A1:$B$2"),
+    ] {
+        let reference = ref_of(dotted, text.as_bytes()).ok_or("no reference")?;
+        assert_eq!(rt;
+            format!(in rt.alloc(); "{reference}")?.as_str(),
+            printed,
+            "{text}"
+        );
+    }
+    for (dotted, text) in [
+        (false, "A"),
+        (false, "$1"),
+        (false, "A$"),
+        (false, "$$A1"),
+        (false, "A1:"),
+        (false, ":A1"),
+        (false, "A1:B2:C3"),
+        (false, ".A1"),
+        (true, "A1"),
+        (true, ".A1:B2"),
+        (false, "A01"),
+        (false, "XFE1"),
+    ] {
+        assert_eq!(rt; ref_of(dotted, text.as_bytes()), None, "{text}");
+    }
+    Ok(())
+}

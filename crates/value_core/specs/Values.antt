@@ -1,5 +1,5 @@
 -- Values of cells, their codes and their printed forms.
-use Rattle.std.specs.Prelude.{ℕ, ◌+◌, ◌*◌, ◌^◌, ◌<◌, pos, ◌+ℤ◌, nat_abs, Bool, true, false, if◌then◌else◌, ◌==◌, List, [], ◌∷◌, ◌++◌, flat_map, codes}
+use Rattle.std.specs.Prelude.{◌≡◌, ◌≢◌, ℕ, ◌+◌, ◌*◌, ◌^◌, ◌<◌, pos, ◌+ℤ◌, nat_abs, Bool, true, false, if◌then◌else◌, ◌==◌, List, [], ◌∷◌, ◌++◌, flat_map, codes, Option, MatchOption}
 use Rattle.std.specs.Fmt.{signed_decimal}
 use Rattle.value_core.specs.declared.value.ErrorKind.{ErrorKind}
 use Rattle.value_core.specs.declared.value.ErrorKind.TheVariants as error
@@ -34,6 +34,15 @@ code_of (Truth false) = 2
 code_of (Truth true) = 10
 code_of (Error kind) = place_of_error kind * 8 + 3
 code_of (Label place) = place * 8 + 4
+
+-- the value with a code, and None exactly where no value has it
+abbrev pub IsDecoded : ℕ → Option Value → Type 0
+IsDecoded word result =
+    MatchOption result ((value : Value) → IsValue value → code_of value ≢ word) (λ value. IsValue value × (code_of value ≡ word))
+
+-- the error at a place of the table, and None exactly where there is none
+abbrev pub IsErrorAt : ℕ → Option ErrorKind → Type 0
+IsErrorAt place result = MatchOption result ((kind : ErrorKind) → place_of_error kind ≢ place) (λ kind. place_of_error kind ≡ place)
 
 -- how a truth is printed
 abbrev pub truth_text : Bool → List ℕ

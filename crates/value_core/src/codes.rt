@@ -1,7 +1,6 @@
-ghost use Rattle.std.specs.Prelude.{◌≡◌, ◌≢◌, ◌<◌, ◌*◌, ◌+◌, ℕ, MatchOption};
+ghost use Rattle.std.specs.Prelude.{◌≡◌, ◌<◌};
 ghost use Rattle.value_core.specs.declared.value.Value.{Value};
-ghost use Rattle.value_core.specs.declared.value.ErrorKind.{ErrorKind};
-ghost use Rattle.value_core.specs.Values.{IsValue, code_of, place_of_error};
+ghost use Rattle.value_core.specs.Values.{IsValue, code_of, place_of_error, IsDecoded, IsErrorAt};
 
 use crate::value::{ErrorKind, Value};
 use crate::whole::Whole;
@@ -30,7 +29,7 @@ pub fn code(v: Value) -> u64
 
 /// The value for which a word stands; None exactly where no value has that code.
 pub fn decode(word: u64) -> Option<Value>
-    ensures { MatchOption result ((value : Value) → IsValue value → code_of value ≢ word) (λ value. IsValue value × (code_of value ≡ word)) }
+    ensures { IsDecoded word result }
 {
     let content = word / 8;
     match word % 8 {
@@ -62,7 +61,7 @@ fn error_place(kind: ErrorKind) -> u64
 
 // The error at a place of the table of errors.
 fn error_at(place: u64) -> Option<ErrorKind>
-    ensures { MatchOption result ((kind : ErrorKind) → place_of_error kind ≢ place) (λ kind. place_of_error kind ≡ place) }
+    ensures { IsErrorAt place result }
 {
     match place {
         0 => Some(ErrorKind::Null),

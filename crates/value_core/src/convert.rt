@@ -1,5 +1,7 @@
 ghost use Rattle.std.specs.Prelude.{◌≡◌};
-ghost use Rattle.value_core.specs.Conversions.{as_number as number_of, as_truth as truth_of, in_range as ranged, never_empty as value_or_zero, truth_number as truth_as_number};
+ghost use Rattle.value_core.specs.Conversions.{as_number as number_of, as_truth as truth_of};
+ghost use Rattle.value_core.specs.Conversions.{in_range as ranged, never_empty as value_or_zero};
+ghost use Rattle.value_core.specs.Conversions.{truth_number as truth_as_number};
 
 use crate::value::{ErrorKind, Value};
 use crate::whole::Whole;

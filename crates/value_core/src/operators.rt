@@ -1,7 +1,11 @@
 ghost use Rattle.std.specs.Prelude.{◌≡◌, ◌<◌, ◌≤◌, ◌*ℤ◌, nat_abs, SomeIff};
 ghost use Rattle.value_core.specs.Wholes.{IsWhole};
 ghost use Rattle.value_core.specs.Conversions.{in_range as ranged};
-ghost use Rattle.value_core.specs.Operators.{binary_of, prefix_of, calculated, compared, by_kind as by_kind_of, beside as beside_of, unordered as unordered_of, on_numbers as on_numbers_of, quotient as quotient_of, power_value, is_comparison as is_comparing, negated};
+ghost use Rattle.value_core.specs.Operators.{binary_of, prefix_of, calculated, compared};
+ghost use Rattle.value_core.specs.Operators.{by_kind as by_kind_of, beside as beside_of};
+ghost use Rattle.value_core.specs.Operators.{unordered as unordered_of};
+ghost use Rattle.value_core.specs.Operators.{on_numbers as on_numbers_of, quotient as quotient_of};
+ghost use Rattle.value_core.specs.Operators.{power_value, is_comparison as is_comparing, negated};
 ghost use Rattle.value_core.specs.Powers.{power as power_of};
 
 use crate::convert::{as_number, in_range, never_empty, truth_number};

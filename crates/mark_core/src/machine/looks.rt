@@ -1,6 +1,7 @@
 #![tactic(auto)]
 
-ghost use Rattle.std.specs.Prelude.{◌≡◌, ◌<◌, ◌↔◌, ◌-◌, ◌^◌, length, IsTrue, MatchOption, Some, None};
+ghost use Rattle.std.specs.Prelude.{◌≡◌, ◌<◌, ◌↔◌, ◌-◌, ◌^◌, length, IsTrue, MatchOption, Some};
+ghost use Rattle.std.specs.Prelude.{None};
 ghost use Rattle.mark_core.specs.State.{State, view_at};
 ghost use Rattle.mark_core.specs.Permission.{IsLive, MayStepAt};
 
@@ -46,7 +47,7 @@ impl<E> Machine<E> {
     }
 
     /// The entries that the view knows.
-    pub fn known(&self, view: u32) -> &[E]
+    pub fn log_of(&self, view: u32) -> &[E]
         ensures { result.now ≡ (view_at self.now view).log }
     {
         match self.views.get(view as usize) {
@@ -56,7 +57,7 @@ impl<E> Machine<E> {
     }
 
     /// The pending entry.
-    pub fn pending(&self) -> Option<&E>
+    pub fn pending_entry(&self) -> Option<&E>
         ensures { MatchOption result
             (self.now.edits.pending ≡ None) (λ entry. self.now.edits.pending ≡ Some entry.now) }
     {
@@ -64,7 +65,7 @@ impl<E> Machine<E> {
     }
 
     /// The places that are marked for the pending entry.
-    pub fn marked(&self) -> &[u32]
+    pub fn marked_places(&self) -> &[u32]
         ensures { result.now ≡ self.now.edits.marked }
     {
         &self.marked

@@ -33,7 +33,10 @@ impl<E: Drop> Machine<E> {
         ensures ok { OnOk result (self.new ≡ after_join self.old view other) }
         ensures err { OnErr result (self.new ≡ self.old) }
     {
-        let taken = mem::replace(&mut self.views[other as usize], Stored::spent(self.alloc));
+        let taken = mem::replace(
+            &mut self.views[other as usize],
+            Stored::new_spent(self.alloc),
+        );
         match self.views[view as usize].join(&taken) {
             Ok(()) => Ok(()),
             Err(memory) => {

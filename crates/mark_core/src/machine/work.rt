@@ -26,7 +26,8 @@ impl<E: Drop> Machine<E> {
         requires there { view < length self.old.views }
         requires place_there { place < length self.old.places }
         ensures ok { IfOk result
-            (λ taken. Gives self.old (Event.Claim view place seen) (Outcome.Claimed taken) self.new) }
+            (λ taken. Gives
+            self.old (Event.Claim view place seen) (Outcome.Claimed taken) self.new) }
         ensures err { OnErr result (self.new ≡ self.old) }
     {
         if self.clean(place) == seen {

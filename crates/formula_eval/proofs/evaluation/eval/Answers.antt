@@ -8,7 +8,7 @@ returns-in-Err-clause-value g c =
     let sizes = g.I.Inputs.sizes c.args.inputs.now in
     let codes = g.I.Inputs.codes c.args.inputs.now in
     let stops = rw c.root-root.ensures.tree at c.in-Err.ensures.stop in
-    stopped_value sizes codes c.args.formula.now c.stopped.result c.in-Err.stop stops c.stopped.ensures.circular c.stopped.ensures.kind
+    stopped_value sizes codes c.args.formula.now c.answer_at.result c.in-Err.stop stops c.answer_at.ensures.circular c.answer_at.ensures.kind
 
 pub returns-clause-value : goal.returns-clause-value
 returns-clause-value g c values agrees =

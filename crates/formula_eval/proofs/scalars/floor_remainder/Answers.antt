@@ -4,10 +4,10 @@ use Rattle.std.specs.Int.{int_rem_euclid}
 use Rattle.std.proofs.lemmas.Int.{ints}
 use Rattle.std.proofs.lemmas.Bool.Decides.{nat_tests}
 use Rattle.value_core.specs.Conversions.{in_range}
-use Rattle.formula_eval.specs.Functions.{divided, floor_remainder}
+use Rattle.formula_eval.specs.Functions.{division_value, floor_remainder}
 use Rattle.formula_eval.proofs.scalars.floor_remainder.Goals as goal
 
-below_zero : (m n r : ℤ) → int_lt n (pos 0) ≡ true → r ≡ int_rem_euclid (neg_ℤ m) (neg_ℤ n) → in_range (neg_ℤ r) ≡ divided floor_remainder m n
+below_zero : (m n r : ℤ) → int_lt n (pos 0) ≡ true → r ≡ int_rem_euclid (neg_ℤ m) (neg_ℤ n) → in_range (neg_ℤ r) ≡ division_value floor_remainder m n
 below_zero m (pos k) r less is = absurd (grind (arith, nat_tests))
 below_zero m (negsuc k) r less is = ap (λ z. in_range (neg_ℤ z)) is
 

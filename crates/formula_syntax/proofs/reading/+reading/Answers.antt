@@ -43,16 +43,16 @@ expression-loop-op-preserved t c =
 pub expression-returns-clause-read : goal.expression-returns-clause-read
 expression-returns-clause-read t c = climb_ends c.args.at c.args.tokens.now c.loop-op.rest.now (tree_of c.loop-op.left) c.loop-op.invariant.within (search rules) c.loop-op.invariant.climbs
 
-pub signed-returns-clause-looser : goal.signed-returns-clause-looser
-signed-returns-clause-looser t c = none_tighter c.in_ok-node.rest.now
+pub signed_operand-returns-clause-looser : goal.signed_operand-returns-clause-looser
+signed_operand-returns-clause-looser t c = none_tighter c.in_ok-node.rest.now
 
-pub signed-returns-in_err-node-clause-read : goal.signed-returns-in_err-node-clause-read
-signed-returns-in_err-node-clause-read t c =
+pub signed_operand-returns-in_err-node-clause-read : goal.signed_operand-returns-in_err-node-clause-read
+signed_operand-returns-in_err-node-clause-read t c =
     let p = err_from_is_err_and c.from_residual-in_err-node.result c.from_residual-in_err-node.ensures.1 in
     rw (p.1, p.2) (signs_fail c.args.tokens.now c.in_ok-signs.operand.now _ c.in_ok-signs.ensures.behind c.in_ok-signs.ensures.within c.in_err-node.ensures.read)
 
-pub signed-returns-clause-read : goal.signed-returns-clause-read
-signed-returns-clause-read t c =
+pub signed_operand-returns-clause-read : goal.signed_operand-returns-clause-read
+signed_operand-returns-clause-read t c =
     let signed : tree_of c.in_ok-node-2.node ≡ with_signs c.args.tokens.now (tree_of c.in_ok-node.node) = c.in_ok-node-2.ensures ∙ sym (c.in_ok-signs.ensures.signs (tree_of c.in_ok-node.node)) in
     signs_read c.args.tokens.now c.in_ok-signs.operand.now c.in_ok-node.rest.now (tree_of c.in_ok-node.node) (tree_of c.in_ok-node-2.node) c.in_ok-signs.ensures.behind signed c.in_ok-signs.ensures.within c.in_ok-node.ensures.read
 

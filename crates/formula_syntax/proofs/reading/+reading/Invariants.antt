@@ -9,8 +9,8 @@ decreases-call l = 16 * length l.tokens.now + 15
 abbrev pub decreases-parameters : goal.decreases-parameters
 decreases-parameters l = 16 * length l.tokens.now + 14
 
-abbrev pub decreases-grouped : goal.decreases-grouped
-decreases-grouped l = 16 * length l.tokens.now + 13
+abbrev pub decreases-group : goal.decreases-group
+decreases-group l = 16 * length l.tokens.now + 13
 
 abbrev pub decreases-some_parameters : goal.decreases-some_parameters
 decreases-some_parameters l = 16 * length l.tokens.now + 13
@@ -18,8 +18,8 @@ decreases-some_parameters l = 16 * length l.tokens.now + 13
 abbrev pub decreases-expression : goal.decreases-expression
 decreases-expression l = 16 * length l.tokens.now + 12 - 2 * l.at
 
-abbrev pub decreases-signed : goal.decreases-signed
-decreases-signed l = 16 * length l.tokens.now + 3
+abbrev pub decreases-signed_operand : goal.decreases-signed_operand
+decreases-signed_operand l = 16 * length l.tokens.now + 3
 
 abbrev pub decreases-primary : goal.decreases-primary
 decreases-primary l = 16 * length l.tokens.now + 2

@@ -5,7 +5,7 @@ use Rattle.mark_core.proofs.judging.is_last_mark.Goals as goal
 
 pub returns : goal.returns
 returns g c =
-    IfOk-weaker c.none_touched.result _ _
+    IfOk-weaker c.none_touches.result _ _
     (λ b none. last_mark_iff (g.S.Subject.touches c.args.subject.now) c.args.log.now c.args.place c.args.mark b
     c.if-mark-log.false (c.in_ok-is_mark.ensures.0 c.if-not-branch.false) none)
-    c.none_touched.ensures
+    c.none_touches.ensures

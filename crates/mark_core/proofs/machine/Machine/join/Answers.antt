@@ -11,7 +11,7 @@ invariant_of-self g c =
     kept_joined c.self.inside.log.items c.self.inside.places.items c.self.inside.views.items c.self.invariant c.args.view c.args.other
     c.index_mut-2.result.now c.join.new.self c.replace-taken.result c.replace-taken.new.dest
     (within c.args.view c.requires.there) (within c.args.other c.requires.other_there) c.requires.apart c.requires.not_editor
-    c.index_mut-2.ensures.value at (c.replace-taken.ensures.after ∙ c.spent.ensures) c.in-Ok.ensures.ok
+    c.index_mut-2.ensures.value at (c.replace-taken.ensures.after ∙ c.new_spent.ensures) c.in-Ok.ensures.ok
 
 pub invariant_of-self-in-Err : goal.invariant_of-self-in-Err
 invariant_of-self-in-Err g c =
@@ -31,7 +31,7 @@ returns-in-Ok-clause-ok g c =
     c.args.self.now c.self.view_is c.args.view c.args.other
     c.index_mut-2.result.now c.join.new.self c.replace-taken.result c.replace-taken.new.dest
     c.requires.there c.requires.other_there c.requires.apart c.self.invariant
-    c.index_mut-2.ensures.value at (c.replace-taken.ensures.after ∙ c.spent.ensures) c.in-Ok.ensures.ok
+    c.index_mut-2.ensures.value at (c.replace-taken.ensures.after ∙ c.new_spent.ensures) c.in-Ok.ensures.ok
 
 pub returns-in-Err-clause-err : goal.returns-in-Err-clause-err
 returns-in-Err-clause-err g c =

@@ -1,7 +1,7 @@
 -- No entry so far touches the place.
 use Rattle.std.proofs.Common.{◌<◌, ◌+◌, ◌≤◌, ℕ}
 use Rattle.mark_core.specs.Mark.{IsTouched}
-use Rattle.mark_core.proofs.judging.none_touched.Given as goal
+use Rattle.mark_core.proofs.judging.none_touches.Given as goal
 
 abbrev pub invariant-loop-index : goal.invariant-loop-index
 invariant-loop-index g l =

@@ -3,7 +3,7 @@ use Rattle.std.proofs.lemmas.Grind.{common_steps}
 use Rattle.std.proofs.lemmas.Result.{err_from_is_err_and}
 use Rattle.formula_syntax.specs.Tree.{tree_of}
 use Rattle.formula_syntax.proofs.Spells.{whole_derives, err_derives, part_derives}
-use Rattle.formula_syntax.proofs.reader.derived.Goals as goal
+use Rattle.formula_syntax.proofs.reader.read_tree.Goals as goal
 
 pub returns-in_err-node-clause-not : goal.returns-in_err-node-clause-not
 returns-in_err-node-clause-not c =

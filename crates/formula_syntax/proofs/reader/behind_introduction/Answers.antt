@@ -1,6 +1,6 @@
 use Rattle.std.proofs.Common.{refl, rules}
 use Rattle.formula_syntax.proofs.Spells.{equals_found, prefix_found, not_introduced_by}
-use Rattle.formula_syntax.proofs.reader.introduced.Goals as goal
+use Rattle.formula_syntax.proofs.reader.behind_introduction.Goals as goal
 
 pub returns-in-Some : goal.returns-in-Some
 returns-in-Some c = equals_found c.args.text.now c.in-Some.rest.now c.in-Some.ensures

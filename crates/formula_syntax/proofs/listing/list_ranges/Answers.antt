@@ -1,7 +1,7 @@
 use Rattle.std.proofs.Common.{◌≡◌, ◌∷◌, [], refl, rules}
 use Rattle.formula_syntax.specs.Tree.{tree_of, references_of}
 use Rattle.formula_syntax.proofs.Listings.{listing_starts, listing_step, listing_fewer}
-use Rattle.formula_syntax.proofs.listing.listed.Goals as goal
+use Rattle.formula_syntax.proofs.listing.list_ranges.Goals as goal
 
 pub loop-nodes-init : goal.loop-nodes-init
 loop-nodes-init c =

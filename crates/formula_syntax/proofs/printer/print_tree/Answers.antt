@@ -1,7 +1,7 @@
 use Rattle.formula_syntax.specs.Tree.{tree_of}
 use Rattle.formula_syntax.specs.Printing.{plain}
 use Rattle.formula_syntax.proofs.Pieces.{piece_step, piece_fewer}
-use Rattle.formula_syntax.proofs.printer.printed.Goals as goal
+use Rattle.formula_syntax.proofs.printer.print_tree.Goals as goal
 
 pub loop-piece-smaller : goal.loop-piece-smaller
 loop-piece-smaller c =

@@ -1,6 +1,6 @@
 use Rattle.std.proofs.Common.{refl}
 use Rattle.edge_patterns.proofs.EdgeLemmas.{hit_between}
-use Rattle.edge_patterns.proofs.queries.hit_places.Goals as goal
+use Rattle.edge_patterns.proofs.queries.hit_indices.Goals as goal
 
 pub returns-clause-hit : goal.returns-clause-hit
 returns-clause-hit c =

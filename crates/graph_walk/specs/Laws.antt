@@ -1,0 +1,31 @@
+-- What is true of the cells that a range reaches, and of those from which it is reached.
+use Rattle.std.specs.Prelude.{Bool, IsTrue, List}
+use Rattle.sheet_refs.specs.Cells.{Position, Corners, IsIn}
+use Rattle.graph_walk.specs.Graphs.{Pair, Step, Reach, Back, HasRange, IsClosed, IsClosedBack}
+
+-- they have the cells of the range
+abbrev pub ReachHasTheRange : Type 0
+ReachHasTheRange = (pairs : List Pair) (range : Corners) (cell : Position) → IsIn cell range → Reach pairs range cell
+
+abbrev pub BackHasTheRange : Type 0
+BackHasTheRange = (pairs : List Pair) (range : Corners) (cell : Position) → IsIn cell range → Back pairs range cell
+
+-- they are closed under a step
+abbrev pub ReachIsClosed : Type 0
+ReachIsClosed =
+    (pairs : List Pair) (range : Corners) (from to : Position) → Step pairs from to → Reach pairs range from → Reach pairs range to
+
+abbrev pub BackIsClosed : Type 0
+BackIsClosed =
+    (pairs : List Pair) (range : Corners) (from to : Position) → Step pairs from to → Back pairs range to → Back pairs range from
+
+-- they lie in every set that has the range and is closed under a step
+abbrev pub ReachIsLeast : Type 0
+ReachIsLeast =
+    (pairs : List Pair) (range : Corners) (set : Position → Bool) → HasRange set range → IsClosed pairs set
+    → (cell : Position) → Reach pairs range cell → IsTrue (set cell)
+
+abbrev pub BackIsLeast : Type 0
+BackIsLeast =
+    (pairs : List Pair) (range : Corners) (set : Position → Bool) → HasRange set range → IsClosedBack pairs set
+    → (cell : Position) → Back pairs range cell → IsTrue (set cell)
