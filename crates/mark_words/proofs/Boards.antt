@@ -4,10 +4,9 @@ use Rattle.std.specs.Prelude.{slice_index, slice_set}
 use Rattle.std.proofs.Math.ListN.{length-set}
 use Rattle.std.specs.Prelude.{Contains}
 use Rattle.std.proofs.lemmas.List.{get_or_append_left, get_or_push}
-use Rattle.std.proofs.lemmas.List.Elements.{Contains-push_cases}
 use mathlib.Core.Option.{some, some-injective, some-ne-none}
 use lib.ListN.{get_elem?}
-use Rattle.atomic_table.proofs.Lists.{at_set, set_else, at_longer}
+use Rattle.atomic_table.proofs.Lists.{at_set, set_else, set_here, at_longer}
 use Rattle.mark_core.specs.declared.actors.View.{View}
 use Rattle.mark_core.specs.declared.actors.Edits.{Edits}
 use Rattle.mark_core.specs.declared.words.Clean.{Clean}
@@ -17,7 +16,7 @@ use Rattle.mark_core.specs.Mark.{IsPrefix}
 use Rattle.mark_core.specs.State.{State, view_at, spent_view}
 use Rattle.mark_words.specs.declared.board.Doing.{Doing}
 use Rattle.mark_words.specs.Words.{code_of, clean_at, shown_place, words_of_places}
-use Rattle.mark_words.specs.Rule.{IsRightSeat, IsGathered, AreSeats, NameSubject}
+use Rattle.mark_words.specs.Rule.{IsRightSeat, IsSpent, AreGathered, AreSeats, NameSubject}
 
 -- an element that is there is what a look with any default gives
 pub there_or : {X : Type 0} (xs : List X) (i : ℕ) (x d : X) → get_elem? xs i ≡ some x → get_or xs i d ≡ x
@@ -68,8 +67,9 @@ some_within [] i x e = absurd (some-ne-none x (sym e))
 some_within (y ∷ xs) zero x e = omega arith
 some_within (y ∷ xs) (suc i) x e = let lt : i < length xs = some_within xs i x e in omega arith
 
-next_mark : (place : ℕ) → 3 * suc place + 1 ≡ suc (suc (suc (3 * place + 1)))
-next_mark place = omega arith
+-- the place of a word, behind the three words of another place
+next_word : (place k : ℕ) → 3 * suc place + k ≡ suc (suc (suc (3 * place + k)))
+next_word place k = omega arith
 
 -- the word of a mark
 pub mark_word : (count : ℕ) (places : List Place) (place : ℕ) → place < length places
@@ -77,7 +77,7 @@ pub mark_word : (count : ℕ) (places : List Place) (place : ℕ) → place < le
 mark_word count [] place lt = absurd (omega arith)
 mark_word count (p ∷ places) zero lt = refl
 mark_word count (p ∷ places) (suc place) lt =
-    ap (λ i. slice_index (count ∷ words_of_places (p ∷ places)) i) (next_mark place) ∙ mark_word p.value places place (omega arith)
+    ap (λ i. slice_index (count ∷ words_of_places (p ∷ places)) i) (next_word place 1) ∙ mark_word p.value places place (omega arith)
 
 -- a mark stored in its word
 pub mark_set : (count : ℕ) (places : List Place) (place new : ℕ) → place < length places
@@ -86,20 +86,114 @@ pub mark_set : (count : ℕ) (places : List Place) (place new : ℕ) → place <
 mark_set count [] place new lt = absurd (omega arith)
 mark_set count (p ∷ places) zero new lt = refl
 mark_set count (p ∷ places) (suc place) new lt =
-    ap (λ i. slice_set (count ∷ words_of_places (p ∷ places)) i new) (next_mark place)
+    ap (λ i. slice_set (count ∷ words_of_places (p ∷ places)) i new) (next_word place 1)
     ∙ ap (λ l. count ∷ p.mark ∷ code_of p.clean ∷ l) (mark_set p.value places place new (omega arith))
 
+-- the clean word of a place
+pub clean_word : (count : ℕ) (places : List Place) (place : ℕ) → place < length places
+    → slice_index (count ∷ words_of_places places) (3 * place + 2) ≡ code_of (place_at places place).clean
+clean_word count [] place lt = absurd (omega arith)
+clean_word count (p ∷ places) zero lt = refl
+clean_word count (p ∷ places) (suc place) lt =
+    ap (λ i. slice_index (count ∷ words_of_places (p ∷ places)) i) (next_word place 2) ∙ clean_word p.value places place (omega arith)
+
+-- and its value
+pub value_word : (count : ℕ) (places : List Place) (place : ℕ) → place < length places
+    → slice_index (count ∷ words_of_places places) (3 * place + 3) ≡ (place_at places place).value
+value_word count [] place lt = absurd (omega arith)
+value_word count (p ∷ places) zero lt = refl
+value_word count (p ∷ places) (suc place) lt =
+    ap (λ i. slice_index (count ∷ words_of_places (p ∷ places)) i) (next_word place 3) ∙ value_word p.value places place (omega arith)
+
+-- a clean word stored in its word
+pub clean_set : (count : ℕ) (places : List Place) (place : ℕ) (clean : Clean) → place < length places
+    → slice_set (count ∷ words_of_places places) (3 * place + 2) (code_of clean)
+    ≡ count ∷ words_of_places (set places place (record (place_at places place) { clean = clean }))
+clean_set count [] place clean lt = absurd (omega arith)
+clean_set count (p ∷ places) zero clean lt = refl
+clean_set count (p ∷ places) (suc place) clean lt =
+    ap (λ i. slice_set (count ∷ words_of_places (p ∷ places)) i (code_of clean)) (next_word place 2)
+    ∙ ap (λ l. count ∷ p.mark ∷ code_of p.clean ∷ l) (clean_set p.value places place clean (omega arith))
+
+-- and a value in its
+pub value_set : (count : ℕ) (places : List Place) (place value : ℕ) → place < length places
+    → slice_set (count ∷ words_of_places places) (3 * place + 3) value
+    ≡ count ∷ words_of_places (set places place (record (place_at places place) { value = value }))
+value_set count [] place value lt = absurd (omega arith)
+value_set count (p ∷ places) zero value lt = refl
+value_set count (p ∷ places) (suc place) value lt =
+    ap (λ i. slice_set (count ∷ words_of_places (p ∷ places)) i value) (next_word place 3)
+    ∙ ap (λ l. count ∷ p.mark ∷ code_of p.clean ∷ l) (value_set p.value places place value (omega arith))
+
+-- the marks of places, of which one is exchanged for one with its mark
+pub marks_stay : (places : List Place) (place : ℕ) (changed : Place) → changed.mark ≡ (place_at places place).mark
+    → map (λ (p : Place). p.mark) (set places place changed) ≡ map (λ (p : Place). p.mark) places
+marks_stay [] place changed same = refl
+marks_stay (p ∷ places) zero changed same = ap (λ m. m ∷ map (λ (q : Place). q.mark) places) same
+marks_stay (p ∷ places) (suc place) changed same = ap (λ l. p.mark ∷ l) (marks_stay places place changed same)
+
 -- what holds of a seat stays where edits and places of the state do
-pub seat_stays : {S E : Type 0} (core core' : State E) (seat : ℕ) (doing : Doing S E) → core'.edits ≡ core.edits → core'.places ≡ core.places
-    → IsRightSeat core seat doing → IsRightSeat core' seat doing
-seat_stays {E} core core' seat doing edits places right =
+pub seat_stays : {S E : Type 0} (core core' : State E) (seat : ℕ) (doing : Doing S E) → core'.edits ≡ core.edits
+    → map (λ (p : Place). p.mark) core'.places ≡ map (λ (p : Place). p.mark) core.places → IsRightSeat core seat doing → IsRightSeat core' seat doing
+seat_stays {E} core core' seat doing edits marks right =
     record {
       first = right.first;
       editor = λ e.
           let ed = right.editor e in
-          record { first = ed.first; edits = ed.edits ∙ sym edits; marks = ed.marks ∙ ap (λ l. map (λ (p : Place). p.mark) l) (sym places) };
+          record { first = ed.first; edits = ed.edits ∙ sym edits; marks = ed.marks ∙ sym marks };
       shorter = subst (λ (x : Edits E). IsPrefix doing.shorter x.log) (sym edits) right.shorter;
       shorter_length = right.shorter_length;
+    }
+
+pub Contains-cons_cases : {X : Type 0} (x : X) (xs : List X) (y : X) → Contains (x ∷ xs) y → (x ≡ y) ⊎ Contains xs y
+Contains-cons_cases x xs y (zero, lt, is) = inl is
+Contains-cons_cases x xs y (suc k, lt, is) = inr (k, omega arith, is)
+
+map_same : {X Y : Type 0} (f g : X → Y) (xs : List X) → ((x : X) → Contains xs x → f x ≡ g x) → map f xs ≡ map g xs
+map_same f g [] same = refl
+map_same f g (x ∷ xs) same =
+    ap (λ y. y ∷ map f xs) (same x (0, omega arith, refl))
+    ∙ ap (λ l. g x ∷ l) (map_same f g xs (λ z among. same z (suc among.0, let lt : among.0 < length xs = among.1 in omega arith, among.2)))
+
+-- a seat that isn't spent
+pub not_spent : {S E : Type 0} (seats : List (Doing S E)) (id : ℕ) (doing : Doing S E) → get_elem? seats id ≡ some doing → doing.view.spent ≡ false → IsSpent seats id → ⊥
+not_spent {S} {E} seats id doing at live was =
+    let same : was.doing ≡ doing = some-injective was.doing doing (sym was.there ∙ at) in
+    let spent : doing.view.spent ≡ true = ap (λ (d : Doing S E). d.view.spent) (sym same) ∙ was.spent in
+    absurd (cc)
+
+spent_apart : {S E : Type 0} (seats : List (Doing S E)) (id n : ℕ) (doing : Doing S E) → get_elem? seats id ≡ some doing → doing.view.spent ≡ false → IsSpent seats n → n ≢ id
+spent_apart seats id n doing at live was e = not_spent seats id doing at live (subst (λ (i : ℕ). IsSpent seats i) e was)
+
+spent_else : {S E : Type 0} (seats : List (Doing S E)) (id n : ℕ) (after : Doing S E) → n ≢ id → IsSpent seats n → IsSpent (slice_set seats id after) n
+spent_else seats id n after apart was = record { doing = was.doing; there = set_else seats id n after apart ∙ was.there; spent = was.spent }
+
+-- views that were handed in, where their seats stay spent and the state's views of them stay
+gathered_moves : {S E : Type 0} (core core' : State E) (seats seats' : List (Doing S E)) (views : List (View (List E)))
+    → ((n : ℕ) → IsSpent seats n → IsSpent seats' n × (view_at core' n ≡ view_at core n)) → AreGathered core seats views → AreGathered core' seats' views
+gathered_moves core core' seats seats' views moves g =
+    record {
+      numbers = g.numbers;
+      same = map_same (view_at core') (view_at core) g.numbers (λ n among. (moves n (g.spent n among)).1) ∙ g.same;
+      spent = λ n among. (moves n (g.spent n among)).0;
+      apart = g.apart;
+    }
+
+pub none_gathered : {S E : Type 0} (core : State E) (seats : List (Doing S E)) → AreGathered core seats []
+none_gathered core seats = record { numbers = []; same = refl; spent = λ n among. absurd (let lt : among.0 < 0 = among.1 in omega arith); apart = tt }
+
+more_gathered : {S E : Type 0} (core : State E) (seats : List (Doing S E)) (n : ℕ) (view : View (List E)) (views : List (View (List E)))
+    → IsSpent seats n → view_at core n ≡ view → (g : AreGathered core seats views) → (Contains g.numbers n → ⊥) → AreGathered core seats (view ∷ views)
+more_gathered {S} {E} core seats n view views spent same g fresh =
+    record {
+      numbers = n ∷ g.numbers;
+      same = ap (λ v. v ∷ map (view_at core) g.numbers) same ∙ ap (λ l. view ∷ l) g.same;
+      spent = λ m among.
+          elim (Contains-cons_cases n g.numbers m among) [
+            | inl this ↦ subst (λ (i : ℕ). IsSpent seats i) this spent
+            | inr old ↦ g.spent m old
+          ];
+      apart = (fresh, g.apart);
     }
 
 module _ {S E : Type 0} (core core' : State E) (seats : List (Doing S E)) (are : AreSeats core seats)
@@ -111,20 +205,11 @@ module _ {S E : Type 0} (core core' : State E) (seats : List (Doing S E)) (are :
   others_stay : core'.views ≡ slice_set core.views id after.view → (j : ℕ) → j ≢ id → view_at core' j ≡ view_at core j
   others_stay views j apart = ap (λ vs. get_or vs j spent_view) views ∙ get_or-set_other core.views id j after.view spent_view apart
 
-  -- a view that was handed in stays, since its seat is spent and this one isn't
-  gathered_stays : core'.views ≡ slice_set core.views id after.view → (view : View (List E)) → IsGathered core seats view → IsGathered core' (slice_set seats id after) view
-  gathered_stays views view g =
-      let apart : g.seat ≢ id =
-      λ e. let same : g.doing ≡ doing = some-injective g.doing doing (sym g.there ∙ ap (λ i. get_elem? seats i) e ∙ at) in
-      let spent : doing.view.spent ≡ true = ap (λ (d : Doing S E). d.view.spent) (sym same) ∙ g.spent in
-      absurd (cc) in
-      record {
-        seat = g.seat;
-        doing = g.doing;
-        there = set_else seats id g.seat after apart ∙ g.there;
-        spent = g.spent;
-        same = others_stay views g.seat apart ∙ g.same;
-      }
+  -- the views that were handed in stay, since their seats are spent and this one isn't
+  gathered_stays : core'.views ≡ slice_set core.views id after.view → (views : List (View (List E))) → AreGathered core seats views → AreGathered core' (slice_set seats id after) views
+  gathered_stays changed views g =
+      gathered_moves core core' seats (slice_set seats id after) views
+      (λ n spent. (spent_else seats id n after (spent_apart seats id n doing at live spent) spent, others_stay changed n (spent_apart seats id n doing at live spent))) g
 
   -- the seats after a change of one
   pub seat_changes : core'.views ≡ slice_set core.views id after.view → after.gathered ≡ doing.gathered
@@ -139,9 +224,9 @@ module _ {S E : Type 0} (core core' : State E) (seats : List (Doing S E)) (are :
             (λ live'. ap (λ vs. get_or vs id spent_view) views ∙ get_or-set_same core.views id after.view spent_view id_within);
         each = each_set (IsRightSeat core') seats id after (λ j u apart e. others j u apart (are.each j u e)) here;
         gathered =
-            each_set (λ j u. ((view : View (List E)) → Contains u.gathered view → IsGathered core' (slice_set seats id after) view)) seats id after
-            (λ j u apart e view among. gathered_stays views view (are.gathered j u e view among))
-            (λ view among. gathered_stays views view (are.gathered id doing at view (subst (λ l. Contains l view) gathered among)));
+            each_set (λ j u. AreGathered core' (slice_set seats id after) u.gathered) seats id after
+            (λ j u apart e. gathered_stays views u.gathered (are.gathered j u e))
+            (subst (λ l. AreGathered core' (slice_set seats id after) l) (sym gathered) (gathered_stays views doing.gathered (are.gathered id doing at)));
       }
 
 -- the seats with one more
@@ -165,89 +250,77 @@ seat_added {S} {E} core core' seats new are views none others here =
           (λ (n : (j ≡ length seats) × (new ≡ u)). subst (λ (d : Doing S E). IsRightSeat core' j d) n.1 (subst (λ i. IsRightSeat core' i new) (sym n.0) here))
           (λ (old : get_elem? seats j ≡ some u). others j u (are.each j u old))
           (at_push seats new u j e);
-      gathered = λ j u e view among.
+      gathered = λ j u e.
           ⊎_elim
           (λ (n : (j ≡ length seats) × (new ≡ u)).
-          absurd (let empty : Contains [] view = subst (λ l. Contains l view) none (subst (λ (d : Doing S E). Contains d.gathered view) (sym n.1) among) in
-          let lt : empty.0 < 0 = empty.1 in omega arith))
+          subst (λ (d : Doing S E). AreGathered core' (seats ++ new ∷ []) d.gathered) n.1
+          (subst (λ l. AreGathered core' (seats ++ new ∷ []) l) (sym none) (none_gathered core' (seats ++ new ∷ []))))
           (λ (old : get_elem? seats j ≡ some u).
-          let g : IsGathered core seats view = are.gathered j u old view among in
-          record {
-            seat = g.seat;
-            doing = g.doing;
-            there = at_longer seats (new ∷ []) g.seat g.doing g.there;
-            spent = g.spent;
-            same = front g.seat (some_within seats g.seat g.doing g.there) ∙ g.same;
-          })
+          gathered_moves core core' seats (seats ++ new ∷ []) u.gathered
+          (λ n spent. (
+            record { doing = spent.doing; there = at_longer seats (new ∷ []) n spent.doing spent.there; spent = spent.spent },
+            front n (some_within seats n spent.doing spent.there),
+          ))
+          (are.gathered j u old))
           (at_push seats new u j e);
     }
   where
     front : (j : ℕ) → j < length seats → view_at core' j ≡ view_at core j
     front j lt = ap (λ vs. get_or vs j spent_view) views ∙ get_or_append_left core.views (new.view ∷ []) spent_view j (omega (arith, are.count))
 
--- the seats after one was handed in to another: the state keeps its view
+-- the seats after one was handed in to another, which has its view from then on: the state keeps its view
 module _ {S E : Type 0} (core : State E) (seats : List (Doing S E)) (are : AreSeats core seats)
-    (other : ℕ) (note spent : Doing S E) (at : get_elem? seats other ≡ some note) (live : note.view.spent ≡ false) where
-  pub seat_spent : spent.view.spent ≡ true → spent.gathered ≡ [] → IsRightSeat core other spent → AreSeats core (slice_set seats other spent)
-  seat_spent off none here =
-      record {
-        count = are.count ∙ sym (length-set seats other spent);
-        views =
-            each_set (λ j u. (u.view.spent ≡ false → view_at core j ≡ u.view)) seats other spent
-            (λ j u apart e live'. are.views j u e live')
-            (λ live'. absurd (cc));
-        each = each_set (IsRightSeat core) seats other spent (λ j u apart e. are.each j u e) here;
-        gathered =
-            each_set (λ j u. ((view : View (List E)) → Contains u.gathered view → IsGathered core (slice_set seats other spent) view)) seats other spent
-            (λ j u apart e view among.
-            let g : IsGathered core seats view = are.gathered j u e view among in
-            let apart' : g.seat ≢ other =
-            λ e'. let same : g.doing ≡ note = some-injective g.doing note (sym g.there ∙ ap (λ i. get_elem? seats i) e' ∙ at) in
-            let spent' : note.view.spent ≡ true = ap (λ (d : Doing S E). d.view.spent) (sym same) ∙ g.spent in
-            absurd (cc) in
-            record { seat = g.seat; doing = g.doing; there = set_else seats other g.seat spent apart' ∙ g.there; spent = g.spent; same = g.same })
-            (λ view among. absurd (let empty : Contains [] view = subst (λ l. Contains l view) none among in let lt : empty.0 < 0 = empty.1 in omega arith));
-      }
+    (id other : ℕ) (doing note spent : Doing S E) (at : get_elem? seats id ≡ some doing) (live : doing.view.spent ≡ false)
+    (there : get_elem? seats other ≡ some note) (live' : note.view.spent ≡ false) (apart : other ≢ id) where
+  abbrev after : Doing S E
+  after = record doing { gathered = note.view ∷ doing.gathered }
 
--- a seat to which a view of a spent seat was handed in
-pub seat_gathers : {S E : Type 0} (core : State E) (seats : List (Doing S E)) (id : ℕ) (doing : Doing S E) (view : View (List E)) → AreSeats core seats
-    → get_elem? seats id ≡ some doing → doing.view.spent ≡ false → IsGathered core seats view
-    → AreSeats core (slice_set seats id (record doing { gathered = doing.gathered ++ view ∷ [] }))
-seat_gathers {S} {E} core seats id doing view are at live new =
-    let after : Doing S E = record doing { gathered = doing.gathered ++ view ∷ [] } in
-    let right : IsRightSeat core id doing = are.each id doing at in
-    record {
-      count = are.count ∙ sym (length-set seats id after);
-      views =
-          each_set (λ j u. (u.view.spent ≡ false → view_at core j ≡ u.view)) seats id after
-          (λ j u apart e live'. are.views j u e live')
-          (λ live'. are.views id doing at live');
-      each =
-          each_set (IsRightSeat core) seats id after (λ j u apart e. are.each j u e)
-          (record {
-            first = right.first;
-            editor = λ on. let ed = right.editor on in record { first = ed.first; edits = ed.edits; marks = ed.marks };
-            shorter = right.shorter;
-            shorter_length = right.shorter_length;
-          });
-      gathered =
-          each_set (λ j u. ((v : View (List E)) → Contains u.gathered v → IsGathered core (slice_set seats id after) v)) seats id after
-          (λ j u apart e v among. stays v (are.gathered j u e v among))
-          (λ v among.
-          ⊎_elim
-          (λ (old : Contains doing.gathered v). stays v (are.gathered id doing at v old))
-          (λ (same : view ≡ v). subst (λ (x : View (List E)). IsGathered core (slice_set seats id after) x) same (stays view new))
-          (Contains-push_cases doing.gathered view v among));
-    }
-  where
-    stays : (v : View (List E)) → IsGathered core seats v → IsGathered core (slice_set seats id (record doing { gathered = doing.gathered ++ view ∷ [] })) v
-    stays v g =
-        let after : Doing S E = record doing { gathered = doing.gathered ++ view ∷ [] } in
-        let apart : g.seat ≢ id =
-        λ e. let same : g.doing ≡ doing = some-injective g.doing doing (sym g.there ∙ ap (λ i. get_elem? seats i) e ∙ at) in
-        let spent : doing.view.spent ≡ true = ap (λ (d : Doing S E). d.view.spent) (sym same) ∙ g.spent in
-        absurd (cc) in
-        record { seat = g.seat; doing = g.doing; there = set_else seats id g.seat after apart ∙ g.there; spent = g.spent; same = g.same }
+  abbrev seats' : List (Doing S E)
+  seats' = slice_set (slice_set seats id after) other spent
+
+  -- what holds of each seat then
+  each_gathers : (P : ℕ → Doing S E → Type 0) → ((j : ℕ) (u : Doing S E) → get_elem? seats j ≡ some u → P j u) → P id after → P other spent
+      → (j : ℕ) (u : Doing S E) → get_elem? seats' j ≡ some u → P j u
+  each_gathers P old here gone =
+      each_set P (slice_set seats id after) other spent
+      (λ j u differs e. each_set P seats id after (λ j' u' differs' e'. old j' u' e') here j u e)
+      gone
+
+  still_gathered : (views : List (View (List E))) → AreGathered core seats views → AreGathered core seats' views
+  still_gathered views g =
+      gathered_moves core core seats seats' views
+      (λ n was. (
+        spent_else (slice_set seats id after) other n spent (spent_apart seats other n note there live' was)
+            (spent_else seats id n after (spent_apart seats id n doing at live was) was),
+        refl,
+      )) g
+
+  pub seat_gathers : spent.view.spent ≡ true → spent.gathered ≡ [] → IsRightSeat core other spent → AreSeats core (slice_set (slice_set seats id (record doing { gathered = note.view ∷ doing.gathered })) other spent)
+  unfolding still_gathered gathered_moves
+  seat_gathers off none gone =
+      let right : IsRightSeat core id doing = are.each id doing at in
+      let before = are.gathered id doing at in
+      record {
+        count = are.count ∙ sym (length-set seats id after) ∙ sym (length-set (slice_set seats id after) other spent);
+        views = each_gathers (λ j u. (u.view.spent ≡ false → view_at core j ≡ u.view)) are.views (λ on. are.views id doing at on) (λ on. absurd (cc));
+        each =
+            each_gathers (IsRightSeat core) are.each
+            (record {
+              first = right.first;
+              editor = λ on. let ed = right.editor on in record { first = ed.first; edits = ed.edits; marks = ed.marks };
+              shorter = right.shorter;
+              shorter_length = right.shorter_length;
+            })
+            gone;
+        gathered =
+            each_gathers (λ j u. AreGathered core seats' u.gathered) (λ j u e. still_gathered u.gathered (are.gathered j u e))
+            (more_gathered core seats' other note.view doing.gathered
+            (record { doing = spent; there = set_here (slice_set seats id after) other spent (some_within (slice_set seats id after) other note (set_else seats id other after apart ∙ there)); spent = off })
+            (are.views other note there live')
+            (still_gathered doing.gathered before)
+            (λ among. not_spent seats other note there live' (before.spent other among)))
+            (subst (λ l. AreGathered core seats' l) (sym none) (none_gathered core seats'));
+      }
 
 -- each seat still names the subject where one was exchanged
 pub subject_set : {S E : Type 0} (subject : S) (seats : List (Doing S E)) (id : ℕ) (after : Doing S E) → NameSubject subject seats
@@ -277,11 +350,8 @@ decoded_as upto false =
     ap (λ n. (let c : Clean = record { upto = n; held = 2 * upto % 2 == 1 } in c)) half
     ∙ ap (λ n. (let c : Clean = record { upto = upto; held = n == 1 } in c)) even
 
-decoded : (clean : Clean) → clean_at (code_of clean) ≡ clean
+pub decoded : (clean : Clean) → clean_at (code_of clean) ≡ clean
 decoded clean = decoded_as clean.upto clean.held
-
-next_word : (place k : ℕ) → 3 * suc place + k ≡ suc (suc (suc (3 * place + k)))
-next_word place k = omega arith
 
 -- the words of a place, behind those of another one
 shown_next : (a b c : ℕ) (words : List ℕ) (place : ℕ) → shown_place (a ∷ b ∷ c ∷ words) (suc place) ≡ shown_place words place

@@ -1,9 +1,9 @@
 -- The seats that are handed in, one after the other, and what the closed table shows.
-use Rattle.std.proofs.Common.{◌≡◌, ◌<◌, ◌⊎◌, ℕ, List, [], ◌∷◌, ◌++◌, length, true, false, refl, sym, ◌∙◌, ap, subst, inl, inr, arith, length-append}
+use Rattle.std.proofs.Common.{◌≡◌, ◌<◌, ℕ, suc, List, [], ◌∷◌, ◌++◌, length, map, true, false, refl, sym, ◌∙◌, ap, subst, inl, inr, arith, length-append, append_assoc}
 use Rattle.std.specs.Prelude.{All, Contains}
 use Rattle.std.specs.Mem.Slots.{slots_items}
-use Rattle.std.proofs.lemmas.List.{get_or_append_left, get_or_push}
-use Rattle.std.proofs.lemmas.List.Elements.{Contains-push, Contains-push_cases, Contains-append_left}
+use Rattle.std.proofs.lemmas.List.{get_or_append_left, get_or_push, map-append}
+use Rattle.std.proofs.lemmas.List.Elements.{All-contains}
 use mathlib.Core.Option.{some}
 use lib.ListN.{get_elem?}
 use Rattle.atomic_table.specs.Seated.{TableId}
@@ -12,7 +12,11 @@ use Rattle.atomic_table.specs.declared.shared.Seat.{Seat as TableSeat}
 use Rattle.mark_core.specs.declared.actors.Edits.{Edits}
 use Rattle.mark_core.specs.declared.actors.View.{View}
 use Rattle.mark_core.specs.Mark.{IsPrefix}
-use Rattle.mark_core.specs.State.{view_at}
+use Rattle.mark_core.specs.Place.{words_of}
+use Rattle.mark_core.specs.State.{State, view_at}
+use Rattle.mark_core.specs.Run.{IsCodeless}
+use Rattle.mark_core.specs.Legal.{IsLegalRead}
+use Rattle.mark_core.specs.Honest.{IsRightRead}
 use Rattle.mark_core.specs.declared.subjects.Subject.{Ghosts}
 use Rattle.mark_words.specs.declared.board.Doing.{Doing}
 use Rattle.mark_words.specs.declared.marks.Marks.{Marks}
@@ -21,9 +25,9 @@ use Rattle.mark_words.specs.declared.closing.Words.{Words}
 use Rattle.mark_words.specs.Words.{shown_place}
 use Rattle.mark_words.specs.Doing.{gather_doing}
 use Rattle.mark_words.specs.Token.{subject_of, topic_of, places_of, seat_table, doing_of, view_of, log_of, edits_of, closed_places, closed_log}
-use Rattle.mark_words.specs.Rule.{IsKept, IsEditor, IsGathered}
-use Rattle.mark_words.specs.Closed.{HasClosed}
-use Rattle.mark_words.proofs.Boards.{shown_same}
+use Rattle.mark_words.specs.Rule.{AreApart, IsKept, IsEditor, IsSpent, AreGathered}
+use Rattle.mark_words.specs.Closed.{HasClosed, ArePrefixes, AreLegal}
+use Rattle.mark_words.proofs.Boards.{Contains-cons_cases, not_spent, shown_same}
 
 pub all_front : {X : Type 0} (P : X → Type 0) (xs ys : List X) (x : X) → ys ≡ xs ++ x ∷ [] → All P ys → All P xs
 all_front {X} P xs ys x is all =
@@ -35,26 +39,54 @@ all_last {X} P xs ys x is all =
     let whole : All P (xs ++ x ∷ []) = subst (λ (l : List X). All P l) is all in
     subst P (get_or_push xs x x (length xs) refl) (whole (length xs) x (omega (arith, length-append xs (x ∷ []))))
 
-pub views_handed : {X V : Type 0} (f : X → V) (xs ys : List X) (x : X) (gathered gathered' : List V) (y : X) → ys ≡ xs ++ x ∷ [] → gathered' ≡ gathered ++ f x ∷ []
-    → Contains ys y ⊎ Contains gathered (f y) → Contains xs y ⊎ Contains gathered' (f y)
-views_handed {X} {V} f xs ys x gathered gathered' y is more either =
-    elim either [
-      | inl waits ↦
-          elim (Contains-push_cases xs x y (subst (λ (l : List X). Contains l y) is waits)) [
-            | inl old ↦ inl old
-            | inr same ↦
-                inr (subst (λ (l : List V). Contains l (f y)) (sym more)
-                (subst (λ (z : X). Contains (gathered ++ f x ∷ []) (f z)) same (Contains-push gathered (f x))))
-          ]
-      | inr had ↦ inr (subst (λ (l : List V). Contains l (f y)) (sym more) (Contains-append_left gathered (f x ∷ []) (f y) had))
+pub no_items : {X : Type 0} (xs : List X) → length xs ≡ 0 → xs ≡ []
+no_items [] none = refl
+no_items (x ∷ xs) none = absurd (omega arith)
+
+-- the last of some views goes before those that were handed in
+views_handed : {X V : Type 0} (f : X → V) (xs ys : List X) (x : X) (gathered : List V) → ys ≡ xs ++ x ∷ [] → map f xs ++ f x ∷ gathered ≡ map f ys ++ gathered
+views_handed f xs ys x gathered is =
+    sym (append_assoc (map f xs) (f x ∷ []) gathered)
+    ∙ ap (λ l. l ++ gathered) (sym (map-append f xs (x ∷ [])))
+    ∙ ap (λ l. map f l ++ gathered) (sym is)
+
+abbrev tail_of : {X : Type 0} → List X → List X
+tail_of [] = []
+tail_of (x ∷ xs) = xs
+
+abbrev head_or : {X : Type 0} → X → List X → X
+head_or d [] = d
+head_or d (x ∷ xs) = x
+
+-- the numbers of the first views of a list
+numbers_front : {V : Type 0} (f : ℕ → V) (numbers : List ℕ) (vs ws : List V) → map f numbers ≡ vs ++ ws → AreApart numbers
+    → (front : List ℕ) × (map f front ≡ vs) × AreApart front × ((n : ℕ) → Contains front n → Contains numbers n)
+numbers_front f numbers [] ws same apart = ([], refl, tt, λ n among. absurd (let lt : among.0 < 0 = among.1 in omega arith))
+numbers_front f [] (v ∷ vs) ws same apart = absurd (let none : 0 ≡ suc (length (vs ++ ws)) = ap length same in omega arith)
+numbers_front {V} f (m ∷ numbers) (v ∷ vs) ws same apart =
+    let rest = numbers_front f numbers vs ws (ap (λ (l : List V). tail_of l) same) apart.1 in (
+      m ∷ rest.0,
+      ap (λ l. f m ∷ l) rest.1 ∙ ap (λ x. x ∷ vs) (ap (λ (l : List V). head_or (f m) l) same),
+      (λ among. apart.0 (rest.3 m among), rest.2),
+      λ n among.
+          elim (Contains-cons_cases m rest.0 n among) [
+            | inl this ↦ (0, omega arith, this)
+            | inr old ↦ let was = rest.3 n old in (suc was.0, let lt : was.0 < length numbers = was.1 in omega arith, was.2)
+          ],
+    )
+
+-- which view of the state a seat has that was handed in
+pub number_of : {X V : Type 0} (f : ℕ → V) (g : X → V) (numbers : List ℕ) (xs : List X) (y : X) → map f numbers ≡ map g xs → Contains xs y → (n : ℕ) × (f n ≡ g y)
+number_of f g numbers [] y same among = absurd (let lt : among.0 < 0 = among.1 in omega arith)
+number_of f g [] (x ∷ xs) y same among = absurd (let none : 0 ≡ suc (length (map g xs)) = ap length same in omega arith)
+number_of {X} {V} f g (n ∷ numbers) (x ∷ xs) y same among =
+    elim (Contains-cons_cases x xs y among) [
+      | inl this ↦ (n, ap (λ (l : List V). head_or (f n) l) same ∙ ap g this)
+      | inr old ↦ number_of f g numbers xs y (ap (λ (l : List V). tail_of l) same) old
     ]
 
-pub none_waits : {X : Type 0} (xs : List X) (y : X) → length xs ≡ 0 → Contains xs y → ⊥
-none_waits [] y none c = let lt : c.0 < 0 = c.1 in omega arith
-none_waits (x ∷ xs) y none c = omega arith
-
--- The editor's seat while the others are handed in to it: it knows what it knew at first, and each seat of the start is
--- still to be handed in or has its view with the editor's.
+-- The editor's seat while the others are handed in to it: it knows what it knew at first, and the views of those that are
+-- still to be handed in stand before those that were.
 pub record IsHanding {S E : Type 0} {G : Ghosts S E} (table : TableId) (first : Doing S E) (start : List (Seat S E G)) (all : TableSeat E (Doing S E)) (others : List (Seat S E G)) : Type 0 where
   pub same_table : all.table_id ≡ table
   pub bare : all.me.1 ≡ []
@@ -63,7 +95,7 @@ pub record IsHanding {S E : Type 0} {G : Ghosts S E} (table : TableId) (first : 
   pub view : all.me.0.view ≡ first.view
   pub edits : all.me.0.edits ≡ first.edits
   pub tables : All (λ other. seat_table other ≡ table) others
-  pub views : (other : Seat S E G) → Contains start other → Contains others other ⊎ Contains all.me.0.gathered (view_of other)
+  pub views : map view_of others ++ all.me.0.gathered ≡ map view_of start ++ first.gathered
 
 -- and so it is after one more
 pub handed : {S E : Type 0} {G : Ghosts S E} (table : TableId) (first : Doing S E) (start : List (Seat S E G)) (all all' : TableSeat E (Doing S E)) (others others' : List (Seat S E G)) (last : Seat S E G)
@@ -78,38 +110,64 @@ handed {S} {E} {G} table first start all all' others others' last inv is same ma
       view = ap (λ (m : Me E (Doing S E)). m.0.view) made ∙ inv.view;
       edits = ap (λ (m : Me E (Doing S E)). m.0.edits) made ∙ inv.edits;
       tables = all_front (λ (other : Seat S E G). seat_table other ≡ table) others' others last is inv.tables;
-      views = λ other among.
-          views_handed (λ (z : Seat S E G). view_of z) others' others last all.me.0.gathered all'.me.0.gathered other is
-          (ap (λ (m : Me E (Doing S E)). m.0.gathered) made) (inv.views other among);
+      views =
+          ap (λ l. map view_of others' ++ l) (ap (λ (m : Me E (Doing S E)). m.0.gathered) made)
+          ∙ views_handed view_of others' others last all.me.0.gathered is ∙ inv.views;
     }
 
 module _ {S E : Type 0} {G : Ghosts S E} (places : S → ℕ) (worth : S → List E → ℕ → ℕ) (touches : S → List E → E → ℕ → Type 0)
-    (marks : Marks S E) (editor : Seat S E G) (others : List (Seat S E G)) (words : Words S E G)
-    (t : TableState E (Doing S E)) (kept : IsKept (subject_of marks) (places (subject_of marks)) (worth (subject_of marks)) (touches (subject_of marks)) (topic_of marks).opening.value.items t)
-    (id : ℕ) (all : Doing S E) (at : get_elem? t.views id ≡ some all) (live : all.view.spent ≡ false) (on : all.editor ≡ true) where
-  pub closes : t.words ≡ slots_items words.closed.words → all.view ≡ view_of editor → all.edits ≡ edits_of editor
-      → log_of editor ≡ (edits_of editor).log → closed_places words ≡ places_of marks → closed_log words ≡ log_of editor
-      → ((other : Seat S E G) → Contains others other → Contains all.gathered (view_of other))
-      → HasClosed places worth touches marks editor others words
-  closes is view edits knows about log handed =
-      let ed : IsEditor kept.core id all = (kept.seats.each id all at).editor on in
-      let whole : kept.core.edits.log ≡ closed_log words = ap (λ (x : Edits E). x.log) (sym ed.edits ∙ edits) ∙ sym knows ∙ sym log in
-      let seen : (other : Seat S E G) → Contains others other → IsGathered kept.core t.views (view_of other) =
-      λ other among. kept.seats.gathered id all at (view_of other) (handed other among) in
-      record {
-        same_count = about;
-        same_log = log;
-        core = kept.core;
-        honest = kept.honest;
-        same_places = λ place there.
-            ap (λ ws. shown_place ws place) (sym is ∙ kept.words)
-            ∙ shown_same (length kept.core.edits.log) kept.core.places place
-            (omega (arith, there, about, kept.honest.count, kept.sized));
-        log = whole;
-        editor_view = ap (λ i. view_at kept.core i) (sym ed.first) ∙ kept.seats.views id all at live ∙ view;
-        other_views = λ other among. ((seen other among).seat, (seen other among).same);
-        other_logs = λ other among.
-            subst (λ (l : List E). IsPrefix (log_of other) l) whole
-            (subst (λ (v : View (List E)). IsPrefix v.log kept.core.edits.log) (seen other among).same
-            (kept.honest.views (seen other among).seat).log.known_prefix);
-      }
+    (marks : Marks S E) (editor : Seat S E G) (others : List (Seat S E G)) (words : Words S E G) where
+  module _ (t : TableState E (Doing S E)) (kept : IsKept (subject_of marks) (places (subject_of marks)) (worth (subject_of marks)) (touches (subject_of marks)) (topic_of marks).opening.value.items t)
+      (id : ℕ) (all : Doing S E) (at : get_elem? t.views id ≡ some all) (live : all.view.spent ≡ false) (on : all.editor ≡ true) where
+    pub closes : t.words ≡ slots_items words.closed.words → all.view ≡ view_of editor → all.edits ≡ edits_of editor
+        → log_of editor ≡ (edits_of editor).log → closed_places words ≡ places_of marks → closed_log words ≡ log_of editor
+        → (before : List (View (List E))) → all.gathered ≡ map view_of others ++ before
+        → HasClosed places worth touches marks editor others words
+    closes is view edits knows about log before handed =
+        let core : State E = kept.core in
+        let ed : IsEditor core id all = (kept.seats.each id all at).editor on in
+        let gathered : AreGathered core t.views all.gathered = kept.seats.gathered id all at in
+        let front = numbers_front (view_at core) gathered.numbers (map view_of others) before (gathered.same ∙ handed) gathered.apart in
+        record {
+          same_count = about;
+          same_log = log;
+          core = core;
+          honest = kept.honest;
+          same_places = λ place there.
+              ap (λ ws. shown_place ws place) (sym is ∙ kept.words)
+              ∙ shown_same (length core.edits.log) core.places place
+              (omega (arith, there, about, kept.honest.count, kept.sized));
+          edits = sym ed.edits ∙ edits;
+          log = ap (λ (x : Edits E). x.log) (sym ed.edits ∙ edits) ∙ sym knows ∙ sym log;
+          editor_view = ap (λ i. view_at core i) (sym ed.first) ∙ kept.seats.views id all at live ∙ view;
+          numbers = front.0;
+          other_views = front.1;
+          apart = (
+            λ zero. not_spent t.views id all at live (subst (λ (i : ℕ). IsSpent t.views i) (sym ed.first) (gathered.spent 0 (front.3 0 zero))),
+            front.2,
+          );
+        }
+
+  module _ (closed : HasClosed places worth touches marks editor others words) where
+    -- each seat that was handed in has a view of the state
+    view_closed : (seat : Seat S E G) → Contains (editor ∷ others) seat → (n : ℕ) × (view_at closed.core n ≡ view_of seat)
+    view_closed seat among =
+        elim (Contains-cons_cases editor others seat among) [
+          | inl this ↦ (0, closed.editor_view ∙ ap (λ (s : Seat S E G). view_of s) this)
+          | inr other ↦ number_of (view_at closed.core) view_of closed.numbers others seat closed.other_views other
+        ]
+
+    pub prefixes_closed : ArePrefixes others words
+    prefixes_closed other among =
+        let n = number_of (view_at closed.core) view_of closed.numbers others other closed.other_views among in
+        subst (λ (l : List E). IsPrefix (log_of other) l) closed.log
+        (subst (λ (v : View (List E)). IsPrefix v.log closed.core.edits.log) n.1 (closed.honest.views n.0).log.known_prefix)
+
+    pub legal_closed : AreLegal worth touches marks editor (editor ∷ others)
+    legal_closed seat read word among read_among had =
+        let n = view_closed seat among in
+        let right : IsRightRead (worth (subject_of marks)) (touches (subject_of marks)) (IsCodeless (topic_of marks).opening.value.items) closed.core.edits (words_of closed.core.places) read =
+        All-contains (IsRightRead (worth (subject_of marks)) (touches (subject_of marks)) (IsCodeless (topic_of marks).opening.value.items) closed.core.edits (words_of closed.core.places))
+        (view_at closed.core n.0).reads read (closed.honest.views n.0).reads (subst (λ (v : View (List E)). Contains v.reads read) (sym n.1) read_among) in
+        subst (λ (x : Edits E). IsLegalRead (worth (subject_of marks)) (touches (subject_of marks)) (IsCodeless (topic_of marks).opening.value.items) x read word) closed.edits
+        (right.legal word had)

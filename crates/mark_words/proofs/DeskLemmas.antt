@@ -1,12 +1,12 @@
 -- The editor's desk goes with what its seat knows.
-use Rattle.std.proofs.Common.{◌≡◌, ◌<◌, ◌+◌, ◌*◌, ◌^◌, ℕ, List, [], ◌∷◌, ◌++◌, Option, Some, true, length, sym, ◌∙◌, ap, subst, length-append}
+use Rattle.std.proofs.Common.{◌≡◌, ◌<◌, ◌≤◌, ◌+◌, ◌*◌, ℕ, List, [], ◌∷◌, ◌++◌, Option, Some, true, length, sym, ◌∙◌, ap, subst, length-append, arith}
 use Rattle.std.specs.Prelude.{slice_set, is_some}
 use Rattle.std.proofs.lemmas.List.{length-set}
 use Rattle.std.proofs.lemmas.Option.{same_Some}
 use Rattle.mark_words.specs.declared.board.Doing.{Doing}
 use Rattle.mark_words.specs.declared.seats.Desk.{Desk}
 use Rattle.mark_words.specs.Doing.{with_mark, with_commit}
-use Rattle.mark_words.specs.Desk.{HasDesk, KnowsAll}
+use Rattle.mark_words.specs.Desk.{HasDesk, KnowsAll, FitsWords}
 
 length_one : {X : Type 0} (xs : List X) (x : X) → length (xs ++ x ∷ []) ≡ length xs + 1
 length_one xs x = length-append xs (x ∷ [])
@@ -49,13 +49,23 @@ module _ {S E : Type 0} (words words' : ℕ) (same : words' ≡ words) (doing do
       }
 
 module _ {S E : Type 0} (doing doing' : Doing S E) (knows : KnowsAll doing) (entry : E) where
-  pub knows_marked : (place number : ℕ) → number ≡ length doing.view.log + 1 → number < 2 ^ 64
+  pub knows_marked : (place number : ℕ) → number ≡ length doing.view.log + 1 → number ≤ 1048576
       → doing' ≡ with_mark doing entry place number → KnowsAll doing'
   knows_marked place number is fits made =
       subst (λ (d : Doing S E). KnowsAll d) (sym made)
-      (record { log = knows.log; seen = knows.seen; number = λ on there. subst (λ (n : ℕ). n < 2 ^ 64) is fits })
+      (record { log = knows.log; seen = knows.seen; number = λ on there. omega (arith, is, fits) })
 
   pub knows_committed : doing' ≡ with_commit doing entry → KnowsAll doing'
   knows_committed made =
       subst (λ (d : Doing S E). KnowsAll d) (sym made)
       (record { log = λ e. ap (λ l. l ++ entry ∷ []) (knows.log e); seen = λ e. sym (length_one doing.view.log entry); number = λ on there. absurd (cc) })
+
+module _ {S E : Type 0} (doing doing' : Doing S E) (fits : FitsWords doing) (entry : E) where
+  pub fits_marked : (place number : ℕ) → doing' ≡ with_mark doing entry place number → FitsWords doing'
+  fits_marked place number made =
+      subst (λ (d : Doing S E). FitsWords d) (sym made) (record { log = fits.log; half = fits.half; reads = fits.reads })
+
+  pub fits_committed : length doing.view.log < 1048576 → doing' ≡ with_commit doing entry → FitsWords doing'
+  fits_committed room made =
+      subst (λ (d : Doing S E). FitsWords d) (sym made)
+      (record { log = omega (arith, length_one doing.view.log entry); half = fits.half; reads = fits.reads })

@@ -1,8 +1,13 @@
 pub mod Boards
 pub mod SeeSteps
+pub mod ViewSteps
+pub mod ReadSteps
+pub mod WorkSteps
 pub mod SeatSteps
 pub mod EditSteps
 pub mod DeskLemmas
+pub mod TokenLemmas
 pub mod Meets
 pub mod OpeningLemmas
 pub mod CloseLemmas
+pub mod TrialLemmas

@@ -1,16 +1,19 @@
 -- What the see that ends a meet tells.
-use Rattle.std.proofs.Common.{◌≡◌, ◌<◌, ◌≤◌, ◌+◌, ◌^◌, ◌⊎◌, ℕ, List, [], ◌∷◌, ◌++◌, Bool, true, false, Option, max, length, refl, sym, ◌∙◌, ap, subst, inl, inr, arith}
-use Rattle.std.specs.Prelude.{if◌then◌else◌, nat_lt, is_some}
+use Rattle.std.proofs.Common.{◌≡◌, ◌<◌, ◌≤◌, ◌^◌, ◌⊎◌, ℕ, List, [], ◌∷◌, ◌++◌, Bool, true, false, Option, max, length, refl, sym, ◌∙◌, ap, subst, inl, inr, arith}
+use Rattle.std.specs.Prelude.{if◌then◌else◌, nat_lt, is_some, All, Contains}
 use Rattle.std.proofs.lemmas.List.{append-nil}
+use Rattle.std.proofs.lemmas.List.Elements.{Contains-append_left, Contains-append_right}
 use Rattle.atomic_table.specs.Table.{Me, Step}
+use Rattle.mark_core.specs.declared.words.Known.{Known}
+use Rattle.mark_core.specs.declared.words.Finished.{Finished}
 use Rattle.mark_core.specs.Mark.{IsPrefix}
 use Rattle.mark_core.proofs.Prefixes.{prefix_itself}
 use Rattle.mark_words.specs.declared.board.Doing.{Doing}
 use Rattle.mark_words.specs.declared.seats.Desk.{Desk}
 use Rattle.mark_words.specs.Doing.{copy_of, union_doing, with_see}
-use Rattle.mark_words.specs.Desk.{HasDesk, KnowsAll}
+use Rattle.mark_words.specs.Desk.{HasDesk, KnowsAll, FitsWords}
 use Rattle.mark_words.specs.Plays.{Saw}
-use Rattle.mark_words.specs.Meet.{HasMet}
+use Rattle.mark_words.specs.Meet.{HasMet, KeepsClean}
 
 -- of two lists of which the chosen shorter one is a prefix of the other, both are
 both_prefix : {X : Type 0} (b : Bool) (xs ys : List X) → IsPrefix (if b then xs else ys) (if b then ys else xs)
@@ -70,7 +73,7 @@ module _ {S E : Type 0} (step : Step E) (seat other : Doing S E) (joined after :
       (record {
         log = λ e. (whole e).1 ∙ knows.log e;
         seen = λ e. (whole e).0 ∙ ap length (sym (whole e).1);
-        number = λ e there. subst (λ (l : List E). length l + 1 < 2 ^ 64) (sym (whole e).1) (knows.number e there);
+        number = λ e there. subst (λ (l : List E). length l < 1048576) (sym (whole e).1) (knows.number e there);
       })
 
   pub met_live : after.0.view.spent ≡ seat.view.spent
@@ -85,3 +88,40 @@ module _ {S E : Type 0} (step : Step E) (seat other : Doing S E) (joined after :
         marks = has.marks;
         places = λ d e. same ∙ has.places d e;
       })
+
+  -- what a seat of the table that has met another one knows fits in words
+  pub met_fits : FitsWords seat → FitsWords other → FitsWords after.0
+  met_fits own others =
+      subst (λ (d : Doing S E). FitsWords d) (sym made)
+      (record {
+        log =
+            elim logs.2 [
+              | inl same ↦ subst (λ (l : List E). length l ≤ 1048576) (sym same) own.log
+              | inr same ↦ subst (λ (l : List E). length l ≤ 1048576) (sym same) others.log
+            ];
+        half = own.half;
+        reads = subst (λ (l : List Finished). All (λ (read : Finished). read.clean.upto < 2 ^ 63) l) (sym (append-nil seat.view.reads)) own.reads;
+      })
+
+  pub met_clean : (touches : List E → E → ℕ → Type 0) → KeepsClean touches seat other after.0
+  met_clean touches log place mark either =
+      let known : after.0.view.known ≡ seat.view.known ++ other.view.known = ap (λ (d : Doing S E). d.view.known) made in
+      elim either [
+        | inl own ↦
+            record {
+              known =
+                  subst (λ (l : List Known). Contains l (record { place = place; mark = mark })) (sym known)
+                  (Contains-append_left seat.view.known other.view.known (record { place = place; mark = mark }) own.known);
+              last = own.last;
+            }
+        | inr theirs ↦
+            record {
+              known =
+                  subst (λ (l : List Known). Contains l (record { place = place; mark = mark })) (sym known)
+                  (Contains-append_right seat.view.known other.view.known (record { place = place; mark = mark }) theirs.known);
+              last = theirs.last;
+            }
+      ]
+
+  pub met_subject : after.0.subject ≡ seat.subject
+  met_subject = ap (λ (d : Doing S E). d.subject) made

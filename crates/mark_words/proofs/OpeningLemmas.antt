@@ -4,8 +4,6 @@ use Rattle.std.proofs.lemmas.List.{drop_more}
 use mathlib.Core.Option.{some, some-injective, some-ne-none}
 use lib.ListN.{get_elem?}
 use Rattle.atomic_table.specs.Table.{opening as opening_table}
-use Rattle.std.specs.Prelude.{Contains}
-use Rattle.mark_core.specs.declared.actors.View.{View}
 use Rattle.mark_core.specs.declared.words.Place.{Place}
 use Rattle.mark_core.specs.Place.{opening_place}
 use Rattle.mark_core.specs.State.{view_at, opening_state}
@@ -16,7 +14,8 @@ use Rattle.mark_words.specs.declared.board.Doing.{Doing}
 use Rattle.mark_words.specs.declared.board.Topic.{Topic}
 use Rattle.mark_words.specs.Words.{words_of_places, opening_words}
 use Rattle.mark_words.specs.Doing.{first_doing}
-use Rattle.mark_words.specs.Rule.{IsRightSeat, IsGathered, IsKept, NameSubject}
+use Rattle.mark_words.specs.Rule.{IsRightSeat, AreGathered, IsKept, NameSubject}
+use Rattle.mark_words.proofs.Boards.{none_gathered}
 
 words_open : (opening : List (Option ℕ)) → opening_words opening ≡ words_of_places (map opening_place opening)
 words_open [] = refl
@@ -49,11 +48,11 @@ module _ {S E : Type 0} (places : ℕ) (worth : List E → ℕ → ℕ) (touches
   views_open (suc seat) doing e = λ live. absurd (some-ne-none doing (sym e))
 
   gathered_open : (seat : ℕ) (doing : Doing S E) → get_elem? (first_doing topic ∷ []) seat ≡ some doing
-      → (view : View (List E)) → Contains doing.gathered view → IsGathered (opening_state topic.opening.value.items) (first_doing topic ∷ []) view
-  gathered_open zero doing e = λ view among.
-      absurd (let empty : Contains [] view = subst (λ (d : Doing S E). Contains d.gathered view) (sym (some-injective (first_doing topic) doing e)) among in
-      let lt : empty.0 < 0 = empty.1 in omega arith)
-  gathered_open (suc seat) doing e = λ view among. absurd (some-ne-none doing (sym e))
+      → AreGathered (opening_state topic.opening.value.items) (first_doing {E = E} topic ∷ []) doing.gathered
+  gathered_open zero doing e =
+      subst (λ (d : Doing S E). AreGathered (opening_state topic.opening.value.items) (first_doing {E = E} topic ∷ []) d.gathered) (some-injective (first_doing topic) doing e)
+      (none_gathered (opening_state topic.opening.value.items) (first_doing {E = E} topic ∷ []))
+  gathered_open (suc seat) doing e = absurd (some-ne-none doing (sym e))
 
   subjects_open : NameSubject topic.subject.value (first_doing {E = E} topic ∷ [])
   subjects_open zero doing e live = ap (λ (d : Doing S E). d.subject) (sym (some-injective (first_doing topic) doing e))

@@ -1,12 +1,11 @@
 -- Splits and joins of seats keep the rule of the table.
 use Rattle.std.proofs.Common.{◌≡◌, ◌≢◌, ◌<◌, ◌≤◌, ℕ, List, Option, [], ◌∷◌, ◌++◌, length, false, true, refl, sym, ◌∙◌, ap, subst, arith}
 use Rattle.std.specs.Prelude.{slice_set, nat_lt}
-use Rattle.std.proofs.lemmas.List.{set_comm}
 use Rattle.std.proofs.lemmas.Bool.{cond_both, ltb-true, ltb-false}
 use mathlib.Core.Option.{some}
 use lib.ListN.{get_elem?}
 use Rattle.atomic_table.specs.Table.{Splits, Joins}
-use Rattle.atomic_table.proofs.Lists.{set_again, set_else, set_here}
+use Rattle.atomic_table.proofs.Lists.{set_again, set_else}
 use Rattle.mark_core.specs.declared.actors.View.{View}
 use Rattle.mark_core.specs.State.{State, view_at, with_view}
 use Rattle.mark_core.specs.Mark.{IsPrefix}
@@ -17,8 +16,8 @@ use Rattle.mark_core.proofs.Steps.{split_keeps, join_keeps}
 use Rattle.mark_core.specs.Run.{IsCodeless}
 use Rattle.mark_words.specs.declared.board.Doing.{Doing}
 use Rattle.mark_words.specs.Doing.{copy_of, shorter_of, union_doing, gather_doing, spent_doing}
-use Rattle.mark_words.specs.Rule.{IsRightSeat, IsGathered, AreSeats, IsKept}
-use Rattle.mark_words.proofs.Boards.{some_within, seat_stays, seat_changes, seat_added, seat_spent, seat_gathers, subject_set, subject_added}
+use Rattle.mark_words.specs.Rule.{IsRightSeat, AreSeats, IsKept}
+use Rattle.mark_words.proofs.Boards.{some_within, seat_stays, seat_changes, seat_added, seat_gathers, subject_set, subject_added}
 use Rattle.mark_words.proofs.SeeSteps.{same_view}
 
 -- the shorter of two prefixes of a list is one, and is no longer than the longer one
@@ -124,24 +123,6 @@ module _ {S E : Type 0} (subject : S) (places : ℕ) (worth : List E → ℕ →
       let both : Doing S E = gather_doing doing note in
       let at' : get_elem? t.views other ≡ some note = sym (set_else t.views id other both apart) ∙ there in
       let not_first : other ≢ 0 = λ zero. absurd (apart (zero ∙ sym ((kept.seats.each id doing at).editor on).first)) in
-      let spent : AreSeats core (slice_set t.views other spent_doing) =
-      seat_spent core t.views kept.seats other note spent_doing at' note_live refl refl
-      (record {
-        first = λ zero. absurd (not_first zero);
-        editor = λ off. absurd (cc);
-        shorter = prefix_of_nothing core.edits.log;
-        shorter_length = omega arith;
-      }) in
-      let still : get_elem? (slice_set t.views other spent_doing) id ≡ some doing =
-      set_else t.views other id spent_doing (λ e. apart (sym e)) ∙ at in
-      let handed : IsGathered core (slice_set t.views other spent_doing) note.view =
-      record {
-        seat = other;
-        doing = spent_doing;
-        there = set_here t.views other spent_doing (some_within t.views other note at');
-        spent = refl;
-        same = kept.seats.views other note at' note_live;
-      } in
       record {
         sized = kept.sized;
         core = core;
@@ -151,6 +132,11 @@ module _ {S E : Type 0} (subject : S) (places : ℕ) (worth : List E → ℕ →
             subject_set subject (slice_set t.views id both) other spent_doing
             (subject_set subject t.views id both kept.subjects (λ still. kept.subjects id doing at live)) (λ off. absurd (cc));
         seats =
-            subst (λ l. AreSeats core l) (set_comm t.views other id spent_doing both (λ e. apart e))
-            (seat_gathers core (slice_set t.views other spent_doing) id doing note.view spent still live handed);
+            seat_gathers core t.views kept.seats id other doing note spent_doing at live at' note_live apart refl refl
+            (record {
+              first = λ zero. absurd (not_first zero);
+              editor = λ off. absurd (cc);
+              shorter = prefix_of_nothing core.edits.log;
+              shorter_length = omega arith;
+            });
       }

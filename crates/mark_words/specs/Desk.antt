@@ -1,6 +1,7 @@
 -- What the editor's seat knows at run time.
-use Rattle.std.specs.Prelude.{◌≡◌, ◌<◌, ◌+◌, ◌*◌, ◌^◌, ℕ, true, Option, is_some, IsSome, length}
+use Rattle.std.specs.Prelude.{◌≡◌, ◌<◌, ◌≤◌, ◌+◌, ◌*◌, ◌^◌, ℕ, true, Option, Some, is_some, IsSome, length, All}
 use Rattle.std.specs.Option.{ForSome}
+use Rattle.mark_core.specs.declared.words.Half.{Half}
 use Rattle.mark_words.specs.declared.board.Doing.{Doing}
 use Rattle.mark_words.specs.declared.seats.Desk.{Desk}
 
@@ -12,9 +13,15 @@ pub record HasDesk {S E : Type 0} (words : ℕ) (doing : Doing S E) (desk : Opti
   pub marks : ForSome desk (λ d. d.marks.items ≡ doing.marks)
   pub places : ForSome desk (λ d. words ≡ 3 * length d.marks.items + 1)
 
--- The editor's seat knows the whole log, and has seen its length. The number of a pending entry is one of 64 bits, since
--- places were marked with it.
+-- The editor's seat knows the whole log, and has seen its length. A log with a pending entry has room for it, since
+-- places were marked with its number.
 pub record KnowsAll {S E : Type 0} (doing : Doing S E) : Type 0 where
   pub log : doing.editor ≡ true → doing.view.log ≡ doing.edits.log
   pub seen : doing.editor ≡ true → doing.view.seen ≡ length doing.view.log
-  pub number : doing.editor ≡ true → IsSome doing.edits.pending → length doing.view.log + 1 < 2 ^ 64
+  pub number : doing.editor ≡ true → IsSome doing.edits.pending → length doing.view.log < 1048576
+
+-- What a seat knows fits in words: its log has at most 1,048,576 entries, and the clean words that it read come from words.
+pub record FitsWords {S E : Type 0} (doing : Doing S E) : Type 0 where
+  pub log : length doing.view.log ≤ 1048576
+  pub half : (half : Half) → doing.view.half ≡ Some half → half.clean.upto < 2 ^ 63
+  pub reads : All (λ read. read.clean.upto < 2 ^ 63) doing.view.reads

@@ -1,9 +1,11 @@
 -- What seats know at the start, and what splits and joins make of it.
-use Rattle.std.specs.Prelude.{ℕ, List, [], ◌∷◌, ◌++◌, Option, Some, None, true, false, map, length, if◌then◌else◌, nat_lt, slice_set}
+use Rattle.std.specs.Prelude.{ℕ, List, [], ◌∷◌, Option, Some, None, true, false, map, length, if◌then◌else◌, nat_lt, slice_set}
+use Rattle.mark_core.specs.declared.words.Clean.{Clean}
 use Rattle.mark_core.specs.declared.actors.Edits.{Edits}
 use Rattle.mark_core.specs.declared.actors.View.{View}
 use Rattle.mark_core.specs.State.{new_view, spent_view}
 use Rattle.mark_core.specs.View.{with_count, with_entry, split_off, union_of}
+use Rattle.mark_core.specs.View.{with_half, with_value, with_read_end, with_hold, with_loss, with_put, without_hold}
 use Rattle.mark_core.specs.Step.{marks_for, commits}
 use Rattle.mark_words.specs.declared.board.Doing.{Doing}
 use Rattle.mark_words.specs.declared.board.Topic.{Topic}
@@ -52,7 +54,7 @@ first_doing topic =
 
 -- the seat that stays, to which the view of another one was handed in
 abbrev pub gather_doing : {S E : Type 0} → Doing S E → Doing S E → Doing S E
-gather_doing doing other = record doing { gathered = doing.gathered ++ other.view ∷ [] }
+gather_doing doing other = record doing { gathered = other.view ∷ doing.gathered }
 
 -- the seat after a load of the count of commits
 abbrev pub with_see : {S E : Type 0} → Doing S E → ℕ → Doing S E
@@ -73,3 +75,31 @@ with_commit doing entry =
       view = with_entry doing.view entry;
       edits = commits doing.edits entry;
     }
+
+-- the seat after a load of the clean word of the place, which begins a read of it
+abbrev pub with_clean_read : {S E : Type 0} → Doing S E → ℕ → Clean → Doing S E
+with_clean_read doing place clean = record doing { view = with_half doing.view place clean }
+
+-- after a load of the value, which goes on with it
+abbrev pub with_value_read : {S E : Type 0} → Doing S E → ℕ → ℕ → Doing S E
+with_value_read doing place word = record doing { view = with_value doing.view place word }
+
+-- after a load of the mark, which ends it
+abbrev pub with_mark_read : {S E : Type 0} → Doing S E → ℕ → ℕ → Doing S E
+with_mark_read doing place mark = record doing { view = with_read_end doing.view place mark }
+
+-- after a claim that took the place
+abbrev pub with_claim : {S E : Type 0} → Doing S E → ℕ → Doing S E
+with_claim doing place = record doing { view = with_hold doing.view place }
+
+-- after a claim that found another clean word
+abbrev pub with_refusal : {S E : Type 0} → Doing S E → ℕ → Clean → Doing S E
+with_refusal doing place found = record doing { view = with_loss doing.view place found }
+
+-- after a put of the word in a held place
+abbrev pub with_word_put : {S E : Type 0} → Doing S E → ℕ → ℕ → Doing S E
+with_word_put doing place word = record doing { view = with_put doing.view place word }
+
+-- after a finish of a held place for the mark
+abbrev pub with_finish : {S E : Type 0} → Doing S E → ℕ → ℕ → Doing S E
+with_finish doing place mark = record doing { view = without_hold doing.view place mark }

@@ -1,6 +1,7 @@
 pub mod Words
 pub mod Doing
 pub mod Rule
+pub mod Read
 pub mod Plays
 pub mod Desk
 pub mod Editing
@@ -9,3 +10,4 @@ pub mod Token
 pub mod Opened
 pub mod Closed
 pub mod Trial
+pub mod EightCells

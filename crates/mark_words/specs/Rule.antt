@@ -1,5 +1,5 @@
 -- The rule of the table.
-use Rattle.std.specs.Prelude.{◌≡◌, ◌≤◌, ℕ, List, Option, Some, true, false, map, length, Contains}
+use Rattle.std.specs.Prelude.{◌≡◌, ◌≤◌, ℕ, List, [], ◌∷◌, Option, Some, true, false, map, length, Contains}
 use mathlib.Core.Option.{some}
 use lib.ListN.{get_elem?}
 use Rattle.atomic_table.specs.Table.{State as TableState}
@@ -27,13 +27,23 @@ pub record IsRightSeat {S E : Type 0} (core : State E) (seat : ℕ) (doing : Doi
   pub shorter : IsPrefix doing.shorter core.edits.log
   pub shorter_length : length doing.shorter ≤ length doing.view.log
 
--- a view that was handed in: it is the state's view of a seat that is spent
-pub record IsGathered {S E : Type 0} (core : State E) (seats : List (Doing S E)) (view : View (List E)) : Type 0 where
-  pub seat : ℕ
+-- the seat with this number is there, and is spent
+pub record IsSpent {S E : Type 0} (seats : List (Doing S E)) (seat : ℕ) : Type 0 where
   pub doing : Doing S E
   pub there : get_elem? seats seat ≡ some doing
   pub spent : doing.view.spent ≡ true
-  pub same : view_at core seat ≡ view
+
+-- no number stands twice
+abbrev pub AreApart : List ℕ → Type 0
+AreApart [] = Unit {0}
+AreApart (number ∷ numbers) = (Contains numbers number → ⊥) × AreApart numbers
+
+-- the views that were handed in are those that the state has of so many spent seats, no two of one seat
+pub record AreGathered {S E : Type 0} (core : State E) (seats : List (Doing S E)) (views : List (View (List E))) : Type 0 where
+  pub numbers : List ℕ
+  pub same : map (view_at core) numbers ≡ views
+  pub spent : (seat : ℕ) → Contains numbers seat → IsSpent seats seat
+  pub apart : AreApart numbers
 
 -- The state has a view for each seat, which is the seat's own while it isn't spent, and each seat is right.
 pub record AreSeats {S E : Type 0} (core : State E) (seats : List (Doing S E)) : Type 0 where
@@ -43,8 +53,7 @@ pub record AreSeats {S E : Type 0} (core : State E) (seats : List (Doing S E)) :
       → view_at core seat ≡ doing.view
   pub each : (seat : ℕ) (doing : Doing S E) → get_elem? seats seat ≡ some doing → IsRightSeat core seat doing
   pub gathered :
-      (seat : ℕ) (doing : Doing S E) → get_elem? seats seat ≡ some doing
-      → (view : View (List E)) → Contains doing.gathered view → IsGathered core seats view
+      (seat : ℕ) (doing : Doing S E) → get_elem? seats seat ≡ some doing → AreGathered core seats doing.gathered
 
 -- each seat that isn't spent names the subject
 abbrev pub NameSubject : {S E : Type 0} → S → List (Doing S E) → Type 0

@@ -1,9 +1,10 @@
 -- What contracts see of a table of words, of a seat, and of the words of a closed table.
-use Rattle.std.specs.Prelude.{◌≡◌, ℕ, List, Bool}
+use Rattle.std.specs.Prelude.{◌≡◌, ℕ, List, Bool, Option, Some}
 use Rattle.std.specs.Mem.Slots.{slots_items}
 use Rattle.atomic_table.specs.Seated.{TableId}
 use Rattle.mark_core.specs.declared.actors.Edits.{Edits}
 use Rattle.mark_core.specs.declared.actors.View.{View}
+use Rattle.mark_core.specs.declared.words.Half.{Half}
 use Rattle.mark_core.specs.declared.words.Place.{Place}
 use Rattle.mark_core.specs.declared.subjects.Subject.{Ghosts}
 use Rattle.mark_words.specs.declared.board.Doing.{Doing}
@@ -33,13 +34,14 @@ places_of marks = place_count (topic_of marks)
 abbrev pub seat_table : {S E : Type 0} {G : Ghosts S E} → Seat S E G → TableId
 seat_table seat = seat.seat.table_id
 
--- the seat is one of the table
-abbrev pub IsSeatOf : {S E : Type 0} {G : Ghosts S E} → Marks S E → Seat S E G → Type 0
-IsSeatOf marks seat = seat_table seat ≡ table_of marks
-
 -- what a seat knows and has done
 abbrev pub doing_of : {S E : Type 0} {G : Ghosts S E} → Seat S E G → Doing S E
 doing_of seat = seat.seat.me.0
+
+-- the seat is one of the table, and names what it is about
+pub record IsSeatOf {S E : Type 0} {G : Ghosts S E} (marks : Marks S E) (seat : Seat S E G) : Type 0 where
+  pub same_table : seat_table seat ≡ table_of marks
+  pub same_subject : (doing_of seat).subject ≡ Some (subject_of marks)
 
 -- its view, as the core has views
 abbrev pub view_of : {S E : Type 0} {G : Ghosts S E} → Seat S E G → View (List E)
@@ -52,6 +54,10 @@ log_of seat = (view_of seat).log
 -- the greatest count of commits that it has seen
 abbrev pub seen_of : {S E : Type 0} {G : Ghosts S E} → Seat S E G → ℕ
 seen_of seat = (view_of seat).seen
+
+-- its begun read
+abbrev pub half_of : {S E : Type 0} {G : Ghosts S E} → Seat S E G → Option Half
+half_of seat = (view_of seat).half
 
 -- whether it is the editor's
 abbrev pub is_editor : {S E : Type 0} {G : Ghosts S E} → Seat S E G → Bool

@@ -1,11 +1,11 @@
 #![tactic(auto)]
 
-ghost use Rattle.std.specs.Prelude.{◌≡◌, ◌<◌, true, All, IfOk, IfErr, IsOk};
-ghost use Rattle.mark_words.specs.Closed.{HasClosed, IsHandedBack};
-ghost use Rattle.mark_words.specs.Words.{clean_at};
+ghost use Rattle.std.specs.Prelude.{◌≡◌, ◌<◌, ◌∷◌, true, All, IfOk, IfErr, IsOk};
+ghost use Rattle.mark_words.specs.Closed.{HasClosed, ArePrefixes, AreLegal, IsHandedBack};
 ghost use Rattle.mark_words.specs.Token.{IsSeatOf, is_editor, closed_places, closed_place};
 
 use crate::closing::{Kept, Words};
+use crate::codes::clean_of;
 use crate::marks::Marks;
 use crate::plays::{Copies, Gathers};
 use crate::seats::Seat;
@@ -37,19 +37,10 @@ impl<S: Subject> Words<S> {
     }
 }
 
-/// The clean word that a word stands for.
-fn clean_of(word: u64) -> Clean
-    ensures { result ≡ clean_at word }
-{
-    Clean {
-        upto: word / 2,
-        held: word % 2 == 1,
-    }
-}
-
 impl<S: Subject> Marks<S> {
-    /// The words as they stand, with the seats handed in. One step for each seat. It takes no memory, so it answers Ok;
-    /// an Err would hand all back.
+    /// The words as they stand, with the seats handed in. One step for each seat. It takes no memory, so it always
+    /// answers Ok. The Err is for a closing that takes some: it hands all back, with no seat joined, and callers that
+    /// match it will do then.
     pub fn close(self, editor: Seat<S>, others: Vec<Seat<S>>) -> Result<Words<S>, Kept<S>>
         requires table { IsSeatOf self editor }
         requires editor { is_editor editor ≡ true }
@@ -57,6 +48,9 @@ impl<S: Subject> Marks<S> {
         ensures ok { IsOk result }
         ensures closed { IfOk result
             (λ words. HasClosed S.places S.worth S.touches self editor others.items words) }
+        ensures prefixes { IfOk result (λ words. ArePrefixes others.items words) }
+        ensures legal { IfOk result
+            (λ _. AreLegal S.worth S.touches self editor (editor ∷ others.items)) }
         ensures kept { IfErr result (λ kept. IsHandedBack self editor others.items kept) }
     {
         let Marks { table } = self;

@@ -9,11 +9,14 @@
 mod board;
 mod closes;
 mod closing;
+mod codes;
 mod marks;
 mod opens;
 mod plays;
+mod reads;
 mod seats;
 mod steps;
+mod work;
 
 pub use board::{Doing, Keeps, Topic};
 pub use closing::{Kept, Words};

@@ -1,10 +1,13 @@
 #![tactic(auto)]
 
 ghost use Rattle.mark_words.specs.Plays.{Saw, Marked, Committed};
+ghost use Rattle.mark_words.specs.Plays.{BeganRead, WentOn, EndedRead, TriedClaim, PutWord, GaveBack};
 ghost use Rattle.mark_words.specs.Doing.{copy_of, union_doing, gather_doing, spent_doing};
 
 use crate::board::Doing;
 use atomic_table::{Join, Play, Split};
+use mark_core::Subject;
+use std::marker::PhantomData;
 
 /// A load of the count of commits.
 pub(crate) struct Sees;
@@ -25,6 +28,50 @@ pub(crate) struct Commits;
 
 impl<S, E> Play<E, Doing<S, E>> for Commits {
     ghost then = { Committed };
+}
+
+/// A load of a clean word.
+pub(crate) struct ReadsClean;
+
+impl<S, E> Play<E, Doing<S, E>> for ReadsClean {
+    ghost then = { BeganRead };
+}
+
+/// A load of a value.
+pub(crate) struct ReadsValue;
+
+impl<S, E> Play<E, Doing<S, E>> for ReadsValue {
+    ghost then = { WentOn };
+}
+
+/// A load of a mark, which tells of the subject.
+pub(crate) struct ReadsMark<S> {
+    subject: PhantomData<S>,
+}
+
+impl<S: Subject> Play<S::Entry, Doing<S, S::Entry>> for ReadsMark<S> {
+    ghost then = { EndedRead S.worth S.touches };
+}
+
+/// A compare-exchange of a clean word.
+pub(crate) struct Claims;
+
+impl<S, E> Play<E, Doing<S, E>> for Claims {
+    ghost then = { TriedClaim };
+}
+
+/// A store of a value.
+pub(crate) struct Puts;
+
+impl<S, E> Play<E, Doing<S, E>> for Puts {
+    ghost then = { PutWord };
+}
+
+/// A store of a clean word.
+pub(crate) struct Finishes;
+
+impl<S, E> Play<E, Doing<S, E>> for Finishes {
+    ghost then = { GaveBack };
 }
 
 /// A seat that knows what another does.

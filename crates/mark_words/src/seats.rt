@@ -2,7 +2,7 @@
 
 ghost use Rattle.std.specs.Prelude.{◌≡◌, ◌<◌, [], true, false, length, slice_index_or, slice_set};
 ghost use Rattle.std.specs.Option.{ForSome};
-ghost use Rattle.mark_words.specs.Desk.{HasDesk, KnowsAll};
+ghost use Rattle.mark_words.specs.Desk.{HasDesk, KnowsAll, FitsWords};
 
 use crate::board::Doing;
 use atomic_table::Seat as TableSeat;
@@ -53,4 +53,5 @@ pub struct Seat<S: Subject> {
     ghost bare: { seat.me.1 ≡ [] },
     ghost has_desk: { HasDesk seat.table_id.words seat.me.0 desk },
     ghost knows_all: { KnowsAll seat.me.0 },
+    ghost fits: { FitsWords seat.me.0 },
 }

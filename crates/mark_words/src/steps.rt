@@ -2,10 +2,10 @@
 
 ghost use Rattle.std.specs.Prelude.{◌≡◌, ◌≤◌, ◌<◌, ◌+◌, length, Some, IsSome, true};
 ghost use Rattle.mark_words.specs.Doing.{copy_of, with_see, with_mark, with_commit};
-ghost use Rattle.mark_words.specs.Token.{IsSeatOf, subject_of, places_of, seat_table};
+ghost use Rattle.mark_words.specs.Token.{IsSeatOf, subject_of, places_of};
 ghost use Rattle.mark_words.specs.Token.{doing_of, log_of, seen_of, edits_of, is_editor};
 ghost use Rattle.mark_words.specs.Editing.{IsIdleFor, IsAllMarked};
-ghost use Rattle.mark_words.specs.Meet.{HasMet};
+ghost use Rattle.mark_words.specs.Meet.{HasMet, KeepsClean};
 
 use crate::marks::Marks;
 use crate::plays::{Commits, Copies, MarksPlace, Sees, Unites};
@@ -17,7 +17,7 @@ impl<S: Subject> Marks<S> {
     /// the editor's seat. One load.
     pub fn see(&self, seat: &mut Seat<S>) -> u64
         requires table { IsSeatOf self.now seat.old }
-        ensures same { seat_table seat.new ≡ seat_table seat.old }
+        ensures same { IsSeatOf self.now seat.new }
         ensures doing { doing_of seat.new ≡ with_see (doing_of seat.old) result }
         ensures seen { seen_of seat.old ≤ result }
         ensures known { length (log_of seat.old) ≤ result }
@@ -29,7 +29,7 @@ impl<S: Subject> Marks<S> {
     /// A new seat, not the editor's, that has seen and knows what this one does. One load.
     pub fn split(&self, seat: &mut Seat<S>) -> Seat<S>
         requires table { IsSeatOf self.now seat.old }
-        ensures same { seat_table seat.new ≡ seat_table seat.old }
+        ensures same { IsSeatOf self.now seat.new }
         ensures kept { doing_of seat.new ≡ doing_of seat.old }
         ensures new { IsSeatOf self.now result }
         ensures copy { doing_of result ≡ copy_of (doing_of seat.old) }
@@ -41,16 +41,17 @@ impl<S: Subject> Marks<S> {
         }
     }
 
-    /// Marks the place for the entry, which is pending from then on. One compare-exchange, which always hits, since
-    /// the editor alone stores marks.
+    /// Marks the place for the entry, which is pending from then on and has this number. One compare-exchange, which
+    /// always hits, since the editor alone stores marks.
     pub fn mark(&self, seat: &mut Seat<S>, entry: &S::Entry, place: u32, number: u64)
         requires table { IsSeatOf self.now seat.old }
         requires editor { is_editor seat.old ≡ true }
         requires there { place < places_of self.now }
         requires number { number ≡ length (log_of seat.old) + 1 }
+        requires room { number ≤ 1048576 }
         requires idle { IsIdleFor (doing_of seat.old) entry.now }
         requires touched { S.touches (subject_of self.now) (log_of seat.old) entry.now place }
-        ensures same { seat_table seat.new ≡ seat_table seat.old }
+        ensures same { IsSeatOf self.now seat.new }
         ensures doing { doing_of seat.new ≡ with_mark (doing_of seat.old) entry.now place number }
     {
         let Some(desk) = seat.desk.take() else {
@@ -70,7 +71,7 @@ impl<S: Subject> Marks<S> {
         requires pending { IsSome (edits_of seat.old).pending }
         requires marked { IsAllMarked (places_of self.now)
             (S.touches (subject_of self.now)) (doing_of seat.old) }
-        ensures same { seat_table seat.new ≡ seat_table seat.old }
+        ensures same { IsSeatOf self.now seat.new }
         ensures count { result ≡ length (log_of seat.old) + 1 }
         ensures doing { (entry : S.Entry) → (edits_of seat.old).pending ≡ Some entry
             → doing_of seat.new ≡ with_commit (doing_of seat.old) entry }
@@ -89,10 +90,12 @@ impl<S: Subject> Marks<S> {
     pub fn meet(&self, seat: &mut Seat<S>, other: &mut Seat<S>)
         requires table { IsSeatOf self.now seat.old }
         requires other_table { IsSeatOf self.now other.old }
-        ensures same { seat_table seat.new ≡ seat_table seat.old }
-        ensures other_same { seat_table other.new ≡ seat_table other.old }
+        ensures same { IsSeatOf self.now seat.new }
+        ensures other_same { IsSeatOf self.now other.new }
         ensures other_kept { doing_of other.new ≡ doing_of other.old }
         ensures met { HasMet (doing_of seat.old) (doing_of other.old) (doing_of seat.new) }
+        ensures clean { KeepsClean (S.touches (subject_of self.now))
+            (doing_of seat.old) (doing_of other.old) (doing_of seat.new) }
     {
         let shared = &self.table.shared;
         let note = shared.split_seat::<Copies>(&mut other.seat);

@@ -1,15 +1,19 @@
 #![tactic(auto)]
 
-ghost use Rattle.std.specs.Prelude.{◌≡◌, ◌<◌, ◌+◌, ◌^◌, length, true, All, IfOk, OnOk};
+ghost use Rattle.std.specs.Prelude.{◌≡◌, ◌≤◌, ◌<◌, ◌+◌, length, true, All, IfOk, OnOk};
 ghost use Rattle.std.specs.Thread.{IsSync};
 ghost use Rattle.mark_words.specs.Token.{IsSeatOf, places_of, is_editor, log_of, closed_places};
-ghost use Rattle.mark_words.specs.Trial.{IsReady, IsBlank};
+ghost use Rattle.mark_words.specs.Trial.{IsReady, IsBlank, KnowsMany, IsPair};
 
 use super::*;
 use mark_core::{Clean, Memory, TwoCells};
 use std::alloc::{AllocError, Global};
 use std::test::Fail;
 use std::thread::{Threads, join, map_vec};
+
+mod eight;
+mod row;
+mod uses;
 
 type Table = Marks<TwoCells>;
 
@@ -20,7 +24,7 @@ type Cell = (u64, Clean, u64);
 /// Marks both cells for an entry with the next number and commits it.
 fn sets_both(marks: &Table, editor: &mut Token, count: u64) -> u64
     requires ready { IsReady marks.now editor.old count }
-    requires room { count < 2 ^ 32 }
+    requires room { count < 1048576 }
     ensures count { result ≡ count + 1 }
     ensures ready { IsReady marks.now editor.new (count + 1) }
 {
@@ -29,13 +33,13 @@ fn sets_both(marks: &Table, editor: &mut Token, count: u64) -> u64
     marks.commit(editor)
 }
 
-/// Commits so many entries.
-fn sets_often(marks: &Table, mut editor: Token, entries: u64) -> Token
-    requires ready { IsReady marks.now editor 0 }
-    requires room { entries < 2 ^ 32 }
+/// Commits entries, from this many on to so many.
+fn sets_often(marks: &Table, mut editor: Token, from: u64, entries: u64) -> Token
+    requires ready { IsReady marks.now editor from }
+    requires room { (from ≤ entries) × (entries ≤ 1048576) }
     ensures { IsReady marks.now result entries }
 {
-    let mut count = 0;
+    let mut count = from;
     while count < entries {
         count = sets_both(marks, &mut editor, count);
     }
@@ -72,7 +76,7 @@ fn race<R: Threads + Sync>(
         move || -> Token
             requires { IsReady marks.now editor 0 }
             ensures { IsReady marks.entry.now result 1 }
-        { sets_often(marks, editor, 1) },
+        { sets_often(marks, editor, 0, 1) },
         move || -> (bool, Token)
             requires { IsBlank marks.now viewer }
             ensures { IsBlank marks.entry.now result.1 }
@@ -108,54 +112,128 @@ fn closes(marks: Table, editor: Token, others: Vec<Token>) -> Option<(Cell, Cell
     Some((cell(&words, 0), cell(&words, 1)))
 }
 
-/// A viewer that sees, and meets another seat that saw, so many times.
-fn watch(marks: &Table, mut seat: Token) -> Token
-    requires { IsSeatOf marks.now seat }
-    ensures { IsSeatOf marks.now result }
+/// A viewer's seat, and one that was split from the editor's.
+type Pair = (Token, Token);
+
+/// The viewer sees, and then meets the seat that knows so many entries.
+fn hears(marks: &Table, viewer: &mut Token, relay: &mut Token, _count: u64)
+    requires viewer { IsSeatOf marks.now viewer.old }
+    requires relay { KnowsMany marks.now relay.old _count }
+    ensures viewer { KnowsMany marks.now viewer.new _count }
+    ensures relay { KnowsMany marks.now relay.new _count }
 {
-    let mut other = marks.split(&mut seat);
-    for _ in 0..1000 {
-        marks.see(&mut other);
-        marks.meet(&mut seat, &mut other);
+    marks.see(viewer);
+    marks.meet(viewer, relay);
+}
+
+/// The viewer sees and meets again and again, and knows the entries of the other seat at the end.
+fn listens(marks: &Table, pair: Pair, count: u64) -> Token
+    requires { IsPair marks.now pair count }
+    ensures { KnowsMany marks.now result count }
+{
+    let (mut viewer, mut relay) = pair;
+    for _ in 0..100 {
+        hears(marks, &mut viewer, &mut relay, count);
     }
-    seat
+    hears(marks, &mut viewer, &mut relay, count);
+    viewer
 }
 
 /// The viewers, each in a thread of its own.
-fn watch_all<R: Threads + Sync>(
+fn listen_all<R: Threads + Sync>(
     rt: &R,
     marks: &Table,
-    viewers: Vec<Token>,
+    pairs: Vec<Pair>,
+    count: u64,
 ) -> Result<Vec<Token>, AllocError>
-    requires { All (λ seat. IsSeatOf marks.now seat) viewers.items }
-    ensures { IfOk result (λ all. All (λ seat. IsSeatOf marks.now seat) all.items) }
+    requires { All (λ pair. IsPair marks.now pair count) pairs.items }
+    ensures { IfOk result (λ all. All (λ seat. KnowsMany marks.now seat count) all.items) }
 {
-    map_vec(rt, viewers, &|seat| watch(marks, seat))
+    map_vec(rt, pairs, &|pair| listens(marks, pair, count))
 }
 
-/// The viewers watch while the editor commits a thousand entries.
-fn crowd<R: Threads + Sync>(
+/// The viewers listen to what the editor had committed before, while it commits a hundred entries more.
+fn round<R: Threads + Sync>(
     rt: &R,
     marks: &Table,
     editor: Token,
-    viewers: Vec<Token>,
+    pairs: Vec<Pair>,
+    count: u64,
 ) -> (Token, Result<Vec<Token>, AllocError>)
-    requires ready { IsReady marks.now editor 0 }
-    requires tables { All (λ seat. IsSeatOf marks.now seat) viewers.items }
-    ensures ready { IsReady marks.now result.0 1000 }
-    ensures tables { IfOk result.1 (λ all. All (λ seat. IsSeatOf marks.now seat) all.items) }
+    requires ready { IsReady marks.now editor count }
+    requires room { count < 1000 }
+    requires pairs { All (λ pair. IsPair marks.now pair count) pairs.items }
+    ensures ready { IsReady marks.now result.0 (count + 100) }
+    ensures heard { IfOk result.1 (λ all. All (λ seat. KnowsMany marks.now seat count) all.items) }
 {
     join(
         rt,
         move || -> Token
-            requires { IsReady marks.now editor 0 }
-            ensures { IsReady marks.entry.now result 1000 }
-        { sets_often(marks, editor, 1000) },
+            requires { IsReady marks.now editor count × (count < 1000) }
+            ensures { IsReady marks.entry.now result (count + 100) }
+        { sets_often(marks, editor, count, count + 100) },
         move || -> Result<Vec<Token>, AllocError>
-            requires { IsSync R.row × All (λ seat. IsSeatOf marks.now seat) viewers.items }
-            ensures { IfOk result (λ all. All (λ seat. IsSeatOf marks.entry.now seat) all.items) }
-        { watch_all(rt, marks, viewers) },
+            requires { IsSync R.row × All (λ pair. IsPair marks.now pair count) pairs.items }
+            ensures { IfOk result (λ all. All (λ seat. KnowsMany marks.entry.now seat count) all.items) }
+        { listen_all(rt, marks, pairs, count) },
     )
+}
+
+/// The viewer with a seat that was split from the editor's.
+fn pair(marks: &Table, editor: &mut Token, viewer: Token, _count: u64) -> Pair
+    requires ready { IsReady marks.now editor.old _count }
+    requires table { IsSeatOf marks.now viewer }
+    ensures ready { IsReady marks.now editor.new _count }
+    ensures pair { IsPair marks.now result _count }
+{
+    (viewer, marks.split(editor))
+}
+
+/// Each viewer with a seat that was split from the editor's.
+fn pair_all(
+    alloc: Global,
+    marks: &Table,
+    editor: &mut Token,
+    viewers: Vec<Token>,
+    _count: u64,
+) -> Result<Vec<Pair>, AllocError>
+    requires ready { IsReady marks.now editor.old _count }
+    requires tables { All (λ seat. IsSeatOf marks.now seat) viewers.items }
+    ensures ready { OnOk result (IsReady marks.now editor.new _count) }
+    ensures pairs { IfOk result (λ all. All (λ pair. IsPair marks.now pair _count) all.items) }
+{
+    let mut pairs = Vec::new(alloc);
+    for viewer in viewers {
+        pairs.push(pair(marks, editor, viewer, _count))?;
+    }
+    Ok(pairs)
+}
+
+/// Rounds until the editor has committed a thousand entries.
+fn rounds<R: Threads + Sync>(
+    rt: &R,
+    alloc: Global,
+    marks: &Table,
+    mut editor: Token,
+    mut viewers: Vec<Token>,
+) -> Result<(Token, Vec<Token>), AllocError>
+    requires ready { IsReady marks.now editor 0 }
+    requires tables { All (λ seat. IsSeatOf marks.now seat) viewers.items }
+    ensures ready { IfOk result (λ r. IsReady marks.now r.0 1000) }
+    ensures heard { IfOk result (λ r. All (λ seat. KnowsMany marks.now seat 900) r.1.items) }
+{
+    let mut count = 0;
+    while count < 1000 {
+        let pairs = pair_all(alloc, marks, &mut editor, viewers, count)?;
+        let (next, heard) = round(rt, marks, editor, pairs, count);
+        let Ok(heard) = heard else {
+            return Err(AllocError);
+        };
+        editor = next;
+        viewers = heard;
+        count += 100;
+    }
+    Ok((editor, viewers))
 }
 
 /// Four seats that were split from the editor's.
@@ -198,13 +276,14 @@ fn a_second_thread_sees_the_commit(rt: HostRuntime) -> Result<(), Fail> {
     Ok(())
 }
 
+/// The editor commits a thousand entries in ten rounds. In each, four viewers meet seats that know the entries of the
+/// rounds before, while the editor commits.
 #[test]
-fn four_viewers_watch_a_thousand_commits(rt: HostRuntime) -> Result<(), Fail> {
+fn four_viewers_hear_of_a_thousand_commits(rt: HostRuntime) -> Result<(), Fail> {
     let alloc = rt.alloc();
     let (marks, mut editor) = opened(alloc)?;
     let seats = viewers(alloc, &marks, &mut editor)?;
-    let (mut editor, seats) = crowd(&rt, &marks, editor, seats);
-    let seats = seats?;
+    let (mut editor, seats) = rounds(&rt, alloc, &marks, editor, seats)?;
     assert_eq!(rt; seats.len(), 4);
     assert_eq!(rt; marks.see(&mut editor), 1000);
     assert_eq!(rt; closes(marks, editor, seats), marked(1000));

@@ -1,5 +1,5 @@
 -- The viewer knew nothing, and knows the editor's log.
-use Rattle.std.proofs.Common.{◌≡◌, ◌≤◌, ℕ, length, ◌∙◌, ap, inl, inr, arith}
+use Rattle.std.proofs.Common.{ℕ, length, ◌∙◌, ap, inl, inr, arith}
 use Rattle.mark_core.proofs.Prefixes.{prefix_length}
 use Rattle.mark_words.specs.declared.board.Doing.{Doing}
 use Rattle.mark_words.proofs.tests.learns.Goals as goal
@@ -9,7 +9,7 @@ returns-clause-ready c =
     let kept = c.meet.ensures.other_kept in
     let ready = c.requires.ready in
     record {
-      table = c.meet.ensures.other_same ∙ ready.table;
+      table = c.meet.ensures.other_same;
       editor = ap (λ (d : Doing _ ℕ). d.editor) kept ∙ ready.editor;
       two = ready.two;
       pending = ap (λ (d : Doing _ ℕ). d.edits.pending) kept ∙ ready.pending;

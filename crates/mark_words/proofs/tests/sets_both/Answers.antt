@@ -2,12 +2,8 @@
 use Rattle.std.proofs.Common.{◌≡◌, ◌<◌, ◌++◌, ◌∷◌, [], ℕ, zero, suc, List, length, length-append, ◌+◌, refl, sym, ◌∙◌, ap, subst, arith}
 use Rattle.std.specs.Prelude.{Contains}
 use Rattle.mark_words.specs.declared.board.Doing.{Doing}
+use Rattle.mark_words.proofs.TrialLemmas.{either_place}
 use Rattle.mark_words.proofs.tests.sets_both.Goals as goal
-
-either_place : (place : ℕ) → place < 2 → Contains (0 ∷ 1 ∷ []) place
-either_place zero lt = (0, omega arith, refl)
-either_place (suc zero) lt = (1, omega arith, refl)
-either_place (suc (suc place)) lt = absurd (omega arith)
 
 pub commit-requires-clause-marked : goal.commit-requires-clause-marked
 commit-requires-clause-marked c entry pending place there touched =
@@ -23,7 +19,7 @@ returns-clause-ready c =
     let second = c.mark-2.ensures.doing in
     let last = c.commit.ensures.doing 7 (ap (λ (d : Doing _ ℕ). d.edits.pending) second) in
     record {
-      table = c.commit.ensures.same ∙ c.mark-2.ensures.same ∙ c.mark.ensures.same ∙ c.requires.ready.table;
+      table = c.commit.ensures.same;
       editor =
           ap (λ (d : Doing _ ℕ). d.editor) last ∙ ap (λ (d : Doing _ ℕ). d.editor) second ∙ ap (λ (d : Doing _ ℕ). d.editor) first
           ∙ c.requires.ready.editor;

@@ -1,12 +1,13 @@
-use Rattle.std.proofs.Common.{◌≡◌, arith, ◌∙◌, ap, inl, inr}
+use Rattle.std.proofs.Common.{◌≡◌, arith, sym, ◌∙◌, ap, [], ◌++◌, map}
 use Rattle.mark_words.specs.declared.seats.Seat.{Seat}
 use Rattle.mark_words.proofs.SeatSteps.{splits, gathers}
-use Rattle.mark_words.proofs.CloseLemmas.{all_last, handed, none_waits, closes}
+use Rattle.mark_words.specs.Token.{view_of}
+use Rattle.mark_words.proofs.CloseLemmas.{all_last, handed, no_items, closes, prefixes_closed, legal_closed}
 use Rattle.mark_words.proofs.marks.Marks.close.Goals as goal
 
 pub split_seat-witness-requires : goal.split_seat-witness-requires
 split_seat-witness-requires g c = (
-  c.requires.table,
+  c.requires.table.same_table,
   omega (arith, c.args.self.sized),
   splits c.args.self.table.shared.key.subject.value (g.S.Subject.places c.args.self.table.shared.key.subject.value)
       (g.S.Subject.worth c.args.self.table.shared.key.subject.value)
@@ -41,14 +42,20 @@ returns-clause-closed g c =
     let inv = c.loop-other.invariant in
     let last = c.close_with-closed.ensures.values.2 in
     let split = c.split_seat-witness.ensures in
+    let none : c.loop-other.others.items ≡ [] = no_items c.loop-other.others.items (omega (arith, c.in_default-pop.ensures.cases.0)) in
     closes g.S.Subject.places g.S.Subject.worth g.S.Subject.touches c.args.self c.args.editor c.args.others.items _ last.0 last.1.0
     c.loop-other.all.id c.loop-other.all.me.0 last.1.1 inv.live inv.editor last.2
     (inv.view ∙ ap (λ m. m.0.view) split.2) (inv.edits ∙ ap (λ m. m.0.edits) split.2)
     (c.args.editor.knows_all.log c.requires.editor)
-    (omega (arith, c.args.editor.has_desk.places c.in-Some.desk c.in-Some.is, c.args.self.sized, ap (λ z. z.words) c.requires.table))
+    (omega (arith, c.args.editor.has_desk.places c.in-Some.desk c.in-Some.is, c.args.self.sized, ap (λ z. z.words) c.requires.table.same_table))
     (ap (λ m. m.0.view.log) split.4)
-    (λ other among.
-    elim (inv.views other among) [
-      | inl waits ↦ absurd (none_waits c.loop-other.others.items other (omega (arith, c.in_default-pop.ensures.cases.0)) waits)
-      | inr handed ↦ handed
-    ])
+    _
+    (ap (λ l. map view_of l ++ c.loop-other.all.me.0.gathered) (sym none) ∙ inv.views)
+
+pub returns-clause-prefixes : goal.returns-clause-prefixes
+returns-clause-prefixes g c =
+    prefixes_closed g.S.Subject.places g.S.Subject.worth g.S.Subject.touches c.args.self c.args.editor c.args.others.items _ (returns-clause-closed g c)
+
+pub returns-clause-legal : goal.returns-clause-legal
+returns-clause-legal g c =
+    legal_closed g.S.Subject.places g.S.Subject.worth g.S.Subject.touches c.args.self c.args.editor c.args.others.items _ (returns-clause-closed g c)

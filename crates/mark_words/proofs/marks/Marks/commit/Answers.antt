@@ -3,12 +3,12 @@ use Rattle.std.proofs.lemmas.Option.{same_Some}
 use Rattle.mark_words.specs.Doing.{with_commit}
 use Rattle.mark_words.specs.declared.board.Doing.{Doing}
 use Rattle.mark_words.proofs.EditSteps.{commits_some}
-use Rattle.mark_words.proofs.DeskLemmas.{desk_committed, knows_committed}
+use Rattle.mark_words.proofs.DeskLemmas.{desk_committed, knows_committed, fits_committed}
 use Rattle.mark_words.proofs.marks.Marks.commit.Goals as goal
 
 pub store-requires : goal.store-requires
 store-requires g c = (
-  c.requires.table,
+  c.requires.table.same_table,
   omega (arith, c.args.self.now.sized),
   commits_some c.args.self.now.table.shared.key.subject.value (g.S.Subject.places c.args.self.now.table.shared.key.subject.value) (g.S.Subject.worth c.args.self.now.table.shared.key.subject.value)
       (g.S.Subject.touches c.args.self.now.table.shared.key.subject.value) (g.S.Subject.untouched c.args.self.now.table.shared.key.subject.value)
@@ -28,6 +28,9 @@ invariant_of-seat g c =
           c.args.seat.now.desk c.in-Some.desk c.with_count.result (sym c.take.ensures.value ∙ c.in-Some.is) c.args.seat.now.has_desk
           told.entry told.doing c.with_count.ensures.count c.with_count.ensures.marks;
       knows_all = knows_committed c.args.seat.now.seat.me.0 c.store.new.seat.me.0 c.args.seat.now.knows_all told.entry told.doing;
+      fits =
+          fits_committed c.args.seat.now.seat.me.0 c.store.new.seat.me.0 c.args.seat.now.fits told.entry
+          (c.args.seat.now.knows_all.number c.requires.editor c.requires.pending) told.doing;
     }
 
 pub returns-clause-doing : goal.returns-clause-doing
@@ -35,3 +38,10 @@ returns-clause-doing g c entry pending =
     let told = c.store.ensures.2 in
     told.doing
     ∙ ap (λ x. with_commit c.args.seat.now.seat.me.0 x) (same_Some told.entry entry (sym told.pending ∙ pending))
+
+pub returns-clause-same : goal.returns-clause-same
+returns-clause-same g c =
+    record {
+      same_table = c.store.ensures.0 ∙ c.requires.table.same_table;
+      same_subject = ap (λ (d : Doing _ _). d.subject) c.store.ensures.2.doing ∙ c.requires.table.same_subject;
+    }

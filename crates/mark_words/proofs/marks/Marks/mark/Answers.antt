@@ -1,12 +1,12 @@
 use Rattle.std.proofs.Common.{arith, sym, ◌∙◌, ap, refl, get_or}
 use Rattle.mark_words.specs.declared.board.Doing.{Doing}
 use Rattle.mark_words.proofs.EditSteps.{marks_place}
-use Rattle.mark_words.proofs.DeskLemmas.{desk_marked, knows_marked}
+use Rattle.mark_words.proofs.DeskLemmas.{desk_marked, knows_marked, fits_marked}
 use Rattle.mark_words.proofs.marks.Marks.mark.Goals as goal
 
 pub compare_exchange_with-requires : goal.compare_exchange_with-requires
 compare_exchange_with-requires g c = (
-  c.requires.table,
+  c.requires.table.same_table,
   omega (arith, c.args.self.now.sized, c.requires.there),
   marks_place c.args.self.now.table.shared.key.subject.value (g.S.Subject.places c.args.self.now.table.shared.key.subject.value) (g.S.Subject.worth c.args.self.now.table.shared.key.subject.value)
       (g.S.Subject.touches c.args.self.now.table.shared.key.subject.value) (g.S.Subject.untouched c.args.self.now.table.shared.key.subject.value)
@@ -29,5 +29,14 @@ invariant_of-seat g c =
           (ap (λ z. z.words) c.compare_exchange_with.ensures.0) c.args.seat.now.seat.me.0 c.compare_exchange_with.new.seat.me.0
           c.args.seat.now.desk c.in-Some.desk c.with_mark.result (sym c.take.ensures.value ∙ c.in-Some.is) c.args.seat.now.has_desk
           c.args.entry.now c.args.place c.args.number made c.with_mark.ensures.count c.with_mark.ensures.marks;
-      knows_all = knows_marked c.args.seat.now.seat.me.0 c.compare_exchange_with.new.seat.me.0 c.args.seat.now.knows_all c.args.entry.now c.args.place c.args.number c.requires.number (omega arith) made;
+      knows_all = knows_marked c.args.seat.now.seat.me.0 c.compare_exchange_with.new.seat.me.0 c.args.seat.now.knows_all c.args.entry.now c.args.place c.args.number c.requires.number c.requires.room made;
+      fits = fits_marked c.args.seat.now.seat.me.0 c.compare_exchange_with.new.seat.me.0 c.args.seat.now.fits c.args.entry.now c.args.place c.args.number made;
+    }
+
+pub returns-clause-same : goal.returns-clause-same
+returns-clause-same g c =
+    let made = c.compare_exchange_with.ensures.2.doing c.args.place c.args.entry.now refl refl in
+    record {
+      same_table = c.compare_exchange_with.ensures.0 ∙ c.requires.table.same_table;
+      same_subject = ap (λ (d : Doing _ _). d.subject) made ∙ c.requires.table.same_subject;
     }

@@ -3,12 +3,12 @@ use Rattle.mark_words.specs.declared.board.Doing.{Doing}
 use Rattle.mark_words.specs.Doing.{union_doing}
 use Rattle.mark_words.proofs.SeeSteps.{sees}
 use Rattle.mark_words.proofs.SeatSteps.{splits, joins}
-use Rattle.mark_words.proofs.Meets.{met, met_knows, met_live, met_desk}
+use Rattle.mark_words.proofs.Meets.{met, met_knows, met_live, met_desk, met_fits, met_clean, met_subject}
 use Rattle.mark_words.proofs.marks.Marks.meet.Goals as goal
 
 pub split_seat-note-requires : goal.split_seat-note-requires
 split_seat-note-requires g c = (
-  c.requires.other_table,
+  c.requires.other_table.same_table,
   omega (arith, c.args.self.now.sized),
   splits c.args.self.now.table.shared.key.subject.value (g.S.Subject.places c.args.self.now.table.shared.key.subject.value) (g.S.Subject.worth c.args.self.now.table.shared.key.subject.value)
       (g.S.Subject.touches c.args.self.now.table.shared.key.subject.value) (g.S.Subject.untouched c.args.self.now.table.shared.key.subject.value)
@@ -19,8 +19,8 @@ pub join_seat-requires : goal.join_seat-requires
 join_seat-requires g c =
     let note = c.split_seat-note.ensures.4 in
     let copy = ap (λ m. m.0) note in (
-      c.requires.table,
-      c.split_seat-note.ensures.3 ∙ c.requires.other_table,
+      c.requires.table.same_table,
+      c.split_seat-note.ensures.3 ∙ c.requires.other_table.same_table,
       ap (λ m. m.1) note,
       omega (arith, c.args.self.now.sized),
       joins c.args.self.now.table.shared.key.subject.value (g.S.Subject.places c.args.self.now.table.shared.key.subject.value) (g.S.Subject.worth c.args.self.now.table.shared.key.subject.value)
@@ -32,7 +32,7 @@ join_seat-requires g c =
 
 pub load-requires : goal.load-requires
 load-requires g c = (
-  c.join_seat.ensures.0 ∙ c.requires.table,
+  c.join_seat.ensures.0 ∙ c.requires.table.same_table,
   omega (arith, c.args.self.now.sized),
   sees c.args.self.now.table.shared.key.subject.value (g.S.Subject.places c.args.self.now.table.shared.key.subject.value) (g.S.Subject.worth c.args.self.now.table.shared.key.subject.value)
       (g.S.Subject.touches c.args.self.now.table.shared.key.subject.value) (g.S.Subject.untouched c.args.self.now.table.shared.key.subject.value)
@@ -51,9 +51,28 @@ invariant_of-seat g c =
           met_desk _ c.args.seat.now.seat.me.0 c.args.other.now.seat.me.0 c.join_seat.new.seat.me c.load.new.seat.me c.load.result is c.load.ensures.2 c.args.seat.now.knows_all
           c.args.seat.now.seat.table_id.words c.load.new.seat.table_id.words c.args.seat.now.desk same c.args.seat.now.has_desk;
       knows_all = met_knows _ c.args.seat.now.seat.me.0 c.args.other.now.seat.me.0 c.join_seat.new.seat.me c.load.new.seat.me c.load.result is c.load.ensures.2 c.args.seat.now.knows_all;
+      fits =
+          met_fits _ c.args.seat.now.seat.me.0 c.args.other.now.seat.me.0 c.join_seat.new.seat.me c.load.new.seat.me c.load.result is c.load.ensures.2 c.args.seat.now.knows_all
+          c.args.seat.now.fits c.args.other.now.fits;
     }
 
 pub returns-clause-met : goal.returns-clause-met
 returns-clause-met g c =
     let is = ap (λ m. m.0) c.join_seat.ensures.2 ∙ ap (λ (d : Doing _ _). union_doing c.args.seat.now.seat.me.0 d) (ap (λ m. m.0) c.split_seat-note.ensures.4) in
     met _ c.args.seat.now.seat.me.0 c.args.other.now.seat.me.0 c.join_seat.new.seat.me c.load.new.seat.me c.load.result is c.load.ensures.2 c.args.seat.now.knows_all
+
+pub returns-clause-clean : goal.returns-clause-clean
+returns-clause-clean g c =
+    let is = ap (λ m. m.0) c.join_seat.ensures.2 ∙ ap (λ (d : Doing _ _). union_doing c.args.seat.now.seat.me.0 d) (ap (λ m. m.0) c.split_seat-note.ensures.4) in
+    met_clean _ c.args.seat.now.seat.me.0 c.args.other.now.seat.me.0 c.join_seat.new.seat.me c.load.new.seat.me c.load.result is c.load.ensures.2 c.args.seat.now.knows_all
+    (g.S.Subject.touches c.args.self.now.table.shared.key.subject.value)
+
+pub returns-clause-same : goal.returns-clause-same
+returns-clause-same g c =
+    let is = ap (λ m. m.0) c.join_seat.ensures.2 ∙ ap (λ (d : Doing _ _). union_doing c.args.seat.now.seat.me.0 d) (ap (λ m. m.0) c.split_seat-note.ensures.4) in
+    record {
+      same_table = c.load.ensures.0 ∙ c.join_seat.ensures.0 ∙ c.requires.table.same_table;
+      same_subject =
+          met_subject _ c.args.seat.now.seat.me.0 c.args.other.now.seat.me.0 c.join_seat.new.seat.me c.load.new.seat.me c.load.result is c.load.ensures.2 c.args.seat.now.knows_all
+          ∙ c.requires.table.same_subject;
+    }

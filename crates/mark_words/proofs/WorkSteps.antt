@@ -1,0 +1,186 @@
+-- Claims, puts and finishes keep the rule of the table.
+use Rattle.std.proofs.Common.{◌≡◌, ◌≢◌, ◌<◌, ◌+◌, ◌*◌, ◌==◌, ℕ, List, Option, [], ◌∷◌, ◌++◌, length, false, true, refl, sym, ◌∙◌, ap, subst, inl, inr, arith}
+use Rattle.std.specs.Prelude.{slice_index, slice_set}
+use Rattle.std.proofs.lemmas.List.{set-get_or}
+use Rattle.std.proofs.lemmas.Bool.{cases_eq, eq-eqb, ne_eqb}
+use mathlib.Core.Option.{some}
+use lib.ListN.{get_elem?}
+use prog.Atomic.{either}
+use Rattle.atomic_table.specs.Table.{State as TableState, Me, Step, Allows}
+use Rattle.atomic_table.specs.Table.Act.{keeps}
+use Rattle.mark_core.specs.declared.words.Clean.{Clean}
+use Rattle.mark_core.specs.declared.words.Place.{Place}
+use Rattle.mark_core.specs.declared.actors.View.{View}
+use Rattle.mark_core.specs.Place.{place_at}
+use Rattle.mark_core.specs.State.{State, view_at}
+use Rattle.mark_core.specs.View.{with_hold, with_loss, with_put, without_hold}
+use Rattle.mark_core.specs.Permission.{MayStepAt, MayClaim, MayPut, MayFinish}
+use Rattle.mark_core.specs.Run.{IsCodeless}
+use Rattle.mark_core.specs.Step.{after_claim, after_refusal, after_put, after_finish}
+use Rattle.mark_core.proofs.Steps.{refusal_keeps}
+use Rattle.mark_core.proofs.WorkSteps.{claim_keeps, put_keeps, finish_keeps}
+use Rattle.mark_words.specs.declared.board.Doing.{Doing}
+use Rattle.mark_words.specs.Words.{code_of, clean_at, words_of_places}
+use Rattle.mark_words.specs.Doing.{with_claim, with_refusal, with_word_put, with_finish}
+use Rattle.mark_words.specs.Rule.{IsKept}
+use Rattle.mark_words.specs.Plays.{TriedClaim, PutWord, GaveBack}
+use Rattle.mark_words.proofs.Boards.{clean_word, clean_set, value_set, marks_stay, decoded}
+use Rattle.mark_words.proofs.SeeSteps.{same_view}
+use Rattle.mark_words.proofs.ViewSteps.{view_step}
+
+-- a compare-exchange that finds what it expects, and one that doesn't
+hit : (found old new : ℕ) → found ≡ old → either (found == old) new found ≡ new
+hit found old new same = ap (λ b. either b new found) (eq-eqb found old same)
+
+miss : (found old new : ℕ) → found ≢ old → either (found == old) new found ≡ found
+miss found old new differs = ap (λ b. either b new found) (ne_eqb found old differs)
+
+module _ {S E : Type 0} (subject : S) (places : ℕ) (worth : List E → ℕ → ℕ) (touches : List E → E → ℕ → Type 0)
+    (untouched : (log : List E) (entry : E) (place : ℕ) → place < places → (touches log entry place → ⊥) → worth (log ++ entry ∷ []) place ≡ worth log place)
+    (opening : List (Option ℕ)) (slots id : ℕ) (me : Me E (Doing S E)) (step : Step E) (place : ℕ) (live : me.0.view.spent ≡ false) (there : place < length opening) where
+  module _ (t : TableState E (Doing S E)) (kept : IsKept subject places worth touches opening t) (at : get_elem? t.views id ≡ some me.0) where
+    abbrev core : State E
+    core = kept.core
+
+    same : view_at core id ≡ me.0.view
+    same = same_view subject places worth touches untouched opening t kept id me.0 at live
+
+    lt : place < length core.places
+    lt = omega (arith, there, kept.honest.count, kept.sized)
+
+    may : MayStepAt (length core.places) (view_at core id) place
+    may = record { there = lt; live = ap (λ (v : View (List E)). v.spent) same ∙ live }
+
+    -- the words after a store of a clean word
+    clean_stored : (clean : Clean) → slice_set t.words (3 * place + 2) (code_of clean)
+        ≡ length core.edits.log ∷ words_of_places (slice_set core.places place (record (place_at core.places place) { clean = clean }))
+    clean_stored clean =
+        ap (λ ws. slice_set ws (3 * place + 2) (code_of clean)) kept.words ∙ clean_set (length core.edits.log) core.places place clean lt
+
+    pub clean_found : clean_at (slice_index t.words (3 * place + 2)) ≡ (place_at core.places place).clean
+    clean_found =
+        ap (λ ws. clean_at (slice_index ws (3 * place + 2))) kept.words
+        ∙ ap clean_at (clean_word (length core.edits.log) core.places place lt) ∙ decoded (place_at core.places place).clean
+
+    took : (seen : Clean) (stored : ℕ) → MayClaim me.0.view place seen → slice_index t.words (3 * place + 2) ≡ code_of seen
+        → (let held : Clean = record { upto = seen.upto; held = true } in stored ≡ code_of held)
+        → IsKept subject places worth touches opening (record { words = slice_set t.words (3 * place + 2) stored; homes = t.homes; views = slice_set t.views id (with_claim me.0 place) })
+    took seen stored ground found is =
+        let held : Clean = record { upto = seen.upto; held = true } in
+        view_step subject places worth touches opening t kept id me.0 at live (after_claim core id place seen) (with_hold me.0.view place)
+        (slice_set t.words (3 * place + 2) stored)
+        (claim_keeps places worth touches (IsCodeless opening) untouched core kept.honest id place seen may
+        (subst (λ (v : View (List E)). MayClaim v place seen) (sym same) ground)
+        (sym clean_found ∙ ap clean_at found ∙ decoded seen))
+        (ap (λ n. slice_set t.words (3 * place + 2) n) is ∙ clean_stored held)
+        refl
+        (marks_stay core.places place (record (place_at core.places place) { clean = held }) refl)
+        (ap (λ (v : View (List E)). slice_set core.views id (with_hold v place)) same)
+        refl
+
+    lost : (stored : ℕ) → stored ≡ slice_index t.words (3 * place + 2)
+        → (let found : Clean = clean_at (slice_index t.words (3 * place + 2)) in
+        IsKept subject places worth touches opening (record { words = slice_set t.words (3 * place + 2) stored; homes = t.homes; views = slice_set t.views id (with_refusal me.0 place found) }))
+    lost stored is =
+        let found : Clean = clean_at (slice_index t.words (3 * place + 2)) in
+        view_step subject places worth touches opening t kept id me.0 at live (after_refusal core id place) (with_loss me.0.view place found)
+        (slice_set t.words (3 * place + 2) stored)
+        (refusal_keeps places worth touches (IsCodeless opening) untouched core kept.honest id place may.live)
+        (ap (λ n. slice_set t.words (3 * place + 2) n) is ∙ set-get_or t.words (3 * place + 2) 0 ∙ kept.words)
+        refl refl
+        (ap (λ (v : View (List E)). slice_set core.views id (with_loss v place (place_at core.places place).clean)) same
+        ∙ ap (λ c. slice_set core.views id (with_loss me.0.view place c)) (sym clean_found))
+        refl
+
+  pub claims : (seen : Clean) (old new : ℕ) → MayClaim me.0.view place seen → old ≡ code_of seen
+      → (let held : Clean = record { upto = seen.upto; held = true } in new ≡ code_of held)
+      → step.word ≡ 3 * place + 2 → step.first ≡ old
+      → Allows (IsKept subject places worth touches opening) slots id me (3 * place + 2) (λ n. either (n == old) new n) (λ n after. TriedClaim step me n after)
+  claims seen old new ground is next word first t kept deep at fits =
+      let found : ℕ = slice_index t.words (3 * place + 2) in
+      let here : (place' : ℕ) → step.word ≡ 3 * place' + 2 → place ≡ place' = λ place' word'. omega (arith, word, word') in
+      elim (cases_eq found old) [
+        | inl same ↦ (
+          with_claim me.0 place,
+          keeps,
+          tt,
+          took t kept at seen (either (found == old) new found) ground (same ∙ is) (hit found old new same ∙ next),
+          record {
+            slots = refl;
+            taken = λ place' word' was. ap (λ p. with_claim me.0 p) (here place' word');
+            refused = λ place' word' differs. absurd (differs (same ∙ sym first));
+          },
+        )
+        | inr differs ↦ (
+          with_refusal me.0 place (clean_at found),
+          keeps,
+          tt,
+          lost t kept at (either (found == old) new found) (miss found old new differs),
+          record {
+            slots = refl;
+            taken = λ place' word' was. absurd (differs (was ∙ first));
+            refused = λ place' word' no. ap (λ p. with_refusal me.0 p (clean_at found)) (here place' word');
+          },
+        )
+      ]
+
+  pub puts : (word : ℕ) → MayPut worth me.0.view place word → step.word ≡ 3 * place + 3 → step.first ≡ word
+      → Allows (IsKept subject places worth touches opening) slots id me (3 * place + 3) (λ n. word) (λ n after. PutWord step me word after)
+  puts word ground index first t kept deep at fits =
+      let core : State E = kept.core in
+      let same : view_at core id ≡ me.0.view = same_view subject places worth touches untouched opening t kept id me.0 at live in
+      let lt : place < length core.places = omega (arith, kept.honest.count, kept.sized) in
+      let changed : Place = record (place_at core.places place) { value = word } in (
+        with_word_put me.0 place word,
+        keeps,
+        tt,
+        view_step subject places worth touches opening t kept id me.0 at live (after_put core id place word) (with_put me.0.view place word)
+            (slice_set t.words (3 * place + 3) word)
+            (put_keeps places worth touches (IsCodeless opening) untouched core kept.honest id place word
+            (record { there = lt; live = ap (λ (v : View (List E)). v.spent) same ∙ live })
+            (subst (λ (v : View (List E)). MayPut worth v place word) (sym same) ground))
+            (ap (λ ws. slice_set ws (3 * place + 3) word) kept.words ∙ value_set (length core.edits.log) core.places place word lt)
+            refl
+            (marks_stay core.places place changed refl)
+            (ap (λ (v : View (List E)). slice_set core.views id (with_put v place word)) same)
+            refl,
+        record {
+          slots = refl;
+          doing = λ place' index'.
+              let here : place ≡ place' = omega (arith, index, index') in
+              ap (λ p. with_word_put me.0 p word) here ∙ ap (λ w. with_word_put me.0 place' w) (sym first);
+        },
+      )
+
+  pub finishes : (mark stored : ℕ) → MayFinish worth touches me.0.view place mark
+      → (let free : Clean = record { upto = mark + 1; held = false } in stored ≡ code_of free)
+      → step.word ≡ 3 * place + 2 → step.first ≡ stored
+      → Allows (IsKept subject places worth touches opening) slots id me (3 * place + 2) (λ n. stored) (λ n after. GaveBack step me stored after)
+  finishes mark stored ground is index first t kept deep at fits =
+      let free : Clean = record { upto = mark + 1; held = false } in
+      let core : State E = kept.core in
+      let same : view_at core id ≡ me.0.view = same_view subject places worth touches untouched opening t kept id me.0 at live in
+      let lt : place < length core.places = omega (arith, kept.honest.count, kept.sized) in
+      let changed : Place = record (place_at core.places place) { clean = free } in (
+        with_finish me.0 place mark,
+        keeps,
+        tt,
+        view_step subject places worth touches opening t kept id me.0 at live (after_finish core id place mark) (without_hold me.0.view place mark)
+            (slice_set t.words (3 * place + 2) stored)
+            (finish_keeps places worth touches (IsCodeless opening) untouched core kept.honest id place mark
+            (record { there = lt; live = ap (λ (v : View (List E)). v.spent) same ∙ live })
+            (subst (λ (v : View (List E)). MayFinish worth touches v place mark) (sym same) ground))
+            (ap (λ n. slice_set t.words (3 * place + 2) n) is
+            ∙ ap (λ ws. slice_set ws (3 * place + 2) (code_of free)) kept.words ∙ clean_set (length core.edits.log) core.places place free lt)
+            refl
+            (marks_stay core.places place changed refl)
+            (ap (λ (v : View (List E)). slice_set core.views id (without_hold v place mark)) same)
+            refl,
+        record {
+          slots = refl;
+          doing = λ place' mark' index' stored'.
+              let here : place ≡ place' = omega (arith, index, index') in
+              let of_mark : mark ≡ mark' = omega (arith, is, first, stored') in
+              ap (λ p. with_finish me.0 p mark) here ∙ ap (λ m. with_finish me.0 place' m) of_mark;
+        },
+      )

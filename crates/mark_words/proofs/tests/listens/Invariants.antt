@@ -1,0 +1,7 @@
+-- The viewer stays one of the table, and the other seat knows so many entries.
+use Rattle.mark_words.specs.Token.{IsSeatOf}
+use Rattle.mark_words.specs.Trial.{KnowsMany}
+use Rattle.mark_words.proofs.tests.listens.Given as goal
+
+abbrev pub invariant-loop : goal.invariant-loop
+invariant-loop l = IsSeatOf l.marks l.viewer × KnowsMany l.marks l.relay l.count

@@ -1,0 +1,38 @@
+-- The editor's seat is as it was, and the worker's knows what it knows.
+use Rattle.std.proofs.Common.{length, ◌∙◌, ap}
+use Rattle.mark_core.specs.TwoCells.{last_or}
+use Rattle.mark_words.specs.declared.board.Doing.{Doing}
+use Rattle.mark_words.proofs.tests.row.hires.Goals as goal
+
+pub returns-clause-ready : goal.returns-clause-ready
+returns-clause-ready c =
+    let kept = c.split.ensures.kept in
+    let ready = c.requires.ready in
+    record {
+      table = c.split.ensures.same;
+      editor = ap (λ (d : Doing _ _). d.editor) kept ∙ ready.editor;
+      two = ready.two;
+      pending = ap (λ (d : Doing _ _). d.edits.pending) kept ∙ ready.pending;
+      marked = ap (λ (d : Doing _ _). d.edits.marked) kept ∙ ready.marked;
+      entries = ap (λ (d : Doing _ _). length d.view.log) kept ∙ ready.entries;
+    }
+
+pub returns-clause-last : goal.returns-clause-last
+returns-clause-last c =
+    let kept = c.split.ensures.kept in
+    record {
+      table = c.split.ensures.same;
+      two = c.requires.last.two;
+      entries = ap (λ (d : Doing _ _). length d.view.log) kept ∙ c.requires.last.entries;
+      ends = ap (λ (d : Doing _ _). last_or 1 d.view.log) kept ∙ c.requires.last.ends;
+    }
+
+pub returns-clause-worker : goal.returns-clause-worker
+returns-clause-worker c =
+    let copy = c.split.ensures.copy in
+    record {
+      table = c.split.ensures.new;
+      two = c.requires.last.two;
+      entries = ap (λ (d : Doing _ _). length d.view.log) copy ∙ c.requires.last.entries;
+      ends = ap (λ (d : Doing _ _). last_or 1 d.view.log) copy ∙ c.requires.last.ends;
+    }
