@@ -1,26 +1,15 @@
-//! The program: it reads the words of the command line, shows a window of a sheet, and ends with a status.
+//! The program: it makes the shelf of files and the two sinks over the standard streams, hands them with
+//! its words to `run` of `sheet_cli`, and ends with the status that `run` answers.
 //!
-//! `run` is all that it does. Its contract says what each status tells, what was written and what was
-//! noted: with status 0 the output is the text of the values that the sheet gives the cells of the window
-//! (`specs/Replies.antt`, `specs/Runs.antt`). `main` makes the shelf of files and the two sinks over the
-//! standard streams, hands them to `run` and ends with what it answers.
-//!
-//! Below stand `sheet_io`, through which all input and output goes, and `sheet_model`, which reads sheets
-//! and computes values.
+//! What each status tells, what was written and what was noted, the contract of `run` says. Below stand
+//! `sheet_cli`, and `sheet_io`, through which all input and output goes.
 #![tactic(auto)]
 
-mod reply;
-#[cfg(test)]
-mod tests;
-mod text;
-mod top;
-mod words;
-
+use sheet_cli::{no_memory, run};
 use sheet_io::{FileShelf, StreamSink};
 use sheet_refs::Memory;
 use std::process::ExitCode;
 use std::{env, io};
-use top::{no_memory, run};
 
 fn main(rt: HostRuntime) -> ExitCode {
     let mut shelf = FileShelf::new(&rt);

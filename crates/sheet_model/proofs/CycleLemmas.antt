@@ -7,15 +7,16 @@ use Rattle.value_core.specs.declared.value.ErrorKind.TheVariants.{Circ}
 use Rattle.value_core.specs.declared.value.Value.{Value}
 use Rattle.value_core.specs.declared.value.Value.TheVariants.{Error}
 use Rattle.sheet_model.specs.Budget.{SettlesAt, IsCircular}
-use Rattle.sheet_model.specs.Sheets.{SheetValue, is_inside, place_of, cell_count}
-use Rattle.sheet_model.specs.Values.{is_circular, step, IsInput}
-use Rattle.sheet_model.specs.declared.eval.State.{State}
-use Rattle.sheet_model.specs.declared.eval.State.TheVariants.{Unseen, Open, Known}
+use Rattle.sheet_refs.specs.Sizes.{is_inside, place_of, cell_count}
+use Rattle.sheet_model.specs.Sheets.{SheetValue}
+use Rattle.formula_eval.specs.Meaning.{is_circular}
+use Rattle.sheet_model.specs.Values.{step, IsInput}
+use Rattle.sheet_model.specs.Words.{State, Unseen, Open, Known, is_plain_state}
 use Rattle.sheet_model.specs.declared.walk.Frame.{Frame}
-use Rattle.sheet_model.specs.Walks.{is_plain_state, is_known, is_unseen, known_count, work_left, closed_state, IsWalk, KeepsSeen, IsWaiting, IsClosing}
+use Rattle.sheet_model.specs.Walks.{is_known, is_unseen, known_count, work_left, closed_state, IsWalk, KeepsSeen, IsWaiting, IsClosing}
 use Rattle.sheet_model.proofs.BudgetLemmas.{circular_closed, circular_always}
 use Rattle.sheet_model.proofs.ListLemmas.{slice_get-append, slice_get-push, slice_get-pushed, count_by-map, count_by-map-le, set_same, map_same}
-use Rattle.sheet_model.proofs.SheetLemmas.{place-lt, place_same}
+use Rattle.sheet_refs.proofs.Places.{place-lt, place_same}
 use Rattle.sheet_model.proofs.ValueLemmas.{step_local, step_strict, circular_or_not, is_circular-true}
 use Rattle.sheet_model.proofs.WalkLemmas.{settles_later}
 use Rattle.sheet_model.proofs.TurnLemmas.{read_set}
@@ -39,24 +40,24 @@ closed-not_open (Known v) e = cc
 
 module _ (sheet : SheetValue) (states : List State) (frames : List Frame) (walk : IsWalk sheet states frames) where
   -- an open cell has an open input, or a circular one
-  next_open : (cell : Position) → IsWaiting sheet states frames cell → slice_get states (place_of sheet cell) ≢ Some Unseen → (c : Position) → IsTrue (is_inside sheet c) × (slice_get states (place_of sheet c) ≡ Some Open) → (d : Position) × IsInput sheet c d × ((IsTrue (is_inside sheet d) × (slice_get states (place_of sheet d) ≡ Some Open)) ⊎ IsCircular (Error Circ) (step sheet) d)
+  next_open : (cell : Position) → IsWaiting sheet states frames cell → slice_get states (place_of sheet.sizes cell) ≢ Some Unseen → (c : Position) → IsTrue (is_inside sheet.sizes c) × (slice_get states (place_of sheet.sizes c) ≡ Some Open) → (d : Position) × IsInput sheet c d × ((IsTrue (is_inside sheet.sizes d) × (slice_get states (place_of sheet.sizes d) ≡ Some Open)) ⊎ IsCircular (Error Circ) (step sheet) d)
   next_open cell waiting seen c is_open =
       elim (slice_get_cases frames (suc place.0)).1 [
         | inl there ↦ (there.0.cell, rw (← same_cell) (walk.waits place.0 place.1 there.0 place.2 there.2), inl (walk.inside (suc place.0) there.0 there.2, walk.opened (suc place.0) there.0 there.2))
         | inr past ↦ (cell, rw (← same_cell) (waiting.newest place.0 place.1 place.2 (let lt = slice_get_within frames place.0 place.1 place.2 in let le : length frames ≤ suc place.0 = past.0 in omega arith)), blocked)
       ]
     where
-      place : (i : ℕ) × (frame : Frame) × (slice_get frames i ≡ Some frame) × (place_of sheet frame.cell ≡ place_of sheet c)
-      place = walk.listed (place_of sheet c) is_open.1
+      place : (i : ℕ) × (frame : Frame) × (slice_get frames i ≡ Some frame) × (place_of sheet.sizes frame.cell ≡ place_of sheet.sizes c)
+      place = walk.listed (place_of sheet.sizes c) is_open.1
 
       same_cell : place.1.cell ≡ c
-      same_cell = place_same sheet place.1.cell c (walk.inside place.0 place.1 place.2) is_open.0 place.3
+      same_cell = place_same sheet.sizes place.1.cell c (walk.inside place.0 place.1 place.2) is_open.0 place.3
 
-      state : (s : State) × (slice_get states (place_of sheet cell) ≡ Some s)
-      state = state_at states (place_of sheet cell) (cell_count sheet) walk.count (place-lt sheet cell waiting.inside)
+      state : (s : State) × (slice_get states (place_of sheet.sizes cell) ≡ Some s)
+      state = state_at states (place_of sheet.sizes cell) (cell_count sheet.sizes) walk.count (place-lt sheet.sizes cell waiting.inside)
 
-      stop_here : (s : State) → slice_get states (place_of sheet cell) ≡ Some s → is_plain_state s ≡ false
-      stop_here s at = ap is_plain_state (sym (get_or_from_slice_get states (place_of sheet cell) s Unseen at)) ∙ rw waiting.inside at waiting.stop
+      stop_here : (s : State) → slice_get states (place_of sheet.sizes cell) ≡ Some s → is_plain_state s ≡ false
+      stop_here s at = ap is_plain_state (sym (get_or_from_slice_get states (place_of sheet.sizes cell) s Unseen at)) ∙ waiting.stop
 
       circular : (v : Value) → not (is_circular v) ≡ false → v ≡ Error Circ
       circular v test = is_circular-true v (go (is_circular v) test)
@@ -65,36 +66,35 @@ module _ (sheet : SheetValue) (states : List State) (frames : List Frame) (walk 
           go true h = refl
           go false h = cc
 
-      go : (s : State) → slice_get states (place_of sheet cell) ≡ Some s → is_plain_state s ≡ false → (IsTrue (is_inside sheet cell) × (slice_get states (place_of sheet cell) ≡ Some Open)) ⊎ IsCircular (Error Circ) (step sheet) cell
+      go : (s : State) → slice_get states (place_of sheet.sizes cell) ≡ Some s → is_plain_state s ≡ false → (IsTrue (is_inside sheet.sizes cell) × (slice_get states (place_of sheet.sizes cell) ≡ Some Open)) ⊎ IsCircular (Error Circ) (step sheet) cell
       go Unseen at stop = absurd (seen at)
       go Open at stop = inl (waiting.inside, at)
       go (Known v) at stop =
           inr (circular_always (IsInput sheet) (Error Circ) (step sheet) (step_local sheet) (step_strict sheet) circular_or_not (known_count states) cell
           (subst (λ w. SettlesAt (Error Circ) (step sheet) (known_count states) cell w) (circular v stop) (walk.settled cell v waiting.inside at)))
 
-      blocked : (IsTrue (is_inside sheet cell) × (slice_get states (place_of sheet cell) ≡ Some Open)) ⊎ IsCircular (Error Circ) (step sheet) cell
+      blocked : (IsTrue (is_inside sheet.sizes cell) × (slice_get states (place_of sheet.sizes cell) ≡ Some Open)) ⊎ IsCircular (Error Circ) (step sheet) cell
       blocked = go state.0 state.1 (stop_here state.0 state.1)
 
   -- so every open cell is circular
-  open_circular : (cell : Position) → IsWaiting sheet states frames cell → slice_get states (place_of sheet cell) ≢ Some Unseen → (c : Position) → IsTrue (is_inside sheet c) → slice_get states (place_of sheet c) ≡ Some Open → IsCircular (Error Circ) (step sheet) c
+  open_circular : (cell : Position) → IsWaiting sheet states frames cell → slice_get states (place_of sheet.sizes cell) ≢ Some Unseen → (c : Position) → IsTrue (is_inside sheet.sizes c) → slice_get states (place_of sheet.sizes c) ≡ Some Open → IsCircular (Error Circ) (step sheet) c
   open_circular cell waiting seen c inside at =
       circular_closed (IsInput sheet) (Error Circ) (step sheet) (step_local sheet) (step_strict sheet)
-      (λ d. IsTrue (is_inside sheet d) × (slice_get states (place_of sheet d) ≡ Some Open))
+      (λ d. IsTrue (is_inside sheet.sizes d) × (slice_get states (place_of sheet.sizes d) ≡ Some Open))
       (next_open cell waiting seen) c (inside, at)
 
   -- the walk goes on with all open cells known to be circular
-  pub walk_close : (cell : Position) → IsWaiting sheet states frames cell → slice_get states (place_of sheet cell) ≢ Some Unseen → IsWalk sheet (map closed_state states) []
+  pub walk_close : (cell : Position) → IsWaiting sheet states frames cell → slice_get states (place_of sheet.sizes cell) ≢ Some Unseen → IsWalk sheet (map closed_state states) []
   walk_close cell waiting seen = record {
     count = length-map states closed_state ∙ walk.count;
     settled = λ c v inside at.
-        let was = closed_read states (place_of sheet c) (Known v) at in
+        let was = closed_read states (place_of sheet.sizes c) (Known v) at in
         settled_before c v inside was.0 was.1 was.2;
     listed = λ p at. let was = closed_read states p Open at in absurd (closed-not_open was.0 was.2);
     inside = λ i frame at. absurd (cc);
     opened = λ i frame at. absurd (cc);
     once = λ i j f g lt at_i at_j. absurd (cc);
     waits = λ i f g at_i at_j. absurd (cc);
-    passed = λ i frame at. absurd (cc);
   }
     where
       more_known : known_count states ≤ known_count (map closed_state states)
@@ -105,7 +105,7 @@ module _ (sheet : SheetValue) (states : List State) (frames : List Frame) (walk 
           keeps Open e = refl
           keeps (Known v) e = refl
 
-      settled_before : (c : Position) (v : Value) → IsTrue (is_inside sheet c) → (s : State) → slice_get states (place_of sheet c) ≡ Some s → closed_state s ≡ Known v → SettlesAt (Error Circ) (step sheet) (known_count (map closed_state states)) c v
+      settled_before : (c : Position) (v : Value) → IsTrue (is_inside sheet.sizes c) → (s : State) → slice_get states (place_of sheet.sizes c) ≡ Some s → closed_state s ≡ Known v → SettlesAt (Error Circ) (step sheet) (known_count (map closed_state states)) c v
       settled_before c v inside Unseen at e = absurd (cc)
       settled_before c v inside Open at e = let same : Error Circ ≡ v = cc in λ n le. open_circular cell waiting seen c inside at n ∙ same
       settled_before c v inside (Known u) at e =
@@ -118,7 +118,7 @@ module _ (sheet : SheetValue) (states : List State) (frames : List Frame) (walk 
     count = walk.count;
     inside = walk.inside;
     listed = walk.listed;
-    closes = λ i frame at. slice_get-map closed_state states (place_of sheet frame.cell) ∙ ap (option_map closed_state) (walk.opened i frame at);
+    closes = λ i frame at. slice_get-map closed_state states (place_of sheet.sizes frame.cell) ∙ ap (option_map closed_state) (walk.opened i frame at);
   }
 
   pub work_close : 0 < length frames → work_left (map closed_state states) [] < work_left states frames
@@ -140,28 +140,28 @@ module _ (sheet : SheetValue) (states : List State) (frames : List Frame) (walk 
 
 -- closing goes on with the cell of one frame closed
 module _ (sheet : SheetValue) (states : List State) (rest : List Frame) (f : Frame) (closing : IsClosing sheet states (rest ++ f ∷ [])) where
-  here : (s : State) × (slice_get states (place_of sheet f.cell) ≡ Some s) × (closed_state s ≡ Known (Error Circ))
-  here = closed_read states (place_of sheet f.cell) (Known (Error Circ)) (closing.closes (length rest) f (slice_get-push rest f))
+  here : (s : State) × (slice_get states (place_of sheet.sizes f.cell) ≡ Some s) × (closed_state s ≡ Known (Error Circ))
+  here = closed_read states (place_of sheet.sizes f.cell) (Known (Error Circ)) (closing.closes (length rest) f (slice_get-push rest f))
 
-  pub closing_same : map closed_state (set states (place_of sheet f.cell) (Known (Error Circ))) ≡ map closed_state states
+  pub closing_same : map closed_state (set states (place_of sheet.sizes f.cell) (Known (Error Circ))) ≡ map closed_state states
   closing_same =
-      map-set closed_state states (place_of sheet f.cell) (Known (Error Circ))
-      ∙ set_same (map closed_state states) (place_of sheet f.cell) (Known (Error Circ)) (closing.closes (length rest) f (slice_get-push rest f))
+      map-set closed_state states (place_of sheet.sizes f.cell) (Known (Error Circ))
+      ∙ set_same (map closed_state states) (place_of sheet.sizes f.cell) (Known (Error Circ)) (closing.closes (length rest) f (slice_get-push rest f))
 
-  pub closing_step : IsClosing sheet (set states (place_of sheet f.cell) (Known (Error Circ))) rest
+  pub closing_step : IsClosing sheet (set states (place_of sheet.sizes f.cell) (Known (Error Circ))) rest
   closing_step = record {
-    count = length-set states (place_of sheet f.cell) (Known (Error Circ)) ∙ closing.count;
+    count = length-set states (place_of sheet.sizes f.cell) (Known (Error Circ)) ∙ closing.count;
     inside = λ i g at. closing.inside i g (slice_get-append rest (f ∷ []) i g at);
     listed = λ q at.
-        elim (read_set states (place_of sheet f.cell) q here.0 (Known (Error Circ)) Open here.1 at) [
+        elim (read_set states (place_of sheet.sizes f.cell) q here.0 (Known (Error Circ)) Open here.1 at) [
           | inl same ↦ absurd (let no = same.1 in cc)
           | inr other ↦ (let l = closing.listed q other.1 in
               elim (slice_get-pushed rest f l.0 l.1 l.2) [
                 | inl old ↦ (l.0, l.1, old, l.3)
-                | inr last ↦ absurd (other.0 (sym l.3 ∙ ap (λ (g : Frame). place_of sheet g.cell) (sym last.1)))
+                | inr last ↦ absurd (other.0 (sym l.3 ∙ ap (λ (g : Frame). place_of sheet.sizes g.cell) (sym last.1)))
               ])
         ];
-    closes = λ i g at. ap (λ states. slice_get states (place_of sheet g.cell)) closing_same ∙ closing.closes i g (slice_get-append rest (f ∷ []) i g at);
+    closes = λ i g at. ap (λ states. slice_get states (place_of sheet.sizes g.cell)) closing_same ∙ closing.closes i g (slice_get-append rest (f ∷ []) i g at);
   }
 
 pub closing_end : (sheet : SheetValue) (states : List State) → IsClosing sheet states [] → states ≡ map closed_state states

@@ -1,17 +1,24 @@
 -- A step is circular only where an input is.
-use Rattle.std.proofs.Common.{◌≡◌, ◌≢◌, ℕ, zero, suc, ◌⊎◌, inl, inr, List, [], ◌∷◌, ◌++◌, slice_get, Some, Bool, true, false, cond, ◌||◌, IsTrue, refl, sym, ◌∙◌, ap, subst}
-use Rattle.std.specs.Prelude.{ℤ, Result, Ok, Err, int_le, ◌&&◌, ◌+ℤ◌}
+use Rattle.std.proofs.Common.{◌≡◌, zero, suc, List, [], ◌∷◌, Bool, true, false, IsTrue, refl, sym, ◌∙◌, ap, arith}
 use Rattle.std.specs.List.{list_any}
-use Rattle.sheet_refs.specs.Cells.{Position}
-use Rattle.value_core.specs.declared.value.ErrorKind.{ErrorKind}
-use Rattle.value_core.specs.declared.value.ErrorKind.TheVariants.{Num, Circ}
+use Rattle.std.proofs.lemmas.Option.{slice_get_within}
+use Rattle.sheet_refs.specs.Cells.{Position, Corners, IsIn, cells_of}
+use Rattle.sheet_refs.specs.Ends.{Reference, corners_of}
+use Rattle.sheet_refs.specs.Sizes.{is_inside, cell_of_place}
+use Rattle.sheet_refs.specs.declared.sizes.Sizes.{Sizes}
+use Rattle.sheet_refs.proofs.Places.{range_place}
+use Rattle.value_core.specs.declared.value.ErrorKind.TheVariants.{Circ}
 use Rattle.value_core.specs.declared.value.Value.{Value}
-use Rattle.value_core.specs.declared.value.Value.TheVariants.{Empty, Number, Truth, Error, Label}
-use Rattle.sum_syntax.specs.Tree.{Tree, number, reference, binary, references_of}
+use Rattle.value_core.specs.declared.value.Value.TheVariants.{Empty, Error}
+use Rattle.value_core.specs.Conversions.{never_empty}
+use Rattle.formula_syntax.specs.Tree.{references_of}
+use Rattle.formula_eval.specs.Inputs.{within}
+use Rattle.formula_eval.specs.Meaning.{is_circular, has_circular, meaning, IsNamedBy}
 use Rattle.sheet_model.specs.Budget.{IsHonest, StandsIn}
-use Rattle.sheet_model.specs.Sheets.{SheetValue, ContentValue, Constant, Computed, is_inside, content_of}
-use Rattle.sheet_model.specs.Values.{as_number, sum_of, meaning, never_empty, is_circular, values_within, step_content, step, content_references, IsInput, HasNoCircularConstant}
-use Rattle.sheet_model.proofs.ValueLemmas.{StandsIn-left, StandsIn-right, is_circular-true}
+use Rattle.sheet_model.specs.Sheets.{SheetValue, ContentValue, Constant, Computed, content_of}
+use Rattle.sheet_model.specs.Values.{step_content, step, content_references, IsInput, WritesNoCircular, HasNoCircularContent}
+use Rattle.formula_eval.proofs.CircularMeaning.{value_plain}
+use Rattle.sheet_model.proofs.ValueLemmas.{is_circular-true}
 
 -- where a list has an element that passes, one is found
 any_found : {A : Type 0} (p : A → Bool) (xs : List A) → list_any p xs ≡ true → (x : A) × StandsIn xs x × (p x ≡ true)
@@ -24,74 +31,46 @@ any_found {A} p (x ∷ xs) some = by_test (p x) refl (any_found p xs)
         let (y, stands, passes) = later (rw same at some) in
         (y, (suc stands.0, stands.1), passes)
 
--- a number in range, or out of it, is not circular
-number_or_num : (test : Bool) (n : ℤ) → cond test (Number n) (Error Num) ≢ Error Circ
-number_or_num true n same = cc
-number_or_num false n same = cc
+-- what stands among the cells of a range lies in it
+cell_within : (range : Corners) (cell : Position) → StandsIn (cells_of range) cell → IsIn cell range
+cell_within range cell stands =
+    let k = stands.0 in
+    let place = range_place range k (slice_get_within (cells_of range) k cell stands.1) in
+    let here : cell_of_place range k ≡ cell = (let e = place.cell in let f = stands.1 in cc) in
+    let inside : IsIn (cell_of_place range k) range = record { row_from = omega arith; row_to = omega (arith, place.row); col_from = omega arith; col_to = omega (arith, place.col) } in
+    rw here at inside
 
--- as a number, only the circular value is the circular error
-circular_operand : (value : Value) → as_number value ≡ Err Circ → value ≡ Error Circ
-circular_operand Empty same = cc
-circular_operand (Number n) same = cc
-circular_operand (Truth false) same = cc
-circular_operand (Truth true) same = cc
-circular_operand (Error kind) same = cc
-circular_operand (Label place) same = cc
+-- a circular cell that references name, where there is one
+circular_found : (values : Position → Value) (references : List Reference) → has_circular values references ≡ true → (cell : Position) × IsNamedBy references cell × (values cell ≡ Error Circ)
+circular_found values references some =
+    let (r, listed, passes) = any_found (λ (r : Reference). list_any (λ c. is_circular (values c)) (cells_of (corners_of r))) references some in
+    let (cell, stands, circular) = any_found (λ (c : Position). is_circular (values c)) (cells_of (corners_of r)) passes in
+    (cell, record { through = r; place = listed.0; listed = listed.1; inside = cell_within (corners_of r) cell stands }, is_circular-true (values cell) circular)
 
-circular_sum : (left right : Result ℤ ErrorKind) → sum_of left right ≡ Error Circ → (left ≡ Err Circ) ⊎ (right ≡ Err Circ)
-circular_sum (Err kind) right same = inl cc
-circular_sum (Ok a) (Err kind) same = inr cc
-circular_sum (Ok a) (Ok b) same = absurd (number_or_num _ (a +ℤ b) same)
-
--- a formula has a circular meaning only where a reference has the circular value
-meaning_honest : (values : Position → Value) (formula : Tree) → meaning values formula ≡ Error Circ → (cell : Position) × StandsIn (references_of formula) cell × (values cell ≡ Error Circ)
-meaning_honest values (number n) same = absurd (cc)
-meaning_honest values (reference cell) same = (cell, (zero, refl), same)
-meaning_honest values (binary op left right) same =
-    either (circular_sum (as_number (meaning values left)) (as_number (meaning values right)) same) (meaning_honest values left) (meaning_honest values right)
-  where
-    either : (as_number (meaning values left) ≡ Err Circ) ⊎ (as_number (meaning values right) ≡ Err Circ) → (meaning values left ≡ Error Circ → (cell : Position) × StandsIn (references_of left) cell × (values cell ≡ Error Circ)) → (meaning values right ≡ Error Circ → (cell : Position) × StandsIn (references_of right) cell × (values cell ≡ Error Circ)) → (cell : Position) × StandsIn (references_of (binary op left right)) cell × (values cell ≡ Error Circ)
-    either (inl on_left) in_left in_right =
-        let (cell, stands, circular) = in_left (circular_operand (meaning values left) on_left) in
-        (cell, StandsIn-left (references_of left) (references_of right) cell stands, circular)
-    either (inr on_right) in_left in_right =
-        let (cell, stands, circular) = in_right (circular_operand (meaning values right) on_right) in
-        (cell, StandsIn-right (references_of left) (references_of right) cell stands, circular)
-
-not_made_circular : (value : Value) → never_empty value ≡ Error Circ → value ≡ Error Circ
-not_made_circular Empty same = cc
-not_made_circular (Number n) same = same
-not_made_circular (Truth b) same = same
-not_made_circular (Error kind) same = same
-not_made_circular (Label place) same = same
-
-module _ (sheet : SheetValue) where
-  -- a circular reference is to a cell of the rectangle
-  circular_inside : (values : Position → Value) (cell : Position) → values_within sheet values cell ≡ Error Circ → IsTrue (is_inside sheet cell) × (values cell ≡ Error Circ)
-  circular_inside values cell same = by_test (is_inside sheet cell) refl
+module _ (sizes : Sizes) (values : Position → Value) where
+  -- a cell whose value is circular in the rectangle lies in it
+  circular_inside : (cell : Position) → within sizes values cell ≡ Error Circ → IsTrue (is_inside sizes cell) × (values cell ≡ Error Circ)
+  circular_inside cell same = by_test (is_inside sizes cell) refl
     where
-      by_test : (test : Bool) → is_inside sheet cell ≡ test → IsTrue (is_inside sheet cell) × (values cell ≡ Error Circ)
+      by_test : (test : Bool) → is_inside sizes cell ≡ test → IsTrue (is_inside sizes cell) × (values cell ≡ Error Circ)
       by_test true inside = (inside, rw inside at same)
       by_test false outside = absurd (let no : Empty ≡ Error Circ = rw outside at same in cc)
 
-  circular_reference : (values : Position → Value) (formula : Tree) → step_content sheet values (Computed formula) ≡ Error Circ → (cell : Position) × StandsIn (references_of formula) cell × (values_within sheet values cell ≡ Error Circ)
-  circular_reference values formula same = by_test (list_any (λ cell. is_circular (values_within sheet values cell)) (references_of formula)) refl
+  content_honest : (content : ContentValue) → WritesNoCircular content → step_content sizes values content ≡ Error Circ → (cell : Position) × IsNamedBy (content_references content) cell × IsTrue (is_inside sizes cell) × (values cell ≡ Error Circ)
+  content_honest (Constant value) differs same = absurd (differs same)
+  content_honest (Computed formula) fits same = by_test (has_circular (within sizes values) (references_of formula)) refl
     where
-      by_test : (test : Bool) → list_any (λ cell. is_circular (values_within sheet values cell)) (references_of formula) ≡ test → (cell : Position) × StandsIn (references_of formula) cell × (values_within sheet values cell ≡ Error Circ)
+      by_test : (test : Bool) → has_circular (within sizes values) (references_of formula) ≡ test → (cell : Position) × IsNamedBy (references_of formula) cell × IsTrue (is_inside sizes cell) × (values cell ≡ Error Circ)
       by_test true some =
-          let (cell, stands, circular) = any_found (λ (cell : Position). is_circular (values_within sheet values cell)) (references_of formula) some in
-          (cell, stands, is_circular-true (values_within sheet values cell) circular)
+          let (cell, named, circular) = circular_found (within sizes values) (references_of formula) some in
+          let (inside, value) = circular_inside cell circular in
+          (cell, named, inside, value)
       by_test false none =
-          meaning_honest (values_within sheet values) formula (not_made_circular (meaning (values_within sheet values) formula) (rw none at same))
+          let here : never_empty (meaning (within sizes values) formula) ≡ Error Circ = rw none at same in
+          absurd (let no : is_circular (Error Circ) ≡ false = ap is_circular (sym here) ∙ value_plain (within sizes values) formula fits none in cc)
 
-  content_honest : (values : Position → Value) (content : ContentValue) → content ≢ Constant (Error Circ) → step_content sheet values content ≡ Error Circ → (cell : Position) × StandsIn (content_references content) cell × IsTrue (is_inside sheet cell) × (values cell ≡ Error Circ)
-  content_honest values (Constant value) differs same = absurd (differs (ap Constant same))
-  content_honest values (Computed formula) differs same =
-      let (cell, stands, circular) = circular_reference values formula same in
-      let (inside, value) = circular_inside values cell circular in
-      (cell, stands, inside, value)
-
-  pub step_honest : HasNoCircularConstant sheet → IsHonest (IsInput sheet) (Error Circ) (step sheet)
+module _ (sheet : SheetValue) where
+  pub step_honest : HasNoCircularContent sheet → IsHonest (IsInput sheet) (Error Circ) (step sheet)
   step_honest plain c values same =
-      let (cell, stands, inside, circular) = content_honest values (content_of sheet c) (plain c) same in
-      (cell, record { referred = stands; inside = inside }, circular)
+      let (cell, named, inside, circular) = content_honest sheet.sizes values (content_of sheet c) (plain c) same in
+      (cell, record { named = named; inside = inside }, circular)

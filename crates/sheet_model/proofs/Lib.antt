@@ -1,15 +1,21 @@
 pub mod BudgetLemmas
+pub mod ContentLemmas
 pub mod CycleLemmas
 pub mod FieldLemmas
 pub mod HonestLemmas
+pub mod LabelLemmas
+pub mod LeftLemmas
 pub mod ListLemmas
+pub mod LookLemmas
 pub mod LoopLemmas
-pub mod PlainLemmas
-pub mod RecordLemmas
+pub mod PartLemmas
 pub mod ResultLemmas
 pub mod SameSheets
 pub mod SheetLemmas
+pub mod StepLemmas
+pub mod TableLemmas
 pub mod TurnLemmas
 pub mod ValueLemmas
 pub mod WalkLemmas
+pub mod WordLemmas
 mod WorkedRows

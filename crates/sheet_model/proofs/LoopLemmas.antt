@@ -1,6 +1,6 @@
 -- The values of cells that lead into a cycle, and of cells on which two steps agree.
-use Rattle.std.proofs.Common.{◌≡◌, ◌≢◌, ℕ, zero, suc, ◌+◌, ◌<◌, ◌≤◌, ◌⊎◌, inl, inr, List, [], ◌∷◌, ◌++◌, length, slice_get, Some, refl, sym, ◌∙◌, ap, subst, arith, length-append}
-use Rattle.std.specs.Prelude.{Bool, true, false, ◌==◌, ◌↔◌}
+use Rattle.std.proofs.Common.{◌≡◌, ◌≢◌, ℕ, zero, suc, ◌+◌, ◌<◌, ◌⊎◌, inl, inr, List, [], ◌∷◌, ◌++◌, length, slice_get, Some, refl, sym, subst, arith, length-append}
+use Rattle.std.specs.Prelude.{Bool, true, false, ◌==◌}
 use Rattle.std.proofs.lemmas.Bool.Decides.{nat_tests}
 use Rattle.sheet_model.specs.Budget.{IsLocal, IsStrict, IsHonest, ev, IsCircular, Leads, LeadsIntoCycle, AgreeOn}
 use Rattle.sheet_model.specs.Budget.Leads.{one_step, and_on}

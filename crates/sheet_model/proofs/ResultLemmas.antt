@@ -1,50 +1,61 @@
 -- What a walk that is done tells: the value of each cell.
-use Rattle.std.proofs.Common.{◌≡◌, suc, ◌≤◌, inl, inr, List, [], length, map, slice_get, Some, IsTrue, option_map, sym, ◌∙◌, ap, subst, arith}
+use Rattle.std.proofs.Common.{◌≡◌, ℕ, suc, ◌≤◌, inl, inr, List, [], length, slice_get, Some, IsTrue, option_map, sym, ◌∙◌, ap, subst, arith}
 use Rattle.std.proofs.lemmas.List.{length-map}
 use Rattle.std.proofs.lemmas.List.Sums.{count_by-le-length}
-use Rattle.std.proofs.lemmas.Option.{slice_get-map, slice_get_cases, slice_get_within, get_or_from_slice_get}
-use Rattle.std.specs.List.{All}
+use Rattle.std.proofs.lemmas.Option.{slice_get_cases, slice_get-map}
 use Rattle.sheet_refs.specs.Cells.{Position}
+use Rattle.sheet_refs.specs.Sizes.{is_inside, place_of, cell_count}
+use Rattle.sheet_refs.proofs.Places.{place-lt}
 use Rattle.value_core.specs.declared.value.Value.{Value}
 use Rattle.value_core.specs.Values.{IsValue, code_of}
-use Rattle.sheet_model.specs.Sheets.{SheetValue, is_inside, place_of, cell_count}
+use Rattle.sheet_model.specs.Sheets.{SheetValue}
 use Rattle.sheet_model.specs.Values.{value_of, AreValues}
-use Rattle.sheet_model.specs.declared.eval.State.{State}
-use Rattle.sheet_model.specs.declared.eval.State.TheVariants.{Unseen, Open, Known}
-use Rattle.sheet_model.specs.Walks.{known_value, is_known, known_count, IsWalk, SeenBelow}
-use Rattle.sheet_model.proofs.SheetLemmas.{place-lt}
+use Rattle.sheet_model.specs.Walks.{is_known, known_count, IsWalk, SeenBelow}
+use Rattle.sheet_model.specs.Words.{State, Unseen, Open, Known, state_of, states_of, AreWords}
 
-module _ (sheet : SheetValue) (states : List State) (walk : IsWalk sheet states []) (seen : SeenBelow states (cell_count sheet)) where
+module _ (sheet : SheetValue) (states : List State) (walk : IsWalk sheet states []) (seen : SeenBelow states (cell_count sheet.sizes)) where
   -- a seen cell is known where none is open, and its value is what the sheet gives
-  pub value_known : (cell : Position) → IsTrue (is_inside sheet cell) → (v : Value) × (slice_get states (place_of sheet cell) ≡ Some (Known v)) × (value_of sheet cell ≡ v)
+  pub value_known : (cell : Position) → IsTrue (is_inside sheet.sizes cell) → (v : Value) × (slice_get states (place_of sheet.sizes cell) ≡ Some (Known v)) × (value_of sheet cell ≡ v)
   unfolding value_of
   value_known cell inside =
-      elim (slice_get_cases states (place_of sheet cell)).1 [
+      elim (slice_get_cases states (place_of sheet.sizes cell)).1 [
         | inl there ↦ go there.0 there.2
-        | inr past ↦ absurd (let lt = place-lt sheet cell inside in let e = walk.count in let le : length states ≤ place_of sheet cell = past.0 in omega arith)
+        | inr past ↦ absurd (let lt = place-lt sheet.sizes cell inside in let e = walk.count in let le : length states ≤ place_of sheet.sizes cell = past.0 in omega arith)
       ]
     where
-      enough : known_count states ≤ suc (cell_count sheet)
+      enough : known_count states ≤ suc (cell_count sheet.sizes)
       enough = let most = count_by-le-length is_known states in let e = walk.count in omega arith
 
-      go : (s : State) → slice_get states (place_of sheet cell) ≡ Some s → (v : Value) × (slice_get states (place_of sheet cell) ≡ Some (Known v)) × (value_of sheet cell ≡ v)
-      go Unseen at = absurd (seen (place_of sheet cell) (place-lt sheet cell inside) at)
-      go Open at = absurd (let l = walk.listed (place_of sheet cell) at in let no = l.2 in cc)
-      go (Known v) at = (v, at, walk.settled cell v inside at (suc (cell_count sheet)) enough)
+      go : (s : State) → slice_get states (place_of sheet.sizes cell) ≡ Some s → (v : Value) × (slice_get states (place_of sheet.sizes cell) ≡ Some (Known v)) × (value_of sheet cell ≡ v)
+      go Unseen at = absurd (seen (place_of sheet.sizes cell) (place-lt sheet.sizes cell inside) at)
+      go Open at = absurd (let l = walk.listed (place_of sheet.sizes cell) at in let no = l.2 in cc)
+      go (Known v) at = (v, at, walk.settled cell v inside at (suc (cell_count sheet.sizes)) enough)
 
-  -- so the codes of the known values are those of the sheet's values
-  pub codes_known : All (λ s. IsValue (known_value s)) states → AreValues sheet (map (λ s. code_of (known_value s)) states)
-  codes_known in_range = record {
-    count = length-map states (λ s. code_of (known_value s)) ∙ walk.count;
-    each = λ cell inside.
-        let known = value_known cell inside in
-        slice_get-map (λ s. code_of (known_value s)) states (place_of sheet cell)
-        ∙ ap (option_map (λ s. code_of (known_value s))) known.1
-        ∙ ap (λ v. Some (code_of v)) (sym known.2);
-    values = λ cell inside.
-        let known = value_known cell inside in
-        let place = place_of sheet cell in
-        let at = get_or_from_slice_get states place (Known known.0) Unseen known.1 in
-        let below = slice_get_within states place (Known known.0) known.1 in
-        rw known.2 (subst (λ (s : State). IsValue (known_value s)) at (in_range place Unseen below));
+-- so the words are the codes of the sheet's values
+module _ (sheet : SheetValue) (words : List ℕ) (are : AreWords words) (walk : IsWalk sheet (states_of words) []) (seen : SeenBelow (states_of words) (cell_count sheet.sizes)) where
+  word_known : (cell : Position) → IsTrue (is_inside sheet.sizes cell) → IsValue (value_of sheet cell) × (slice_get words (place_of sheet.sizes cell) ≡ Some (code_of (value_of sheet cell)))
+  word_known cell inside =
+      elim (slice_get_cases words place).1 [
+        | inl there ↦ by_word there.0 there.2
+        | inr past ↦ absurd (let lt = place-lt sheet.sizes cell inside in let e = walk.count in let m = length-map words state_of in let le : length words ≤ place = past.0 in omega arith)
+      ]
+    where
+      place : ℕ
+      place = place_of sheet.sizes cell
+
+      known : (v : Value) × (slice_get (states_of words) place ≡ Some (Known v)) × (value_of sheet cell ≡ v)
+      known = value_known sheet (states_of words) walk seen cell inside
+
+      by_word : (word : ℕ) → slice_get words place ≡ Some word → IsValue (value_of sheet cell) × (slice_get words place ≡ Some (code_of (value_of sheet cell)))
+      by_word word at =
+          let state : Some (state_of word) ≡ Some (Known known.0) = sym (slice_get-map state_of words place ∙ ap (option_map state_of) at) ∙ known.1 in
+          let same : state_of word ≡ Known known.0 = cc in
+          let is = are place word at known.0 same in
+          (subst IsValue (sym known.2) is.0, at ∙ ap Some (sym is.1) ∙ ap (λ v. Some (code_of v)) (sym known.2))
+
+  pub words_are_values : AreValues sheet words
+  words_are_values = record {
+    count = sym (length-map words state_of) ∙ walk.count;
+    each = λ cell inside. (word_known cell inside).1;
+    values = λ cell inside. (word_known cell inside).0;
   }

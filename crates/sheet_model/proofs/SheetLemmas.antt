@@ -1,47 +1,25 @@
--- Places of cells in a sheet.
-use Rattle.std.proofs.Common.{◌≡◌, ◌≢◌, ℕ, zero, suc, ◌-◌, ◌*◌, ◌<◌, ◌≤◌, ◌∷◌, map, replicate, Bool, cond, length, get_or, IsTrue, true, false, refl, ◌∙◌, ap, arith, length-set, get_or-set_same, get_or-set_other}
-use Rattle.std.proofs.lemmas.List.{length-replicate}
-use Rattle.std.proofs.lemmas.Bool.Decides.{nat_tests}
-use Rattle.std.proofs.lemmas.Nat.{rows, same_from_place}
+-- What a sheet keeps, and what a change does to it.
+use Rattle.std.proofs.Common.{◌≡◌, ◌≢◌, ℕ, zero, suc, ◌+◌, ◌-◌, ◌*◌, ◌^◌, ◌<◌, ◌≤◌, List, [], ◌∷◌, ◌++◌, map, replicate, Bool, cond, length, get_or, IsTrue, true, false, refl, sym, ◌∙◌, ap, subst, arith, length-set, length-append, get_or-set_same, get_or-set_other, inl, inr, Result, Ok, Err}
+use Rattle.std.specs.Prelude.{All, AllPairs, OnOk, OnErr}
+use Rattle.std.specs.List.{list_any}
+use Rattle.std.specs.Str.{bytes_eq}
+use Rattle.std.proofs.Math.ListN.{get_or-map}
+use Rattle.std.proofs.lemmas.Grind.{common_steps}
+use Rattle.std.proofs.lemmas.List.{length-replicate, map-set, length-map}
+use Rattle.std.proofs.lemmas.List.Elements.{All-set, All-replicate}
+use Rattle.std.proofs.lemmas.Option.{slice_get_within}
 use Rattle.sheet_refs.specs.Cells.{Position}
-use Rattle.value_core.specs.declared.value.Value.TheVariants.{Empty}
-use Rattle.sheet_model.specs.Sheets.{SheetValue, ContentValue, Constant, IsSheetSize, IsFilled, is_inside, place_of, cell_count, content_of, with_content, blank_sheet}
-
--- where a position in the rectangle lies
-pub record IsInside (sheet : SheetValue) (cell : Position) : Type 0 where
-  pub row_from : 1 ≤ cell.row
-  pub row_to : cell.row ≤ sheet.rows
-  pub col_from : 1 ≤ cell.col
-  pub col_to : cell.col ≤ sheet.cols
-
-pub inside_bounds : (sheet : SheetValue) (cell : Position) → IsTrue (is_inside sheet cell) → IsInside sheet cell
-inside_bounds sheet cell inside = record {
-  row_from = grind (arith, nat_tests);
-  row_to = grind (arith, nat_tests);
-  col_from = grind (arith, nat_tests);
-  col_to = grind (arith, nat_tests);
-}
-
-pub inside_from : (sheet : SheetValue) (cell : Position) → IsInside sheet cell → IsTrue (is_inside sheet cell)
-inside_from sheet cell bounds = grind (arith, nat_tests)
-
--- the place of a cell in the rectangle is below the number of cells
-pub place-lt : (sheet : SheetValue) (cell : Position) → IsTrue (is_inside sheet cell) → place_of sheet cell < cell_count sheet
-place-lt sheet cell inside =
-    let bounds = inside_bounds sheet cell inside in
-    let row_lt : cell.row - 1 < sheet.rows = omega arith in
-    let col_lt : cell.col - 1 < sheet.cols = omega arith in
-    grind (arith, rows)
-
--- two cells in the rectangle at one place are one cell
-pub place_same : (sheet : SheetValue) (a b : Position) → IsTrue (is_inside sheet a) → IsTrue (is_inside sheet b) → place_of sheet a ≡ place_of sheet b → a ≡ b
-place_same sheet a b a_inside b_inside same =
-    let a_bounds = inside_bounds sheet a a_inside in
-    let b_bounds = inside_bounds sheet b b_inside in
-    let parts = same_from_place (a.row - 1) (a.col - 1) (b.row - 1) (b.col - 1) sheet.cols (omega arith) (omega arith) same in
-    let row_same : a.row ≡ b.row = omega arith in
-    let col_same : a.col ≡ b.col = omega arith in
-    λ i. record { row = row_same i; col = col_same i }
+use Rattle.sheet_refs.specs.declared.sizes.Sizes.{Sizes}
+use Rattle.sheet_refs.specs.Sizes.{is_inside, cell_count, place_of}
+use Rattle.sheet_refs.proofs.Places.{place-lt, place_same}
+use Rattle.value_core.specs.declared.value.ErrorKind.TheVariants.{Circ}
+use Rattle.value_core.specs.declared.value.Value.TheVariants as value
+use Rattle.sheet_model.specs.Fields.{IsContent, IsTableAfter}
+use Rattle.sheet_model.specs.Fields.IsTableAfter.{label, other}
+use Rattle.sheet_model.specs.declared.content.Content.{Content}
+use Rattle.sheet_model.specs.Labels.{IsTable, with_label}
+use Rattle.sheet_model.specs.Sheets.{SheetValue, ContentValue, Constant, Computed, HasLabel, IsWritten, IsHeld, IsSheet, IsSheetSize, content_of, content_value, blank_sheet, with_content, with_labels}
+use Rattle.sheet_model.proofs.LabelLemmas.{length-with_label, distinct-with_label, get-with_label}
 
 -- a function of each of many copies
 pub map-replicate : {A B : Type 0} (f : A → B) (n : ℕ) (x : A) → map f (replicate n x) ≡ replicate n (f x)
@@ -49,37 +27,122 @@ map-replicate f zero x = refl
 map-replicate f (suc n) x = ap (λ xs. f x ∷ xs) (map-replicate f n x)
 
 -- a copy, or the same by default past the last one
-get_or-replicate_default : {A : Type 0} (n i : ℕ) (x : A) → get_or (replicate n x) i x ≡ x
+pub get_or-replicate_default : {A : Type 0} (n i : ℕ) (x : A) → get_or (replicate n x) i x ≡ x
 get_or-replicate_default zero i x = refl
 get_or-replicate_default (suc n) zero x = refl
 get_or-replicate_default (suc n) (suc i) x = get_or-replicate_default n i x
 
-module _ (sheet : SheetValue) (cell : Position) (content : ContentValue) (inside : IsTrue (is_inside sheet cell)) where
-  -- after a write a cell has what was written to it, and every other cell what it had
-  pub content_of-same : IsFilled sheet → content_of (with_content sheet cell content) cell ≡ content
-  content_of-same filled =
-      let lt = place-lt sheet cell inside in
-      let within : place_of sheet cell < length sheet.contents = (let e = filled.filled in omega arith) in
-      rw (inside, get_or-set_same sheet.contents (place_of sheet cell) content (Constant Empty) within) refl
+-- an empty cell may stand beside any table
+pub held_empty : (labels : ℕ) → IsHeld labels (Constant value.Empty)
+held_empty labels = record { label = tt; written = λ e. cc }
 
-  pub content_of-other : (other : Position) → other ≢ cell → content_of (with_content sheet cell content) other ≡ content_of sheet other
-  content_of-other other differs = go (is_inside sheet other) refl
+-- what may stand beside a table may stand beside a longer one
+pub HasLabel-more : (fewer more : ℕ) (content : ContentValue) → fewer ≤ more → HasLabel fewer content → HasLabel more content
+HasLabel-more fewer more (Constant value.Empty) grown has = tt
+HasLabel-more fewer more (Constant (value.Number n)) grown has = tt
+HasLabel-more fewer more (Constant (value.Truth b)) grown has = tt
+HasLabel-more fewer more (Constant (value.Error kind)) grown has = tt
+HasLabel-more fewer more (Constant (value.Label place)) grown has = omega (arith, grown, has)
+HasLabel-more fewer more (Computed tree) grown has = tt
+
+pub IsHeld-more : (fewer more : ℕ) (content : ContentValue) → fewer ≤ more → IsHeld fewer content → IsHeld more content
+IsHeld-more fewer more content grown held = record { label = HasLabel-more fewer more content grown held.label; written = held.written }
+
+-- what a text writes may stand beside the table
+pub held_content : (labels : List (List ℕ)) (text : List ℕ) (content : ContentValue) → IsContent labels text content → IsHeld (length labels) content
+held_content labels text (Constant value.Empty) is = record { label = tt; written = λ e. cc }
+held_content labels text (Constant (value.Number n)) is = record { label = tt; written = λ e. cc }
+held_content labels text (Constant (value.Truth b)) is = record { label = tt; written = λ e. cc }
+held_content labels text (Constant (value.Error kind)) is = record { label = tt; written = λ e. elim is [ inl named ↦ named.written cc | inr faulty ↦ let k = faulty.0 in cc ] }
+held_content labels text (Constant (value.Label place)) is = record { label = slice_get_within labels place text is.1; written = λ e. cc }
+held_content labels text (Computed tree) is = record { label = tt; written = λ e. cc }
+
+-- a table after a field has been read
+pub grown_table : (text : List ℕ) (old new : List (List ℕ)) → IsTableAfter text old new → length old ≤ length new
+grown_table text _ _ (label _ old new is e) = let g = length-with_label old text in let l = g.0 in rw e l
+grown_table text _ _ (other _ old new is e) = rw e (omega arith)
+
+pub table_after : (text : List ℕ) (old new : List (List ℕ)) → length old < 2 ^ 32 - 1 → IsTable old → IsTableAfter text old new → IsTable new
+table_after text _ _ room table (label _ old new is e) =
+    let g = length-with_label old text in
+    let most = g.1 in
+    rw e (record { distinct = distinct-with_label old text table.distinct; few = omega (arith, most, room) })
+table_after text _ _ room table (other _ old new is e) = rw e table
+
+-- a sheet with a longer table
+pub sheet_with_labels : (sheet : SheetValue) (labels : List (List ℕ)) → IsSheet sheet → IsTable labels → length sheet.labels ≤ length labels → IsSheet (with_labels sheet labels)
+sheet_with_labels sheet labels is table grown = record {
+  size = is.size;
+  filled = is.filled;
+  table = table;
+  held = λ k d within. IsHeld-more (length sheet.labels) (length labels) (get_or sheet.contents k d) grown (is.held k d within);
+}
+
+-- a sheet with another content in a cell
+pub sheet_with_content : (sheet : SheetValue) (cell : Position) (content : ContentValue) → IsSheet sheet → IsHeld (length sheet.labels) content → IsSheet (with_content sheet cell content)
+sheet_with_content sheet cell content is held = record {
+  size = is.size;
+  filled = length-set sheet.contents (place_of sheet.sizes cell) content ∙ is.filled;
+  table = is.table;
+  held = All-set (IsHeld (length sheet.labels)) sheet.contents (place_of sheet.sizes cell) content held is.held;
+}
+
+-- a blank sheet
+pub sheet_blank : (sizes : Sizes) → IsSheetSize sizes → IsSheet (blank_sheet sizes)
+sheet_blank sizes size = record {
+  size = size;
+  filled = length-replicate (cell_count sizes) (Constant value.Empty);
+  table = record { distinct = λ i j d before within. absurd (omega (arith, within)); few = omega arith };
+  held = All-replicate (IsHeld 0) (cell_count sizes) (Constant value.Empty) (held_empty 0);
+}
+
+-- each content of a sheet may stand beside its table
+pub held_at : (labels : ℕ) (contents : List Content) (place : ℕ) (found : Content) → All (IsHeld labels) (map content_value contents) → place < length (map content_value contents) → found ≡ get_or contents place found → IsHeld labels (content_value found)
+held_at labels contents place found held within at =
+    subst (IsHeld labels) (get_or-map content_value contents place found ∙ ap content_value (sym at)) (held place (content_value found) within)
+
+-- what reading a field leaves, whatever it answers
+pub table_read : {A E : Type 0} (result : Result A E) (text : List ℕ) (old new : List (List ℕ)) → length old < 2 ^ 32 - 1 → IsTable old
+    → OnOk result (IsTableAfter text old new) → OnErr result (new ≡ old) → IsTable new × (length old ≤ length new)
+table_read (Ok x) text old new room table after refused = (table_after text old new room table after, grown_table text old new after)
+table_read (Err e) text old new room table after refused = rw refused (table, omega arith)
+
+pub on_ok : {A E : Type 0} (result : Result A E) (P : Type 0) → P → OnOk result P
+on_ok (Ok x) P holds = holds
+on_ok (Err e) P holds = tt
+
+module _ (sheet : SheetValue) (cell : Position) (content : ContentValue) (inside : IsTrue (is_inside sheet.sizes cell)) where
+  -- after a write a cell has what was written to it, and every other cell what it had
+  pub content_of-same : IsSheet sheet → content_of (with_content sheet cell content) cell ≡ content
+  content_of-same is =
+      let lt = place-lt sheet.sizes cell inside in
+      let within : place_of sheet.sizes cell < length sheet.contents = (let e = is.filled in omega arith) in
+      rw (inside, get_or-set_same sheet.contents (place_of sheet.sizes cell) content (Constant value.Empty) within) refl
+
+  pub content_of-other : (another : Position) → another ≢ cell → content_of (with_content sheet cell content) another ≡ content_of sheet another
+  content_of-other another differs = go (is_inside sheet.sizes another) refl
     where
-      go : (b : Bool) → is_inside sheet other ≡ b → content_of (with_content sheet cell content) other ≡ content_of sheet other
-      go true is = let apart : place_of sheet other ≢ place_of sheet cell = λ same. differs (place_same sheet other cell is inside same) in
-          rw (is, get_or-set_other sheet.contents (place_of sheet cell) (place_of sheet other) content (Constant Empty) apart) refl
+      go : (b : Bool) → is_inside sheet.sizes another ≡ b → content_of (with_content sheet cell content) another ≡ content_of sheet another
+      go true is = let apart : place_of sheet.sizes another ≢ place_of sheet.sizes cell = λ same. differs (place_same sheet.sizes another cell is inside same) in
+          rw (is, get_or-set_other sheet.contents (place_of sheet.sizes cell) (place_of sheet.sizes another) content (Constant value.Empty) apart) refl
       go false is = rw is refl
 
-  pub IsFilled-with_content : IsFilled sheet → IsFilled (with_content sheet cell content)
-  IsFilled-with_content filled = record { size = filled.size; filled = length-set sheet.contents (place_of sheet cell) content ∙ filled.filled }
-
--- a blank sheet is filled with empty cells
-pub IsFilled-blank : (rows cols : ℕ) → IsSheetSize rows cols → IsFilled (blank_sheet rows cols)
-IsFilled-blank rows cols size = record { size = size; filled = length-replicate (rows * cols) (Constant Empty) }
-
-pub content_of-blank : (rows cols : ℕ) (cell : Position) → content_of (blank_sheet rows cols) cell ≡ Constant Empty
-content_of-blank rows cols cell = go (is_inside (blank_sheet rows cols) cell)
+pub content_of-blank : (sizes : Sizes) (cell : Position) → content_of (blank_sheet sizes) cell ≡ Constant value.Empty
+content_of-blank sizes cell = go (is_inside sizes cell)
   where
-    go : (b : Bool) → cond b (get_or (replicate (rows * cols) (Constant Empty)) (place_of (blank_sheet rows cols) cell) (Constant Empty)) (Constant Empty) ≡ Constant Empty
-    go true = get_or-replicate_default (rows * cols) (place_of (blank_sheet rows cols) cell) (Constant Empty)
+    go : (b : Bool) → cond b (get_or (replicate (cell_count sizes) (Constant value.Empty)) (place_of sizes cell) (Constant value.Empty)) (Constant value.Empty) ≡ Constant value.Empty
+    go true = get_or-replicate_default (cell_count sizes) (place_of sizes cell) (Constant value.Empty)
     go false = refl
+
+-- what a text writes over a table, it writes over the table with a text more
+pub IsContent-with_label : (labels : List (List ℕ)) (more text : List ℕ) (content : ContentValue) → IsContent labels text content → IsContent (with_label labels more) text content
+IsContent-with_label labels more text (Constant value.Empty) is = is
+IsContent-with_label labels more text (Constant (value.Number n)) is = is
+IsContent-with_label labels more text (Constant (value.Truth b)) is = is
+IsContent-with_label labels more text (Constant (value.Error kind)) is = is
+IsContent-with_label labels more text (Constant (value.Label place)) is = (is.0, get-with_label labels more place text is.1)
+IsContent-with_label labels more text (Computed tree) is = is
+
+pub IsContent-after : (read : List ℕ) (old new : List (List ℕ)) (text : List ℕ) (content : ContentValue) → IsTableAfter read old new → IsContent old text content → IsContent new text content
+IsContent-after read _ _ text content (label _ old new field e) is = rw e (IsContent-with_label old read text content is)
+IsContent-after read _ _ text content (other _ old new field e) is = rw e is

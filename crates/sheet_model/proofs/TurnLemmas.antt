@@ -1,24 +1,23 @@
 -- A turn of the walk that opens one more cell, and one that settles the newest open cell.
-use Rattle.std.proofs.Common.{◌≡◌, ◌≢◌, ℕ, suc, ◌+◌, ◌<◌, ◌≤◌, ◌⊎◌, inl, inr, List, [], ◌∷◌, ◌++◌, length, slice_get, get_or, set, Some, Bool, true, false, cond, IsTrue, IsFalse, refl, sym, ◌∙◌, ap, subst, arith, length-set, length-append}
+use Rattle.std.proofs.Common.{◌≡◌, ◌≢◌, ℕ, suc, ◌+◌, ◌<◌, ◌⊎◌, inl, inr, List, [], ◌∷◌, ◌++◌, length, slice_get, set, Some, IsTrue, sym, ◌∙◌, ap, subst, arith, length-set, length-append}
 use Rattle.std.proofs.lemmas.Bool.Decides.{eqb_tells}
-use native.Mathlib.Decide.{dec_lt}
 use Rattle.std.proofs.lemmas.Option.{slice_get_within, get_or_from_slice_get}
 use Rattle.sheet_refs.specs.Cells.{Position}
 use Rattle.value_core.specs.declared.value.ErrorKind.TheVariants.{Circ}
 use Rattle.value_core.specs.declared.value.Value.{Value}
 use Rattle.value_core.specs.declared.value.Value.TheVariants.{Error}
 use Rattle.sheet_model.specs.Budget.{SettlesAt}
-use Rattle.sheet_model.specs.Sheets.{SheetValue, is_inside, content_of, place_of}
-use Rattle.sheet_model.specs.Values.{step, content_references, IsInput}
-use Rattle.sheet_model.specs.declared.eval.State.{State}
-use Rattle.sheet_model.specs.declared.eval.State.TheVariants.{Unseen, Open, Known}
+use Rattle.sheet_refs.specs.Sizes.{is_inside, place_of}
+use Rattle.sheet_model.specs.Sheets.{SheetValue}
+use Rattle.sheet_model.specs.Values.{step, IsInput}
+use Rattle.sheet_model.specs.Words.{State, Unseen, Open, Known, is_plain}
 use Rattle.sheet_model.specs.declared.walk.Frame.{Frame}
-use Rattle.sheet_model.specs.Walks.{known_value, known_values, is_plain_state, is_plain, is_known, is_unseen, known_count, work_left, HasPassed, IsWalk, KeepsSeen, IsWaiting}
+use Rattle.sheet_model.specs.Walks.{known_value, known_values, is_known, is_unseen, known_count, work_left, IsWalk, KeepsSeen}
 use Rattle.sheet_model.proofs.BudgetLemmas.{settles_next}
 use Rattle.sheet_model.proofs.ListLemmas.{slice_get-append, slice_get-push, slice_get-pushed, slice_get-set_same, slice_get-set_other, count_by-set}
-use Rattle.sheet_model.proofs.SheetLemmas.{place_same}
+use Rattle.sheet_refs.proofs.Places.{place_same}
 use Rattle.sheet_model.proofs.ValueLemmas.{step_local, step_strict}
-use Rattle.sheet_model.proofs.WalkLemmas.{settles_later, differ, known_plain, plain_kept}
+use Rattle.sheet_model.proofs.WalkLemmas.{settles_later, differ, known_plain}
 
 -- a write at one place, read at another or at that one
 pub read_set : (states : List State) (p q : ℕ) (s t u : State) → slice_get states p ≡ Some s → slice_get (set states p t) q ≡ Some u → ((q ≡ p) × (t ≡ u)) ⊎ ((q ≢ p) × (slice_get states q ≡ Some u))
@@ -30,11 +29,11 @@ read_set states p q s t u at at_set =
 
 module _ (sheet : SheetValue) (states : List State) where
   -- one more cell is open
-  pub walk_open : (frames : List Frame) (cell : Position) → IsWalk sheet states frames → IsTrue (is_inside sheet cell) → slice_get states (place_of sheet cell) ≡ Some Unseen → ((i : ℕ) (f : Frame) → slice_get frames i ≡ Some f → suc i ≡ length frames → IsInput sheet f.cell cell) → IsWalk sheet (set states (place_of sheet cell) Open) (frames ++ record { cell = cell; next = 0 } ∷ [])
-  walk_open frames cell walk inside unseen waiting = record {
+  pub walk_open : (frames : List Frame) (cell : Position) → IsWalk sheet states frames → IsTrue (is_inside sheet.sizes cell) → slice_get states (place_of sheet.sizes cell) ≡ Some Unseen → ((i : ℕ) (f : Frame) → slice_get frames i ≡ Some f → suc i ≡ length frames → IsInput sheet f.cell cell) → (first : ℕ) → IsWalk sheet (set states (place_of sheet.sizes cell) Open) (frames ++ record { cell = cell; first = first } ∷ [])
+  walk_open frames cell walk inside unseen waiting first = record {
     count = length-set states p Open ∙ walk.count;
     settled = λ c v c_inside at.
-        elim (read_set states p (place_of sheet c) Unseen Open (Known v) unseen at) [
+        elim (read_set states p (place_of sheet.sizes c) Unseen Open (Known v) unseen at) [
           | inl here ↦ absurd (let no = here.1 in cc)
           | inr other ↦ settles_later sheet (known_count states) (known_count (set states p Open)) c v (omega (arith, known_same)) (walk.settled c v c_inside other.1)
         ];
@@ -43,17 +42,17 @@ module _ (sheet : SheetValue) (states : List State) where
           | inl here ↦ (length frames, new, slice_get-push frames new, sym here.0)
           | inr other ↦ (let l = walk.listed q other.1 in (l.0, l.1, slice_get-append frames (new ∷ []) l.0 l.1 l.2, l.3))
         ];
-    inside = λ i f at. elim (slice_get-pushed frames new i f at) [ inl old ↦ walk.inside i f old | inr last ↦ subst (λ (g : Frame). IsTrue (is_inside sheet g.cell)) last.1 inside ];
+    inside = λ i f at. elim (slice_get-pushed frames new i f at) [ inl old ↦ walk.inside i f old | inr last ↦ subst (λ (g : Frame). IsTrue (is_inside sheet.sizes g.cell)) last.1 inside ];
     opened = λ i f at.
         elim (slice_get-pushed frames new i f at) [
-          | inl old ↦ slice_get-set_other states p (place_of sheet f.cell) Open (apart i f old) ∙ walk.opened i f old
-          | inr last ↦ subst (λ (g : Frame). slice_get (set states p Open) (place_of sheet g.cell) ≡ Some Open) last.1 (slice_get-set_same states p Unseen Open unseen)
+          | inl old ↦ slice_get-set_other states p (place_of sheet.sizes f.cell) Open (apart i f old) ∙ walk.opened i f old
+          | inr last ↦ subst (λ (g : Frame). slice_get (set states p Open) (place_of sheet.sizes g.cell) ≡ Some Open) last.1 (slice_get-set_same states p Unseen Open unseen)
         ];
     once = λ i j f g lt at_i at_j.
         elim (slice_get-pushed frames new i f at_i) [
           | inl old_i ↦ elim (slice_get-pushed frames new j g at_j) [
             | inl old_j ↦ walk.once i j f g lt old_i old_j
-            | inr last ↦ subst (λ (h : Frame). place_of sheet f.cell ≢ place_of sheet h.cell) last.1 (apart i f old_i)
+            | inr last ↦ subst (λ (h : Frame). place_of sheet.sizes f.cell ≢ place_of sheet.sizes h.cell) last.1 (apart i f old_i)
           ]
           | inr last_i ↦ absurd (let in_range = slice_get_within (frames ++ new ∷ []) j g at_j in let e = length-append frames (new ∷ []) in let first : i ≡ length frames = last_i.0 in omega arith)
         ];
@@ -70,21 +69,16 @@ module _ (sheet : SheetValue) (states : List State) where
                 | inr last_i ↦ absurd (let first : i ≡ length frames = last_i.0 in omega arith)
               ])
         ];
-    passed = λ i f at.
-        elim (slice_get-pushed frames new i f at) [
-          | inl old ↦ (λ k c lt ref. plain_kept sheet states walk.count p Unseen Open unseen refl c (walk.passed i f old k c lt ref))
-          | inr last ↦ subst (λ (h : Frame). HasPassed sheet (set states p Open) h) last.1 (λ k c lt ref. absurd (let no : k < 0 = lt in omega arith))
-        ];
   }
     where
       p : ℕ
-      p = place_of sheet cell
+      p = place_of sheet.sizes cell
 
       new : Frame
-      new = record { cell = cell; next = 0 }
+      new = record { cell = cell; first = first }
 
-      apart : (i : ℕ) (f : Frame) → slice_get frames i ≡ Some f → place_of sheet f.cell ≢ p
-      apart i f at = differ states (place_of sheet f.cell) p Open Unseen (walk.opened i f at) unseen (λ same. cc)
+      apart : (i : ℕ) (f : Frame) → slice_get frames i ≡ Some f → place_of sheet.sizes f.cell ≢ p
+      apart i f at = differ states (place_of sheet.sizes f.cell) p Open Unseen (walk.opened i f at) unseen (λ same. cc)
 
       known_same : known_count (set states p Open) + 0 ≡ known_count states + 0
       known_same = count_by-set is_known states p Unseen Open unseen
@@ -93,13 +87,13 @@ module _ (sheet : SheetValue) (states : List State) where
   work_open frames frame p unseen = let fewer = count_by-set is_unseen states p Unseen Open unseen in let longer = length-append frames (frame ∷ []) in omega arith
 
   -- the newest open cell, whose references can all be read past, has the value of one step over the known values
-  pub walk_finish : (rest : List Frame) (f : Frame) → IsWalk sheet states (rest ++ f ∷ []) → ((k : ℕ) (c : Position) → slice_get (content_references (content_of sheet f.cell)) k ≡ Some c → IsTrue (is_plain sheet states c)) → IsWalk sheet (set states (place_of sheet f.cell) (Known (step sheet f.cell (known_values sheet states)))) rest
+  pub walk_finish : (rest : List Frame) (f : Frame) → IsWalk sheet states (rest ++ f ∷ []) → ((c : Position) → IsInput sheet f.cell c → IsTrue (is_plain sheet.sizes states c)) → IsWalk sheet (set states (place_of sheet.sizes f.cell) (Known (step sheet f.cell (known_values sheet.sizes states)))) rest
   walk_finish rest f walk plain = record {
     count = length-set states p (Known value) ∙ walk.count;
     settled = λ c v c_inside at.
-        elim (read_set states p (place_of sheet c) Open (Known value) (Known v) here at) [
+        elim (read_set states p (place_of sheet.sizes c) Open (Known value) (Known v) here at) [
           | inl same ↦ (let same_value : value ≡ v = (let e = same.1 in cc) in
-              let same_cell : f.cell ≡ c = place_same sheet f.cell c f_inside c_inside (sym same.0) in
+              let same_cell : f.cell ≡ c = place_same sheet.sizes f.cell c f_inside c_inside (sym same.0) in
               subst (λ k. SettlesAt (Error Circ) (step sheet) k c v) (sym one_more)
               (subst (λ d. SettlesAt (Error Circ) (step sheet) (suc (known_count states)) d v) same_cell
               (subst (λ w. SettlesAt (Error Circ) (step sheet) (suc (known_count states)) f.cell w) same_value settles)))
@@ -111,21 +105,20 @@ module _ (sheet : SheetValue) (states : List State) where
           | inr other ↦ (let l = walk.listed q other.1 in
               elim (slice_get-pushed rest f l.0 l.1 l.2) [
                 | inl old ↦ (l.0, l.1, old, l.3)
-                | inr last ↦ absurd (other.0 (sym l.3 ∙ ap (λ (g : Frame). place_of sheet g.cell) (sym last.1)))
+                | inr last ↦ absurd (other.0 (sym l.3 ∙ ap (λ (g : Frame). place_of sheet.sizes g.cell) (sym last.1)))
               ])
         ];
     inside = λ i g at. walk.inside i g (old i g at);
-    opened = λ i g at. slice_get-set_other states p (place_of sheet g.cell) (Known value) (apart i g at) ∙ walk.opened i g (old i g at);
+    opened = λ i g at. slice_get-set_other states p (place_of sheet.sizes g.cell) (Known value) (apart i g at) ∙ walk.opened i g (old i g at);
     once = λ i j g h lt at_i at_j. walk.once i j g h lt (old i g at_i) (old j h at_j);
     waits = λ i g h at_i at_j. walk.waits i g h (old i g at_i) (old (suc i) h at_j);
-    passed = λ i g at. (λ k c lt ref. plain_kept sheet states walk.count p Open (Known value) here refl c (walk.passed i g (old i g at) k c lt ref));
   }
     where
       p : ℕ
-      p = place_of sheet f.cell
+      p = place_of sheet.sizes f.cell
 
       value : Value
-      value = step sheet f.cell (known_values sheet states)
+      value = step sheet f.cell (known_values sheet.sizes states)
 
       at_end : slice_get (rest ++ f ∷ []) (length rest) ≡ Some f
       at_end = slice_get-push rest f
@@ -133,13 +126,13 @@ module _ (sheet : SheetValue) (states : List State) where
       here : slice_get states p ≡ Some Open
       here = walk.opened (length rest) f at_end
 
-      f_inside : IsTrue (is_inside sheet f.cell)
+      f_inside : IsTrue (is_inside sheet.sizes f.cell)
       f_inside = walk.inside (length rest) f at_end
 
       old : (i : ℕ) (g : Frame) → slice_get rest i ≡ Some g → slice_get (rest ++ f ∷ []) i ≡ Some g
       old i g at = slice_get-append rest (f ∷ []) i g at
 
-      apart : (i : ℕ) (g : Frame) → slice_get rest i ≡ Some g → place_of sheet g.cell ≢ p
+      apart : (i : ℕ) (g : Frame) → slice_get rest i ≡ Some g → place_of sheet.sizes g.cell ≢ p
       apart i g at = walk.once i (length rest) g f (slice_get_within rest i g at) (old i g at) at_end
 
       one_more : known_count (set states p (Known value)) ≡ suc (known_count states)
@@ -147,10 +140,10 @@ module _ (sheet : SheetValue) (states : List State) where
 
       settles : SettlesAt (Error Circ) (step sheet) (suc (known_count states)) f.cell value
       settles =
-          settles_next (IsInput sheet) (Error Circ) (step sheet) (step_local sheet) (step_strict sheet) (known_count states) (known_values sheet states) f.cell
+          settles_next (IsInput sheet) (Error Circ) (step sheet) (step_local sheet) (step_strict sheet) (known_count states) (known_values sheet.sizes states) f.cell
           (λ d input.
-          let known = known_plain sheet states walk.count d input.inside (plain input.referred.0 d input.referred.1) in
-          let e : known_values sheet states d ≡ known.0 = ap known_value (get_or_from_slice_get states (place_of sheet d) (Known known.0) Unseen known.1) in
+          let known = known_plain sheet.sizes states walk.count d input.inside (plain d input) in
+          let e : known_values sheet.sizes states d ≡ known.0 = ap known_value (get_or_from_slice_get states (place_of sheet.sizes d) (Known known.0) Unseen known.1) in
           subst (λ v. SettlesAt (Error Circ) (step sheet) (known_count states) d v) (sym e) (walk.settled d known.0 input.inside known.1))
 
   pub work_finish : (rest : List Frame) (f : Frame) (p : ℕ) (v : Value) → slice_get states p ≡ Some Open → work_left (set states p (Known v)) rest < work_left states (rest ++ f ∷ [])
@@ -160,28 +153,3 @@ module _ (sheet : SheetValue) (states : List State) where
 pub seen_set : (states : List State) (p : ℕ) (s t : State) → slice_get states p ≡ Some s → t ≢ Unseen → KeepsSeen states (set states p t)
 seen_set states p s t at seen q unseen =
     elim (read_set states p q s t Unseen at unseen) [ inl here ↦ absurd (seen here.1) | inr other ↦ other.1 ]
-
--- what the frame had passed, and what it passes further, is all before the place where it stops
-pub passed_all : (sheet : SheetValue) (states : List State) (f : Frame) (next : ℕ) → HasPassed sheet states f → ((k : ℕ) (cell : Position) → f.next ≤ k → k < next → slice_get (content_references (content_of sheet f.cell)) k ≡ Some cell → IsTrue (is_plain sheet states cell)) → HasPassed sheet states (record { cell = f.cell; next = next })
-passed_all sheet states f next passed further k cell lt at =
-    elim (dec_lt k f.next) [ yes before ↦ passed k cell before at | no after ↦ further k cell (let h : ¬ (k < f.next) = after in omega arith) lt at ]
-
--- the newest frame waits for the reference at which it stops
-pub waiting_new : (sheet : SheetValue) (states : List State) (rest : List Frame) (w : Frame) (cell : Position) → slice_get (content_references (content_of sheet w.cell)) w.next ≡ Some cell → IsFalse (is_plain sheet states cell) → IsWaiting sheet states (rest ++ w ∷ []) cell
-waiting_new sheet states rest w cell at stop = record {
-  newest = λ i f at_i end.
-      elim (slice_get-pushed rest w i f at_i) [
-        | inl old ↦ absurd (let lt = slice_get_within rest i f old in let e = length-append rest (w ∷ []) in omega arith)
-        | inr last ↦ subst (λ (g : Frame). IsInput sheet g.cell cell) last.1 (record { referred = (w.next, at); inside = inside })
-      ];
-  some = let e = length-append rest (w ∷ []) in omega arith;
-  inside = inside;
-  stop = stop;
-}
-  where
-    go : (b c : Bool) → cond b c true ≡ false → b ≡ true
-    go true c h = refl
-    go false c h = cc
-
-    inside : IsTrue (is_inside sheet cell)
-    inside = go (is_inside sheet cell) (is_plain_state (get_or states (place_of sheet cell) Unseen)) stop

@@ -1,6 +1,10 @@
 pub mod Budget
-pub mod Plain
-pub mod PlainRows
+pub mod Changes
+pub mod Fields
+pub mod Labels
+pub mod Parts
 pub mod Sheets
+pub mod Tables
 pub mod Values
 pub mod Walks
+pub mod Words

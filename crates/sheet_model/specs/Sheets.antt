@@ -1,11 +1,15 @@
--- Sheets: a rectangle of cells that begins at A1, and what stands in each cell.
-use Rattle.std.specs.Prelude.{◌≡◌, ℕ, ◌+◌, ◌-◌, ◌*◌, ◌≤◌, ◌&&◌, Bool, nat_le, if◌then◌else◌, List, length, map, replicate, slice_index_or, slice_set, IsTrue}
+-- Sheets: a rectangle of cells that begins at A1, what stands in each cell, and the texts of labels.
+use Rattle.std.specs.Prelude.{◌≡◌, ◌≢◌, ℕ, ◌*◌, ◌<◌, ◌≤◌, if◌then◌else◌, List, [], length, map, replicate, slice_index_or, slice_set, All, IsTrue}
 use Rattle.sheet_refs.specs.Cells.{Position}
-use Rattle.sum_syntax.specs.Tree.{Tree}
+use Rattle.sheet_refs.specs.declared.sizes.Sizes.{Sizes}
+use Rattle.sheet_refs.specs.Sizes.{is_inside, cell_count, place_of}
+use Rattle.formula_syntax.specs.Tree.{Tree}
+use Rattle.value_core.specs.declared.value.ErrorKind.TheVariants.{Circ}
 use Rattle.value_core.specs.declared.value.Value.{Value}
 use Rattle.value_core.specs.declared.value.Value.TheVariants as value
+use Rattle.sheet_model.specs.Labels.{IsTable}
 use Rattle.sheet_model.specs.declared.content.Content.{Content}
-use Rattle.sheet_model.specs.declared.content.Content.TheVariants.{Empty, Number, Formula}
+use Rattle.sheet_model.specs.declared.content.Content.TheVariants.{Empty, Number, Truth, Error, Label, Formula}
 
 -- what stands in a cell: a value, or a formula that computes one
 pub data ContentValue : Type 0 where
@@ -16,62 +20,76 @@ pub data ContentValue : Type 0 where
 abbrev pub content_value : Content → ContentValue
 content_value Empty = Constant value.Empty
 content_value (Number number) = Constant (value.Number number)
+content_value (Truth truth) = Constant (value.Truth truth)
+content_value (Error kind) = Constant (value.Error kind)
+content_value (Label place) = Constant (value.Label place)
 content_value (Formula tree) = Computed tree.value
 
--- the numbers of rows and columns, and what stands in the cells, row by row
+-- the sizes, what stands in the cells, row by row, and the texts of labels
 pub record SheetValue : Type 0 where
-  pub rows : ℕ
-  pub cols : ℕ
+  pub sizes : Sizes
   pub contents : List ContentValue
+  pub labels : List (List ℕ)
 
 -- the sizes that a sheet may have: at most 1048576 cells in at most 16384 columns, and rows exactly where there are columns
-pub record IsSheetSize (rows cols : ℕ) : Type 0 where
-  pub cells : rows * cols ≤ 1048576
-  pub narrow : cols ≤ 16384
-  pub no_rows : rows ≡ 0 → cols ≡ 0
-  pub no_cols : cols ≡ 0 → rows ≡ 0
+pub record IsSheetSize (sizes : Sizes) : Type 0 where
+  pub cells : sizes.rows * sizes.cols ≤ 1048576
+  pub narrow : sizes.cols ≤ 16384
+  pub no_rows : sizes.rows ≡ 0 → sizes.cols ≡ 0
+  pub no_cols : sizes.cols ≡ 0 → sizes.rows ≡ 0
 
--- a sheet has such a size, and something stands in each of its cells
-pub record IsFilled (sheet : SheetValue) : Type 0 where
-  pub size : IsSheetSize sheet.rows sheet.cols
-  pub filled : length sheet.contents ≡ sheet.rows * sheet.cols
+-- the label of a content, where it has one, is in a table of so many labels
+abbrev pub HasLabel : ℕ → ContentValue → Type 0
+HasLabel labels (Constant (value.Label place)) = place < labels
+HasLabel labels _ = Unit {0}
 
--- the same of a sheet in memory; what it lends for a cell past the rectangle is empty
-pub record IsSheet (rows cols : ℕ) (contents : List Content) (outside : Content) : Type 0 where
-  pub size : IsSheetSize rows cols
-  pub filled : length contents ≡ rows * cols
-  pub nothing : outside ≡ Empty
+-- no cell holds the error of a circular reference; it comes of evaluation alone
+abbrev pub IsWritten : ContentValue → Type 0
+IsWritten content = content ≢ Constant (value.Error Circ)
+
+-- what a cell may hold beside a table of so many labels
+pub record IsHeld (labels : ℕ) (content : ContentValue) : Type 0 where
+  pub label : HasLabel labels content
+  pub written : IsWritten content
+
+-- a sheet has such a size, something stands in each of its cells, and its labels are in its table
+pub record IsSheet (sheet : SheetValue) : Type 0 where
+  pub size : IsSheetSize sheet.sizes
+  pub filled : length sheet.contents ≡ cell_count sheet.sizes
+  pub table : IsTable sheet.labels
+  pub held : All (IsHeld (length sheet.labels)) sheet.contents
 
 -- a sheet as contracts see it
-abbrev pub sheet_value : ℕ → ℕ → List Content → SheetValue
-sheet_value rows cols contents = record { rows = rows; cols = cols; contents = map content_value contents }
+abbrev pub sheet_value : Sizes → List Content → List (List ℕ) → SheetValue
+sheet_value sizes contents labels = record { sizes = sizes; contents = map content_value contents; labels = labels }
 
--- whether the position lies in the rectangle
-abbrev pub is_inside : SheetValue → Position → Bool
-is_inside sheet cell = (nat_le 1 cell.row && nat_le cell.row sheet.rows) && (nat_le 1 cell.col && nat_le cell.col sheet.cols)
-
--- the number of cells
-abbrev pub cell_count : SheetValue → ℕ
-cell_count sheet = sheet.rows * sheet.cols
-
--- the place of a cell among the cells, row by row, counted from 0
-abbrev pub place_of : SheetValue → Position → ℕ
-place_of sheet cell = (cell.row - 1) * sheet.cols + (cell.col - 1)
+-- the same of a sheet in memory; what it lends for a cell past the rectangle is empty
+pub record IsStored (sizes : Sizes) (contents : List Content) (labels : List (List ℕ)) (outside : Content) : Type 0 where
+  pub sheet : IsSheet (sheet_value sizes contents labels)
+  pub nothing : outside ≡ Empty
 
 -- what stands in a cell; a cell past the rectangle is empty
 abbrev pub content_of : SheetValue → Position → ContentValue
-content_of sheet cell = if is_inside sheet cell then slice_index_or sheet.contents (place_of sheet cell) (Constant value.Empty) else Constant value.Empty
+content_of sheet cell = if is_inside sheet.sizes cell then slice_index_or sheet.contents (place_of sheet.sizes cell) (Constant value.Empty) else Constant value.Empty
 
--- a sheet with nothing in its cells
-abbrev pub blank_sheet : ℕ → ℕ → SheetValue
-blank_sheet rows cols = record { rows = rows; cols = cols; contents = replicate (rows * cols) (Constant value.Empty) }
+-- a sheet with nothing in its cells and no labels
+abbrev pub blank_sheet : Sizes → SheetValue
+blank_sheet sizes = record { sizes = sizes; contents = replicate (cell_count sizes) (Constant value.Empty); labels = [] }
+
+-- the sheet with another table of labels
+abbrev pub with_labels : SheetValue → List (List ℕ) → SheetValue
+with_labels sheet labels = record { sizes = sheet.sizes; contents = sheet.contents; labels = labels }
 
 -- the sheet with another content in one of its cells
 abbrev pub with_content : SheetValue → Position → ContentValue → SheetValue
-with_content sheet cell content = record { rows = sheet.rows; cols = sheet.cols; contents = slice_set sheet.contents (place_of sheet cell) content }
+with_content sheet cell content = record {
+  sizes = sheet.sizes;
+  contents = slice_set sheet.contents (place_of sheet.sizes cell) content;
+  labels = sheet.labels;
+}
 
--- sheets that are filled, have the same sizes and have the same content in each cell are the same
+-- sheets with the same sizes, the same labels and the same content in each cell are the same
 abbrev pub SheetsAreTheirCells : Type 0
 SheetsAreTheirCells =
-    (a b : SheetValue) → IsFilled a → IsFilled b → a.rows ≡ b.rows → a.cols ≡ b.cols
-    → ((cell : Position) → IsTrue (is_inside a cell) → content_of a cell ≡ content_of b cell) → a ≡ b
+    (a b : SheetValue) → IsSheet a → IsSheet b → a.sizes ≡ b.sizes → a.labels ≡ b.labels
+    → ((cell : Position) → IsTrue (is_inside a.sizes cell) → content_of a cell ≡ content_of b cell) → a ≡ b

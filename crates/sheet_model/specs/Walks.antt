@@ -1,15 +1,18 @@
--- The walk over a sheet: what is known of each cell, and the cells that are open.
-use Rattle.std.specs.Prelude.{◌≡◌, ◌≢◌, ℕ, suc, ◌+◌, ◌*◌, ◌<◌, Bool, true, false, not, if◌then◌else◌, IsTrue, IsFalse, List, [], length, map, slice_get, slice_index_or, count_by, Some}
+-- The walk over a sheet: what is known of each cell, the cells that are open, and what each of them is still to look at.
+use Rattle.std.specs.Prelude.{◌≡◌, ◌≢◌, ◌⊎◌, ℕ, suc, ◌+◌, ◌*◌, ◌<◌, ◌≤◌, Bool, true, false, IsTrue, IsFalse, List, [], length, map, slice_get, slice_index_or, count_by, Some}
 use Rattle.sheet_refs.specs.Cells.{Position}
+use Rattle.sheet_refs.specs.Sizes.{is_inside, cell_count, place_of}
+use Rattle.sheet_refs.specs.declared.sizes.Sizes.{Sizes}
 use Rattle.value_core.specs.declared.value.ErrorKind.TheVariants.{Circ}
 use Rattle.value_core.specs.declared.value.Value.{Value}
 use Rattle.value_core.specs.declared.value.Value.TheVariants as value
-use Rattle.value_core.specs.Values.{code_of}
 use Rattle.sheet_model.specs.Budget.{SettlesAt}
-use Rattle.sheet_model.specs.Sheets.{SheetValue, ContentValue, Constant, Computed, is_inside, cell_count, place_of, content_of}
-use Rattle.sheet_model.specs.Values.{is_circular, step, content_references, IsInput}
-use Rattle.sheet_model.specs.declared.eval.State.{State}
-use Rattle.sheet_model.specs.declared.eval.State.TheVariants.{Unseen, Open, Known}
+use Rattle.sheet_model.specs.Parts.{IsAt, IsLeft, AreParts}
+use Rattle.sheet_model.specs.Sheets.{SheetValue, ContentValue, Constant, Computed}
+use Rattle.formula_eval.specs.Meaning.{IsNamedBy}
+use Rattle.sheet_model.specs.Values.{content_references, step, IsInput}
+use Rattle.sheet_model.specs.Words.{State, Unseen, Open, Known, AreWords, states_of, is_plain}
+use Rattle.sheet_model.specs.declared.parts.Part.{Part}
 use Rattle.sheet_model.specs.declared.walk.Frame.{Frame}
 use Rattle.sheet_model.specs.declared.walk.Walk.{Walk}
 
@@ -24,23 +27,13 @@ known_value Unseen = value.Empty
 known_value Open = value.Empty
 known_value (Known value) = value
 
--- the code of the value that is known of a cell
-abbrev pub known_code : State → ℕ
-known_code state = code_of (known_value state)
-
 -- the values of the cells as far as they are known
-abbrev pub known_values : SheetValue → List State → Position → Value
-known_values sheet states cell = known_value (slice_index_or states (place_of sheet cell) Unseen)
+abbrev pub known_values : Sizes → List State → Position → Value
+known_values sizes states cell = known_value (slice_index_or states (place_of sizes cell) Unseen)
 
--- a known value other than #CIRC!
-abbrev pub is_plain_state : State → Bool
-is_plain_state Unseen = false
-is_plain_state Open = false
-is_plain_state (Known value) = not (is_circular value)
-
--- a reference that evaluation can read past: outside the rectangle, or known to be other than #CIRC!
-abbrev pub is_plain : SheetValue → List State → Position → Bool
-is_plain sheet states cell = if is_inside sheet cell then is_plain_state (slice_index_or states (place_of sheet cell) Unseen) else true
+-- evaluation can read past each cell of the rectangle that a content names
+abbrev pub ArePlainInputs : Sizes → List State → ContentValue → Type 0
+ArePlainInputs sizes states content = (cell : Position) → IsNamedBy (content_references content) cell → IsTrue (is_inside sizes cell) → IsTrue (is_plain sizes states cell)
 
 abbrev pub is_known : State → Bool
 is_known Unseen = false
@@ -66,21 +59,27 @@ closed_state Unseen = Unseen
 closed_state Open = Known (value.Error Circ)
 closed_state (Known value) = Known value
 
--- the references of the frame's cell before its next one can be read past
-abbrev pub HasPassed : SheetValue → List State → Frame → Type 0
-HasPassed sheet states frame = (k : ℕ) (cell : Position) → k < frame.next → slice_get (content_references (content_of sheet frame.cell)) k ≡ Some cell → IsTrue (is_plain sheet states cell)
-
 -- each known value is what evaluation settles at, within a budget of as many steps as values are known;
 -- the open cells are those of the frames, and each frame waits for the next one's cell
 pub record IsWalk (sheet : SheetValue) (states : List State) (frames : List Frame) : Type 0 where
-  pub count : length states ≡ cell_count sheet
-  pub settled : (cell : Position) (v : Value) → IsTrue (is_inside sheet cell) → slice_get states (place_of sheet cell) ≡ Some (Known v) → SettlesAt (value.Error Circ) (step sheet) (known_count states) cell v
-  pub listed : (p : ℕ) → slice_get states p ≡ Some Open → (i : ℕ) × (frame : Frame) × (slice_get frames i ≡ Some frame) × (place_of sheet frame.cell ≡ p)
-  pub inside : (i : ℕ) (frame : Frame) → slice_get frames i ≡ Some frame → IsTrue (is_inside sheet frame.cell)
-  pub opened : (i : ℕ) (frame : Frame) → slice_get frames i ≡ Some frame → slice_get states (place_of sheet frame.cell) ≡ Some Open
-  pub once : (i j : ℕ) (f g : Frame) → i < j → slice_get frames i ≡ Some f → slice_get frames j ≡ Some g → place_of sheet f.cell ≢ place_of sheet g.cell
+  pub count : length states ≡ cell_count sheet.sizes
+  pub settled : (cell : Position) (v : Value) → IsTrue (is_inside sheet.sizes cell) → slice_get states (place_of sheet.sizes cell) ≡ Some (Known v) → SettlesAt (value.Error Circ) (step sheet) (known_count states) cell v
+  pub listed : (p : ℕ) → slice_get states p ≡ Some Open → (i : ℕ) × (frame : Frame) × (slice_get frames i ≡ Some frame) × (place_of sheet.sizes frame.cell ≡ p)
+  pub inside : (i : ℕ) (frame : Frame) → slice_get frames i ≡ Some frame → IsTrue (is_inside sheet.sizes frame.cell)
+  pub opened : (i : ℕ) (frame : Frame) → slice_get frames i ≡ Some frame → slice_get states (place_of sheet.sizes frame.cell) ≡ Some Open
+  pub once : (i j : ℕ) (f g : Frame) → i < j → slice_get frames i ≡ Some f → slice_get frames j ≡ Some g → place_of sheet.sizes f.cell ≢ place_of sheet.sizes g.cell
   pub waits : (i : ℕ) (f g : Frame) → slice_get frames i ≡ Some f → slice_get frames (suc i) ≡ Some g → IsInput sheet f.cell g.cell
-  pub passed : (i : ℕ) (frame : Frame) → slice_get frames i ≡ Some frame → HasPassed sheet states frame
+
+-- no later frame's parts begin at the place or before it
+abbrev pub BelowLater : List Frame → ℕ → ℕ → Type 0
+BelowLater frames i place = (j : ℕ) (g : Frame) → i < j → slice_get frames j ≡ Some g → place < g.first
+
+-- evaluation can read past each input of an open cell, or the input is left to look at;
+-- and what is left behind an open cell's first part, and before the next one's, are its inputs
+pub record HasParts (sheet : SheetValue) (states : List State) (frames : List Frame) (parts : List Part) : Type 0 where
+  pub are_parts : AreParts sheet.sizes states parts
+  pub passed : (i : ℕ) (frame : Frame) (input : Position) → slice_get frames i ≡ Some frame → IsInput sheet frame.cell input → IsTrue (is_plain sheet.sizes states input) ⊎ IsLeft parts frame.first input
+  pub named : (i : ℕ) (frame : Frame) (k : ℕ) (input : Position) → slice_get frames i ≡ Some frame → frame.first ≤ k → BelowLater frames i k → IsAt parts k input → IsInput sheet frame.cell input
 
 -- no cell that was seen is unseen afterwards
 abbrev pub KeepsSeen : List State → List State → Type 0
@@ -94,26 +93,46 @@ SeenBelow states end = (p : ℕ) → p < end → slice_get states p ≢ Some Uns
 pub record IsWaiting (sheet : SheetValue) (states : List State) (frames : List Frame) (cell : Position) : Type 0 where
   pub newest : (i : ℕ) (frame : Frame) → slice_get frames i ≡ Some frame → suc i ≡ length frames → IsInput sheet frame.cell cell
   pub some : 0 < length frames
-  pub inside : IsTrue (is_inside sheet cell)
-  pub stop : IsFalse (is_plain sheet states cell)
+  pub inside : IsTrue (is_inside sheet.sizes cell)
+  pub stop : IsFalse (is_plain sheet.sizes states cell)
 
 -- the frames have all open cells, and each of their cells is open or closed already
 pub record IsClosing (sheet : SheetValue) (states : List State) (frames : List Frame) : Type 0 where
-  pub count : length states ≡ cell_count sheet
-  pub inside : (i : ℕ) (frame : Frame) → slice_get frames i ≡ Some frame → IsTrue (is_inside sheet frame.cell)
-  pub listed : (p : ℕ) → slice_get states p ≡ Some Open → (i : ℕ) × (frame : Frame) × (slice_get frames i ≡ Some frame) × (place_of sheet frame.cell ≡ p)
-  pub closes : (i : ℕ) (frame : Frame) → slice_get frames i ≡ Some frame → slice_get (map closed_state states) (place_of sheet frame.cell) ≡ Some (Known (value.Error Circ))
+  pub count : length states ≡ cell_count sheet.sizes
+  pub inside : (i : ℕ) (frame : Frame) → slice_get frames i ≡ Some frame → IsTrue (is_inside sheet.sizes frame.cell)
+  pub listed : (p : ℕ) → slice_get states p ≡ Some Open → (i : ℕ) × (frame : Frame) × (slice_get frames i ≡ Some frame) × (place_of sheet.sizes frame.cell ≡ p)
+  pub closes : (i : ℕ) (frame : Frame) → slice_get frames i ≡ Some frame → slice_get (map closed_state states) (place_of sheet.sizes frame.cell) ≡ Some (Known (value.Error Circ))
+
+-- the states that a walk knows
+abbrev pub walk_states : Walk → List State
+walk_states walk = states_of walk.words.items
+
+-- words that are codes of values or stand for none, as a walk has them with these open cells and with these parts left
+pub record IsWalkState (sheet : SheetValue) (words : List ℕ) (frames : List Frame) (parts : List Part) : Type 0 where
+  pub coded : AreWords words
+  pub walk : IsWalk sheet (states_of words) frames
+  pub left : HasParts sheet (states_of words) frames parts
 
 -- the same of a walk in memory
 abbrev pub IsSound : SheetValue → Walk → Type 0
-IsSound sheet walk = IsWalk sheet walk.states.items walk.frames.items
+IsSound sheet walk = IsWalkState sheet walk.words.items walk.frames.items walk.parts.items
+
+-- a cell of the rectangle that was not looked at, for which the newest open cell waits
+pub record IsOpening (sheet : SheetValue) (states : List State) (frames : List Frame) (cell : Position) : Type 0 where
+  pub inside : IsTrue (is_inside sheet.sizes cell)
+  pub unseen : slice_get states (place_of sheet.sizes cell) ≡ Some Unseen
+  pub newest : (i : ℕ) (frame : Frame) → slice_get frames i ≡ Some frame → suc i ≡ length frames → IsInput sheet frame.cell cell
+
+-- nothing is left to look at of the newest open cell
+abbrev pub IsDone : Walk → Type 0
+IsDone walk = (i : ℕ) (frame : Frame) → slice_get walk.frames.items i ≡ Some frame → suc i ≡ length walk.frames.items → length walk.parts.items ≤ frame.first
 
 -- no cell is open
 abbrev pub IsIdle : Walk → Type 0
 IsIdle walk = walk.frames.items ≡ []
 
 abbrev pub cells_left : Walk → ℕ
-cells_left walk = work_left walk.states.items walk.frames.items
+cells_left walk = work_left (walk_states walk) walk.frames.items
 
 abbrev pub StaysSeen : Walk → Walk → Type 0
-StaysSeen old new = KeepsSeen old.states.items new.states.items
+StaysSeen old new = KeepsSeen (walk_states old) (walk_states new)

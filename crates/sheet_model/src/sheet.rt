@@ -1,123 +1,139 @@
-ghost use Rattle.std.specs.Prelude.{◌≡◌, ◌*◌, ◌<◌, map, IfOk, IsTrue, vec_len};
-ghost use Rattle.sheet_model.specs.Sheets.{IsSheetSize, IsFilled, is_inside, cell_count, place_of, content_of, blank_sheet, with_content, content_value, sheet_value};
+ghost use Rattle.std.specs.Prelude.{◌≡◌, ◌≢◌, ◌↔◌, ◌<◌, ◌≤◌, ◌^◌, ◌-◌, length, map, IfOk, OnOk};
+ghost use Rattle.std.specs.Prelude.{OnErr, IsTrue};
+ghost use Rattle.sheet_refs.specs.Sizes.{is_inside, cell_count, place_of};
+ghost use Rattle.formula_syntax.specs.Spelling.{HasTooManyRefs};
+ghost use Rattle.sheet_model.specs.Changes.{after_change};
+ghost use Rattle.sheet_model.specs.Fields.{IsContent, IsDeepFormula, IsTableAfter};
+ghost use Rattle.sheet_model.specs.Sheets.{IsSheetSize, IsSheet, IsHeld, HasLabel, content_of};
+ghost use Rattle.sheet_model.specs.Sheets.{blank_sheet, with_labels, content_value};
+ghost use Rattle.sheet_model.specs.declared.fields.ContentRefused.TheVariants as refused;
 
-use super::content::Content;
-use sheet_refs::{Cell, Memory};
+use crate::change::Edit;
+use crate::content::Content;
+use crate::fields::{ContentRefused, read_content};
+use crate::labels::Labels;
+use sheet_refs::{Cell, Memory, Sizes};
 use std::alloc::Global;
 use std::marker::Model;
 use std::mem;
 
-/// A rectangle of cells that begins at A1, with a content in each.
+/// A rectangle of cells that begins at A1, with a content in each, and the table of its labels.
 ///
-/// It has at most 1,048,576 cells and 16,384 columns. A sheet without rows has no columns.
+/// It has at most 1,048,576 cells and 16,384 columns. A sheet without rows has no columns. Every label in
+/// it is in its table, and no cell of it holds `#CIRC!`.
 #[derive(Drop)]
 pub struct Sheet {
-    rows: u32,
-    cols: u32,
+    sizes: Sizes,
     contents: Vec<Content>,
+    labels: Labels,
     /// What is lent for a cell past the rectangle: always empty.
     outside: Content,
+    alloc: Global,
 }
 
 impl Model for Sheet {
     ghost use Rattle.std.specs.Coded.{codes};
-    ghost use Rattle.sum_syntax.specs.TreeCode.{tree_code};
-    ghost use Rattle.sheet_model.specs.Sheets.{SheetValue, IsSheet, sheet_value};
+    ghost use Rattle.formula_syntax.specs.TreeCode.{tree_code};
+    ghost use Rattle.sheet_model.specs.Sheets.{SheetValue, IsStored, sheet_value};
 
     ghost Value = { SheetValue };
 
-    ghost coded = { Prim.hlevel (codes, tree_code) };
+    ghost coded = { Prim.hlevel (codes, tree_code (Prim.hlevel codes)) };
 
-    ghost view = { λ s. sheet_value s.rows s.cols s.contents.items };
+    ghost view = { λ s. sheet_value s.sizes s.contents.items s.labels };
 
-    ghost invariant = { λ s. IsSheet s.rows s.cols s.contents.items s.outside };
+    ghost invariant = { λ s. IsStored s.sizes s.contents.items s.labels s.outside };
 }
 
 impl Sheet {
     /// A sheet of empty cells. It takes time and memory in proportion to the number of cells.
     pub fn blank(alloc: Global, rows: u32, cols: u32) -> Result<Sheet, Memory>
-        requires { IsSheetSize rows cols }
-        ensures { IfOk result (λ sheet. sheet ≡ blank_sheet rows cols) }
+        requires { IsSheetSize (record { rows = rows; cols = cols }) }
+        ensures { IfOk result (λ sheet. sheet ≡ blank_sheet (record { rows = rows; cols = cols })) }
     {
         let cells = rows as usize * cols as usize;
         let mut contents = Vec::with_capacity(alloc, cells)?;
         for _ in 0..cells {
             contents.push(Content::Empty)?;
         }
-        Ok(Sheet::of(rows, cols, contents))
+        Ok(Sheet {
+            sizes: Sizes { rows, cols },
+            contents,
+            labels: Labels::new(alloc),
+            outside: Content::Empty,
+            alloc,
+        })
     }
 
-    // The sheet of these sizes with these contents, row by row.
-    pub(crate) fn of(rows: u32, cols: u32, contents: Vec<Content>) -> Sheet
-        requires size { IsSheetSize rows cols }
-        requires filled { vec_len contents ≡ rows * cols }
-        ensures { result ≡ sheet_value rows cols contents.items }
+    /// The number of rows and of columns.
+    pub fn sizes(&self) -> Sizes
+        ensures sizes { result ≡ self.now.sizes }
+        ensures sheet { IsSheet self.now }
     {
-        Sheet {
-            rows,
-            cols,
-            contents,
-            outside: Content::Empty,
-        }
+        self.sizes
     }
 
     /// The number of rows.
     pub fn rows(&self) -> u32
-        ensures rows { result ≡ self.now.rows }
-        ensures filled { IsFilled self.now }
+        ensures rows { result ≡ self.now.sizes.rows }
+        ensures sheet { IsSheet self.now }
     {
-        self.rows
+        self.sizes.rows
     }
 
     /// The number of columns.
     pub fn cols(&self) -> u32
-        ensures cols { result ≡ self.now.cols }
-        ensures filled { IsFilled self.now }
+        ensures cols { result ≡ self.now.sizes.cols }
+        ensures sheet { IsSheet self.now }
     {
-        self.cols
+        self.sizes.cols
+    }
+
+    /// The table of labels.
+    pub fn labels(&self) -> &Labels
+        ensures labels { result.now ≡ self.now.labels }
+        ensures sheet { IsSheet self.now }
+    {
+        &self.labels
     }
 
     /// Whether the cell lies in the rectangle.
     pub fn holds(&self, cell: Cell) -> bool
-        ensures { result ≡ is_inside self.now cell }
+        ensures { result ≡ is_inside self.now.sizes cell }
     {
-        cell.row() <= self.rows && cell.col() <= self.cols
+        self.sizes.holds(cell)
     }
 
     /// The place of a cell among the cells, row by row, counted from 0.
     pub fn place(&self, cell: Cell) -> usize
-        requires { IsTrue (is_inside self.now cell) }
-        ensures place { result ≡ place_of self.now cell }
-        ensures within { result < cell_count self.now }
+        requires { IsTrue (is_inside self.now.sizes cell) }
+        ensures place { result ≡ place_of self.now.sizes cell }
+        ensures within { result < cell_count self.now.sizes }
     {
-        (cell.row() - 1) as usize * self.cols as usize + (cell.col() - 1) as usize
+        self.sizes.place(cell)
     }
 
     /// The cell at a place.
     pub(crate) fn cell_at(&self, place: usize) -> Cell
-        requires { place < cell_count self.now }
-        ensures inside { IsTrue (is_inside self.now result) }
-        ensures place { place_of self.now result ≡ place }
+        requires { place < cell_count self.now.sizes }
+        ensures inside { IsTrue (is_inside self.now.sizes result) }
+        ensures place { place_of self.now.sizes result ≡ place }
     {
-        let row = place / self.cols as usize;
-        let col = place % self.cols as usize;
-        match Cell::new(row as u32 + 1, col as u32 + 1) {
-            Some(cell) => cell,
-            None => unreachable!(),
-        }
+        self.sizes.cell_at(place)
     }
 
     /// What stands in the cells, row by row.
     pub(crate) fn contents(&self) -> &[Content]
         ensures contents { map content_value result.now ≡ self.now.contents }
-        ensures filled { IsFilled self.now }
+        ensures sheet { IsSheet self.now }
     {
         &self.contents
     }
 
     /// What stands in a cell; a cell past the rectangle is empty.
     pub fn content(&self, cell: Cell) -> &Content
-        ensures { content_value result.now ≡ content_of self.now cell }
+        ensures content { content_value result.now ≡ content_of self.now cell }
+        ensures held { IsHeld (length self.now.labels) (content_value result.now) }
     {
         if self.holds(cell) {
             &self.contents[self.place(cell)]
@@ -126,13 +142,33 @@ impl Sheet {
         }
     }
 
-    /// Puts a content into a cell of the rectangle, and gives back what stood there.
-    pub(crate) fn set(&mut self, cell: Cell, content: Content) -> Content
-        requires { IsTrue (is_inside self.old cell) }
-        ensures replaced { content_value result ≡ content_of self.old cell }
-        ensures placed { self.new ≡ with_content self.old cell (content_value content) }
+    /// Reads a field as `read_content` does, into the sheet's own table, and changes nothing else. The
+    /// content may then be put into a cell of the sheet.
+    pub fn read(&mut self, text: &str) -> Result<Content, ContentRefused>
+        requires short { length text.now ≤ 8192 }
+        requires room { length self.old.labels < 2 ^ 32 - 1 }
+        ensures read { IfOk result (λ content. IsContent self.new.labels text.now (content_value content)) }
+        ensures held { IfOk result (λ content. IsHeld (length self.new.labels) (content_value content)) }
+        ensures table { OnOk result (IsTableAfter text.now self.old.labels self.new.labels) }
+        ensures kept { self.new ≡ with_labels self.old self.new.labels }
+        ensures refused { OnErr result (self.new ≡ self.old) }
+        ensures too_deep { result ≢ Err refused.Memory
+            → (result ≡ Err refused.TooDeep ↔ IsDeepFormula text.now) }
+        ensures too_many_refs { result ≢ Err refused.Memory
+            → (result ≡ Err refused.TooManyRefs ↔ HasTooManyRefs text.now) }
     {
-        let place = self.place(cell);
-        mem::replace(&mut self.contents[place], content)
+        read_content(self.alloc, text, &mut self.labels)
+    }
+
+    /// Makes an edit, and gives back what the changed cell held. It takes no memory.
+    pub fn apply(&mut self, edit: Edit) -> Content
+        requires inside { IsTrue (is_inside self.old.sizes edit.change.cell) }
+        requires label { HasLabel (length self.old.labels) edit.change.content }
+        ensures replaced { content_value result ≡ content_of self.old edit.change.cell }
+        ensures placed { self.new ≡ after_change self.old edit.change }
+    {
+        let Edit { change } = edit;
+        let place = self.sizes.place(change.cell);
+        mem::replace(&mut self.contents[place], change.content)
     }
 }

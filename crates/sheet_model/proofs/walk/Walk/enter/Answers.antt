@@ -1,44 +1,54 @@
-use Rattle.std.proofs.Common.{◌≡◌, ◌≢◌, [], ◌∷◌, ◌++◌, slice_get, Some, sym}
-use Rattle.std.proofs.lemmas.Option.{slice_get_read}
-use Rattle.sheet_model.specs.Sheets.{place_of, cell_count}
-use Rattle.sheet_model.specs.declared.eval.State.TheVariants.{Unseen, Open}
+use Rattle.std.proofs.Common.{◌≡◌, ◌≢◌, ◌<◌, slice_get, Some, option_map, sym, ◌∙◌, ap, rules}
+use Rattle.std.proofs.lemmas.Option.{slice_get-map, slice_get_read}
+use Rattle.sheet_refs.specs.Sizes.{cell_count, place_of}
+use Rattle.sheet_model.specs.Walks.{cells_left}
+use Rattle.sheet_model.specs.Words.{Unseen, Open, state_of, states_of}
+use Rattle.sheet_model.proofs.CycleLemmas.{closing_begin, seen_close, work_close}
 use Rattle.sheet_model.proofs.ListLemmas.{on_ok}
-use Rattle.sheet_model.proofs.TurnLemmas.{walk_open, seen_set}
-use Rattle.sheet_model.proofs.CycleLemmas.{walk_close, closing_begin, work_close, seen_close}
+use Rattle.sheet_model.proofs.StepLemmas.{words_count, state_close}
+use Rattle.sheet_model.proofs.TurnLemmas.{seen_set}
+use Rattle.sheet_model.proofs.WordLemmas.{unseen_state, seen_state}
 use Rattle.sheet_model.proofs.walk.Walk.enter.Goals as goal
 use Rattle.sheet_model.proofs.walk.Walk.enter.Goals.{After-index}
 
--- what the state at the cell's place is
-state : (c : After-index) → slice_get c.args.self.now.states.items (place_of c.args.sheet.now c.args.cell) ≡ Some c.index.result.now
+-- what is known of the cell
+state : (c : After-index) → slice_get (states_of c.args.self.now.words.items) (place_of c.args.sheet.now.sizes c.args.cell) ≡ Some (state_of c.index.result.now)
 state c =
-    rw (← c.place-place.ensures.place)
-    (slice_get_read c.args.self.now.states.items (cell_count c.args.sheet.now) c.place-place.result c.index.result.now (sym c.requires.walk.count) c.place-place.ensures.within c.index.ensures)
+    let self = c.args.self.now in
+    let count = words_count c.args.sheet.now self.words.items self.frames.items self.parts.items c.requires.sound in
+    rw (← c.place.ensures.place)
+    (slice_get-map state_of self.words.items c.place.result
+    ∙ ap (option_map state_of) (slice_get_read self.words.items (cell_count c.args.sheet.now.sizes) c.place.result c.index.result.now (sym count) c.place.ensures.within c.index.ensures))
 
-pub close-requires : goal.close-requires
-close-requires c = closing_begin c.args.sheet.now c.args.self.now.states.items c.args.self.now.frames.items c.requires.walk
+pub open-requires-clause-opening : goal.open-requires-clause-opening
+open-requires-clause-opening c = record {
+  inside = c.requires.waiting.inside;
+  unseen = state (goal.at.open-requires-clause-opening c).After-index ∙ ap Some (unseen_state c.index.result.now (search rules));
+  newest = c.requires.waiting.newest;
+}
 
-pub returns-in-Unseen-clause-walk : goal.returns-in-Unseen-clause-walk
-returns-in-Unseen-clause-walk c =
-    let at = rw c.in-Unseen.is at (state (goal.at.returns-in-Unseen-clause-walk c).After-index) in
-    on_ok c.open.result
-    (λ (frames : c.open.new.self.frames.items ≡ c.args.self.now.frames.items ++ record { cell = c.args.cell; next = 0 } ∷ []). rw (frames, c.open.ensures.states, c.place-place.ensures.place)
-    (walk_open c.args.sheet.now c.args.self.now.states.items c.args.self.now.frames.items c.args.cell c.requires.walk c.requires.waiting.inside at c.requires.waiting.newest))
-    c.open.ensures.frames
-
-pub returns-in-Unseen-clause-seen : goal.returns-in-Unseen-clause-seen
-returns-in-Unseen-clause-seen c =
-    let at = rw c.in-Unseen.is at (state (goal.at.returns-in-Unseen-clause-seen c).After-index) in
+pub returns-then-index-eq-UNSEEN-clause-seen : goal.returns-then-index-eq-UNSEEN-clause-seen
+returns-then-index-eq-UNSEEN-clause-seen c =
+    let at = state (goal.at.returns-then-index-eq-UNSEEN-clause-seen c).After-index ∙ ap Some (unseen_state c.index.result.now (search rules)) in
     let differs : Open ≢ Unseen = λ e. cc in
     on_ok c.open.result
-    (λ frames. rw (c.open.ensures.states, c.place-place.ensures.place) (seen_set c.args.self.now.states.items (place_of c.args.sheet.now c.args.cell) Unseen Open at differs))
-    c.open.ensures.frames
+    (λ (less : cells_left c.open.new.self < cells_left c.args.self.now). rw c.open.ensures.states (seen_set (states_of c.args.self.now.words.items) (place_of c.args.sheet.now.sizes c.args.cell) Unseen Open at differs))
+    c.open.ensures.less
 
-pub returns-in_default : goal.returns-in_default
-returns-in_default c =
-    let at = state (goal.at.returns-in_default c).After-index in
-    let seen : slice_get c.args.self.now.states.items (place_of c.args.sheet.now c.args.cell) ≢ Some Unseen = λ e. c.in_default.not-Unseen (cc (at, e)) in
-    rw (c.close.ensures.states, c.close.ensures.frames) (record {
-      walk = walk_close c.args.sheet.now c.args.self.now.states.items c.args.self.now.frames.items c.requires.walk c.args.cell c.requires.waiting seen;
-      seen = seen_close c.args.sheet.now c.args.self.now.states.items c.args.self.now.frames.items c.requires.walk;
-      less = work_close c.args.sheet.now c.args.self.now.states.items c.args.self.now.frames.items c.requires.walk c.requires.waiting.some;
-    })
+pub close-requires-clause-closing : goal.close-requires-clause-closing
+close-requires-clause-closing c = closing_begin c.args.sheet.now (states_of c.args.self.now.words.items) c.args.self.now.frames.items c.requires.sound.walk
+
+pub returns-clause-sound : goal.returns-clause-sound
+returns-clause-sound c =
+    let self = c.args.self.now in
+    let at = state (goal.at.returns-clause-sound c).After-index in
+    let differs : state_of c.index.result.now ≢ Unseen = seen_state c.index.result.now (search rules) in
+    let seen : slice_get (states_of self.words.items) (place_of c.args.sheet.now.sizes c.args.cell) ≢ Some Unseen = λ e. differs (cc (at, e)) in
+    rw (c.close.ensures.frames, c.clear.ensures.items)
+    (state_close c.args.sheet.now self.words.items self.frames.items self.parts.items c.requires.sound c.args.cell c.close.new.self.words.items c.requires.waiting seen c.close.ensures.words c.close.ensures.states)
+
+pub returns-clause-seen : goal.returns-clause-seen
+returns-clause-seen c = rw c.close.ensures.states (seen_close c.args.sheet.now (states_of c.args.self.now.words.items) c.args.self.now.frames.items c.requires.sound.walk)
+
+pub returns-clause-less : goal.returns-clause-less
+returns-clause-less c = rw (c.close.ensures.states, c.close.ensures.frames) (work_close c.args.sheet.now (states_of c.args.self.now.words.items) c.args.self.now.frames.items c.requires.sound.walk c.requires.waiting.some)

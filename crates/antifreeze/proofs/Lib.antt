@@ -1,4 +1,0 @@
-pub mod Exclusive
-pub mod ReplyLemmas
-pub mod TextLemmas
-pub mod WordLemmas

@@ -1,6 +1,0 @@
-pub mod Lines
-pub mod Outcomes
-pub mod Replies
-pub mod Runs
-pub mod Texts
-pub mod Words

@@ -1,0 +1,180 @@
+-- Records that are read and put into a sheet one after the other.
+use Rattle.std.proofs.Common.{◌≡◌, ◌≢◌, ℕ, ◌+◌, ◌-◌, ◌*◌, ◌<◌, ◌≤◌, List, [], ◌∷◌, ◌++◌, length, get_or, inl, inr, ◌⊎◌, refl, sym, ◌∙◌, ap, subst, arith, Err, length-append, append_assoc}
+use Rattle.std.specs.Prelude.{Option}
+use Rattle.std.proofs.Math.ListN.{get_or-append}
+use Rattle.std.proofs.Math.Seq.{get_or-append_seam}
+use Rattle.std.proofs.lemmas.List.{append-nil}
+use Rattle.csv.specs.Reading.{AreRecords, default_config}
+use Rattle.csv.specs.Records.{AllText}
+use Rattle.csv.specs.declared.reader.Reader.{Reader}
+use Rattle.csv.specs.declared.parser.State.TheVariants.{StartRecord}
+use Rattle.sheet_refs.specs.Cells.{Position}
+use Rattle.sheet_refs.specs.declared.sizes.Sizes.{Sizes}
+use Rattle.formula_syntax.specs.Spelling.{HasTooManyRefs}
+use Rattle.sheet_model.specs.Fields.{IsContent, IsDeepFormula}
+use Rattle.sheet_model.specs.Sheets.{SheetValue, IsSheetSize, content_of, blank_sheet}
+use Rattle.sheet_model.specs.Tables.{AddsLabels}
+use Rattle.sheet_model.proofs.ContentLemmas.{refused_none}
+use Rattle.csv_sheet.specs.Filling.{Holds, IsRecordFor, IsRowRefusal, IsFieldRefusal, IsUnderWay}
+use Rattle.csv_sheet.specs.Reading.{HasRead}
+use Rattle.csv_sheet.specs.Records.{Rows, fields_at, field_at, all_fields, cell_there, longest, sizes_of}
+use Rattle.csv_sheet.specs.Results.{AreReadable, IsSheetOf, IsAnswer, IsBefore, IsFirstField, IsFirstRefused, IsRefusedFormula, IsLong}
+use Rattle.csv_sheet.specs.declared.refused.SheetRefused.{SheetRefused}
+use Rattle.csv_sheet.specs.declared.refused.SheetRefused.TheVariants.{NotUtf8, TooManyCells, FieldTooLong, FormulaTooDeep, TooManyRefs, Memory}
+use Rattle.csv_sheet.proofs.FieldLemmas.{longest_at, longest_of}
+use Rattle.csv_sheet.proofs.FillLemmas.{holds_nothing}
+use Rattle.csv_sheet.proofs.RecordLemmas.{rows_in_front, one_rows}
+
+-- the record behind those that were read
+next_fields : (before rest : Rows) (fields : List (List ℕ)) → fields_at ((before ++ fields ∷ []) ++ rest) (length before) ≡ fields
+next_fields before rest fields = ap (λ rows. fields_at rows (length before)) (append_assoc before (fields ∷ []) rest) ∙ get_or-append_seam before fields rest []
+
+module _ (all before rest : Rows) (fields : List (List ℕ)) (whole : all ≡ (before ++ fields ∷ []) ++ rest) (readable : AreReadable all) where
+  here : fields_at all (length before) ≡ fields
+  here = ap (λ rows. fields_at rows (length before)) whole ∙ next_fields before rest fields
+
+  below : length before < length all
+  below =
+      let e : length all ≡ length ((before ++ fields ∷ []) ++ rest) = ap length whole in
+      let d = length-append (before ++ fields ∷ []) rest in
+      let f = length-append before (fields ∷ []) in
+      omega (arith, e, d, f)
+
+  -- it fits the sheet
+  pub record_fits : (sheet : SheetValue) → Holds before sheet → sheet.sizes ≡ sizes_of all → length sheet.labels ≤ length before * sheet.sizes.cols → IsRecordFor sheet (length before) fields
+  record_fits sheet holds sizes few = record {
+    kept = holds.kept;
+    within = subst (λ (s : Sizes). length before < s.rows) (sym sizes) below;
+    narrow = subst (λ (s : Sizes). length fields ≤ s.cols) (sym sizes) (subst (λ rows. length fields ≤ longest rows) (sym whole) (longest_at before rest fields));
+    text = subst AllText here (readable.text (length before) [] below);
+    short = λ col within long. readable.short (length before) col (subst (λ fs. col < length fs) (sym here) within) (subst (λ fs. IsLong (get_or fs col [])) (sym here) long);
+    few = few;
+  }
+
+  old_field : (r c : ℕ) → r < length before → field_at all r c ≡ field_at before r c
+  old_field r c less =
+      let front : all ≡ before ++ (fields ∷ rest) = whole ∙ append_assoc before (fields ∷ []) rest in
+      ap (λ rows. field_at rows r c) front ∙ ap (λ fs. get_or fs c []) (get_or-append before (fields ∷ rest) [] r less)
+
+  -- no formula in the records before it is refused
+  earlier_kept : (sheet : SheetValue) → Holds before sheet → sheet.sizes ≡ sizes_of all → (r c : ℕ) → r < length before → c < length (fields_at all r) → ¬ IsRefusedFormula (field_at all r c)
+  earlier_kept sheet holds sizes r c less within refused =
+      let row_below : r < length all = (let b = below in omega (arith, less, b)) in
+      let beside : c < longest all = longest_of all r c row_below within in
+      let same : field_at all r c ≡ field_at before r c = old_field r c less in
+      refused_none sheet.labels (field_at before r c) (content_of sheet (cell_there r c)) (subst IsRefusedFormula same refused)
+      (holds.cells r c (subst (λ (s : Sizes). r < s.rows) (sym sizes) row_below) (subst (λ (s : Sizes). c < s.cols) (sym sizes) beside))
+
+  first_here : (sheet : SheetValue) → Holds before sheet → sheet.sizes ≡ sizes_of all → (col : ℕ) → col < length fields → IsRefusedFormula (get_or fields col [])
+      → ((c : ℕ) → c < col → ¬ IsRefusedFormula (get_or fields c [])) → IsFirstField IsRefusedFormula all (cell_there (length before) col)
+  first_here sheet holds sizes col within refused clean = record {
+    row = length before;
+    col = col;
+    cell_is = refl;
+    there = subst (λ fs. col < length fs) (sym here) within;
+    is = subst (λ fs. IsRefusedFormula (get_or fs col [])) (sym here) refused;
+    before = λ r c earlier inside. by r c earlier inside;
+  }
+    where
+      by : (r c : ℕ) → IsBefore r c (length before) col → c < length (fields_at all r) → ¬ IsRefusedFormula (field_at all r c)
+      by r c (inl less) inside = earlier_kept sheet holds sizes r c less inside
+      by r c (inr same) inside = λ refused_there.
+          clean c same.1 (subst (λ fs. IsRefusedFormula (get_or fs c [])) (ap (fields_at all) same.0 ∙ here) refused_there)
+
+  why_here : (Why : List ℕ → Type 0) (col : ℕ) → Why (get_or fields col []) → Why (field_at all (length before + 1 - 1) (col + 1 - 1))
+  why_here Why col why =
+      let row_is : length before + 1 - 1 ≡ length before = omega arith in
+      let col_is : col + 1 - 1 ≡ col = omega arith in
+      subst (λ k. Why (field_at all k (col + 1 - 1))) (sym row_is) (subst (λ k. Why (field_at all (length before) k)) (sym col_is) (subst (λ fs. Why (get_or fs col [])) (sym here) why))
+
+  -- a record that is refused tells what the text gives
+  pub row_refused : (sheet : SheetValue) → Holds before sheet → sheet.sizes ≡ sizes_of all → (refused : SheetRefused) → refused ≢ Memory → IsRowRefusal (length before) fields refused → IsAnswer all (Err refused)
+  row_refused sheet holds sizes (NotUtf8 number) other is = absurd is.why
+  row_refused sheet holds sizes (TooManyCells height width) other is = absurd is.why
+  row_refused sheet holds sizes (FieldTooLong at) other is = absurd is.why
+  row_refused sheet holds sizes (FormulaTooDeep at) other is =
+      subst (λ k. IsFirstRefused IsDeepFormula all k) (sym is.why.0)
+      (record { readable = readable; first = first_here sheet holds sizes is.col is.within (inl is.why.1) is.before; why = why_here IsDeepFormula is.col is.why.1 })
+  row_refused sheet holds sizes (TooManyRefs at) other is =
+      subst (λ k. IsFirstRefused HasTooManyRefs all k) (sym is.why.0)
+      (record { readable = readable; first = first_here sheet holds sizes is.col is.within (inr is.why.1) is.before; why = why_here HasTooManyRefs is.col is.why.1 })
+  row_refused sheet holds sizes Memory other is = absurd (other refl)
+
+module _ {R : Type 0} (left : R → Option (List ℕ)) (text : List ℕ) (all : Rows) (has : AreRecords default_config StartRecord text all) (readable : AreReadable all)
+    (old : SheetValue) (blank : old ≡ blank_sheet (sizes_of all)) where
+  old_sizes : old.sizes ≡ sizes_of all
+  old_sizes = ap (λ (s : SheetValue). s.sizes) blank
+
+  -- before the first record
+  pub way_begins : IsSheetSize old.sizes → (reader : Reader R) → HasRead left text [] reader → IsUnderWay left text 0 old old reader
+  way_begins size reader read = record {
+    rows = [];
+    count = refl;
+    read = read;
+    holds = subst (Holds []) (sym blank) (holds_nothing (sizes_of all) (subst IsSheetSize old_sizes size));
+    sizes = refl;
+    few = (let none : length old.labels ≡ 0 = ap (λ (s : SheetValue). length s.labels) blank in omega (arith, none));
+  }
+
+  -- a text isn't at its end before the last row
+  pub not_ended : (rows : Rows) → AreRecords default_config StartRecord text rows → length rows < old.sizes.rows → ⊥
+  not_ended rows is less =
+      let same : rows ≡ all = one_rows default_config StartRecord text rows all is has in
+      let less_all : length rows < length all = subst (λ (s : Sizes). length rows < s.rows) old_sizes less in
+      let count : length rows ≡ length all = ap length same in
+      omega (arith, less_all, count)
+
+  -- behind the last row
+  pub way_ends : (new : SheetValue) (reader : Reader R) → IsUnderWay left text old.sizes.rows old new reader → IsSheetOf all new
+  way_ends new reader way =
+      let front = rows_in_front default_config StartRecord text way.rows all reader.state way.read.rest way.read.reached has in
+      let count : length way.rows ≡ length all = way.count ∙ ap (λ (s : Sizes). s.rows) old_sizes in
+      let none : front.0 ≡ [] = no_rest way.rows front.0 (ap length (sym front.1) ∙ sym count) in
+      let same : way.rows ≡ all = sym (front.1 ∙ ap (λ rest. way.rows ++ rest) none ∙ append-nil way.rows) in
+      let sizes : new.sizes ≡ sizes_of all = way.sizes ∙ old_sizes in
+      record {
+        readable = readable;
+        kept = way.holds.kept;
+        sizes = sizes;
+        labels = subst (λ rows. AddsLabels (all_fields rows) [] new.labels) same way.holds.labels;
+        cells = λ row col r c.
+            subst (λ rows. IsContent new.labels (field_at rows row col) (content_of new (cell_there row col))) same
+            (way.holds.cells row col (subst (λ (s : Sizes). row < s.rows) (sym sizes) r) (subst (λ (s : Sizes). col < s.cols) (sym sizes) c));
+      }
+    where
+      no_rest : (rows rest : Rows) → length (rows ++ rest) ≡ length rows → rest ≡ []
+      no_rest rows [] e = refl
+      no_rest rows (fields ∷ rest) e = (let d = length-append rows (fields ∷ rest) in absurd (omega (arith, d, e)))
+
+  -- one record more
+  pub way_goes : (row : ℕ) (fields : List (List ℕ)) (between new : SheetValue) (reader later : Reader R) → (way : IsUnderWay left text row old between reader)
+      → HasRead left text (way.rows ++ fields ∷ []) later
+      → ((rows : Rows) → length rows ≡ row → Holds rows between → Holds (rows ++ fields ∷ []) new) → new.sizes ≡ between.sizes → length new.labels ≤ (row + 1) * between.sizes.cols
+      → IsUnderWay left text (row + 1) old new later
+  way_goes row fields between new reader later way read filled sizes few = record {
+    rows = way.rows ++ fields ∷ [];
+    count = length-append way.rows (fields ∷ []) ∙ ap (λ n. n + 1) way.count;
+    read = read;
+    holds = filled way.rows way.count way.holds;
+    sizes = sizes ∙ way.sizes;
+    few = subst (λ (s : Sizes). length new.labels ≤ (row + 1) * s.cols) way.sizes few;
+  }
+
+  -- the record that was read fits the sheet
+  pub way_fits : (row : ℕ) (fields : List (List ℕ)) (between : SheetValue) (reader later : Reader R) → (way : IsUnderWay left text row old between reader)
+      → HasRead left text (way.rows ++ fields ∷ []) later → IsRecordFor between row fields
+  way_fits row fields between reader later way read =
+      let front = rows_in_front default_config StartRecord text (way.rows ++ fields ∷ []) all later.state read.rest read.reached has in
+      let sizes : between.sizes ≡ sizes_of all = way.sizes ∙ old_sizes in
+      let few : length between.labels ≤ length way.rows * between.sizes.cols = subst (λ k. length between.labels ≤ k * between.sizes.cols) (sym way.count) (subst (λ (s : Sizes). length between.labels ≤ row * s.cols) (sym way.sizes) way.few) in
+      subst (λ k. IsRecordFor between k fields) way.count
+      (record_fits all way.rows front.0 fields front.1 readable between way.holds sizes few)
+
+  -- where it is refused, that is what the text gives
+  pub way_refused : (row : ℕ) (fields : List (List ℕ)) (between : SheetValue) (reader later : Reader R) → (way : IsUnderWay left text row old between reader)
+      → HasRead left text (way.rows ++ fields ∷ []) later → (refused : SheetRefused) → refused ≢ Memory → IsRowRefusal row fields refused → IsAnswer all (Err refused)
+  way_refused row fields between reader later way read refused other is =
+      let front = rows_in_front default_config StartRecord text (way.rows ++ fields ∷ []) all later.state read.rest read.reached has in
+      let sizes : between.sizes ≡ sizes_of all = way.sizes ∙ old_sizes in
+      row_refused all way.rows front.0 fields front.1 readable between way.holds sizes refused other
+      (subst (λ k. IsRowRefusal k fields refused) (sym way.count) is)

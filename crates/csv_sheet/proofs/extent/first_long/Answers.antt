@@ -1,0 +1,10 @@
+use Rattle.std.proofs.Common.{arith, ◌≡◌, ◌<◌, length, get_or, [], sym, ap, subst}
+use Rattle.csv.specs.Records.{fields_of}
+use Rattle.csv_sheet.proofs.extent.first_long.Goals as goal
+
+pub returns-then-field-gt-MAX_FIELD : goal.returns-then-field-gt-MAX_FIELD
+returns-then-field-gt-MAX_FIELD c = record {
+  within = (let e = c.len-col-end.ensures in let t = c.loop-col-test.true in omega (arith, e, t));
+  long = subst (λ f. 8192 < length f) c.field.ensures c.if-field-gt-MAX_FIELD.true;
+  before = c.loop-col.invariant;
+}

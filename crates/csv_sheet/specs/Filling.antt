@@ -1,0 +1,68 @@
+-- Filling the cells of a blank sheet, field by field.
+use Rattle.std.specs.Prelude.{◌≡◌, ◌≢◌, ℕ, ◌+◌, ◌*◌, ◌<◌, ◌≤◌, List, [], ◌∷◌, ◌++◌, length, take, slice_index_or, Option}
+use Rattle.csv.specs.Records.{AllText}
+use Rattle.csv.specs.declared.reader.Reader.{Reader}
+use Rattle.csv_sheet.specs.Reading.{HasRead}
+use Rattle.sheet_refs.specs.Cells.{Position}
+use Rattle.sheet_model.specs.Fields.{IsContent, IsDeepFormula, IsTableAfter}
+use Rattle.sheet_model.specs.Sheets.{SheetValue, ContentValue, IsSheet, content_of, with_content, with_labels}
+use Rattle.sheet_model.specs.Tables.{AddsLabels}
+use Rattle.formula_syntax.specs.Spelling.{HasTooManyRefs}
+use Rattle.csv_sheet.specs.Records.{Rows, all_fields, field_at, cell_there}
+use Rattle.csv_sheet.specs.Results.{IsLong, IsRefusedFormula}
+use Rattle.csv_sheet.specs.declared.refused.SheetRefused.{SheetRefused}
+use Rattle.csv_sheet.specs.declared.refused.SheetRefused.TheVariants.{NotUtf8, TooManyCells, FieldTooLong, FormulaTooDeep, TooManyRefs, Memory}
+
+-- the sheet holds these records, and nothing where they have no field
+pub record Holds (rows : Rows) (sheet : SheetValue) : Type 0 where
+  pub kept : IsSheet sheet
+  pub labels : AddsLabels (all_fields rows) [] sheet.labels
+  pub cells : (row col : ℕ) → row < sheet.sizes.rows → col < sheet.sizes.cols → IsContent sheet.labels (field_at rows row col) (content_of sheet (cell_there row col))
+
+-- a field was put into a cell
+pub record PutsField (field : List ℕ) (cell : Position) (old new : SheetValue) : Type 0 where
+  pub table : IsTableAfter field old.labels new.labels
+  pub content : ContentValue
+  pub writes : IsContent new.labels field content
+  pub placed : new ≡ with_content (with_labels old new.labels) cell content
+
+-- why a field wasn't put into a cell; want of memory needs no cause
+abbrev pub IsFieldRefusal : List ℕ → Position → SheetRefused → Type 0
+IsFieldRefusal field cell (NotUtf8 number) = ⊥
+IsFieldRefusal field cell (TooManyCells height width) = ⊥
+IsFieldRefusal field cell (FieldTooLong at) = ⊥
+IsFieldRefusal field cell (FormulaTooDeep at) = (at ≡ cell) × IsDeepFormula field
+IsFieldRefusal field cell (TooManyRefs at) = (at ≡ cell) × HasTooManyRefs field
+IsFieldRefusal field cell Memory = Unit {0}
+
+-- a record that fits a sheet, each of whose fields may be read
+pub record IsRecordFor (sheet : SheetValue) (row : ℕ) (fields : List (List ℕ)) : Type 0 where
+  pub kept : IsSheet sheet
+  pub within : row < sheet.sizes.rows
+  pub narrow : length fields ≤ sheet.sizes.cols
+  pub text : AllText fields
+  pub short : (col : ℕ) → col < length fields → ¬ IsLong (slice_index_or fields col [])
+  pub few : length sheet.labels ≤ row * sheet.sizes.cols
+
+-- why a record wasn't put into a row: the first of its fields that is refused
+pub record IsRowRefusal (row : ℕ) (fields : List (List ℕ)) (refused : SheetRefused) : Type 0 where
+  pub col : ℕ
+  pub within : col < length fields
+  pub why : IsFieldRefusal (slice_index_or fields col []) (cell_there row col) refused
+  pub before : (c : ℕ) → c < col → ¬ IsRefusedFormula (slice_index_or fields c [])
+
+-- so many fields of a record were put into a row
+pub record IsPartFilled (row : ℕ) (fields : List (List ℕ)) (col : ℕ) (old new : SheetValue) : Type 0 where
+  pub filled : (rows : Rows) → length rows ≡ row → Holds rows old → Holds (rows ++ take col fields ∷ []) new
+  pub sizes : new.sizes ≡ old.sizes
+  pub few : length new.labels ≤ row * old.sizes.cols + col
+  pub clean : (k : ℕ) → k < col → ¬ IsRefusedFormula (slice_index_or fields k [])
+
+-- so many records of a text were read and put into a sheet
+pub record IsUnderWay {R : Type 0} (left : R → Option (List ℕ)) (text : List ℕ) (row : ℕ) (old new : SheetValue) (reader : Reader R) : Type 0 where
+  pub rows : Rows
+  pub count : length rows ≡ row
+  pub read : HasRead left text rows reader
+  pub holds : Holds rows new
+  pub sizes : new.sizes ≡ old.sizes
+  pub few : length new.labels ≤ row * old.sizes.cols

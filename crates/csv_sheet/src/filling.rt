@@ -1,0 +1,81 @@
+ghost use Rattle.std.specs.Prelude.{◌≡◌, ◌≢◌, ◌<◌, ◌≤◌, ◌+◌, ◌-◌, ◌*◌, ◌^◌, [], ◌∷◌, ◌++◌, length};
+ghost use Rattle.std.specs.Prelude.{IfErr, OnOk, Err, IsTrue, IsUtf8};
+ghost use Rattle.csv.specs.Reading.{AreRecords, default_config};
+ghost use Rattle.csv.specs.Records.{fields_of};
+ghost use Rattle.csv.specs.declared.parser.State.TheVariants.{StartRecord};
+ghost use Rattle.sheet_refs.specs.Sizes.{is_inside};
+ghost use Rattle.sheet_model.specs.Sheets.{blank_sheet};
+ghost use Rattle.csv_sheet.specs.Filling.{Holds, PutsField, IsFieldRefusal, IsRecordFor};
+ghost use Rattle.csv_sheet.specs.Filling.{IsRowRefusal};
+ghost use Rattle.csv_sheet.specs.Records.{Rows, sizes_of, unmarked as without_marks};
+ghost use Rattle.csv_sheet.specs.Results.{AreReadable, IsAnswer, IsSheetOf};
+ghost use Rattle.csv_sheet.specs.declared.refused.SheetRefused.TheVariants as refused;
+
+use crate::records::{field, read_next, reader_of};
+use crate::refused::SheetRefused;
+use csv::ByteRecord;
+use sheet_model::{Change, ContentRefused, Edit, Sheet};
+use sheet_refs::Cell;
+use std::alloc::Global;
+
+// Puts what a field writes into a cell.
+fn fill_cell(sheet: &mut Sheet, cell: Cell, field: &[u8]) -> Result<(), SheetRefused>
+    requires inside { IsTrue (is_inside sheet.old.sizes cell) }
+    requires text { IsUtf8 field.now }
+    requires short { length field.now ≤ 8192 }
+    requires room { length sheet.old.labels < 2 ^ 32 - 1 }
+    ensures put { OnOk result (PutsField field.now cell sheet.old sheet.new) }
+    ensures why { IfErr result (IsFieldRefusal field.now cell) }
+{
+    let Ok(text) = str::from_utf8(field) else {
+        unreachable!();
+    };
+    match sheet.read(text) {
+        Ok(content) => {
+            let _ = sheet.apply(Edit {
+                change: Change { cell, content },
+            });
+            Ok(())
+        }
+        Err(ContentRefused::TooDeep) => Err(SheetRefused::FormulaTooDeep { cell }),
+        Err(ContentRefused::TooManyRefs) => Err(SheetRefused::TooManyRefs { cell }),
+        Err(ContentRefused::Memory) => Err(SheetRefused::Memory),
+    }
+}
+
+// Puts what the fields of a record write into a row, counted from 0.
+fn fill_row(sheet: &mut Sheet, row: u32, fields: &ByteRecord) -> Result<(), SheetRefused>
+    requires { IsRecordFor sheet.old row (fields_of fields.now) }
+    ensures filled { OnOk result ((rows : Rows) → length rows ≡ row
+        → Holds rows sheet.old → Holds (rows ++ fields_of fields.now ∷ []) sheet.new) }
+    ensures sizes { OnOk result (sheet.new.sizes ≡ sheet.old.sizes) }
+    ensures few { OnOk result (length sheet.new.labels ≤ (row + 1) * sheet.old.sizes.cols) }
+    ensures why { IfErr result (IsRowRefusal row (fields_of fields.now)) }
+{
+    for col in 0..fields.len() {
+        let cell = Cell::new(row + 1, col as u32 + 1).unwrap();
+        fill_cell(sheet, cell, field(fields, col))?;
+    }
+    Ok(())
+}
+
+/// Fills a blank sheet of the right sizes with what the fields of all records of a text write.
+pub(crate) fn fill(alloc: Global, text: &[u8], sheet: &mut Sheet) -> Result<(), SheetRefused>
+    requires unmarked { without_marks text.now ≡ text.now }
+    requires blank { (rows : Rows) × AreRecords default_config StartRecord text.now rows
+        × AreReadable rows × (sheet.old ≡ blank_sheet (sizes_of rows)) }
+    ensures filled { OnOk result ((rows : Rows)
+        × AreRecords default_config StartRecord text.now rows × IsSheetOf rows sheet.new) }
+    ensures why { IfErr result (λ e. e ≢ refused.Memory → (rows : Rows)
+        × AreRecords default_config StartRecord text.now rows × IsAnswer rows (Err e)) }
+{
+    let mut reader = reader_of(alloc, text);
+    let mut fields = ByteRecord::new(alloc);
+    for row in 0..sheet.rows() {
+        if !read_next(&mut reader, &mut fields)? {
+            unreachable!();
+        }
+        fill_row(sheet, row, &fields)?;
+    }
+    Ok(())
+}

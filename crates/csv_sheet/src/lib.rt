@@ -1,0 +1,22 @@
+//! The sheet of a text: records of fields as CSV has them, a row for each record.
+//!
+//! What the records of a text are is what the kit's `csv` reads, with no header row and its other settings
+//! as they are by default, once the byte order marks at the front are taken off; nothing of quoting is said
+//! here again. A text has one answer, a sheet or the first cause why it has none (`specs/Results.antt`), and
+//! `load` gives it. What a field holds, and which texts of labels a sheet has, `sheet_model` says.
+//!
+//! Below stand `sheet_refs`, `sheet_model` and the kit's `csv`; the program stands above.
+#![tactic(auto)]
+
+mod extent;
+mod filling;
+mod laws;
+mod loading;
+mod records;
+mod refused;
+#[cfg(test)]
+mod tests;
+
+pub use laws::load_laws;
+pub use loading::load;
+pub use refused::SheetRefused;

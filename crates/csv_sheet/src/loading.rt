@@ -1,0 +1,58 @@
+ghost use Rattle.std.specs.Prelude.{◌≡◌, ◌≢◌, ◌≤◌, ◌↔◌, length, Result, Err};
+ghost use Rattle.sheet_model.specs.Sheets.{SheetValue};
+ghost use Rattle.csv_sheet.specs.Results.{IsResult};
+ghost use Rattle.csv_sheet.specs.declared.refused.SheetRefused.{SheetRefused as Refusal};
+ghost use Rattle.csv_sheet.specs.declared.refused.SheetRefused.TheVariants as refused;
+
+use crate::extent::measure;
+use crate::filling::fill;
+use crate::records::unmarked;
+use crate::refused::SheetRefused;
+use sheet_model::Sheet;
+use sheet_refs::Cell;
+use std::alloc::Global;
+
+// The sheet of a text, or the first cause why it has none.
+fn load_text(alloc: Global, text: &[u8]) -> Result<Sheet, SheetRefused>
+    requires { length text.now ≤ 16777216 }
+    ensures { result ≢ Err refused.Memory → IsResult text.now result }
+{
+    let records = unmarked(text);
+    let extent = measure(alloc, records)?;
+    if let Some(row) = extent.not_text {
+        return Err(SheetRefused::NotUtf8 { number: row + 1 });
+    }
+    if extent.is_too_large() {
+        return Err(SheetRefused::TooManyCells {
+            rows: u64::from(extent.rows),
+            cols: extent.cols as u64,
+        });
+    }
+    if let Some((row, col)) = extent.long {
+        return Err(SheetRefused::FieldTooLong {
+            cell: Cell::new(row + 1, col as u32 + 1).unwrap(),
+        });
+    }
+    let mut sheet = Sheet::blank(alloc, extent.rows, extent.cols as u32)?;
+    match fill(alloc, records, &mut sheet) {
+        Ok(()) => Ok(sheet),
+        Err(refused) => Err(refused),
+    }
+}
+
+/// Reads a sheet of a text of at most 16,777,216 bytes: CSV with no header row, records of any lengths and
+/// the other settings of the kit's `csv`, once the byte order marks at its front are taken off. A record
+/// gives a row; a shorter one is filled with empty cells; a wholly empty line is none.
+///
+/// Refuses, by the first of these causes: a field that isn't UTF-8; more than 1,048,576 cells or 16,384
+/// columns; a field of more than 8,192 bytes; a formula that `read_content` refuses. Memory may come before
+/// any. It reads the text twice, first for the sizes, in time proportional to its length and to the number
+/// of cells.
+pub fn load(alloc: Global, text: &[u8]) -> Result<Sheet, SheetRefused>
+    requires { length text.now ≤ 16777216 }
+    ensures result { result ≢ Err refused.Memory → IsResult text.now result }
+    ensures exact { result ≢ Err refused.Memory
+        → (answer : Result SheetValue Refusal) → result ≡ answer ↔ IsResult text.now answer }
+{
+    load_text(alloc, text)
+}

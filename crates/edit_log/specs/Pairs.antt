@@ -1,0 +1,31 @@
+-- The pairs of a sheet: each cell whose formula refers to a range, with that range.
+use Rattle.std.specs.Prelude.{◌≡◌, ◌↔◌, ◌⊎◌, ◌<◌, ℕ, List, [], Contains}
+use Rattle.sheet_refs.specs.Cells.{Position, Corners}
+use Rattle.formula_syntax.specs.Listing.{ranges_of}
+use Rattle.sheet_model.specs.Sheets.{SheetValue, ContentValue, Constant, Computed, content_of}
+use Rattle.graph_walk.specs.Graphs.{Pair}
+
+-- the ranges to which what stands in a cell refers; only a formula refers to any
+abbrev pub ranges_in : ContentValue → List Corners
+ranges_in (Constant value) = []
+ranges_in (Computed tree) = ranges_of tree
+
+-- a cell whose formula refers to a range
+abbrev pub IsPairOf : SheetValue → Pair → Type 0
+IsPairOf sheet pair = Contains (ranges_in (content_of sheet pair.cell)) pair.range
+
+-- the pairs of a graph are those of a sheet
+abbrev pub ArePairsOf : SheetValue → List Pair → Type 0
+ArePairsOf sheet pairs = (pair : Pair) → Contains pairs pair ↔ IsPairOf sheet pair
+
+-- there is no pair
+abbrev pub HasNoPairs : List Pair → Type 0
+HasNoPairs pairs = (pair : Pair) → ¬ Contains pairs pair
+
+-- a cell comes before a row of a column, where cells are counted column by column, each from the top
+abbrev pub IsBefore : ℕ → ℕ → Position → Type 0
+IsBefore col row cell = (cell.col < col) ⊎ ((cell.col ≡ col) × (cell.row < row))
+
+-- the pairs of a graph are those of the sheet's cells that come before a row of a column
+abbrev pub HasPairsBefore : SheetValue → ℕ → ℕ → List Pair → Type 0
+HasPairsBefore sheet col row pairs = (pair : Pair) → Contains pairs pair ↔ (IsBefore col row pair.cell × IsPairOf sheet pair)

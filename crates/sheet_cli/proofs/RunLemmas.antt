@@ -1,0 +1,46 @@
+-- From the reply to the words to what a run owes.
+use Rattle.std.proofs.Common.{◌≡◌, ℕ, ◌⊎◌, inl, inr, List, ◌∙◌, ap, subst, arith}
+use Rattle.std.specs.Prelude.{Option, String, string_bytes}
+use Rattle.std.specs.declared.alloc.Global.{Global}
+use Rattle.sheet_io.specs.Faults.{Rose}
+use Rattle.sheet_cli.specs.Answers.{Answer, Owes, Tells, status_of}
+use Rattle.sheet_cli.specs.Answers.Answer.{output, refusal}
+use Rattle.sheet_cli.specs.Replies.{IsOwed}
+use Rattle.sheet_cli.specs.Runs.{IsComplete, RefusesAll, IsUnfetched}
+use Rattle.sheet_cli.specs.declared.reply.Reply.TheVariants.{Refusal}
+use Rattle.sheet_cli.proofs.OneAnswer.{one_answer}
+
+module _ (words : List (List ℕ)) (holds : List ℕ → Option (List ℕ)) where
+  -- where a text is owed, its status is that of whatever is owed
+  pub output_complete : (text : List ℕ) → Owes words holds (output text) → IsComplete words holds 0
+  output_complete text reply answer tells owed = inl (ap status_of (one_answer words holds (output text) answer tells reply owed))
+
+  -- and nothing is refused
+  pub output_refuses : (text : List ℕ) (status : ℕ) → Owes words holds (output text) → RefusesAll words holds status
+  output_refuses text status reply given line tells owed = absurd (no (one_answer words holds (output text) (refusal given line) tells reply owed))
+    where
+      no : {s : ℕ} {l : List ℕ} → output text ≡ refusal s l → ⊥
+      no h = cc
+
+  pub refusal_complete : (before after status : ℕ) (line : String Global) → IsOwed words holds before after (Refusal status line) → ¬ Rose before after → IsComplete words holds status
+  refusal_complete before after status line (inl unread) calm answer tells owed = absurd (calm unread.rose)
+  refusal_complete before after status line (inr given) calm answer tells owed = inl (ap status_of (one_answer words holds (refusal status (string_bytes line)) answer tells given.owed owed))
+
+  pub refusal_refuses : (before after status : ℕ) (line : String Global) → IsOwed words holds before after (Refusal status line) → ¬ Rose before after → RefusesAll words holds status
+  refusal_refuses before after status line reply calm given told tells owed = refusal_complete before after status line reply calm (refusal given told) tells owed
+
+  -- a refusal with the status of a failed fetch names what was not fetched
+  pub unfetched : (before after status : ℕ) (line : String Global) (Noted : List ℕ → Type 0) (told : List ℕ) → IsOwed words holds before after (Refusal status line) → told ≡ string_bytes line → Noted told → status ≡ 5 → IsUnfetched words Noted
+  unfetched before after status line Noted told (inl unread) same noted five =
+      record {
+        request = unread.request;
+        name = unread.name;
+        asked = unread.asked;
+        named = unread.named;
+        noted = subst Noted (same ∙ unread.line_is) noted;
+      }
+  unfetched before after status line Noted told (inr refused) same noted five = absurd (no refused.status_is five)
+    where
+      no : (status ≡ 2) ⊎ (status ≡ 3) → status ≡ 5 → ⊥
+      no (inl two) five = omega (arith, two, five)
+      no (inr three) five = omega (arith, three, five)

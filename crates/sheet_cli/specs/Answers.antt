@@ -1,0 +1,68 @@
+-- What the program owes to its words and to the texts that they name.
+use Rattle.std.specs.Prelude.{◌≡◌, ℕ, ◌<◌, ◌≤◌, List, length, Result, Ok, Err, Some, IfSome, All}
+use Rattle.std.specs.declared.option.Option.{Option}
+use Rattle.sheet_refs.specs.Cells.{Corners}
+use Rattle.sheet_model.specs.Sheets.{SheetValue}
+use Rattle.csv_sheet.specs.Results.{IsResult}
+use Rattle.csv_sheet.specs.declared.refused.SheetRefused.{SheetRefused}
+use Rattle.window_text.specs.Texts.{IsWithinSheet, show_text}
+use Rattle.sheet_cli.specs.Lines.{usage_line, outside_line, too_long_line, refused_line}
+use Rattle.sheet_cli.specs.Requests.{Request, texts_named}
+use Rattle.sheet_cli.specs.Requests.Request.{show}
+use Rattle.sheet_cli.specs.Words.{Asks, AsksNothing}
+
+-- what a command line is answered: the text that is written, or the status and the line of a refusal
+pub data Answer : Type 0 where
+  output : List ℕ → Answer
+  refusal : ℕ → List ℕ → Answer
+
+-- the status of a run that gives an answer
+abbrev pub status_of : Answer → ℕ
+status_of (output text) = 0
+status_of (refusal status line) = status
+
+-- a text stands under a name: it is the one that the shelf tells, if it tells one, and within the limit
+pub record IsTextOf (holds : List ℕ → Option (List ℕ)) (name text : List ℕ) : Type 0 where
+  pub told : IfSome (holds name) (λ t. text ≡ t)
+  pub short : IfSome (holds name) (λ t. length t ≤ 16777216)
+
+-- what the text under a name gives: a sheet, or why there is none
+pub record Gives (holds : List ℕ → Option (List ℕ)) (name : List ℕ) (result : Result SheetValue SheetRefused) : Type 0 where
+  pub text : List ℕ
+  pub stands : IsTextOf holds name text
+  pub gives : IsResult text result
+
+-- there is no sheet under a name, and this says why
+pub data HasNoSheet (holds : List ℕ → Option (List ℕ)) (name : List ℕ) : ℕ → List ℕ → Type 0 where
+  -- its text is past the limit
+  too_long : IfSome (holds name) (λ t. 16777216 < length t) → HasNoSheet holds name 3 too_long_line
+  -- its text is no sheet
+  refused : (why : SheetRefused) → Gives holds name (Err why) → HasNoSheet holds name 3 (refused_line why)
+
+-- what a request is answered
+pub data Answers (holds : List ℕ → Option (List ℕ)) : Request → Answer → Type 0 where
+  -- `show` writes the value of each cell of its window
+  shows : (name : List ℕ) (window : Corners) (sheet : SheetValue) → Gives holds name (Ok sheet) → IsWithinSheet window sheet → Answers holds (show name window) (output (show_text sheet window))
+  -- unless the window is not wholly in the sheet
+  outside : (name : List ℕ) (window : Corners) (sheet : SheetValue) → Gives holds name (Ok sheet) → ¬ IsWithinSheet window sheet → Answers holds (show name window) (refusal 2 outside_line)
+  -- or there is no sheet
+  no_sheet : (name : List ℕ) (window : Corners) (status : ℕ) (line : List ℕ) → HasNoSheet holds name status line → Answers holds (show name window) (refusal status line)
+
+-- what words are answered, over the texts of a shelf
+pub data Owes (words : List (List ℕ)) (holds : List ℕ → Option (List ℕ)) : Answer → Type 0 where
+  -- words that are no command
+  usage : AsksNothing words → Owes words holds (refusal 2 usage_line)
+  -- words that ask for something
+  answers : (request : Request) (answer : Answer) → Asks words request → Answers holds request answer → Owes words holds answer
+
+-- the shelf tells each text that the words name
+abbrev pub Tells : List (List ℕ) → (List ℕ → Option (List ℕ)) → Type 0
+Tells words holds = (request : Request) → Asks words request → All (λ name. (text : List ℕ) × (holds name ≡ Some text)) (texts_named request)
+
+-- words ask for at most one thing
+abbrev pub WordsAskForOne : Type 0
+WordsAskForOne = (words : List (List ℕ)) (a b : Request) → Asks words a → Asks words b → a ≡ b
+
+-- words are answered in one way, where the shelf tells the texts that they name
+abbrev pub OneAnswer : Type 0
+OneAnswer = (words : List (List ℕ)) (holds : List ℕ → Option (List ℕ)) (a b : Answer) → Tells words holds → Owes words holds a → Owes words holds b → a ≡ b

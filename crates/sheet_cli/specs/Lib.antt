@@ -1,0 +1,7 @@
+pub mod Answers
+pub mod Clap
+pub mod Lines
+pub mod Replies
+pub mod Requests
+pub mod Runs
+pub mod Words

@@ -1,0 +1,56 @@
+-- How a run ends: its status, what it wrote and what it noted.
+use Rattle.std.specs.Prelude.{◌≡◌, ℕ, List, ◌⊎◌, Contains}
+use Rattle.std.specs.declared.option.Option.{Option}
+use Rattle.std.specs.Io.KnownBytes.{Appends}
+use Rattle.sheet_io.specs.Faults.{Rose}
+use Rattle.sheet_io.specs.Sink.{AppendsPrefix}
+use Rattle.sheet_cli.specs.Answers.{Answer, Owes, Tells, status_of}
+use Rattle.sheet_cli.specs.Answers.Answer.{output, refusal}
+use Rattle.sheet_cli.specs.Lines.{read_failed_line}
+use Rattle.sheet_cli.specs.Requests.{Request, texts_named}
+use Rattle.sheet_cli.specs.Words.{Asks}
+
+-- all done; words or range refused; sheet refused; a fetch failed; a put failed; want of memory
+abbrev pub IsStatus : ℕ → Type 0
+IsStatus status = (status ≡ 0) ⊎ ((status ≡ 2) ⊎ ((status ≡ 3) ⊎ ((status ≡ 5) ⊎ ((status ≡ 6) ⊎ (status ≡ 7)))))
+
+-- a sink has taken a line whole, or a prefix of it where its faults rose
+abbrev pub TakesLine : {N : Type 0} → (N → Option (List ℕ)) → (N → ℕ) → N → N → List ℕ → Type 0
+TakesLine written faults old new line =
+    Appends (written old) (written new) line ⊎ (Rose (faults old) (faults new) × AppendsPrefix (written old) (written new) line)
+
+-- out has gained the whole text that is owed
+pub record HasWritten (words : List (List ℕ)) (holds : List ℕ → Option (List ℕ)) (old new : Option (List ℕ)) : Type 0 where
+  pub text : List ℕ
+  pub owed : Owes words holds (output text)
+  pub gained : Appends old new text
+
+-- out has gained a prefix of the text that is owed
+pub record HasBegun (words : List (List ℕ)) (holds : List ℕ → Option (List ℕ)) (old new : Option (List ℕ)) : Type 0 where
+  pub text : List ℕ
+  pub owed : Owes words holds (output text)
+  pub gained : AppendsPrefix old new text
+
+-- the words, or a text that they name, are refused with this status, and a line of which Noted holds says why
+pub record IsRefused (words : List (List ℕ)) (holds : List ℕ → Option (List ℕ)) (status : ℕ) (Noted : List ℕ → Type 0) : Type 0 where
+  pub line : List ℕ
+  pub owed : Owes words holds (refusal status line)
+  pub noted : Noted line
+
+-- the words name a text, and a line of which Noted holds says that it was not fetched
+pub record IsUnfetched (words : List (List ℕ)) (Noted : List ℕ → Type 0) : Type 0 where
+  pub request : Request
+  pub name : List ℕ
+  pub asked : Asks words request
+  pub named : Contains (texts_named request) name
+  pub noted : Noted (read_failed_line name)
+
+-- where the shelf tells the texts that the words name, the status is that of what is owed, or memory ran out
+abbrev pub IsComplete : List (List ℕ) → (List ℕ → Option (List ℕ)) → ℕ → Type 0
+IsComplete words holds status =
+    (answer : Answer) → Tells words holds → Owes words holds answer → (status ≡ status_of answer) ⊎ (status ≡ 7)
+
+-- the same of refusals alone
+abbrev pub RefusesAll : List (List ℕ) → (List ℕ → Option (List ℕ)) → ℕ → Type 0
+RefusesAll words holds status =
+    (given : ℕ) (line : List ℕ) → Tells words holds → Owes words holds (refusal given line) → (status ≡ given) ⊎ (status ≡ 7)

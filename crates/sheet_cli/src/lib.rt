@@ -1,0 +1,25 @@
+//! The program over its inputs and outputs: it reads the words of the command line, does what they ask
+//! for, and ends with a status.
+//!
+//! `run` is all that it does. Its contract says what each status tells, what was written and what was noted.
+//! Words ask for at most one thing (`specs/Words.antt`, `specs/Requests.antt`), and words and the texts that
+//! they name are answered in one way, by a text or by the status and the line of a refusal
+//! (`specs/Answers.antt`); `run_laws` says both. Each command is a case of each of these definitions.
+//!
+//! The words after a command's name are read with the kit's `clap`, once it is known that none of them is
+//! written as an option. Below stand `csv_sheet`, which reads sheets, `sheet_model`, which computes values,
+//! `window_text`, which prints them, and `sheet_io`, through which all input and output goes; above stands
+//! the program's `main`.
+#![tactic(auto)]
+
+mod laws;
+mod output;
+mod reply;
+#[cfg(test)]
+mod tests;
+mod top;
+mod words;
+
+pub use laws::run_laws;
+pub use top::{no_memory, run};
+pub use words::{Asked, read_words};

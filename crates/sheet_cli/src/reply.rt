@@ -1,0 +1,129 @@
+ghost use Rattle.std.specs.Prelude.{◌≡◌, ◌≢◌, ◌≤◌, MatchBool, IfOk};
+ghost use Rattle.csv_sheet.specs.declared.refused.SheetRefused.TheVariants as refused;
+ghost use Rattle.window_text.specs.Texts.{IsWithinSheet};
+ghost use Rattle.sheet_cli.specs.Answers.Answer.{refusal as refusal_answer};
+ghost use Rattle.sheet_cli.specs.Lines.{refused_line, too_long_line};
+ghost use Rattle.sheet_cli.specs.Requests.Request.{show};
+ghost use Rattle.sheet_cli.specs.Replies.{AnswersWindow, IsOwed, RepliesTo, answer_of};
+ghost use Rattle.sheet_cli.specs.Words.{AsksNothing, bytes_of_words};
+
+use crate::output::show_output;
+use crate::words::{Asked, read_words};
+use csv_sheet::{SheetRefused, load};
+use sheet_io::{Fetch, Shelf};
+use sheet_model::{Sheet, all_values};
+use sheet_refs::{Memory, Range};
+use std::alloc::Global;
+
+/// The longest text of a sheet that is read, in bytes.
+pub(crate) const MAX_SHEET: usize = 16_777_216;
+
+const USAGE: &str =
+    "antifreeze: usage: antifreeze show|deps|precs SHEET RANGE; check SHEET; play|live SHEET SCRIPT; gen NUMBER; --workers N with live, gen\n";
+
+/// What a run has found out before it writes a byte.
+#[derive(Drop)]
+pub(crate) enum Reply {
+    /// The text that the command writes.
+    Output(Vec<u8>),
+    /// Why the command is refused: the status of the run, and the line for the notes.
+    Refusal { status: u8, line: String },
+}
+
+/// The reply to the words over the texts of a shelf.
+pub(crate) fn reply_to<F: Shelf>(
+    alloc: Global,
+    words: &[String],
+    shelf: &mut F,
+) -> Result<Reply, Memory>
+    ensures owed { IfOk result (IsOwed (bytes_of_words words.now) (F.holds shelf.old) (F.faults shelf.old) (F.faults shelf.new)) }
+    ensures held { F.holds shelf.new ≡ F.holds shelf.old }
+    ensures counted { F.faults shelf.old ≤ F.faults shelf.new }
+    ensures nothing_fetched { AsksNothing (bytes_of_words words.now) → F.faults shelf.new ≡ F.faults shelf.old }
+{
+    match read_words(alloc, words)? {
+        Asked::Show { sheet, range } => reply_to_show(alloc, sheet.as_str(), range, shelf),
+        Asked::Nothing => refusal(alloc, 2, USAGE),
+    }
+}
+
+// The reply to `show`. The sheet is fetched and read, then the range is looked for in it; the first of these
+// that fails gives the refusal.
+fn reply_to_show<F: Shelf>(
+    alloc: Global,
+    name: &str,
+    range: Range,
+    shelf: &mut F,
+) -> Result<Reply, Memory>
+    ensures reply { IfOk result (RepliesTo (show name.now range) (F.holds shelf.old) (F.faults shelf.old) (F.faults shelf.new)) }
+    ensures held { F.holds shelf.new ≡ F.holds shelf.old }
+    ensures counted { F.faults shelf.old ≤ F.faults shelf.new }
+{
+    let mut text = Vec::new(alloc);
+    match shelf.fetch(name, MAX_SHEET, &mut text) {
+        Ok(()) => window_reply(alloc, &text, range),
+        Err(Fetch::Failed) => Ok(Reply::Refusal {
+            status: 5,
+            line: format!(in alloc; "antifreeze: {name}: read failed\n")?,
+        }),
+        Err(Fetch::TooLong) => too_long(alloc),
+        Err(Fetch::Memory) => Err(Memory),
+    }
+}
+
+// The reply to a window and the sheet's text.
+fn window_reply(alloc: Global, text: &[u8], range: Range) -> Result<Reply, Memory>
+    ensures { IfOk result (λ reply. AnswersWindow text.now range (answer_of reply)) }
+{
+    // A shelf that doesn't tell its texts may give more than it was asked for.
+    if text.len() > MAX_SHEET {
+        return too_long(alloc);
+    }
+    let sheet = match load(alloc, text) {
+        Ok(sheet) => sheet,
+        Err(why) => return unread(alloc, why),
+    };
+    if !covers(&sheet, range) {
+        return refusal(alloc, 2, "antifreeze: range outside the sheet\n");
+    }
+    let values = all_values(alloc, &sheet)?;
+    Ok(Reply::Output(show_output(alloc, &sheet, range, &values)?))
+}
+
+// The refusal of a text that is no sheet.
+fn unread(alloc: Global, why: SheetRefused) -> Result<Reply, Memory>
+    ensures line { IfOk result (λ reply. answer_of reply ≡ refusal_answer 3 (refused_line why)) }
+    ensures known { IfOk result (λ _. why ≢ refused.Memory) }
+{
+    if why == SheetRefused::Memory {
+        return Err(Memory);
+    }
+    Ok(Reply::Refusal {
+        status: 3,
+        line: format!(in alloc; "antifreeze: {why}\n")?,
+    })
+}
+
+// The refusal of a text that is past the limit.
+fn too_long(alloc: Global) -> Result<Reply, Memory>
+    ensures { IfOk result (λ reply. answer_of reply ≡ refusal_answer 3 too_long_line) }
+{
+    refusal(alloc, 3, "antifreeze: sheet: text too long\n")
+}
+
+// Whether the range lies wholly in the sheet.
+fn covers(sheet: &Sheet, range: Range) -> bool
+    ensures { MatchBool result (IsWithinSheet range sheet.now) (¬ IsWithinSheet range sheet.now) }
+{
+    sheet.holds(range.head()) && sheet.holds(range.tail())
+}
+
+// A refusal with this status and this line.
+fn refusal(alloc: Global, status: u8, line: &str) -> Result<Reply, Memory>
+    ensures { IfOk result (λ reply. answer_of reply ≡ refusal_answer status line.now) }
+{
+    Ok(Reply::Refusal {
+        status,
+        line: String::from_str(alloc, line)?,
+    })
+}

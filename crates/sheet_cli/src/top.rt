@@ -1,0 +1,81 @@
+ghost use Rattle.std.specs.Prelude.{◌≡◌, ◌≢◌, ◌⊎◌};
+ghost use Rattle.sheet_io.specs.Faults.{Rose};
+ghost use Rattle.sheet_cli.specs.Lines.{write_failed_line, no_memory_line};
+ghost use Rattle.sheet_cli.specs.Runs.{IsStatus, HasWritten, HasBegun, IsRefused, IsUnfetched};
+ghost use Rattle.sheet_cli.specs.Runs.{TakesLine, IsComplete, RefusesAll};
+ghost use Rattle.sheet_cli.specs.Words.{AsksNothing, bytes_of_words};
+
+use crate::reply::{Reply, reply_to};
+use sheet_io::{Shelf, Sink};
+use std::alloc::Global;
+
+/// Does what the words ask for: `show SHEET RANGE` writes the values of the range to `out`. The sheet's
+/// text is what stands under its name on the shelf.
+///
+/// The result is the status of the process: 0 for done, 2 for words that are no command or a range that
+/// isn't in the sheet, 3 for a sheet's text that is refused, 5 for a fetch that failed, 6 for a put on
+/// `out` that failed, and 7 for want of memory. With every status but 0 one line goes to `notes`, and
+/// nothing is written to `out` with any but 0 and 6: all memory is taken before the first byte.
+pub fn run<F: Shelf, K: Sink, N: Sink>(
+    alloc: Global,
+    words: &[String],
+    shelf: &mut F,
+    out: &mut K,
+    notes: &mut N,
+) -> u8
+    ensures status { IsStatus result }
+
+    // What each status tells.
+    ensures done { result ≡ 0
+        → HasWritten (bytes_of_words words.now) (F.holds shelf.old) (K.written out.old) (K.written out.new) }
+    ensures refused { (result ≡ 2) ⊎ (result ≡ 3)
+        → IsRefused (bytes_of_words words.now) (F.holds shelf.old) result (TakesLine N.written N.faults notes.old notes.new) }
+    ensures read_failed { result ≡ 5 → Rose (F.faults shelf.old) (F.faults shelf.new) }
+    ensures unfetched { result ≡ 5
+        → IsUnfetched (bytes_of_words words.now) (TakesLine N.written N.faults notes.old notes.new) }
+    ensures write_failed { result ≡ 6 → Rose (K.faults out.old) (K.faults out.new) }
+    ensures cut { result ≡ 6
+        → HasBegun (bytes_of_words words.now) (F.holds shelf.old) (K.written out.old) (K.written out.new) }
+    ensures cut_noted { result ≡ 6 → TakesLine N.written N.faults notes.old notes.new write_failed_line }
+    ensures no_memory { result ≡ 7 → TakesLine N.written N.faults notes.old notes.new no_memory_line }
+    ensures nothing_written { result ≢ 0 → result ≢ 6 → K.written out.new ≡ K.written out.old }
+    ensures nothing_noted { result ≡ 0 → N.written notes.new ≡ N.written notes.old }
+    ensures nothing_fetched { AsksNothing (bytes_of_words words.now) → F.faults shelf.new ≡ F.faults shelf.old }
+
+    // Where no fault rises, what the words and the texts that they name ask for is done.
+    ensures complete { ¬ Rose (F.faults shelf.old) (F.faults shelf.new) → ¬ Rose (K.faults out.old) (K.faults out.new)
+        → IsComplete (bytes_of_words words.now) (F.holds shelf.old) result }
+    ensures refuses { ¬ Rose (F.faults shelf.old) (F.faults shelf.new)
+        → RefusesAll (bytes_of_words words.now) (F.holds shelf.old) result }
+{
+    match reply_to(alloc, words, shelf) {
+        Ok(Reply::Output(text)) => match out.put(&text) {
+            Ok(()) => 0,
+            Err(_) => {
+                tell(notes, "antifreeze: write failed\n");
+                6
+            }
+        },
+        Ok(Reply::Refusal { status, line }) => {
+            tell(notes, line.as_str());
+            status
+        }
+        Err(_) => no_memory(notes),
+    }
+}
+
+/// Notes the want of memory; the result is the status for it.
+pub fn no_memory<N: Sink>(notes: &mut N) -> u8
+    ensures status { result ≡ 7 }
+    ensures noted { TakesLine N.written N.faults notes.old notes.new no_memory_line }
+{
+    tell(notes, "antifreeze: out of memory\n");
+    7
+}
+
+// A line that the notes don't take changes nothing else.
+fn tell<N: Sink>(notes: &mut N, line: &str)
+    ensures { TakesLine N.written N.faults notes.old notes.new line.now }
+{
+    let _ = notes.put(line.as_bytes());
+}

@@ -1,0 +1,169 @@
+-- Words as what they tell of cells.
+use Rattle.std.proofs.Common.{◌≡◌, ◌≢◌, ℕ, zero, suc, ◌<◌, ◌==◌, inl, inr, List, [], ◌∷◌, ◌++◌, length, slice_get, get_or, set, Some, None, Bool, true, false, not, cond, option_map, IsTrue, refl, sym, ◌∙◌, ap, subst, arith}
+use Rattle.std.proofs.lemmas.Bool.Decides.{nat_tests}
+use Rattle.std.proofs.lemmas.List.{map-set}
+use Rattle.std.proofs.lemmas.Option.{slice_get-map, slice_get-get_or, get_or_from_slice_get}
+use Rattle.sheet_refs.specs.Cells.{Position}
+use Rattle.sheet_refs.specs.Sizes.{is_inside, cell_count, place_of}
+use Rattle.sheet_refs.proofs.Places.{place-lt}
+use Rattle.sheet_refs.specs.declared.sizes.Sizes.{Sizes}
+use Rattle.value_core.specs.declared.value.ErrorKind.TheVariants as error
+use Rattle.value_core.specs.declared.value.Value.{Value}
+use Rattle.value_core.specs.declared.value.Value.TheVariants.{Empty, Number, Truth, Error, Label}
+use Rattle.value_core.specs.Decoding.{decoded, decoded-code}
+use Rattle.value_core.specs.Values.{IsValue, code_of}
+use Rattle.formula_eval.specs.Inputs.{IsCode}
+use Rattle.formula_eval.specs.Meaning.{is_circular, formula_value, IsNamedBy, IsFormulaValue}
+use Rattle.formula_eval.specs.Stops.{IsMissing}
+use Rattle.formula_syntax.specs.Tree.{Tree, references_of}
+use Rattle.sheet_model.specs.Walks.{known_value, known_values}
+use Rattle.sheet_model.specs.Words.{Unseen, Open, Known, state_of, IsWord, AreWords, states_of, known_code, known_codes, is_plain_state, is_plain}
+use Rattle.sheet_model.proofs.ListLemmas.{slice_get-pushed}
+
+-- no value has the code of a word of no value
+code_not_free : (v : Value) → (code_of v ≢ 5) × (code_of v ≢ 6)
+code_not_free Empty = (λ e. omega arith, λ e. omega arith)
+code_not_free (Number n) = (λ e. omega arith, λ e. omega arith)
+code_not_free (Truth false) = (λ e. omega arith, λ e. omega arith)
+code_not_free (Truth true) = (λ e. omega arith, λ e. omega arith)
+code_not_free (Error kind) = (λ e. omega arith, λ e. omega arith)
+code_not_free (Label place) = (λ e. omega arith, λ e. omega arith)
+
+-- a word of neither is that of a value
+state_known : (word : ℕ) → word ≢ 5 → word ≢ 6 → state_of word ≡ Known (decoded word)
+state_known word a b = by_tests (word == 5) (word == 6) refl refl
+  where
+    by_tests : (p q : Bool) → (word == 5) ≡ p → (word == 6) ≡ q → cond p Unseen (cond q Open (Known (decoded word))) ≡ Known (decoded word)
+    by_tests true q is_p is_q = absurd (a (grind (arith, nat_tests)))
+    by_tests false true is_p is_q = absurd (b (grind (arith, nat_tests)))
+    by_tests false false is_p is_q = refl
+
+pub state_of_code : (v : Value) → IsValue v → state_of (code_of v) ≡ Known v
+state_of_code v is =
+    let free = code_not_free v in
+    state_known (code_of v) free.0 free.1 ∙ ap Known (decoded-code v is)
+
+pub code_is_word : (v : Value) → IsValue v → IsWord (code_of v)
+code_is_word v is u same =
+    let known : v ≡ u = (let e = sym (state_of_code v is) ∙ same in cc) in
+    let both : IsValue v × (code_of v ≡ code_of v) = (is, refl) in
+    subst (λ (u : Value). IsValue u × (code_of u ≡ code_of v)) known both
+
+pub unseen_is_word : IsWord 5
+unseen_is_word v same = absurd (cc)
+
+pub open_is_word : IsWord 6
+open_is_word v same = absurd (cc)
+
+-- a known value other than #CIRC!, by its word
+pub plain_known : (word : ℕ) → IsWord word → word ≢ 5 → word ≢ 6 → not (word == 59) ≡ is_plain_state (state_of word)
+plain_known word is a b =
+    let known = state_known word a b in
+    let code = is (decoded word) known in
+    rw known (ap not (by_value (decoded word) word code.1))
+  where
+    by_value : (v : Value) (w : ℕ) → code_of v ≡ w → (w == 59) ≡ is_circular v
+    by_value Empty w e = grind (arith, nat_tests)
+    by_value (Number n) w e = let no : w ≢ 59 = λ same. omega (arith, e, same) in grind (arith, nat_tests)
+    by_value (Truth false) w e = grind (arith, nat_tests)
+    by_value (Truth true) w e = grind (arith, nat_tests)
+    by_value (Error error.Null) w e = grind (arith, nat_tests)
+    by_value (Error error.Div0) w e = grind (arith, nat_tests)
+    by_value (Error error.Value) w e = grind (arith, nat_tests)
+    by_value (Error error.Ref) w e = grind (arith, nat_tests)
+    by_value (Error error.Name) w e = grind (arith, nat_tests)
+    by_value (Error error.Num) w e = grind (arith, nat_tests)
+    by_value (Error error.Na) w e = grind (arith, nat_tests)
+    by_value (Error error.Circ) w e = grind (arith, nat_tests)
+    by_value (Label place) w e = let no : w ≢ 59 = λ same. omega (arith, e, same) in grind (arith, nat_tests)
+
+-- the word at a place, and the state for which it stands
+pub word_at : (words : List ℕ) (place d : ℕ) → AreWords words → place < length words → IsWord (get_or words place d)
+word_at words place d are below = are place (get_or words place d) (slice_get-get_or words place d below)
+
+pub states_at : (words : List ℕ) (place d : ℕ) → place < length words → slice_get (states_of words) place ≡ Some (state_of (get_or words place d))
+states_at words place d below = slice_get-map state_of words place ∙ ap (option_map state_of) (slice_get-get_or words place d below)
+
+pub plain_at : (sizes : Sizes) (words : List ℕ) (cell : Position) (place d : ℕ) → place ≡ place_of sizes cell → place < length words → is_plain_state (state_of (get_or words place d)) ≡ is_plain sizes (states_of words) cell
+plain_at sizes words cell place d is below =
+    rw (← is) (ap is_plain_state (sym (get_or_from_slice_get (states_of words) place (state_of (get_or words place d)) Unseen (states_at words place d below))))
+
+-- a word that is a code
+pub known_is_code : (word : ℕ) → IsWord word → word ≢ 5 → word ≢ 6 → IsCode word
+known_is_code word is a b = let code = is (decoded word) (state_known word a b) in (decoded word, code.0, code.1)
+
+-- what is known of a cell that evaluation can read past
+pub plain_code : (sizes : Sizes) (words : List ℕ) (cell : Position) → place_of sizes cell < length words → IsTrue (is_plain sizes (states_of words) cell) → known_codes sizes words cell ≢ None
+plain_code sizes words cell below plain none =
+    let at = plain_at sizes words cell (place_of sizes cell) 0 refl below in
+    by_word (get_or words (place_of sizes cell) 0) (at ∙ plain) none
+  where
+    by_word : (word : ℕ) → is_plain_state (state_of word) ≡ true → known_code word ≢ None
+    by_word word plain = by_tests (word == 5) (word == 6) plain
+      where
+        by_tests : (p q : Bool) → is_plain_state (cond p Unseen (cond q Open (Known (decoded word)))) ≡ true → cond p None (cond q None (Some word)) ≢ None
+        by_tests true q is none = cc
+        by_tests false true is none = cc
+        by_tests false false is none = cc
+
+-- the code that is held of a cell is that of its known value
+pub held_value : (sizes : Sizes) (words : List ℕ) (cell : Position) (word : ℕ) → AreWords words → place_of sizes cell < length words → known_codes sizes words cell ≡ Some word → IsValue (known_values sizes (states_of words) cell) × (code_of (known_values sizes (states_of words) cell) ≡ word)
+held_value sizes words cell word are below held =
+    let here = get_or words (place_of sizes cell) 0 in
+    let is = word_at words (place_of sizes cell) 0 are below in
+    let state = get_or_from_slice_get (states_of words) (place_of sizes cell) (state_of here) Unseen (states_at words (place_of sizes cell) 0 below) in
+    rw state (by_tests here is (here == 5) (here == 6) refl refl held)
+  where
+    by_tests : (here : ℕ) → IsWord here → (p q : Bool) → (here == 5) ≡ p → (here == 6) ≡ q → cond p None (cond q None (Some here)) ≡ Some word → IsValue (known_value (cond p Unseen (cond q Open (Known (decoded here))))) × (code_of (known_value (cond p Unseen (cond q Open (Known (decoded here))))) ≡ word)
+    by_tests here is true q is_p is_q held = absurd (cc)
+    by_tests here is false true is_p is_q held = absurd (cc)
+    by_tests here is false false is_p is_q held =
+        let known : state_of here ≡ Known (decoded here) = rw (is_p, is_q) refl in
+        let code = is (decoded here) known in
+        let same : here ≡ word = cc in
+        (code.0, code.1 ∙ same)
+
+-- a write of a word
+pub words_set : (words : List ℕ) (place word : ℕ) → AreWords words → IsWord word → AreWords (set words place word)
+words_set [] place word are is i w at = absurd (cc)
+words_set (x ∷ xs) zero word are is zero w at = let same : word ≡ w = cc in subst IsWord same is
+words_set (x ∷ xs) zero word are is (suc i) w at = are (suc i) w at
+words_set (x ∷ xs) (suc place) word are is zero w at = are zero w at
+words_set (x ∷ xs) (suc place) word are is (suc i) w at = words_set xs place word (λ j v at_j. are (suc j) v at_j) is i w at
+
+pub states_set : (words : List ℕ) (place word : ℕ) → states_of (set words place word) ≡ set (states_of words) place (state_of word)
+states_set words place word = map-set state_of words place word
+
+-- the words of a list, and one more
+pub words_none : AreWords []
+words_none i w at = absurd (cc)
+
+pub words_push : (words : List ℕ) (word : ℕ) → AreWords words → IsWord word → AreWords (words ++ word ∷ [])
+words_push words word are is i w at =
+    elim (slice_get-pushed words word i w at) [ inl before ↦ are i w before | inr last ↦ subst IsWord last.1 is ]
+
+pub states_push : (words : List ℕ) (word : ℕ) → states_of (words ++ word ∷ []) ≡ states_of words ++ state_of word ∷ []
+states_push [] word = refl
+states_push (x ∷ xs) word = ap (λ states. state_of x ∷ states) (states_push xs word)
+
+-- whether a word is the one of a cell that wasn't looked at
+pub unseen_state : (word : ℕ) → word ≡ 5 → state_of word ≡ Unseen
+unseen_state word is = rw is refl
+
+pub seen_state : (word : ℕ) → word ≢ 5 → state_of word ≢ Unseen
+seen_state word differs = by_tests (word == 5) (word == 6) refl
+  where
+    by_tests : (p q : Bool) → (word == 5) ≡ p → cond p Unseen (cond q Open (Known (decoded word))) ≢ Unseen
+    by_tests true q is same = differs (grind (arith, nat_tests))
+    by_tests false true is same = cc
+    by_tests false false is same = cc
+
+-- what evaluation answers over the words is a step over the values that they tell
+pub evaluated : (sizes : Sizes) (words : List ℕ) (tree : Tree) (v : Value) → AreWords words → length words ≡ cell_count sizes → IsFormulaValue sizes (known_codes sizes words) tree v → v ≡ formula_value sizes tree (known_values sizes (states_of words))
+evaluated sizes words tree v are count is =
+    is (known_values sizes (states_of words)) (λ cell word named inside held. held_value sizes words cell word are (omega (arith, count, place-lt sizes cell inside)) held)
+
+-- no cell is missing where evaluation can read past each
+pub none_missing : (sizes : Sizes) (words : List ℕ) (tree : Tree) (cell : Position) → length words ≡ cell_count sizes → ((c : Position) → IsNamedBy (references_of tree) c → IsTrue (is_inside sizes c) → IsTrue (is_plain sizes (states_of words) c)) → IsMissing sizes (known_codes sizes words) tree cell → ⊥
+none_missing sizes words tree cell count plain missing =
+    plain_code sizes words cell (omega (arith, count, place-lt sizes cell missing.inside)) (plain cell missing.referenced missing.inside) missing.unknown

@@ -1,0 +1,61 @@
+-- What is known of the cells of a rectangle, as a word for each: the code of its value, or one of two words that no value has.
+use Rattle.std.specs.Prelude.{◌≡◌, ℕ, pos, negsuc, ◌≤ℤ◌, ◌==◌, Bool, false, not, if◌then◌else◌, List, map, slice_get, slice_index_or, Option, Some, None}
+use Rattle.std.proofs.Props.{props}
+use Rattle.sheet_refs.specs.Cells.{Position}
+use Rattle.sheet_refs.specs.Sizes.{place_of}
+use Rattle.sheet_refs.specs.declared.sizes.Sizes.{Sizes}
+use Rattle.value_core.specs.declared.value.Value.{Value}
+use Rattle.value_core.specs.declared.value.Value.TheVariants.{Empty, Number, Truth, Error, Label}
+use Rattle.value_core.specs.Decoding.{decoded}
+use Rattle.value_core.specs.Values.{IsValue, code_of}
+use Rattle.formula_eval.specs.Meaning.{is_circular}
+
+-- what is known of a cell: it wasn't looked at, or waits for another one, or has this value
+pub data State : Type 0 where
+  Unseen : State
+  Open : State
+  Known : Value → State
+
+-- the state for which a word stands
+abbrev pub state_of : ℕ → State
+state_of word = if word == 5 then Unseen else (if word == 6 then Open else Known (decoded word))
+
+-- that a value is in range has one proof at most
+pub value_prop : (v : Value) → IsProp (IsValue v)
+value_prop Empty = hlevel props
+value_prop (Number n) =
+    let least : IsProp (negsuc 9007199254740990 ≤ℤ n) = hlevel props in
+    let most : IsProp (n ≤ℤ pos 9007199254740991) = hlevel props in
+    λ x y i. record { least = least x.least y.least i; most = most x.most y.most i }
+value_prop (Truth truth) = hlevel props
+value_prop (Error kind) = hlevel props
+value_prop (Label place) = hlevel props
+
+-- a word that is the code of the value for which it stands, if it stands for one
+abbrev pub IsWord : ℕ → Type 0
+IsWord word = (v : Value) → state_of word ≡ Known v → IsValue v × (code_of v ≡ word)
+
+abbrev pub AreWords : List ℕ → Type 0
+AreWords words = (i : ℕ) (word : ℕ) → slice_get words i ≡ Some word → IsWord word
+
+-- the states of all cells
+abbrev pub states_of : List ℕ → List State
+states_of words = map state_of words
+
+-- the code that is known by a word
+abbrev pub known_code : ℕ → Option ℕ
+known_code word = if word == 5 then None else (if word == 6 then None else Some word)
+
+-- the codes that are known of the cells of a rectangle
+abbrev pub known_codes : Sizes → List ℕ → Position → Option ℕ
+known_codes sizes words cell = known_code (slice_index_or words (place_of sizes cell) 0)
+
+-- a known value other than #CIRC!
+abbrev pub is_plain_state : State → Bool
+is_plain_state Unseen = false
+is_plain_state Open = false
+is_plain_state (Known value) = not (is_circular value)
+
+-- a cell of the rectangle that evaluation can read past: its value is known to be other than #CIRC!
+abbrev pub is_plain : Sizes → List State → Position → Bool
+is_plain sizes states cell = is_plain_state (slice_index_or states (place_of sizes cell) Unseen)

@@ -1,0 +1,34 @@
+use crate::content::Content;
+use sheet_refs::Cell;
+use std::marker::Model;
+
+/// A cell, and what it is to hold: anything but `#CIRC!`.
+#[derive(Drop)]
+pub struct Change {
+    /// The cell.
+    pub cell: Cell,
+    /// What it is to hold.
+    pub content: Content,
+}
+
+impl Model for Change {
+    ghost use Rattle.std.specs.Coded.{codes};
+    ghost use Rattle.formula_syntax.specs.TreeCode.{tree_code};
+    ghost use Rattle.sheet_model.specs.Changes.{ChangeValue};
+    ghost use Rattle.sheet_model.specs.Sheets.{content_value, IsWritten};
+
+    ghost Value = { ChangeValue };
+
+    ghost coded = { Prim.hlevel (codes, tree_code (Prim.hlevel codes)) };
+
+    ghost view = { λ c. record { cell = c.cell; content = content_value c.content } };
+
+    ghost invariant = { λ c. IsWritten (content_value c.content) };
+}
+
+/// What is done to a sheet in one step.
+#[derive(Drop)]
+pub struct Edit {
+    /// The change that it makes.
+    pub change: Change,
+}

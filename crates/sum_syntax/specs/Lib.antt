@@ -1,4 +1,0 @@
-pub mod Formula
-pub mod Grammar
-pub mod Tree
-pub mod TreeCode

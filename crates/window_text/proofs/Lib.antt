@@ -1,0 +1,4 @@
+pub mod LetterLemmas
+pub mod PieceLemmas
+pub mod QuoteLemmas
+pub mod RowLemmas

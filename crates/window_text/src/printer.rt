@@ -1,0 +1,89 @@
+ghost use Rattle.std.specs.Prelude.{◌≡◌, ◌≤◌, IsTrue};
+ghost use Rattle.sheet_refs.specs.Sizes.{is_inside};
+ghost use Rattle.sheet_model.specs.Values.{AreValues, value_of};
+ghost use Rattle.window_text.specs.Pieces.{HandsOut};
+ghost use Rattle.window_text.specs.Texts.{IsWithinSheet, row_text, show_text, shown_cell};
+
+use crate::pieces::{send, send_range, send_value};
+use sheet_model::Sheet;
+use sheet_refs::{Cell, Range};
+use value_core::{Value, decode};
+
+/// Hands out the texts that the commands print, piece by piece, to a function that answers whether it takes
+/// more. After the first false nothing more is handed out, and the answer is false; else it is true. No call
+/// takes memory.
+pub struct Printer;
+
+impl Printer {
+    /// What `show` prints of a range of a sheet: a line `sheet 0 RANGE`, and a line for each row, with its
+    /// values between commas. The values are the codes of all cells of the sheet, row by row. It takes time
+    /// in proportion to the cells of the range and to the texts of their labels.
+    pub fn show<F: FnMut(&[u8]) -> bool>(
+        sheet: &Sheet,
+        range: Range,
+        values: &[u64],
+        to: &mut F,
+    ) -> bool
+        requires callable { F.IsAlwaysCallable to.old }
+        requires values { AreValues sheet.now values.now }
+        requires within { IsWithinSheet range sheet.now }
+        ensures sent { HandsOut F.FnMut to.old (show_text sheet.now range) result to.new }
+    {
+        if !send(b"sheet 0 ", to) {
+            return false;
+        }
+        if !send_range(range, to) {
+            return false;
+        }
+        if !send(b"\n", to) {
+            return false;
+        }
+        for row in range.head().row()..range.tail().row() + 1 {
+            if !send_row(sheet, range, values, row, to) {
+                return false;
+            }
+        }
+        true
+    }
+}
+
+// Hands out a row of the range, with its line's end.
+fn send_row<F: FnMut(&[u8]) -> bool>(
+    sheet: &Sheet,
+    range: Range,
+    values: &[u64],
+    row: u32,
+    to: &mut F,
+) -> bool
+    requires callable { F.IsAlwaysCallable to.old }
+    requires values { AreValues sheet.now values.now }
+    requires within { IsWithinSheet range sheet.now }
+    requires from { range.head.row ≤ row }
+    requires to { row ≤ range.tail.row }
+    ensures sent { HandsOut F.FnMut to.old (row_text (shown_cell sheet.now) range row) result to.new }
+    ensures callable { F.IsAlwaysCallable to.new }
+{
+    let first = Cell::new(row, range.head().col()).unwrap();
+    if !send_value(value_at(sheet, values, first), sheet.labels(), to) {
+        return false;
+    }
+    for col in range.head().col() + 1..range.tail().col() + 1 {
+        if !send(b",", to) {
+            return false;
+        }
+        let cell = Cell::new(row, col).unwrap();
+        if !send_value(value_at(sheet, values, cell), sheet.labels(), to) {
+            return false;
+        }
+    }
+    send(b"\n", to)
+}
+
+// The value of a cell of the sheet.
+fn value_at(sheet: &Sheet, values: &[u64], cell: Cell) -> Value
+    requires values { AreValues sheet.now values.now }
+    requires inside { IsTrue (is_inside sheet.now.sizes cell) }
+    ensures { result ≡ value_of sheet.now cell }
+{
+    decode(values[sheet.place(cell)]).unwrap()
+}

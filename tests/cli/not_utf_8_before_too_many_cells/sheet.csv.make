@@ -1,0 +1,2 @@
+import sys
+sys.stdout.buffer.write(b"\xff" + b"," * 16384)
