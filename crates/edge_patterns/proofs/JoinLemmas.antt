@@ -1,7 +1,7 @@
 -- Edges by the ranges at their ends: two edges that move alike and agree at two cells agree at all between them.
 use Rattle.std.proofs.Common.{◌≡◌, ℕ, ◌+◌, ◌-◌, ◌≤◌, ◌<◌, ◌⊎◌, inl, inr, arith, refl, sym, ◌∙◌, ap, subst}
 use Rattle.std.specs.Prelude.{Bool, true, false, min, max}
-use Rattle.sheet_refs.specs.Cells.{Position, Corners, IsOrdered, spanned}
+use Rattle.sheet_refs.specs.Cells.{Position, Corners, IsOrdered, span_of}
 use Rattle.edge_patterns.specs.declared.axis.Axis.{Axis}
 use Rattle.edge_patterns.specs.declared.edge.Pattern.{Pattern}
 use Rattle.edge_patterns.specs.declared.edge.Pattern.TheVariants.{Single, Rr, Rf, Fr, Ff, Chain}
@@ -116,8 +116,8 @@ tail_goes axis dep first last edge line has =
     subst (λ (run : Corners). Moves (along axis first.tail) (along axis last.tail) (count_along axis run - 1) (tail_moves edge.pattern)) has.dep_is (ends_at axis dep first last edge line has).tail_last
 
 -- the rectangle between two corners in order has these corners
-pub spanned_ordered : (a b : Position) → IsOrdered a b → spanned a b ≡ record { head = a; tail = b }
-spanned_ordered a b is =
+pub ordered_span : (a b : Position) → IsOrdered a b → span_of a b ≡ record { head = a; tail = b }
+ordered_span a b is =
     let rows = is.rows in
     let cols = is.cols in
     let top : min a.row b.row ≡ a.row = omega (arith, rows) in
@@ -130,13 +130,13 @@ moves_on : (moves : Bool) (first last count : ℕ) → Moves first last count mo
 moves_on true first last count goes = omega (arith, goes)
 moves_on false first last count goes = omega (arith, goes)
 
-pub outer_corners : (axis : Axis) (first last : Corners) (count : ℕ) (moves : Bool) → IsOrdered last.head last.tail → across axis first.head ≡ across axis last.head → Moves (along axis first.head) (along axis last.head) count moves → spanned first.head last.tail ≡ record { head = first.head; tail = last.tail }
+pub outer_corners : (axis : Axis) (first last : Corners) (count : ℕ) (moves : Bool) → IsOrdered last.head last.tail → across axis first.head ≡ across axis last.head → Moves (along axis first.head) (along axis last.head) count moves → span_of first.head last.tail ≡ record { head = first.head; tail = last.tail }
 outer_corners axis first last count moves is left goes =
     let at = ordered axis last is in
     let line = at.line in
     let width = at.width in
     let on = moves_on moves _ _ count goes in
-    spanned_ordered first.head last.tail (is_ordered axis (record { head = first.head; tail = last.tail }) (record { line = omega (arith, line, on); width = omega (arith, width, left) }))
+    ordered_span first.head last.tail (is_ordered axis (record { head = first.head; tail = last.tail }) (record { line = omega (arith, line, on); width = omega (arith, width, left) }))
 
 back_again : (moves : Bool) (first count : ℕ) → first + steps_if moves (count - 1) - steps_if moves (count - 1 - 0) ≡ first
 back_again true first count = omega arith

@@ -2,7 +2,7 @@
 use Rattle.std.proofs.Common.{◌≡◌, ℕ, ◌+◌, ◌-◌, ◌≤◌, ◌<◌, ◌⊎◌, inl, inr, arith, refl, sym, ◌∙◌, ap, subst}
 use Rattle.std.proofs.lemmas.Bool.{cases_lt}
 use Rattle.std.specs.Prelude.{Bool, true, false}
-use Rattle.sheet_refs.specs.Cells.{Position, Corners, IsIn, IsOrdered, spanned}
+use Rattle.sheet_refs.specs.Cells.{Position, Corners, IsIn, IsOrdered, span_of}
 use Rattle.edge_patterns.specs.declared.axis.Axis.{Axis}
 use Rattle.edge_patterns.specs.declared.edge.Pattern.{Pattern}
 use Rattle.edge_patterns.specs.declared.edge.Pattern.TheVariants.{Single, Rr, Rf, Fr, Ff, Chain}
@@ -11,7 +11,7 @@ use Rattle.edge_patterns.specs.Edges.{EdgeValue, IsEdge, IsShapeOf, IsPair, run_
 use Rattle.edge_patterns.specs.Joins.{Follows, HasBothPairs, HasEnds, HasInnerRanges, Moves}
 use Rattle.edge_patterns.proofs.Crossings.{lies, is_in, ordered, is_ordered}
 use Rattle.edge_patterns.proofs.AxisLemmas.{to_along, from_along}
-use Rattle.edge_patterns.proofs.JoinLemmas.{same_range, shape_along, length_either, range_either, spanned_ordered, ends_at, head_goes, tail_goes}
+use Rattle.edge_patterns.proofs.JoinLemmas.{same_range, shape_along, length_either, range_either, ordered_span, ends_at, head_goes, tail_goes}
 use Rattle.edge_patterns.proofs.UnionLemmas.{agree, same_cells, run_has_ranges, one_range}
 
 -- whether a coordinate moves is told by its ends
@@ -318,13 +318,13 @@ module _ (axis : Axis) (front rear : EdgeValue) (front_is : IsEdge front) (rear_
         }
 
   -- what is known of the rectangle of both runs and of their outer ranges
-  pub outer : (Known : Corners → Corners → Corners → Type 0) (dep first last : Corners) → dep ≡ spanned front.dep.head rear.dep.tail → first ≡ range_at front 0 → last ≡ range_at rear (run_length rear - 1) → Known dep first last → Known whole (range_along axis front 0) (range_along axis rear (count_along axis rear.dep - 1))
+  pub outer : (Known : Corners → Corners → Corners → Type 0) (dep first last : Corners) → dep ≡ span_of front.dep.head rear.dep.tail → first ≡ range_at front 0 → last ≡ range_at rear (run_length rear - 1) → Known dep first last → Known whole (range_along axis front 0) (range_along axis rear (count_along axis rear.dep - 1))
   outer Known dep first last dep_is first_is last_is known =
       let front_length = length_either front axis follows.front_line in
       let rear_length = length_either rear axis follows.rear_line in
       let first_along = first_is ∙ range_either front front_is axis follows.front_line 0 (omega (arith, front_length, front_some)) in
       let last_along = last_is ∙ range_either rear rear_is axis follows.rear_line (run_length rear - 1) (omega (arith, rear_length, rear_some)) ∙ ap (λ (k : ℕ). range_along axis rear (k - 1)) rear_length in
-      let run = dep_is ∙ spanned_ordered front.dep.head rear.dep.tail whole_ordered in
+      let run = dep_is ∙ ordered_span front.dep.head rear.dep.tail whole_ordered in
       subst (λ (d : Corners). Known d (range_along axis front 0) (range_along axis rear (count_along axis rear.dep - 1))) run
       (subst (λ (f : Corners). Known dep f (range_along axis rear (count_along axis rear.dep - 1))) first_along
       (subst (λ (l : Corners). Known dep first l) last_along known))

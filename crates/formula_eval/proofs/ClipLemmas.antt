@@ -5,7 +5,7 @@ use Rattle.std.proofs.lemmas.Bool.Decides.{nat_tests}
 use Rattle.std.proofs.lemmas.List.{take-append-drop}
 use Rattle.sheet_refs.specs.Cells.{Position, Corners, IsIn, cells_of, height, width}
 use Rattle.sheet_refs.specs.declared.sizes.Sizes.{Sizes}
-use Rattle.sheet_refs.specs.Sizes.{is_inside, clipped}
+use Rattle.sheet_refs.specs.Sizes.{is_inside, part_inside}
 use Rattle.sheet_refs.proofs.Places.{inside_bounds}
 use Rattle.value_core.specs.declared.value.Value.{Value}
 use Rattle.value_core.specs.declared.value.Value.TheVariants.{Empty, Number, Truth, Error, Label}
@@ -81,10 +81,10 @@ past_rows : (sizes : Sizes) (row col : ℕ) → sizes.rows < row → is_inside s
 past_rows sizes row col past = grind (arith, nat_tests)
 
 -- a range that begins in the rectangle shows no more than its part there
-pub clipped_shows : (sizes : Sizes) (codes : Position → Option ℕ) (range : Corners) → IsTrue (is_inside sizes range.head) → shown (seen sizes codes) (cells_of range) ≡ shown (seen sizes codes) (cells_of (clipped sizes range))
-clipped_shows sizes codes range inside =
+pub part_shows : (sizes : Sizes) (codes : Position → Option ℕ) (range : Corners) → IsTrue (is_inside sizes range.head) → shown (seen sizes codes) (cells_of range) ≡ shown (seen sizes codes) (cells_of (part_inside sizes range))
+part_shows sizes codes range inside =
     let bounds = inside_bounds sizes range.head inside in
-    let part = clipped sizes range in
+    let part = part_inside sizes range in
     let wide : width range ≡ width part + (width range - width part) = omega (arith, bounds.col_to) in
     let high : height range ≡ height part + (height range - height part) = omega (arith, bounds.row_to) in
     let cut = cut_block (seen sizes codes) range.head.col (width part) (width range - width part) range.head.row (height part) (height range - height part)

@@ -1,6 +1,6 @@
 -- A walk, one range at a time: what it has reached, and that it ends with all that is.
 use Rattle.std.proofs.Common.{◌≡◌, ◌+◌, ◌<◌, ◌↔◌, ◌⊎◌, inl, inr, List, [], ◌∷◌, ◌++◌, length, refl, sym, ◌∙◌, ap, subst, arith, length-append}
-use Rattle.sheet_refs.specs.Cells.{Position, Corners, IsIn, spanned}
+use Rattle.sheet_refs.specs.Cells.{Position, Corners, IsIn, span_of}
 use Rattle.sheet_refs.specs.Rectangles.{IsAmong}
 use Rattle.sheet_refs.proofs.ColumnLemmas.{none_among}
 use Rattle.sheet_refs.proofs.Grid.{same_position}
@@ -115,7 +115,7 @@ reached_back pairs range cell = (to, from)
         record { from = reached.to; starts = record { range = range; listed = (0, omega arith, refl); inside = reached.ends }; cells = turned.cells; path = turned.path }
 
 -- from what lies ahead of a cell, it reaches the cell again exactly where the cell is on a cycle
-pub reached_again : (step : Position → Position → Type 0) (cell : Position) (range : Corners) (old answer : List Corners) → range ≡ spanned cell cell → old ≡ [] → Adds old answer (IsNext step range) (IsBeyond step range)
+pub reached_again : (step : Position → Position → Type 0) (cell : Position) (range : Corners) (old answer : List Corners) → range ≡ span_of cell cell → old ≡ [] → Adds old answer (IsNext step range) (IsBeyond step range)
     → IsReached step (IsAmong answer) cell ↔ LeadsTo step cell cell
 reached_again step cell range old answer one empty adds = (to, from)
   where
@@ -124,7 +124,7 @@ reached_again step cell range old answer one empty adds = (to, from)
 
     at_cell : (from : Position) → IsIn from range → from ≡ cell
     at_cell from inside =
-        let here : IsIn from (spanned cell cell) = subst (λ (r : Corners). IsIn from r) one inside in
+        let here : IsIn from (span_of cell cell) = subst (λ (r : Corners). IsIn from r) one inside in
         same_position (omega (arith, here.row_from, here.row_to)) (omega (arith, here.col_from, here.col_to))
 
     in_range : IsIn cell range

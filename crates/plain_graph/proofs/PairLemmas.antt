@@ -4,7 +4,7 @@ use Rattle.std.proofs.lemmas.Bool.{cases_lt}
 use Rattle.std.proofs.lemmas.List.{get_or-map, length-map, get_or_default, take_more, append_assoc, append-nil}
 use Rattle.std.proofs.lemmas.List.Elements.{Contains-append_left, Contains-append_right, Contains-append_cases}
 use Rattle.std.specs.List.{Contains}
-use Rattle.sheet_refs.specs.Cells.{Position, Corners, IsIn, spanned}
+use Rattle.sheet_refs.specs.Cells.{Position, Corners, IsIn, span_of}
 use Rattle.sheet_refs.specs.Rectangles.{Overlap}
 use Rattle.sheet_refs.proofs.ColumnLemmas.{none_among}
 use Rattle.sheet_refs.proofs.Grid.{same_position}
@@ -55,19 +55,19 @@ step_kept pairs last from to one = record { pair = one.pair; listed = Contains-a
 step_last : (pairs : List Pair) (last : Pair) (from : Position) → IsIn from last.range → Step (pairs ++ last ∷ []) from last.cell
 step_last pairs last from inside = record { pair = last; listed = Contains-append_right pairs (last ∷ []) last (0, omega arith, refl); inside = inside; cell_is = refl }
 
-at_cell : (cell other : Position) → IsIn cell (spanned other other) → cell ≡ other
+at_cell : (cell other : Position) → IsIn cell (span_of other other) → cell ≡ other
 at_cell cell other inside = same_position (omega (arith, inside.row_from, inside.row_to)) (omega (arith, inside.col_from, inside.col_to))
 
-pub dependents_next : (pairs : List Pair) (last : Pair) (q : Corners) → Overlap last.range q → (cell : Position) → IsDirectDependent (pairs ++ last ∷ []) q cell ↔ (IsDirectDependent pairs q cell ⊎ IsIn cell (spanned last.cell last.cell))
+pub dependents_next : (pairs : List Pair) (last : Pair) (q : Corners) → Overlap last.range q → (cell : Position) → IsDirectDependent (pairs ++ last ∷ []) q cell ↔ (IsDirectDependent pairs q cell ⊎ IsIn cell (span_of last.cell last.cell))
 dependents_next pairs last q (shared, both) cell = (to, from)
   where
-    to : IsDirectDependent (pairs ++ last ∷ []) q cell → IsDirectDependent pairs q cell ⊎ IsIn cell (spanned last.cell last.cell)
+    to : IsDirectDependent (pairs ++ last ∷ []) q cell → IsDirectDependent pairs q cell ⊎ IsIn cell (span_of last.cell last.cell)
     to (start, inside, one) = elim (step_next pairs last start cell one) [
       | inl before ↦ inl (start, inside, before)
-      | inr (in_range, is) ↦ inr (subst (λ (c : Position). IsIn c (spanned last.cell last.cell)) is (record { row_from = omega arith; row_to = omega arith; col_from = omega arith; col_to = omega arith }))
+      | inr (in_range, is) ↦ inr (subst (λ (c : Position). IsIn c (span_of last.cell last.cell)) is (record { row_from = omega arith; row_to = omega arith; col_from = omega arith; col_to = omega arith }))
     ]
 
-    from : IsDirectDependent pairs q cell ⊎ IsIn cell (spanned last.cell last.cell) → IsDirectDependent (pairs ++ last ∷ []) q cell
+    from : IsDirectDependent pairs q cell ⊎ IsIn cell (span_of last.cell last.cell) → IsDirectDependent (pairs ++ last ∷ []) q cell
     from (inl (start, inside, one)) = (start, inside, step_kept pairs last start cell one)
     from (inr inside) = (shared, both.second, subst (λ (c : Position). Step (pairs ++ last ∷ []) shared c) (sym (at_cell cell last.cell inside)) (step_last pairs last shared both.first))
 

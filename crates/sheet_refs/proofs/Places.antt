@@ -1,7 +1,7 @@
 -- Places of cells in a rectangle that begins at A1, and in a range.
 use Rattle.std.proofs.Common.{◌≡◌, ℕ, ◌+◌, ◌-◌, ◌*◌, ◌/◌, ◌%◌, ◌<◌, ◌≤◌, List, length, get_or, slice_get, Some, IfSome, Option, IsTrue, sym, ◌∙◌, ap, arith}
 use Rattle.std.proofs.lemmas.Bool.Decides.{nat_tests}
-use Rattle.std.proofs.lemmas.Nat.{rows, same_from_place}
+use Rattle.std.proofs.lemmas.Nat.{rows, same_from_place, div-mul-add, div-add-mod'}
 use Rattle.std.proofs.lemmas.Option.{slice_get-get_or, MatchOption-at_some}
 use Rattle.sheet_refs.specs.Cells.{Position, Corners, IsIn, IsOrdered, height, width, cells_of}
 use Rattle.sheet_refs.specs.declared.sizes.Sizes.{Sizes}
@@ -82,3 +82,121 @@ place_inside range place ordered below =
     let at = range_place range place below in
     let h = ordered in
     record { row_from = omega arith; row_to = omega (arith, at.row); col_from = omega arith; col_to = omega (arith, at.col) }
+
+-- the place behind one lies in the same row, where that goes on
+within_row : (w place : ℕ) → place % w + 1 < w → ((place + 1) / w ≡ place / w) × ((place + 1) % w ≡ place % w + 1)
+within_row w place goes_on =
+    let whole : place + 1 ≡ place / w * w + (place % w + 1) = omega (arith, div-add-mod' place w) in
+    let row : (place + 1) / w ≡ place / w = ap (λ n. n / w) whole ∙ div-mul-add (place / w) w (place % w + 1) goes_on in
+    let product : (place + 1) / w * w ≡ place / w * w = ap (λ n. n * w) row in
+    (row, omega (arith, div-add-mod' (place + 1) w, product, whole))
+
+-- else it is the first of the next row
+past_row : (w place : ℕ) → place % w + 1 ≡ w → ((place + 1) / w ≡ place / w + 1) × ((place + 1) % w ≡ 0)
+past_row w place ends =
+    let first : (place / w + 1) * w ≡ place / w * w + w = grind arith in
+    let whole : place + 1 ≡ (place / w + 1) * w + 0 = omega (arith, div-add-mod' place w, first) in
+    let row : (place + 1) / w ≡ place / w + 1 = ap (λ n. n / w) whole ∙ div-mul-add (place / w + 1) w 0 (omega arith) in
+    let product : (place + 1) / w * w ≡ (place / w + 1) * w = ap (λ n. n * w) row in
+    (row, omega (arith, div-add-mod' (place + 1) w, product, whole))
+
+-- the first cell is the head
+pub first_cell : (range : Corners) → IsOrdered range.head range.tail → slice_get (cells_of range) 0 ≡ Some range.head
+first_cell range ordered =
+    let all : length (cells_of range) ≡ height range * width range = rows_length range range.head.row (height range) in
+    let h = ordered.rows in
+    let k = ordered.cols in
+    let some : 0 < height range * width range = grind arith in
+    let at = range_place range 0 (omega (arith, all, some)) in
+    let w = width range in
+    let row : range.head.row + 0 / w ≡ range.head.row = grind arith in
+    let col : range.head.col + 0 % w ≡ range.head.col = grind arith in
+    let same : cell_of_place range 0 ≡ range.head = λ i. record { row = row i; col = col i } in
+    at.cell ∙ ap Some same
+
+-- where a cell that stands at a place lies, and that the place of the next one is in the range
+record StandsAt (range : Corners) (place : ℕ) (cell : Position) : Type 0 where
+  row : cell.row ≡ range.head.row + place / width range
+  col : cell.col ≡ range.head.col + place % width range
+  in_row : place % width range < width range
+  next_in : (place + 1) / width range < height range
+  next : slice_get (cells_of range) (place + 1) ≡ Some (cell_of_place range (place + 1))
+
+same_entry : {a b : Position} → Some a ≡ Some b → a ≡ b
+same_entry is = cc
+
+stands_at : (range : Corners) (place : ℕ) (cell : Position) → slice_get (cells_of range) place ≡ Some cell → place + 1 < length (cells_of range) → StandsAt range place cell
+stands_at range place cell here below =
+    let at = range_place range place (omega arith) in
+    let behind = range_place range (place + 1) below in
+    let same : cell ≡ cell_of_place range place = same_entry (sym here ∙ at.cell) in
+    record {
+      row = ap (λ (c : Position). c.row) same;
+      col = ap (λ (c : Position). c.col) same;
+      in_row = at.col;
+      next_in = behind.row;
+      next = behind.cell;
+    }
+
+-- a cell made of a row and a column
+made_of : (made : Option Position) (cell : Position) (row col : ℕ) → IfSome made (λ c. (c.row ≡ row) × (c.col ≡ col)) → made ≡ Some cell → cell ≡ record { row = row; col = col }
+made_of made cell row col position is =
+    let parts = MatchOption-at_some _ _ cell is position in
+    λ i. record { row = parts.0 i; col = parts.1 i }
+
+-- the cell behind one, by a row and a column that are computed from it: in the same row
+pub next_in_row : (range : Corners) (cell next : Position) (made : Option Position) (row col last : ℕ) → IsOrdered range.head range.tail → row ≡ cell.row → col ≡ cell.col → last ≡ range.tail.col → col < last → IfSome made (λ c. (c.row ≡ row) × (c.col ≡ col + 1)) → made ≡ Some next → (place : ℕ) → slice_get (cells_of range) place ≡ Some cell → place + 1 < length (cells_of range) → slice_get (cells_of range) (place + 1) ≡ Some next
+next_in_row range cell next made row col last ordered row_is col_is last_is within position is place here below =
+    let at = stands_at range place cell here below in
+    let h = ordered.cols in
+    let col_at = at.col in
+    let row_at = at.row in
+    let parts = within_row (width range) place (omega arith) in
+    let at_row : range.head.row + (place + 1) / width range ≡ row = omega (arith, parts) in
+    let at_col : range.head.col + (place + 1) % width range ≡ col + 1 = omega (arith, parts) in
+    let same : cell_of_place range (place + 1) ≡ record { row = row; col = col + 1 } = λ i. record { row = at_row i; col = at_col i } in
+    at.next ∙ ap Some (same ∙ sym (made_of made next row (col + 1) position is))
+
+-- and in the next one
+pub next_row : (range : Corners) (cell next : Position) (made : Option Position) (row col last first : ℕ) → IsOrdered range.head range.tail → IsIn cell range → row ≡ cell.row → col ≡ cell.col → last ≡ range.tail.col → first ≡ range.head.col → last ≤ col → IfSome made (λ c. (c.row ≡ row + 1) × (c.col ≡ first)) → made ≡ Some next → (place : ℕ) → slice_get (cells_of range) place ≡ Some cell → place + 1 < length (cells_of range) → slice_get (cells_of range) (place + 1) ≡ Some next
+next_row range cell next made row col last first ordered inside row_is col_is last_is first_is ends position is place here below =
+    let at = stands_at range place cell here below in
+    let h = ordered.cols in
+    let col_at = at.col in
+    let row_at = at.row in
+    let in_row = at.in_row in
+    let parts = past_row (width range) place (omega arith) in
+    let at_row : range.head.row + (place + 1) / width range ≡ row + 1 = omega (arith, parts) in
+    let at_col : range.head.col + (place + 1) % width range ≡ first = omega (arith, parts) in
+    let same : cell_of_place range (place + 1) ≡ record { row = row + 1; col = first } = λ i. record { row = at_row i; col = at_col i } in
+    at.next ∙ ap Some (same ∙ sym (made_of made next (row + 1) first position is))
+
+-- behind the tail there is none
+pub none_behind : (range : Corners) (cell : Position) (row col last_row last_col : ℕ) → IsOrdered range.head range.tail → row ≡ cell.row → col ≡ cell.col → last_row ≡ range.tail.row → last_col ≡ range.tail.col → last_col ≤ col → last_row ≤ row → (place : ℕ) → slice_get (cells_of range) place ≡ Some cell → place + 1 < length (cells_of range) → ⊥
+none_behind range cell row col last_row last_col ordered row_is col_is row_last col_last ends bottom place here below =
+    let at = stands_at range place cell here below in
+    let h = ordered.cols in
+    let k = ordered.rows in
+    let col_at = at.col in
+    let row_at = at.row in
+    let in_row = at.in_row in
+    let next_in = at.next_in in
+    let parts = past_row (width range) place (omega arith) in
+    omega (arith, parts)
+
+-- a walk over the places of a range has come to a place, and to the cell there as long as there is one
+pub record HasComeTo (range : Corners) (place : ℕ) (cell : Position) : Type 0 where
+  pub inside : IsIn cell range
+  pub listed : place < length (cells_of range) → slice_get (cells_of range) place ≡ Some cell
+
+pub comes_to_head : (range : Corners) → IsOrdered range.head range.tail → HasComeTo range 0 range.head
+comes_to_head range ordered = record {
+  inside = (let h = ordered in record { row_from = omega arith; row_to = h.rows; col_from = omega arith; col_to = h.cols });
+  listed = λ _. first_cell range ordered;
+}
+
+pub comes_to_next : (range : Corners) (place : ℕ) (cell next : Position) → HasComeTo range place cell → place < length (cells_of range) → ((k : ℕ) → slice_get (cells_of range) k ≡ Some cell → k + 1 < length (cells_of range) → slice_get (cells_of range) (k + 1) ≡ Some next) → IsIn next range → HasComeTo range (place + 1) next
+comes_to_next range place cell next at below behind inside = record {
+  inside = inside;
+  listed = λ more. behind place (at.listed below) more;
+}

@@ -7,7 +7,7 @@ use Rattle.std.proofs.lemmas.List.{length-append}
 use Rattle.std.proofs.lemmas.List.Elements.{All-append}
 use Rattle.std.proofs.lemmas.List.Sums.{fold-append}
 use Rattle.std.proofs.lemmas.Bool.Decides.{nat_tests}
-use Rattle.sheet_refs.specs.Cells.{Position, Corners, IsNamed, IsOrdered, spanned}
+use Rattle.sheet_refs.specs.Cells.{Position, Corners, IsNamed, IsOrdered, span_of}
 use Rattle.sheet_refs.specs.Names.{IsLetter, IsDigit, IsDecimal, IsColumnName, IsRowName, IsCellName, IsRangeName, letter_number, decimal_number, column_number, last_letters, cell_text, range_text}
 use Rattle.sheet_refs.specs.Names.IsRangeName.{two}
 use Rattle.sheet_refs.specs.Ends.{Anchor, Reference, IsReference, IsAnchorName, IsReferenceName, anchor_text, reference_text, lesser, greater, one_end, two_ends}
@@ -101,7 +101,7 @@ cell_printed cell named = record {
 
 pub range_printed : (range : Corners) → IsNamed range.head.row range.head.col → IsNamed range.tail.row range.tail.col → IsOrdered range.head range.tail → IsRangeName (range_text range) range
 range_printed range head tail ordered =
-    let same : spanned range.head range.tail ≡ range = grind (arith, ordered.rows, ordered.cols) in
+    let same : span_of range.head range.tail ≡ range = grind (arith, ordered.rows, ordered.cols) in
     subst (λ corners. IsRangeName (range_text range) corners) same
     (two _ (cell_text range.head) (cell_text range.tail) range.head range.tail refl (cell_printed range.head head) (cell_printed range.tail tail))
 

@@ -40,8 +40,8 @@ abbrev pub IsSmallestWith : Position → Position → Corners → Type 0
 IsSmallestWith a b smallest = (range : Corners) → IsIn a range → IsIn b range → IsWithin smallest range
 
 -- the corners of the smallest rectangle with both cells
-abbrev pub spanned : Position → Position → Corners
-spanned a b = record {
+abbrev pub span_of : Position → Position → Corners
+span_of a b = record {
   head = record { row = min a.row b.row; col = min a.col b.col };
   tail = record { row = max a.row b.row; col = max a.col b.col };
 }

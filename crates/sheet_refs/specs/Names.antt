@@ -2,7 +2,7 @@
 use Rattle.std.specs.Prelude.{◌≡◌, ℕ, zero, suc, ◌+◌, ◌-◌, ◌*◌, ◌/◌, ◌%◌, ◌==◌, ◌≤◌, ◌<◌, List, [], ◌∷◌, ◌++◌, length, fold, All, if◌then◌else◌, nat_le, ◌⊎◌, ◌≢◌, slice_index, MatchOption}
 use Rattle.std.specs.declared.option.Option.{Option}
 use Rattle.std.specs.Fmt.{decimal}
-use Rattle.sheet_refs.specs.Cells.{Position, Corners, spanned}
+use Rattle.sheet_refs.specs.Cells.{Position, Corners, span_of}
 
 -- the result is what is meant, and None exactly where nothing is
 abbrev pub Finds : {V : Type 0} → Option V → (V → Type 0) → Type 0
@@ -59,8 +59,8 @@ pub record IsCellName (text : List ℕ) (cell : Position) : Type 0 where
 
 -- the name of a range is a cell's, or two cells' joined by a colon, which are then opposite corners
 pub data IsRangeName : List ℕ → Corners → Type 0 where
-  one : (text : List ℕ) (cell : Position) → IsCellName text cell → IsRangeName text (spanned cell cell)
-  two : (text first second : List ℕ) (a b : Position) → text ≡ first ++ 58 ∷ second → IsCellName first a → IsCellName second b → IsRangeName text (spanned a b)
+  one : (text : List ℕ) (cell : Position) → IsCellName text cell → IsRangeName text (span_of cell cell)
+  two : (text first second : List ℕ) (a b : Position) → text ≡ first ++ 58 ∷ second → IsCellName first a → IsCellName second b → IsRangeName text (span_of a b)
 
 -- the upper-case letters that name a column, of which no more than so many are written
 abbrev pub last_letters : ℕ → ℕ → List ℕ

@@ -21,8 +21,8 @@ pub record AreNamed (sizes : Sizes) : Type 0 where
   pub cols : sizes.cols ≤ 16384
 
 -- the part of a range that lies in the rectangle, where its head does
-abbrev pub clipped : Sizes → Corners → Corners
-clipped sizes range = record {
+abbrev pub part_inside : Sizes → Corners → Corners
+part_inside sizes range = record {
   head = range.head;
   tail = record { row = min range.tail.row sizes.rows; col = min range.tail.col sizes.cols };
 }

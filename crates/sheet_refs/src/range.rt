@@ -24,14 +24,14 @@ impl Model for Range {
 }
 
 impl Range {
-    ghost use Rattle.sheet_refs.specs.Cells.{IsIn, IsOrdered, IsSmallestWith, spanned, height};
+    ghost use Rattle.sheet_refs.specs.Cells.{IsIn, IsOrdered, IsSmallestWith, span_of, height};
     ghost use Rattle.sheet_refs.specs.Cells.{width};
     ghost use Rattle.sheet_refs.specs.Cells.{cells_of, ListsCells};
     ghost use Rattle.sheet_refs.specs.Rectangles.{HoldsShared, Overlap};
 
     /// The smallest rectangle with both cells.
     pub fn of(a: Cell, b: Cell) -> Range
-        ensures corners { result ≡ spanned a b }
+        ensures corners { result ≡ span_of a b }
         ensures both { IsIn a result × IsIn b result }
         ensures smallest { IsSmallestWith a b result }
     {

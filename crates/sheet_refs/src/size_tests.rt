@@ -56,5 +56,11 @@ fn cells_of_a_range_have_places(rt: HostRuntime) -> Result<(), Fail> {
         }
     }
     assert_eq!(rt; window.cells(), 6);
+    for (row, col, next_row, next_col) in [(2, 3, 2, 4), (2, 4, 3, 3), (4, 3, 4, 4), (4, 4, 2, 3)] {
+        let here = cell(row, col)?;
+        if window.contains(here) {
+            assert_eq!(rt; window.cell_behind(here), cell(next_row, next_col)?);
+        }
+    }
     Ok(())
 }

@@ -1,4 +1,4 @@
-ghost use Rattle.std.specs.Prelude.{◌≡◌, ◌↔◌, ◌<◌, IsTrue, IsSome, IsNone, IfSome};
+ghost use Rattle.std.specs.Prelude.{◌≡◌, ◌↔◌, ◌<◌, ◌+◌, ℕ, IsTrue, IsSome, IsNone, IfSome};
 
 use crate::cell::Cell;
 use crate::range::Range;
@@ -13,7 +13,7 @@ pub struct Sizes {
 }
 
 impl Sizes {
-    ghost use Rattle.sheet_refs.specs.Sizes.{is_inside, cell_count, place_of, AreNamed, clipped};
+    ghost use Rattle.sheet_refs.specs.Sizes.{is_inside, cell_count, place_of, AreNamed, part_inside};
     ghost use Rattle.sheet_refs.specs.Sizes.{HoldsPart, MissesRange};
 
     /// Whether the cell lies in the rectangle.
@@ -50,7 +50,7 @@ impl Sizes {
     /// The part of a range that lies in the rectangle; None exactly where no cell of it does.
     pub fn clip(self, range: Range) -> Option<Range>
         ensures some { IsSome result ↔ IsTrue (is_inside self range.head) }
-        ensures corners { IfSome result (λ part. part ≡ clipped self range) }
+        ensures corners { IfSome result (λ part. part ≡ part_inside self range) }
         ensures cells { IfSome result (HoldsPart self range) }
         ensures nothing { IsNone result → MissesRange self range }
     {
@@ -81,5 +81,25 @@ impl Range {
         let row = head.row() + (place / width) as u32;
         let col = head.col() + (place % width) as u32;
         Cell::new(row, col).unwrap()
+    }
+
+    /// The cell behind a cell of the range, row by row; the head behind the tail.
+    pub fn cell_behind(&self, cell: Cell) -> Cell
+        requires { IsIn cell self.now }
+        ensures next { (place : ℕ) → slice_get (cells_of self.now) place ≡ Some cell
+            → place + 1 < length (cells_of self.now)
+            → slice_get (cells_of self.now) (place + 1) ≡ Some result }
+        ensures last { cell ≡ self.now.tail → result ≡ self.now.head }
+        ensures inside { IsIn result self.now }
+    {
+        let head = self.head();
+        let tail = self.tail();
+        if cell.col() < tail.col() {
+            Cell::new(cell.row(), cell.col() + 1).unwrap()
+        } else if cell.row() < tail.row() {
+            Cell::new(cell.row() + 1, head.col()).unwrap()
+        } else {
+            head
+        }
     }
 }

@@ -1,5 +1,5 @@
 use Rattle.std.proofs.Common.{◌≡◌, ◌+◌, ◌++◌, ◌∷◌, [], ℕ, List, true, false, take, sym, ◌∙◌, ap, subst, rules}
-use Rattle.sheet_refs.specs.Cells.{Position, Corners, spanned}
+use Rattle.sheet_refs.specs.Cells.{Position, Corners, span_of}
 use Rattle.sheet_refs.specs.Rectangles.{Overlap}
 use Rattle.graph_walk.specs.Graphs.{Pair, IsDirectDependent}
 use Rattle.plain_graph.proofs.PairLemmas.{AddsExactly, adds_none, adds_same, adds_range, no_dependents, dependents_next, dependents_kept, take_next}
@@ -24,9 +24,9 @@ loop-pair-preserved c =
       | then-overlaps+in_ok-push w ↦
           let test : c.overlaps.result ≡ true = search rules in
           let overlap : Overlap pair.range q = subst (λ (r : Corners). Overlap r q) range (c.overlaps.ensures.0 test) in
-          let one : w.of.result ≡ spanned pair.cell pair.cell = w.of.ensures.corners ∙ ap (λ (c : Position). spanned c c) cell in
-          let pushed : c.if-overlaps.out.items ≡ c.loop-pair.out.items ++ spanned pair.cell pair.cell ∷ [] = rw (w.out-is, ← one) w.in_ok-push.ensures.items in
-          adds_range c.args.out.now.items c.loop-pair.out.items c.if-overlaps.out.items (spanned pair.cell pair.cell) (IsDirectDependent before q) (IsDirectDependent (before ++ pair ∷ []) q) pushed (dependents_next before pair q overlap) c.loop-pair.invariant
+          let one : w.of.result ≡ span_of pair.cell pair.cell = w.of.ensures.corners ∙ ap (λ (c : Position). span_of c c) cell in
+          let pushed : c.if-overlaps.out.items ≡ c.loop-pair.out.items ++ span_of pair.cell pair.cell ∷ [] = rw (w.out-is, ← one) w.in_ok-push.ensures.items in
+          adds_range c.args.out.now.items c.loop-pair.out.items c.if-overlaps.out.items (span_of pair.cell pair.cell) (IsDirectDependent before q) (IsDirectDependent (before ++ pair ∷ []) q) pushed (dependents_next before pair q overlap) c.loop-pair.invariant
       | else-overlaps w ↦
           let test : c.overlaps.result ≡ false = search rules in
           let apart : Overlap pair.range q → ⊥ = λ overlap. absurd (let yes : c.overlaps.result ≡ true = c.overlaps.ensures.1 (subst (λ (r : Corners). Overlap r q) (sym range) overlap) in cc) in
