@@ -13,7 +13,7 @@ use Rattle.value_core.specs.declared.value.ErrorKind.TheVariants as error
 use Rattle.value_core.specs.declared.value.Value.{Value}
 use Rattle.value_core.specs.declared.value.Value.TheVariants.{Empty, Number, Truth, Error, Label}
 use Rattle.value_core.specs.Conversions.{as_number, as_truth, truth_number, in_range, never_empty}
-use Rattle.value_core.specs.Operators.{on_numbers, unordered, by_kind, beside, compared, calculated, is_comparison, binary_of, negated, prefix_of}
+use Rattle.value_core.specs.Operators.{on_numbers, unordered_value, by_kind, beside, comparison, calculation, is_comparison, binary_of, negation, prefix_of}
 use Rattle.value_core.specs.Powers.{power}
 use Rattle.formula_syntax.specs.declared.functions.Function.{Function}
 use Rattle.formula_syntax.specs.declared.functions.Function.TheVariants.{Sum, Product, Min, Max, Count, Counta, Countblank, If, Iferror, And, Or, Not, Abs, Sign, Mod, Quotient, Iserror, Isnumber, Islogical, Istext, Isblank, Na}
@@ -63,68 +63,68 @@ on_numbers_plain LessEqual m n = refl
 on_numbers_plain Greater m n = refl
 on_numbers_plain GreaterEqual m n = refl
 
-unordered_plain : (op : BinaryOp) (same : Bool) → is_circular (unordered op same) ≡ false
-unordered_plain Add same = refl
-unordered_plain Sub same = refl
-unordered_plain Mul same = refl
-unordered_plain Div same = refl
-unordered_plain Power same = refl
-unordered_plain Equal same = refl
-unordered_plain Unequal same = refl
-unordered_plain Less same = refl
-unordered_plain LessEqual same = refl
-unordered_plain Greater same = refl
-unordered_plain GreaterEqual same = refl
+unordered_value_plain : (op : BinaryOp) (same : Bool) → is_circular (unordered_value op same) ≡ false
+unordered_value_plain Add same = refl
+unordered_value_plain Sub same = refl
+unordered_value_plain Mul same = refl
+unordered_value_plain Div same = refl
+unordered_value_plain Power same = refl
+unordered_value_plain Equal same = refl
+unordered_value_plain Unequal same = refl
+unordered_value_plain Less same = refl
+unordered_value_plain LessEqual same = refl
+unordered_value_plain Greater same = refl
+unordered_value_plain GreaterEqual same = refl
 
 by_kind_plain : (op : BinaryOp) (a b : Value) → is_circular (by_kind op a b) ≡ false
-by_kind_plain op Empty Empty = unordered_plain op false
-by_kind_plain op Empty (Number y) = unordered_plain op false
-by_kind_plain op Empty (Truth y) = unordered_plain op false
-by_kind_plain op Empty (Error y) = unordered_plain op false
-by_kind_plain op Empty (Label y) = unordered_plain op false
-by_kind_plain op (Number x) Empty = unordered_plain op false
+by_kind_plain op Empty Empty = unordered_value_plain op false
+by_kind_plain op Empty (Number y) = unordered_value_plain op false
+by_kind_plain op Empty (Truth y) = unordered_value_plain op false
+by_kind_plain op Empty (Error y) = unordered_value_plain op false
+by_kind_plain op Empty (Label y) = unordered_value_plain op false
+by_kind_plain op (Number x) Empty = unordered_value_plain op false
 by_kind_plain op (Number x) (Number y) = on_numbers_plain op x y
-by_kind_plain op (Number x) (Truth y) = unordered_plain op false
-by_kind_plain op (Number x) (Error y) = unordered_plain op false
-by_kind_plain op (Number x) (Label y) = unordered_plain op false
-by_kind_plain op (Truth x) Empty = unordered_plain op false
-by_kind_plain op (Truth x) (Number y) = unordered_plain op false
+by_kind_plain op (Number x) (Truth y) = unordered_value_plain op false
+by_kind_plain op (Number x) (Error y) = unordered_value_plain op false
+by_kind_plain op (Number x) (Label y) = unordered_value_plain op false
+by_kind_plain op (Truth x) Empty = unordered_value_plain op false
+by_kind_plain op (Truth x) (Number y) = unordered_value_plain op false
 by_kind_plain op (Truth x) (Truth y) = on_numbers_plain op (truth_number x) (truth_number y)
-by_kind_plain op (Truth x) (Error y) = unordered_plain op false
-by_kind_plain op (Truth x) (Label y) = unordered_plain op false
-by_kind_plain op (Error x) Empty = unordered_plain op false
-by_kind_plain op (Error x) (Number y) = unordered_plain op false
-by_kind_plain op (Error x) (Truth y) = unordered_plain op false
-by_kind_plain op (Error x) (Error y) = unordered_plain op false
-by_kind_plain op (Error x) (Label y) = unordered_plain op false
-by_kind_plain op (Label x) Empty = unordered_plain op false
-by_kind_plain op (Label x) (Number y) = unordered_plain op false
-by_kind_plain op (Label x) (Truth y) = unordered_plain op false
-by_kind_plain op (Label x) (Error y) = unordered_plain op false
-by_kind_plain op (Label x) (Label y) = unordered_plain op _
+by_kind_plain op (Truth x) (Error y) = unordered_value_plain op false
+by_kind_plain op (Truth x) (Label y) = unordered_value_plain op false
+by_kind_plain op (Error x) Empty = unordered_value_plain op false
+by_kind_plain op (Error x) (Number y) = unordered_value_plain op false
+by_kind_plain op (Error x) (Truth y) = unordered_value_plain op false
+by_kind_plain op (Error x) (Error y) = unordered_value_plain op false
+by_kind_plain op (Error x) (Label y) = unordered_value_plain op false
+by_kind_plain op (Label x) Empty = unordered_value_plain op false
+by_kind_plain op (Label x) (Number y) = unordered_value_plain op false
+by_kind_plain op (Label x) (Truth y) = unordered_value_plain op false
+by_kind_plain op (Label x) (Error y) = unordered_value_plain op false
+by_kind_plain op (Label x) (Label y) = unordered_value_plain op _
 
-compared_plain : (op : BinaryOp) (a b : Value) → is_circular a ≡ false → is_circular b ≡ false → is_circular (compared op a b) ≡ false
-compared_plain op (Error x) b h k = h
-compared_plain op Empty Empty h k = by_kind_plain op (beside Empty Empty) (beside Empty Empty)
-compared_plain op Empty (Number y) h k = by_kind_plain op (beside Empty (Number y)) (beside (Number y) Empty)
-compared_plain op Empty (Truth y) h k = by_kind_plain op (beside Empty (Truth y)) (beside (Truth y) Empty)
-compared_plain op Empty (Error y) h k = k
-compared_plain op Empty (Label y) h k = by_kind_plain op (beside Empty (Label y)) (beside (Label y) Empty)
-compared_plain op (Number x) Empty h k = by_kind_plain op (beside (Number x) Empty) (beside Empty (Number x))
-compared_plain op (Number x) (Number y) h k = by_kind_plain op (beside (Number x) (Number y)) (beside (Number y) (Number x))
-compared_plain op (Number x) (Truth y) h k = by_kind_plain op (beside (Number x) (Truth y)) (beside (Truth y) (Number x))
-compared_plain op (Number x) (Error y) h k = k
-compared_plain op (Number x) (Label y) h k = by_kind_plain op (beside (Number x) (Label y)) (beside (Label y) (Number x))
-compared_plain op (Truth x) Empty h k = by_kind_plain op (beside (Truth x) Empty) (beside Empty (Truth x))
-compared_plain op (Truth x) (Number y) h k = by_kind_plain op (beside (Truth x) (Number y)) (beside (Number y) (Truth x))
-compared_plain op (Truth x) (Truth y) h k = by_kind_plain op (beside (Truth x) (Truth y)) (beside (Truth y) (Truth x))
-compared_plain op (Truth x) (Error y) h k = k
-compared_plain op (Truth x) (Label y) h k = by_kind_plain op (beside (Truth x) (Label y)) (beside (Label y) (Truth x))
-compared_plain op (Label x) Empty h k = by_kind_plain op (beside (Label x) Empty) (beside Empty (Label x))
-compared_plain op (Label x) (Number y) h k = by_kind_plain op (beside (Label x) (Number y)) (beside (Number y) (Label x))
-compared_plain op (Label x) (Truth y) h k = by_kind_plain op (beside (Label x) (Truth y)) (beside (Truth y) (Label x))
-compared_plain op (Label x) (Error y) h k = k
-compared_plain op (Label x) (Label y) h k = by_kind_plain op (beside (Label x) (Label y)) (beside (Label y) (Label x))
+comparison_plain : (op : BinaryOp) (a b : Value) → is_circular a ≡ false → is_circular b ≡ false → is_circular (comparison op a b) ≡ false
+comparison_plain op (Error x) b h k = h
+comparison_plain op Empty Empty h k = by_kind_plain op (beside Empty Empty) (beside Empty Empty)
+comparison_plain op Empty (Number y) h k = by_kind_plain op (beside Empty (Number y)) (beside (Number y) Empty)
+comparison_plain op Empty (Truth y) h k = by_kind_plain op (beside Empty (Truth y)) (beside (Truth y) Empty)
+comparison_plain op Empty (Error y) h k = k
+comparison_plain op Empty (Label y) h k = by_kind_plain op (beside Empty (Label y)) (beside (Label y) Empty)
+comparison_plain op (Number x) Empty h k = by_kind_plain op (beside (Number x) Empty) (beside Empty (Number x))
+comparison_plain op (Number x) (Number y) h k = by_kind_plain op (beside (Number x) (Number y)) (beside (Number y) (Number x))
+comparison_plain op (Number x) (Truth y) h k = by_kind_plain op (beside (Number x) (Truth y)) (beside (Truth y) (Number x))
+comparison_plain op (Number x) (Error y) h k = k
+comparison_plain op (Number x) (Label y) h k = by_kind_plain op (beside (Number x) (Label y)) (beside (Label y) (Number x))
+comparison_plain op (Truth x) Empty h k = by_kind_plain op (beside (Truth x) Empty) (beside Empty (Truth x))
+comparison_plain op (Truth x) (Number y) h k = by_kind_plain op (beside (Truth x) (Number y)) (beside (Number y) (Truth x))
+comparison_plain op (Truth x) (Truth y) h k = by_kind_plain op (beside (Truth x) (Truth y)) (beside (Truth y) (Truth x))
+comparison_plain op (Truth x) (Error y) h k = k
+comparison_plain op (Truth x) (Label y) h k = by_kind_plain op (beside (Truth x) (Label y)) (beside (Label y) (Truth x))
+comparison_plain op (Label x) Empty h k = by_kind_plain op (beside (Label x) Empty) (beside Empty (Label x))
+comparison_plain op (Label x) (Number y) h k = by_kind_plain op (beside (Label x) (Number y)) (beside (Number y) (Label x))
+comparison_plain op (Label x) (Truth y) h k = by_kind_plain op (beside (Label x) (Truth y)) (beside (Truth y) (Label x))
+comparison_plain op (Label x) (Error y) h k = k
+comparison_plain op (Label x) (Label y) h k = by_kind_plain op (beside (Label x) (Label y)) (beside (Label y) (Label x))
 
 as_number_plain : (a : Value) → is_circular a ≡ false → circular_error (as_number a) ≡ false
 as_number_plain Empty h = refl
@@ -140,13 +140,13 @@ as_truth_plain (Truth b) h = refl
 as_truth_plain (Error kind) h = h
 as_truth_plain (Label place) h = refl
 
-calculated_plain : (op : BinaryOp) (a b : Result ℤ ErrorKind) → circular_error a ≡ false → circular_error b ≡ false → is_circular (calculated op a b) ≡ false
-calculated_plain op (Err kind) b h k = h
-calculated_plain op (Ok m) (Err kind) h k = k
-calculated_plain op (Ok m) (Ok n) h k = on_numbers_plain op m n
+calculation_plain : (op : BinaryOp) (a b : Result ℤ ErrorKind) → circular_error a ≡ false → circular_error b ≡ false → is_circular (calculation op a b) ≡ false
+calculation_plain op (Err kind) b h k = h
+calculation_plain op (Ok m) (Err kind) h k = k
+calculation_plain op (Ok m) (Ok n) h k = on_numbers_plain op m n
 
 pub binary_plain : (op : BinaryOp) (a b : Value) → is_circular a ≡ false → is_circular b ≡ false → is_circular (binary_of op a b) ≡ false
-binary_plain op a b h k = cond_plain (is_comparison op) (compared op a b) (calculated op (as_number a) (as_number b)) (compared_plain op a b h k) (calculated_plain op (as_number a) (as_number b) (as_number_plain a h) (as_number_plain b k))
+binary_plain op a b h k = cond_plain (is_comparison op) (comparison op a b) (calculation op (as_number a) (as_number b)) (comparison_plain op a b h k) (calculation_plain op (as_number a) (as_number b) (as_number_plain a h) (as_number_plain b k))
 
 pub never_empty_plain : (a : Value) → is_circular a ≡ false → is_circular (never_empty a) ≡ false
 never_empty_plain Empty h = refl
@@ -155,13 +155,13 @@ never_empty_plain (Truth b) h = refl
 never_empty_plain (Error kind) h = h
 never_empty_plain (Label place) h = refl
 
-negated_plain : (a : Result ℤ ErrorKind) → circular_error a ≡ false → is_circular (negated a) ≡ false
-negated_plain (Err kind) h = h
-negated_plain (Ok n) h = refl
+negation_plain : (a : Result ℤ ErrorKind) → circular_error a ≡ false → is_circular (negation a) ≡ false
+negation_plain (Err kind) h = h
+negation_plain (Ok n) h = refl
 
 pub prefix_plain : (op : PrefixOp) (a : Value) → is_circular a ≡ false → is_circular (prefix_of op a) ≡ false
 prefix_plain Plus a h = never_empty_plain a h
-prefix_plain Minus a h = negated_plain (as_number a) (as_number_plain a h)
+prefix_plain Minus a h = negation_plain (as_number a) (as_number_plain a h)
 
 -- the value of an item
 abbrev circular_item : Item → Bool

@@ -15,7 +15,7 @@ use Rattle.value_core.specs.declared.value.ErrorKind.TheVariants as error
 use Rattle.value_core.specs.declared.value.Value.{Value}
 use Rattle.value_core.specs.declared.value.Value.TheVariants.{Empty, Number, Truth, Error, Label}
 use Rattle.value_core.specs.Conversions.{never_empty}
-use Rattle.value_core.specs.Decoding.{decoded, decoded-code}
+use Rattle.value_core.specs.Decoding.{value_of_word, value_of_its_code}
 use Rattle.value_core.specs.Operators.{binary_of, prefix_of}
 use Rattle.value_core.specs.Values.{code_of}
 use Rattle.formula_syntax.specs.Tree.{Tree, Trees, number, truth, error, reference, prefix, binary, call, no_trees, and_trees, references_of, all_references}
@@ -150,7 +150,7 @@ module _ (sizes : Sizes) (codes : Position → Option ℕ) (tree : Tree) (values
   cell_by cell true is named plain =
       let known = plain is in
       let at = agrees cell known.0 named is known.2 in
-      let value : values cell ≡ decoded known.0 = sym (decoded-code (values cell) at.0) ∙ ap decoded at.1 in
+      let value : values cell ≡ value_of_word known.0 = sym (value_of_its_code (values cell) at.0) ∙ ap value_of_word at.1 in
       (rw (is, known.2) value, rw is (not_circular (values cell) (λ same. known.3 (sym at.1 ∙ same))))
 
   -- a plain cell that the formula names has the value that is held of it, and not #CIRC!
@@ -177,7 +177,7 @@ module _ (sizes : Sizes) (codes : Position → Option ℕ) (tree : Tree) (values
       let cell = stop_cell stop in
       let inside = stops.is_stop.inside in
       let at = agrees cell (code_of (Error error.Circ)) stops.named inside (stops.is_stop.held ∙ code) in
-      let value : values cell ≡ Error error.Circ = sym (decoded-code (values cell) at.0) ∙ ap decoded at.1 ∙ decoded-code (Error error.Circ) tt in
+      let value : values cell ≡ Error error.Circ = sym (value_of_its_code (values cell) at.0) ∙ ap value_of_word at.1 ∙ value_of_its_code (Error error.Circ) tt in
       let circular : is_circular (within sizes values cell) ≡ true = rw (inside, value) refl in
       let here = cell_any (λ c. is_circular (within sizes values c)) (corners_of stops.named.through) cell stops.named.inside circular in
       rw (any_at (λ (r : Reference). list_any (λ c. is_circular (within sizes values c)) (cells_of (corners_of r))) (references_of tree) stops.named.place stops.named.through stops.named.listed here) refl

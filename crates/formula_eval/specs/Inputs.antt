@@ -7,7 +7,7 @@ use Rattle.sheet_refs.specs.Sizes.{is_inside}
 use Rattle.value_core.specs.declared.value.ErrorKind.TheVariants.{Circ}
 use Rattle.value_core.specs.declared.value.Value.{Value}
 use Rattle.value_core.specs.declared.value.Value.TheVariants.{Empty, Error}
-use Rattle.value_core.specs.Decoding.{decoded}
+use Rattle.value_core.specs.Decoding.{value_of_word}
 use Rattle.value_core.specs.Values.{IsValue, code_of}
 
 -- the code of a value
@@ -21,7 +21,7 @@ within sizes values cell = if is_inside sizes cell then values cell else Empty
 -- the value of the code that is held of a cell
 abbrev pub value_of_code : Option ℕ → Value
 value_of_code None = Empty
-value_of_code (Some word) = decoded word
+value_of_code (Some word) = value_of_word word
 
 -- the values of the codes that are held
 abbrev pub seen : Sizes → (Position → Option ℕ) → Position → Value

@@ -10,7 +10,7 @@ use Rattle.sheet_refs.specs.declared.sizes.Sizes.{Sizes}
 use Rattle.value_core.specs.declared.value.ErrorKind.TheVariants as error
 use Rattle.value_core.specs.declared.value.Value.{Value}
 use Rattle.value_core.specs.declared.value.Value.TheVariants.{Empty, Number, Truth, Error, Label}
-use Rattle.value_core.specs.Decoding.{decoded, decoded-code}
+use Rattle.value_core.specs.Decoding.{value_of_word, value_of_its_code}
 use Rattle.value_core.specs.Values.{IsValue, code_of}
 use Rattle.formula_eval.specs.Inputs.{IsCode}
 use Rattle.formula_eval.specs.Meaning.{is_circular, formula_value, IsNamedBy, IsFormulaValue}
@@ -30,10 +30,10 @@ code_not_free (Error kind) = (λ e. omega arith, λ e. omega arith)
 code_not_free (Label place) = (λ e. omega arith, λ e. omega arith)
 
 -- a word of neither is that of a value
-state_known : (word : ℕ) → word ≢ 5 → word ≢ 6 → state_of word ≡ Known (decoded word)
+state_known : (word : ℕ) → word ≢ 5 → word ≢ 6 → state_of word ≡ Known (value_of_word word)
 state_known word a b = by_tests (word == 5) (word == 6) refl refl
   where
-    by_tests : (p q : Bool) → (word == 5) ≡ p → (word == 6) ≡ q → cond p Unseen (cond q Open (Known (decoded word))) ≡ Known (decoded word)
+    by_tests : (p q : Bool) → (word == 5) ≡ p → (word == 6) ≡ q → cond p Unseen (cond q Open (Known (value_of_word word))) ≡ Known (value_of_word word)
     by_tests true q is_p is_q = absurd (a (grind (arith, nat_tests)))
     by_tests false true is_p is_q = absurd (b (grind (arith, nat_tests)))
     by_tests false false is_p is_q = refl
@@ -41,7 +41,7 @@ state_known word a b = by_tests (word == 5) (word == 6) refl refl
 pub state_of_code : (v : Value) → IsValue v → state_of (code_of v) ≡ Known v
 state_of_code v is =
     let free = code_not_free v in
-    state_known (code_of v) free.0 free.1 ∙ ap Known (decoded-code v is)
+    state_known (code_of v) free.0 free.1 ∙ ap Known (value_of_its_code v is)
 
 pub code_is_word : (v : Value) → IsValue v → IsWord (code_of v)
 code_is_word v is u same =
@@ -59,8 +59,8 @@ open_is_word v same = absurd (cc)
 pub plain_known : (word : ℕ) → IsWord word → word ≢ 5 → word ≢ 6 → not (word == 59) ≡ is_plain_state (state_of word)
 plain_known word is a b =
     let known = state_known word a b in
-    let code = is (decoded word) known in
-    rw known (ap not (by_value (decoded word) word code.1))
+    let code = is (value_of_word word) known in
+    rw known (ap not (by_value (value_of_word word) word code.1))
   where
     by_value : (v : Value) (w : ℕ) → code_of v ≡ w → (w == 59) ≡ is_circular v
     by_value Empty w e = grind (arith, nat_tests)
@@ -90,7 +90,7 @@ plain_at sizes words cell place d is below =
 
 -- a word that is a code
 pub known_is_code : (word : ℕ) → IsWord word → word ≢ 5 → word ≢ 6 → IsCode word
-known_is_code word is a b = let code = is (decoded word) (state_known word a b) in (decoded word, code.0, code.1)
+known_is_code word is a b = let code = is (value_of_word word) (state_known word a b) in (value_of_word word, code.0, code.1)
 
 -- what is known of a cell that evaluation can read past
 pub plain_code : (sizes : Sizes) (words : List ℕ) (cell : Position) → place_of sizes cell < length words → IsTrue (is_plain sizes (states_of words) cell) → known_codes sizes words cell ≢ None
@@ -101,7 +101,7 @@ plain_code sizes words cell below plain none =
     by_word : (word : ℕ) → is_plain_state (state_of word) ≡ true → known_code word ≢ None
     by_word word plain = by_tests (word == 5) (word == 6) plain
       where
-        by_tests : (p q : Bool) → is_plain_state (cond p Unseen (cond q Open (Known (decoded word)))) ≡ true → cond p None (cond q None (Some word)) ≢ None
+        by_tests : (p q : Bool) → is_plain_state (cond p Unseen (cond q Open (Known (value_of_word word)))) ≡ true → cond p None (cond q None (Some word)) ≢ None
         by_tests true q is none = cc
         by_tests false true is none = cc
         by_tests false false is none = cc
@@ -114,12 +114,12 @@ held_value sizes words cell word are below held =
     let state = get_or_from_slice_get (states_of words) (place_of sizes cell) (state_of here) Unseen (states_at words (place_of sizes cell) 0 below) in
     rw state (by_tests here is (here == 5) (here == 6) refl refl held)
   where
-    by_tests : (here : ℕ) → IsWord here → (p q : Bool) → (here == 5) ≡ p → (here == 6) ≡ q → cond p None (cond q None (Some here)) ≡ Some word → IsValue (known_value (cond p Unseen (cond q Open (Known (decoded here))))) × (code_of (known_value (cond p Unseen (cond q Open (Known (decoded here))))) ≡ word)
+    by_tests : (here : ℕ) → IsWord here → (p q : Bool) → (here == 5) ≡ p → (here == 6) ≡ q → cond p None (cond q None (Some here)) ≡ Some word → IsValue (known_value (cond p Unseen (cond q Open (Known (value_of_word here))))) × (code_of (known_value (cond p Unseen (cond q Open (Known (value_of_word here))))) ≡ word)
     by_tests here is true q is_p is_q held = absurd (cc)
     by_tests here is false true is_p is_q held = absurd (cc)
     by_tests here is false false is_p is_q held =
-        let known : state_of here ≡ Known (decoded here) = rw (is_p, is_q) refl in
-        let code = is (decoded here) known in
+        let known : state_of here ≡ Known (value_of_word here) = rw (is_p, is_q) refl in
+        let code = is (value_of_word here) known in
         let same : here ≡ word = cc in
         (code.0, code.1 ∙ same)
 
@@ -153,7 +153,7 @@ unseen_state word is = rw is refl
 pub seen_state : (word : ℕ) → word ≢ 5 → state_of word ≢ Unseen
 seen_state word differs = by_tests (word == 5) (word == 6) refl
   where
-    by_tests : (p q : Bool) → (word == 5) ≡ p → cond p Unseen (cond q Open (Known (decoded word))) ≢ Unseen
+    by_tests : (p q : Bool) → (word == 5) ≡ p → cond p Unseen (cond q Open (Known (value_of_word word))) ≢ Unseen
     by_tests true q is same = differs (grind (arith, nat_tests))
     by_tests false true is same = cc
     by_tests false false is same = cc

@@ -6,7 +6,7 @@ use Rattle.sheet_refs.specs.Sizes.{place_of}
 use Rattle.sheet_refs.specs.declared.sizes.Sizes.{Sizes}
 use Rattle.value_core.specs.declared.value.Value.{Value}
 use Rattle.value_core.specs.declared.value.Value.TheVariants.{Empty, Number, Truth, Error, Label}
-use Rattle.value_core.specs.Decoding.{decoded}
+use Rattle.value_core.specs.Decoding.{value_of_word}
 use Rattle.value_core.specs.Values.{IsValue, code_of}
 use Rattle.formula_eval.specs.Meaning.{is_circular}
 
@@ -18,7 +18,7 @@ pub data State : Type 0 where
 
 -- the state for which a word stands
 abbrev pub state_of : ℕ → State
-state_of word = if word == 5 then Unseen else (if word == 6 then Open else Known (decoded word))
+state_of word = if word == 5 then Unseen else (if word == 6 then Open else Known (value_of_word word))
 
 -- that a value is in range has one proof at most
 pub value_prop : (v : Value) → IsProp (IsValue v)

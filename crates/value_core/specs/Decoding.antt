@@ -22,11 +22,11 @@ value_of_kind kind content =
     else (if kind == 4 then Label content else Empty)))
 
 -- the value for which a word stands; of no meaning where it stands for none
-unfoldable pub decoded : ℕ → Value
-decoded word = value_of_kind (word % 8) (word / 8)
+unfoldable pub value_of_word : ℕ → Value
+value_of_word word = value_of_kind (word % 8) (word / 8)
 
-by_parts : (word kind content : ℕ) → kind < 8 → word ≡ content * 8 + kind → decoded word ≡ value_of_kind kind content
-unfolding decoded
+by_parts : (word kind content : ℕ) → kind < 8 → word ≡ content * 8 + kind → value_of_word word ≡ value_of_kind kind content
+unfolding value_of_word
 by_parts word kind content small is =
     let last : word % 8 ≡ kind = omega arith in
     let first : word / 8 ≡ content = omega arith in
@@ -43,13 +43,13 @@ error_back error.Na = refl
 error_back error.Circ = refl
 
 -- the code of a value stands for that value
-pub decoded-code : (v : Value) → IsValue v → decoded (code_of v) ≡ v
-unfolding decoded
-decoded-code Empty h = refl
-decoded-code (Number n) h =
+pub value_of_its_code : (v : Value) → IsValue v → value_of_word (code_of v) ≡ v
+unfolding value_of_word
+value_of_its_code Empty h = refl
+value_of_its_code (Number n) h =
     let whole : pos (nat_abs (n +ℤ pos (2 ^ 53))) -ℤ pos (2 ^ 53) ≡ n = omega (arith, ints, h.least, h.most) in
     by_parts _ 1 (nat_abs (n +ℤ pos (2 ^ 53))) (omega arith) refl ∙ ap Number whole
-decoded-code (Truth false) h = refl
-decoded-code (Truth true) h = refl
-decoded-code (Error kind) h = by_parts _ 3 (place_of_error kind) (omega arith) refl ∙ ap Error (error_back kind)
-decoded-code (Label place) h = by_parts _ 4 place (omega arith) refl
+value_of_its_code (Truth false) h = refl
+value_of_its_code (Truth true) h = refl
+value_of_its_code (Error kind) h = by_parts _ 3 (place_of_error kind) (omega arith) refl ∙ ap Error (error_back kind)
+value_of_its_code (Label place) h = by_parts _ 4 place (omega arith) refl

@@ -35,17 +35,17 @@ on_numbers Greater m n = Truth (int_lt n m)
 on_numbers GreaterEqual m n = Truth (int_le n m)
 
 -- a comparison of two values that have no order, of which it is known whether they are the same
-abbrev pub unordered : BinaryOp → Bool → Value
-unordered Equal same = Truth same
-unordered Unequal same = Truth (not same)
-unordered _ same = Error error.Value
+abbrev pub unordered_value : BinaryOp → Bool → Value
+unordered_value Equal same = Truth same
+unordered_value Unequal same = Truth (not same)
+unordered_value _ same = Error error.Value
 
 -- a comparison of two values that are neither empty nor errors: FALSE comes before TRUE
 abbrev pub by_kind : BinaryOp → Value → Value → Value
 by_kind op (Number m) (Number n) = on_numbers op m n
 by_kind op (Truth p) (Truth q) = on_numbers op (truth_number p) (truth_number q)
-by_kind op (Label i) (Label j) = unordered op (i == j)
-by_kind op _ _ = unordered op false
+by_kind op (Label i) (Label j) = unordered_value op (i == j)
+by_kind op _ _ = unordered_value op false
 
 -- an operand as it counts beside the other one: an empty one is FALSE beside a truth, of no other's kind beside a label, and else 0
 abbrev pub beside : Value → Value → Value
@@ -55,15 +55,15 @@ beside Empty _ = Number (pos 0)
 beside operand _ = operand
 
 -- the left operand's error wins, and then the right one's
-abbrev pub compared : BinaryOp → Value → Value → Value
-compared op (Error kind) right = Error kind
-compared op left (Error kind) = Error kind
-compared op left right = by_kind op (beside left right) (beside right left)
+abbrev pub comparison : BinaryOp → Value → Value → Value
+comparison op (Error kind) right = Error kind
+comparison op left (Error kind) = Error kind
+comparison op left right = by_kind op (beside left right) (beside right left)
 
-abbrev pub calculated : BinaryOp → Result ℤ ErrorKind → Result ℤ ErrorKind → Value
-calculated op (Err kind) right = Error kind
-calculated op (Ok m) (Err kind) = Error kind
-calculated op (Ok m) (Ok n) = on_numbers op m n
+abbrev pub calculation : BinaryOp → Result ℤ ErrorKind → Result ℤ ErrorKind → Value
+calculation op (Err kind) right = Error kind
+calculation op (Ok m) (Err kind) = Error kind
+calculation op (Ok m) (Ok n) = on_numbers op m n
 
 abbrev pub is_comparison : BinaryOp → Bool
 is_comparison Add = false
@@ -75,14 +75,14 @@ is_comparison _ = true
 
 -- an operator between two operands
 abbrev pub binary_of : BinaryOp → Value → Value → Value
-binary_of op left right = if is_comparison op then compared op left right else calculated op (as_number left) (as_number right)
+binary_of op left right = if is_comparison op then comparison op left right else calculation op (as_number left) (as_number right)
 
 -- the negative of an operand as a number
-abbrev pub negated : Result ℤ ErrorKind → Value
-negated (Err kind) = Error kind
-negated (Ok n) = Number (neg_ℤ n)
+abbrev pub negation : Result ℤ ErrorKind → Value
+negation (Err kind) = Error kind
+negation (Ok n) = Number (neg_ℤ n)
 
 -- an operator before its operand
 abbrev pub prefix_of : PrefixOp → Value → Value
 prefix_of Plus operand = never_empty operand
-prefix_of Minus operand = negated (as_number operand)
+prefix_of Minus operand = negation (as_number operand)

@@ -61,8 +61,8 @@ error_text error.Na = codes "#N/A"
 error_text error.Circ = codes "#CIRC!"
 
 -- a text between quotes, each quote in it doubled
-abbrev pub quoted : List ℕ → List ℕ
-quoted text = 34 ∷ (flat_map (λ byte. if byte == 34 then (34 ∷ 34 ∷ []) else (byte ∷ [])) text ++ (34 ∷ []))
+abbrev pub in_quotes : List ℕ → List ℕ
+in_quotes text = 34 ∷ (flat_map (λ byte. if byte == 34 then (34 ∷ 34 ∷ []) else (byte ∷ [])) text ++ (34 ∷ []))
 
 -- how a value is printed, where labels have these texts
 abbrev pub value_text : (ℕ → List ℕ) → Value → List ℕ
@@ -70,4 +70,4 @@ value_text label Empty = []
 value_text label (Number number) = signed_decimal number
 value_text label (Truth truth) = truth_text truth
 value_text label (Error kind) = error_text kind
-value_text label (Label place) = quoted (label place)
+value_text label (Label place) = in_quotes (label place)

@@ -1,11 +1,11 @@
 ghost use Rattle.std.specs.Prelude.{◌≡◌, ◌<◌, ◌≤◌, ◌*ℤ◌, nat_abs, SomeIff};
 ghost use Rattle.value_core.specs.Wholes.{IsWhole};
 ghost use Rattle.value_core.specs.Conversions.{in_range as ranged};
-ghost use Rattle.value_core.specs.Operators.{binary_of, prefix_of, calculated, compared};
+ghost use Rattle.value_core.specs.Operators.{binary_of, prefix_of, calculation, comparison};
 ghost use Rattle.value_core.specs.Operators.{by_kind as by_kind_of, beside as beside_of};
-ghost use Rattle.value_core.specs.Operators.{unordered as unordered_of};
+ghost use Rattle.value_core.specs.Operators.{unordered_value};
 ghost use Rattle.value_core.specs.Operators.{on_numbers as on_numbers_of, quotient as quotient_of};
-ghost use Rattle.value_core.specs.Operators.{power_value, is_comparison as is_comparing, negated};
+ghost use Rattle.value_core.specs.Operators.{power_value, is_comparison as is_comparing, negation};
 ghost use Rattle.value_core.specs.Powers.{power as power_of};
 
 use crate::convert::{as_number, in_range, never_empty, truth_number};
@@ -82,7 +82,7 @@ pub fn prefix(op: PrefixOp, a: Value) -> Value
 }
 
 fn negative(number: Result<Whole, ErrorKind>) -> Value
-    ensures { result ≡ negated number }
+    ensures { result ≡ negation number }
 {
     match &number {
         Ok(number) => in_range(-number.get()),
@@ -100,7 +100,7 @@ fn is_comparison(op: BinaryOp) -> bool
 }
 
 fn calculate(op: BinaryOp, left: Result<Whole, ErrorKind>, right: Result<Whole, ErrorKind>) -> Value
-    ensures { result ≡ calculated op left right }
+    ensures { result ≡ calculation op left right }
 {
     match (&left, &right) {
         (Err(kind), _) => Value::Error(*kind),
@@ -110,7 +110,7 @@ fn calculate(op: BinaryOp, left: Result<Whole, ErrorKind>, right: Result<Whole, 
 }
 
 fn compare(op: BinaryOp, left: Value, right: Value) -> Value
-    ensures { result ≡ compared op left right }
+    ensures { result ≡ comparison op left right }
 {
     match (&left, &right) {
         (Value::Error(kind), _) => Value::Error(*kind),
@@ -139,14 +139,14 @@ fn compare_kinds(op: BinaryOp, left: Value, right: Value) -> Value
         (Value::Truth(left), Value::Truth(right)) => {
             on_numbers(op, truth_number(*left), truth_number(*right))
         }
-        (Value::Label(left), Value::Label(right)) => unordered(op, left == right),
-        _ => unordered(op, false),
+        (Value::Label(left), Value::Label(right)) => compare_unordered(op, left == right),
+        _ => compare_unordered(op, false),
     }
 }
 
 // A comparison of values that have no order, given whether they are the same.
-fn unordered(op: BinaryOp, same: bool) -> Value
-    ensures { result ≡ unordered_of op same }
+fn compare_unordered(op: BinaryOp, same: bool) -> Value
+    ensures { result ≡ unordered_value op same }
 {
     match op {
         BinaryOp::Equal => Value::Truth(same),

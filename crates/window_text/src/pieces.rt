@@ -2,7 +2,7 @@ ghost use Rattle.std.specs.Prelude.{◌≡◌, ◌++◌, ◌≤◌, ◌<◌, ◌
 ghost use Rattle.std.specs.Prelude.{length, take, slice_get, Some};
 ghost use Rattle.std.specs.Fmt.{decimal, signed_decimal};
 ghost use Rattle.sheet_refs.specs.Names.{cell_text, last_letters, range_text};
-ghost use Rattle.value_core.specs.Values.{error_text, quoted};
+ghost use Rattle.value_core.specs.Values.{error_text, in_quotes};
 ghost use Rattle.window_text.specs.Pieces.{HandsOut};
 ghost use Rattle.window_text.specs.Texts.{shown_value};
 ghost use Rattle.sheet_model.specs.Labels.{label_text};
@@ -67,7 +67,7 @@ fn error_name(kind: ErrorKind) -> &'static str
 // Hands out a text between quotes, each quote in it doubled: what stands between quotes in one piece.
 fn send_quoted<F: FnMut(&[u8]) -> bool>(text: &str, to: &mut F) -> bool
     requires callable { F.IsAlwaysCallable to.old }
-    ensures sent { HandsOut F.FnMut to.old (quoted text.now) result to.new }
+    ensures sent { HandsOut F.FnMut to.old (in_quotes text.now) result to.new }
     ensures callable { F.IsAlwaysCallable to.new }
 {
     if !send(b"\"", to) {

@@ -1,5 +1,5 @@
 use Rattle.std.proofs.Common.{ℕ, List, [], ◌∷◌, ◌++◌, length}
-use Rattle.value_core.specs.Values.{quoted}
+use Rattle.value_core.specs.Values.{in_quotes}
 use Rattle.window_text.proofs.PieceLemmas.{Completes}
 use Rattle.window_text.proofs.QuoteLemmas.{doubled}
 use Rattle.window_text.proofs.pieces.send_quoted.Given as goal
@@ -7,7 +7,7 @@ use Rattle.window_text.proofs.pieces.send_quoted.Given as goal
 abbrev pub invariant-loop-place : goal.invariant-loop-place
 invariant-loop-place g l =
     goal.F-IsAlwaysCallable g l.to
-    × Completes g.F.FnMut l.fn.to (quoted l.fn.text) l.to (doubled l.rest ++ 34 ∷ [])
+    × Completes g.F.FnMut l.fn.to (in_quotes l.fn.text) l.to (doubled l.rest ++ 34 ∷ [])
 
 abbrev pub decreases-loop-place : goal.decreases-loop-place
 decreases-loop-place g l = length l.rest
