@@ -2,3 +2,4 @@ pub mod LetterLemmas
 pub mod PieceLemmas
 pub mod QuoteLemmas
 pub mod RowLemmas
+pub mod RunsLemmas

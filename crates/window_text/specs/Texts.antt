@@ -33,3 +33,7 @@ rows_text shown window = flat_map (row_text shown window) (rows_of window)
 -- what `show` writes: a line with the window's name, and the window's rows
 abbrev pub show_text : SheetValue → Corners → List ℕ
 show_text sheet window = codes "sheet 0 " ++ (range_text window ++ (10 ∷ rows_text (shown_cell sheet) window))
+
+-- what `deps` and `precs` write: a line for each of their ranges
+abbrev pub runs_text : List Corners → List ℕ
+runs_text runs = flat_map (λ run. range_text run ++ 10 ∷ []) runs

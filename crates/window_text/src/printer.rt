@@ -2,7 +2,7 @@ ghost use Rattle.std.specs.Prelude.{◌≡◌, ◌≤◌, IsTrue};
 ghost use Rattle.sheet_refs.specs.Sizes.{is_inside};
 ghost use Rattle.sheet_model.specs.Values.{AreValues, value_of};
 ghost use Rattle.window_text.specs.Pieces.{HandsOut};
-ghost use Rattle.window_text.specs.Texts.{IsWithinSheet, row_text, show_text, shown_cell};
+ghost use Rattle.window_text.specs.Texts.{IsWithinSheet, row_text, runs_text, show_text, shown_cell};
 
 use crate::pieces::{send, send_range, send_value};
 use sheet_model::Sheet;
@@ -40,6 +40,23 @@ impl Printer {
         }
         for row in range.head().row()..range.tail().row() + 1 {
             if !send_row(sheet, range, values, row, to) {
+                return false;
+            }
+        }
+        true
+    }
+
+    /// What `deps` and `precs` print of a list of ranges: a line for each, with its corners joined by a
+    /// colon. It takes time in proportion to the ranges.
+    pub fn runs<F: FnMut(&[u8]) -> bool>(runs: &[Range], to: &mut F) -> bool
+        requires callable { F.IsAlwaysCallable to.old }
+        ensures sent { HandsOut F.FnMut to.old (runs_text runs.now) result to.new }
+    {
+        for run in runs {
+            if !send_range(*run, to) {
+                return false;
+            }
+            if !send(b"\n", to) {
                 return false;
             }
         }

@@ -1,0 +1,21 @@
+-- The text of a list of ranges, one after the other.
+use Rattle.std.proofs.Common.{◌≡◌, ℕ, ◌+◌, ◌<◌, ◌≤◌, List, [], ◌∷◌, ◌++◌, length, drop, get_or, sym, ◌∙◌, ap, append_assoc}
+use Rattle.std.proofs.Math.ListN.{drop_of_length-le}
+use Rattle.std.proofs.lemmas.List.{drop_more}
+use Rattle.sheet_refs.specs.Cells.{Corners}
+use Rattle.sheet_refs.specs.Names.{range_text}
+use Rattle.window_text.specs.Texts.{runs_text}
+
+-- the text of the ranges from a place on
+abbrev pub runs_rest : List Corners → ℕ → List ℕ
+runs_rest runs place = runs_text (drop place runs)
+
+-- goes on with the range at that place
+pub runs_go_on : (runs : List Corners) (place : ℕ) (run : Corners) → place < length runs → run ≡ get_or runs place run → runs_rest runs place ≡ range_text run ++ ((10 ∷ []) ++ runs_rest runs (place + 1))
+runs_go_on runs place run within here =
+    let one = λ (r : Corners). (range_text r ++ 10 ∷ []) ++ runs_rest runs (place + 1) in
+    ap runs_text (drop_more runs place run within) ∙ (ap one (sym here) ∙ append_assoc (range_text run) (10 ∷ []) (runs_rest runs (place + 1)))
+
+-- until no range is left
+pub runs_end : (runs : List Corners) (place : ℕ) → length runs ≤ place → runs_rest runs place ≡ []
+runs_end runs place past = ap runs_text (drop_of_length-le runs past)
