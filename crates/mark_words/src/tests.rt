@@ -5,12 +5,13 @@ ghost use Rattle.std.specs.Thread.{IsSync};
 ghost use Rattle.mark_words.specs.Token.{IsSeatOf, places_of, is_editor, log_of, closed_places};
 ghost use Rattle.mark_words.specs.Trial.{IsReady, IsBlank, KnowsMany, IsPair};
 
-use super::*;
+use crate::{Marks, Seat, Words};
 use mark_core::{Clean, Memory, TwoCells};
 use std::alloc::{AllocError, Global};
 use std::test::Fail;
 use std::thread::{Threads, join, map_vec};
 
+mod crowd;
 mod eight;
 mod row;
 mod uses;

@@ -1,22 +1,19 @@
 #![tactic(auto)]
 
-ghost use Rattle.std.specs.Prelude.{◌≡◌, ◌≤◌, ◌<◌, ◌+◌, ◌==◌, ◌%◌, true, All, IfOk, OnOk};
-ghost use Rattle.std.specs.Thread.{IsSync};
+ghost use Rattle.std.specs.Prelude.{◌≡◌, ◌≤◌, ◌<◌, ◌+◌, true, All, IfOk};
 ghost use Rattle.mark_words.specs.Token.{IsSeatOf, closed_places};
 ghost use Rattle.mark_words.specs.EightCells.{last_of, Sets, last_stays, script, IsScripted, IsEditing, IsViewing};
 
-use super::uses::{looks, recomputes};
 use crate::closing::Words;
 use crate::marks::Marks;
 use crate::seats::Seat;
+use crate::tests::uses::{looks, recomputes};
 use mark_core::{Clean, Memory, Seen, Subject};
-use std::alloc::{AllocError, Global};
-use std::test::Fail;
-use std::thread::{Threads, join, map_vec};
+use std::alloc::Global;
 
 /// Eight places, of which entry n sets the one that n leaves when divided by 8.
 #[derive(Drop)]
-struct EightCells;
+pub(super) struct EightCells;
 
 impl Subject for EightCells {
     type Entry = u32;
@@ -30,9 +27,9 @@ impl Subject for EightCells {
     ghost untouched = { λ _ log entry place _ spared. last_stays place 0 log entry spared };
 }
 
-type Table = Marks<EightCells>;
+pub(super) type Table = Marks<EightCells>;
 
-type Token = Seat<EightCells>;
+pub(super) type Token = Seat<EightCells>;
 
 /// The worth of the place after the first entries of the script, found by going through them.
 fn worth_after(number: u32, place: u32) -> u32
@@ -64,7 +61,7 @@ fn sets(marks: &Table, editor: &mut Token, number: u32) -> u32
 }
 
 /// Commits the entries from this one on.
-fn sets_many(marks: &Table, mut editor: Token, from: u32, number: u32) -> Token
+pub(super) fn sets_many(marks: &Table, mut editor: Token, from: u32, number: u32) -> Token
     requires ready { IsEditing marks.now editor from }
     requires room { (from ≤ number) × (number ≤ 1048576) }
     ensures { IsEditing marks.now result number }
@@ -88,7 +85,7 @@ fn works_at(marks: &Table, worker: &mut Token, number: u32, place: u32) -> bool
 }
 
 /// Works on all places, so many times.
-fn works_on(marks: &Table, mut worker: Token, number: u32, turns: u32) -> Token
+pub(super) fn works_on(marks: &Table, mut worker: Token, number: u32, turns: u32) -> Token
     requires worker { IsScripted marks.now worker number }
     requires room { number ≤ 1048576 }
     ensures { IsScripted marks.now result number }
@@ -103,17 +100,17 @@ fn works_on(marks: &Table, mut worker: Token, number: u32, turns: u32) -> Token
 
 /// What a viewer saw of a place.
 #[derive(Clone, Copy)]
-struct Look {
+pub(super) struct Look {
     number: u64,
     place: u32,
     seen: Seen,
 }
 
 /// A viewer's seat, with what it saw.
-type Viewer = (Token, Vec<Look>);
+pub(super) type Viewer = (Token, Vec<Look>);
 
 /// Whether the look shows what it should, by going through the script.
-fn is_right(look: Look) -> bool {
+pub(super) fn is_right(look: Look) -> bool {
     let Ok(number) = u32::try_from(look.number) else {
         return false;
     };
@@ -130,7 +127,7 @@ fn is_right(look: Look) -> bool {
 }
 
 /// Looks at the places in turn, and keeps what it saw.
-fn views(marks: &Table, viewer: Viewer) -> Viewer
+pub(super) fn views(marks: &Table, viewer: Viewer) -> Viewer
     requires { IsViewing marks.now viewer }
     ensures { IsViewing marks.now result }
 {
@@ -150,139 +147,8 @@ fn views(marks: &Table, viewer: Viewer) -> Viewer
     (seat, kept)
 }
 
-/// The workers, each in a thread of its own.
-fn work_all<R: Threads + Sync>(
-    rt: &R,
-    marks: &Table,
-    workers: Vec<Token>,
-    number: u32,
-) -> Result<Vec<Token>, AllocError>
-    requires workers { All (λ seat. IsScripted marks.now seat number) workers.items }
-    requires room { number ≤ 1048576 }
-    ensures { IfOk result (λ all. All (λ seat. IsScripted marks.now seat number) all.items) }
-{
-    map_vec(
-        rt,
-        workers,
-        &|worker: Token| -> Token
-            requires { IsScripted marks.now worker number × (number ≤ 1048576) }
-            ensures { IsScripted marks.entry.now result number }
-        { works_on(marks, worker, number, 20) },
-    )
-}
-
-/// The viewers, each in a thread of its own.
-fn view_all<R: Threads + Sync>(
-    rt: &R,
-    marks: &Table,
-    viewers: Vec<Viewer>,
-) -> Result<Vec<Viewer>, AllocError>
-    requires { All (λ viewer. IsViewing marks.now viewer) viewers.items }
-    ensures { IfOk result (λ all. All (λ viewer. IsViewing marks.now viewer) all.items) }
-{
-    map_vec(
-        rt,
-        viewers,
-        &|viewer: Viewer| -> Viewer
-            requires { IsViewing marks.now viewer }
-            ensures { IsViewing marks.entry.now result }
-        { views(marks, viewer) },
-    )
-}
-
-/// Workers and viewers side by side.
-fn crowd<R: Threads + Sync>(
-    rt: &R,
-    marks: &Table,
-    workers: Vec<Token>,
-    viewers: Vec<Viewer>,
-    number: u32,
-) -> (
-    Result<Vec<Token>, AllocError>,
-    Result<Vec<Viewer>, AllocError>,
-)
-    requires workers { All (λ seat. IsScripted marks.now seat number) workers.items }
-    requires viewers { All (λ viewer. IsViewing marks.now viewer) viewers.items }
-    requires room { number ≤ 1048576 }
-    ensures workers { IfOk result.0 (λ all. All (λ seat. IsScripted marks.now seat number) all.items) }
-    ensures viewers { IfOk result.1 (λ all. All (λ viewer. IsViewing marks.now viewer) all.items) }
-{
-    join(
-        rt,
-        move || -> Result<Vec<Token>, AllocError>
-            requires { IsSync R.row × (number ≤ 1048576)
-                × All (λ seat. IsScripted marks.now seat number) workers.items }
-            ensures { IfOk result (λ all. All (λ seat. IsScripted marks.entry.now seat number) all.items) }
-        { work_all(rt, marks, workers, number) },
-        move || -> Result<Vec<Viewer>, AllocError>
-            requires { IsSync R.row × All (λ viewer. IsViewing marks.now viewer) viewers.items }
-            ensures { IfOk result (λ all. All (λ viewer. IsViewing marks.entry.now viewer) all.items) }
-        { view_all(rt, marks, viewers) },
-    )
-}
-
-/// Workers compute what the editor had committed before, and viewers look, while it commits a hundred entries more.
-fn round<R: Threads + Sync>(
-    rt: &R,
-    marks: &Table,
-    editor: Token,
-    workers: Vec<Token>,
-    viewers: Vec<Viewer>,
-    number: u32,
-) -> (
-    Token,
-    (
-        Result<Vec<Token>, AllocError>,
-        Result<Vec<Viewer>, AllocError>,
-    ),
-)
-    requires ready { IsEditing marks.now editor number }
-    requires workers { All (λ seat. IsScripted marks.now seat number) workers.items }
-    requires viewers { All (λ viewer. IsViewing marks.now viewer) viewers.items }
-    requires room { number < 10000 }
-    ensures ready { IsEditing marks.now result.0 (number + 100) }
-    ensures workers { IfOk result.1.0 (λ all. All (λ seat. IsScripted marks.now seat number) all.items) }
-    ensures viewers { IfOk result.1.1 (λ all. All (λ viewer. IsViewing marks.now viewer) all.items) }
-{
-    join(
-        rt,
-        move || -> Token
-            requires { IsEditing marks.now editor number × (number < 10000) }
-            ensures { IsEditing marks.entry.now result (number + 100) }
-        { sets_many(marks, editor, number, number + 100) },
-        move || -> (
-            Result<Vec<Token>, AllocError>,
-            Result<Vec<Viewer>, AllocError>,
-        )
-            requires { IsSync R.row × (number < 10000)
-                × All (λ seat. IsScripted marks.now seat number) workers.items
-                × All (λ viewer. IsViewing marks.now viewer) viewers.items }
-            ensures { IfOk result.0 (λ all. All (λ seat. IsScripted marks.entry.now seat number) all.items)
-                × IfOk result.1 (λ all. All (λ viewer. IsViewing marks.entry.now viewer) all.items) }
-        { crowd(rt, marks, workers, viewers, number) },
-    )
-}
-
-/// Four seats that know what the editor's does.
-fn hire(
-    alloc: Global,
-    marks: &Table,
-    editor: &mut Token,
-    _number: u32,
-) -> Result<Vec<Token>, AllocError>
-    requires ready { IsEditing marks.now editor.old _number }
-    ensures ready { OnOk result (IsEditing marks.now editor.new _number) }
-    ensures seats { IfOk result (λ all. All (λ seat. IsScripted marks.now seat _number) all.items) }
-{
-    let mut all = Vec::with_capacity(alloc, 4)?;
-    for _ in 0..4 {
-        all.push(hired(marks, editor, _number))?;
-    }
-    Ok(all)
-}
-
 /// A seat that knows what the editor's does.
-fn hired(marks: &Table, editor: &mut Token, _number: u32) -> Token
+pub(super) fn hired(marks: &Table, editor: &mut Token, _number: u32) -> Token
     requires ready { IsEditing marks.now editor.old _number }
     ensures ready { IsEditing marks.now editor.new _number }
     ensures seat { IsScripted marks.now result _number }
@@ -290,77 +156,8 @@ fn hired(marks: &Table, editor: &mut Token, _number: u32) -> Token
     marks.split(editor)
 }
 
-/// Puts the seats with those that are to be handed in.
-fn retire(
-    _marks: &Table,
-    done: &mut Vec<Token>,
-    workers: Vec<Token>,
-    _number: u32,
-) -> Result<(), AllocError>
-    requires done { All (λ seat. IsSeatOf _marks.now seat) done.old.items }
-    requires workers { All (λ seat. IsScripted _marks.now seat _number) workers.items }
-    ensures { OnOk result (All (λ seat. IsSeatOf _marks.now seat) done.new.items) }
-{
-    for worker in workers {
-        done.push(worker)?;
-    }
-    Ok(())
-}
-
-/// Rounds until the editor has committed two thousand entries.
-fn rounds<R: Threads + Sync>(
-    rt: &R,
-    alloc: Global,
-    marks: &Table,
-    mut editor: Token,
-    mut viewers: Vec<Viewer>,
-) -> Result<(Token, Vec<Viewer>, Vec<Token>), AllocError>
-    requires ready { IsEditing marks.now editor 0 }
-    requires viewers { All (λ viewer. IsViewing marks.now viewer) viewers.items }
-    ensures ready { IfOk result (λ r. IsEditing marks.now r.0 2000) }
-    ensures viewers { IfOk result (λ r. All (λ viewer. IsViewing marks.now viewer) r.1.items) }
-    ensures workers { IfOk result (λ r. All (λ seat. IsSeatOf marks.now seat) r.2.items) }
-{
-    let mut done = Vec::new(alloc);
-    let mut number = 0;
-    while number < 2000 {
-        let workers = hire(alloc, marks, &mut editor, number)?;
-        let (next, (worked, viewed)) = round(rt, marks, editor, workers, viewers, number);
-        let (Ok(worked), Ok(viewed)) = (worked, viewed) else {
-            return Err(AllocError);
-        };
-        retire(marks, &mut done, worked, number)?;
-        editor = next;
-        viewers = viewed;
-        number += 100;
-    }
-    Ok((editor, viewers, done))
-}
-
-/// Four viewers that have seen nothing.
-fn seated(alloc: Global, marks: &Table, editor: &mut Token) -> Result<Vec<Viewer>, AllocError>
-    requires ready { IsEditing marks.now editor.old 0 }
-    ensures ready { OnOk result (IsEditing marks.now editor.new 0) }
-    ensures viewers { IfOk result (λ all. All (λ viewer. IsViewing marks.now viewer) all.items) }
-{
-    let mut all = Vec::with_capacity(alloc, 4)?;
-    for _ in 0..4 {
-        all.push(seat_one(alloc, marks, editor))?;
-    }
-    Ok(all)
-}
-
-/// A viewer that has seen nothing.
-fn seat_one(alloc: Global, marks: &Table, editor: &mut Token) -> Viewer
-    requires ready { IsEditing marks.now editor.old 0 }
-    ensures ready { IsEditing marks.now editor.new 0 }
-    ensures viewer { IsViewing marks.now result }
-{
-    (hired(marks, editor, 0), Vec::new(alloc))
-}
-
 /// Eight places without codes, and the editor's seat.
-fn opened(alloc: Global) -> Result<(Table, Token), Memory>
+pub(super) fn opened(alloc: Global) -> Result<(Table, Token), Memory>
     ensures { IfOk result (λ r. IsEditing r.0 r.1 0) }
 {
     let none = [None, None, None, None, None, None, None, None];
@@ -368,7 +165,7 @@ fn opened(alloc: Global) -> Result<(Table, Token), Memory>
 }
 
 /// Whether the worker gets all places computed for the whole script.
-fn ends(marks: &Table, worker: &mut Token) -> bool
+pub(super) fn ends(marks: &Table, worker: &mut Token) -> bool
     requires { IsScripted marks.now worker.old 2000 }
     ensures { IsScripted marks.now worker.new 2000 }
 {
@@ -377,22 +174,6 @@ fn ends(marks: &Table, worker: &mut Token) -> bool
         all = works_at(marks, worker, 2000, place) && all;
     }
     all
-}
-
-/// Puts the viewers' seats with those that are to be handed in, and counts the looks that show what they should.
-fn judge(_marks: &Table, done: &mut Vec<Token>, viewers: Vec<Viewer>) -> Result<usize, AllocError>
-    requires done { All (λ seat. IsSeatOf _marks.now seat) done.old.items }
-    requires viewers { All (λ viewer. IsViewing _marks.now viewer) viewers.items }
-    ensures { OnOk result (All (λ seat. IsSeatOf _marks.now seat) done.new.items) }
-{
-    let mut right: usize = 0;
-    for viewer in viewers {
-        let (seat, kept) = viewer;
-        let count = kept.iter().filter(|look| is_right(**look)).count();
-        right = right.saturating_add(count);
-        done.push(seat)?;
-    }
-    Ok(right)
 }
 
 /// Whether each place is free, marked with its last entry and computed for it.
@@ -414,27 +195,10 @@ fn is_script(words: &Words<EightCells>) -> bool
 }
 
 /// Whether the closed words are those after the whole script.
-fn closes(marks: Table, editor: Token, others: Vec<Token>) -> Option<bool>
+pub(super) fn closes(marks: Table, editor: Token, others: Vec<Token>) -> Option<bool>
     requires ready { IsEditing marks editor 2000 }
     requires tables { All (λ other. IsSeatOf marks other) others.items }
 {
     let words = marks.close(editor, others).ok()?;
     Some(is_script(&words))
-}
-
-/// An editor commits two thousand entries over eight places, in rounds. In each, four workers compute what was committed
-/// before and four viewers look, while the editor commits a hundred more.
-#[test]
-fn workers_and_viewers_keep_up_with_an_editor(rt: HostRuntime) -> Result<(), Fail> {
-    let alloc = rt.alloc();
-    let (marks, mut editor) = opened(alloc)?;
-    let viewers = seated(alloc, &marks, &mut editor)?;
-    let (mut editor, viewers, mut seats) = rounds(&rt, alloc, &marks, editor, viewers)?;
-    let mut worker = hired(&marks, &mut editor, 2000);
-    assert!(rt; ends(&marks, &mut worker));
-    seats.push(worker)?;
-    assert_eq!(rt; judge(&marks, &mut seats, viewers)?, 16_000);
-    assert_eq!(rt; seats.len(), 85);
-    assert_eq!(rt; closes(marks, editor, seats), Some(true));
-    Ok(())
 }

@@ -5,8 +5,8 @@ ghost use Rattle.mark_core.specs.TwoCells.{code_of};
 ghost use Rattle.mark_words.specs.Token.{IsSeatOf};
 ghost use Rattle.mark_words.specs.Trial.{IsReady, KnowsLast};
 
-use super::uses::{Loads, reads, recomputes};
-use super::{Table, Token, opened};
+use crate::tests::uses::{Loads, reads, recomputes};
+use crate::tests::{Table, Token, opened};
 use mark_core::{Clean, Seen, TwoCells, shown};
 use std::test::Fail;
 

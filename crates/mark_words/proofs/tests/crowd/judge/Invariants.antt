@@ -1,7 +1,7 @@
 -- All seats are of the table.
 use Rattle.std.specs.Prelude.{All}
 use Rattle.mark_words.specs.Token.{IsSeatOf}
-use Rattle.mark_words.proofs.tests.eight.judge.Given as goal
+use Rattle.mark_words.proofs.tests.crowd.judge.Given as goal
 
 abbrev pub invariant-loop-viewer : goal.invariant-loop-viewer
 invariant-loop-viewer l = All (λ seat. IsSeatOf l._marks seat) l.done.items

@@ -3,7 +3,7 @@ use Rattle.std.proofs.Common.{◌≡◌, ◌≤◌, ◌-◌, ◌%◌}
 use Rattle.std.specs.Prelude.{All}
 use Rattle.mark_words.specs.Token.{IsSeatOf}
 use Rattle.mark_words.specs.EightCells.{IsEditing, IsViewing}
-use Rattle.mark_words.proofs.tests.eight.rounds.Given as goal
+use Rattle.mark_words.proofs.tests.crowd.rounds.Given as goal
 
 abbrev pub invariant-loop-number : goal.invariant-loop-number
 invariant-loop-number g l =

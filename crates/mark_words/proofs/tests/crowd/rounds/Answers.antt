@@ -1,7 +1,7 @@
 -- The last round ends at two thousand.
 use Rattle.std.proofs.Common.{◌≡◌, ℕ, subst, arith}
 use Rattle.mark_words.specs.EightCells.{IsEditing}
-use Rattle.mark_words.proofs.tests.eight.rounds.Goals as goal
+use Rattle.mark_words.proofs.tests.crowd.rounds.Goals as goal
 
 pub returns-clause-ready : goal.returns-clause-ready
 returns-clause-ready g c =
