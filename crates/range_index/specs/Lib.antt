@@ -1,0 +1,4 @@
+pub mod Changes
+pub mod Entries
+pub mod Grids
+pub mod Lists

@@ -1,0 +1,8 @@
+-- An index as a list, as contracts see it.
+use Rattle.std.specs.Prelude.{ℕ, List}
+use Rattle.range_index.specs.Entries.{Entry}
+
+-- its entries, and for how many more there is room
+pub record ListValue : Type 0 where
+  pub entries : List Entry
+  pub spare : ℕ

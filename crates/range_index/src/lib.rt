@@ -1,0 +1,21 @@
+//! Which of many ranges overlap a query.
+//!
+//! An index holds ids, each with a range (`specs/Entries.antt`), and answers exactly the ids whose ranges
+//! overlap a query, each once. `ListIndex` is the slow and plain one, `GridIndex` the fast one.
+//!
+//! Below stands `sheet_refs`; the compressed graph stands above.
+#![tactic(auto)]
+
+mod changes;
+mod grid;
+mod index;
+mod item;
+mod list;
+mod tables;
+#[cfg(test)]
+mod tests;
+mod tiles;
+
+pub use grid::GridIndex;
+pub use index::RangeIndex;
+pub use list::ListIndex;
