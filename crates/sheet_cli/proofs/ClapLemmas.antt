@@ -1,14 +1,14 @@
 -- What clap makes of words that are no options, for a command of two positions: each word goes to the
 -- next position, and a third one is refused.
-use Rattle.std.proofs.Common.{refl, ap, ap₂, codes, true, false, not, List, Option, Some, None, All, length, arith, ◌<◌, [], ◌∷◌, ◌≡◌, ◌≢◌, ◌∙◌, ◌⊎◌, ◌+◌, ℕ, Bool, fold, inl, inr, sym, subst}
-use Rattle.std.specs.Prelude.{IsSome, slice_get, slice_index_or, if◌then◌else◌, option_map, is_some, ◌==◌}
+use Rattle.std.proofs.Common.{refl, ap, ap₂, codes, true, false, List, Option, Some, None, All, length, arith, ◌<◌, [], ◌∷◌, ◌≡◌, ◌≢◌, ◌∙◌, ℕ, Bool, inl, inr, sym, subst}
+use Rattle.std.specs.Prelude.{IsSome, slice_get, slice_index_or, if◌then◌else◌, option_map, is_some}
 use Rattle.std.specs.Option.{option_map_or}
 use Rattle.std.specs.Str.{bytes_eq}
 use Rattle.std.proofs.lemmas.Bool.{ne_eqb}
 use Rattle.std.proofs.lemmas.Slice.Eq.{bytes_eq-Decides}
 use Rattle.clap.specs.Lexer.{long_of, short_of, strip_byte, long_of_rest, short_of_rest}
 use Rattle.std.specs.Prelude.{option_and_then}
-use Rattle.clap.specs.Walk.{Row, Rule, Held, Waiting, Walk, Step, walked, walked_from, walk_from, walk, nothing_held, to_positional, arg_by_index, word_met, after_step, long_or_other, short_or_plain, trailing, value, idle, settled, finished}
+use Rattle.clap.specs.Walk.{Rule, Held, Walk, walked, walk_from, walk, nothing_held, to_positional, arg_by_index, word_met, after_step, long_or_other, short_or_plain, trailing, value, idle, settled, finished}
 use Rattle.clap.specs.Faults.{word_fault, turn_fault, step_fault, walk_fault, flag_word_fault, bundle_fault, settle_fault, defaults_fault, check_fault, entered_fault, fault_of, is_simple_and_free}
 use Rattle.clap.specs.Simple.{App, Shape, HasMatchesOf, built, entered, is_simple, matches_of}
 use Rattle.clap.specs.Walk.{first_of, rows_of}

@@ -1,5 +1,5 @@
 -- Pieces that are kept: where each call that takes a piece appends it, the pieces of a text append the text.
-use Rattle.std.proofs.Common.{◌≡◌, ℕ, Bool, true, false, List, [], ◌∷◌, ◌++◌, refl, sym, ◌∙◌, ap, append_assoc}
+use Rattle.std.proofs.Common.{◌≡◌, ℕ, Bool, true, false, List, ◌++◌, refl, sym, ◌∙◌, ap, append_assoc}
 use Rattle.std.proofs.lemmas.List.{append-nil}
 use Rattle.std.specs.Fn.{CalledAt}
 use Rattle.window_text.specs.Pieces.{Taker, Sends, HandsOut}

@@ -1,22 +1,23 @@
 -- From the reply to a window and a text to the reply to the words, over a shelf.
-use Rattle.std.proofs.Common.{◌≡◌, ◌≢◌, ℕ, ◌<◌, ◌⊎◌, inl, inr, List, [], ◌∷◌, length, refl, sym, subst, ◌∙◌, ap, arith}
-use Rattle.std.specs.Prelude.{Option, IfSome, MatchOption, Result, Ok, Err, IfOk, Contains, Some, None, string_bytes}
+use Rattle.std.proofs.Common.{◌≡◌, ◌≢◌, ℕ, ◌<◌, ◌⊎◌, inl, inr, List, [], ◌∷◌, length, refl, sym, subst, ap, arith}
+use Rattle.std.specs.Prelude.{Option, IfSome, Result, Ok, Err, IfOk, Contains, Some, None, string_bytes}
 use Rattle.sheet_refs.specs.Cells.{Corners}
 use Rattle.csv_sheet.specs.Results.{IsResult}
 use Rattle.csv_sheet.specs.declared.refused.SheetRefused.{SheetRefused}
 use Rattle.csv_sheet.specs.declared.refused.SheetRefused.TheVariants as why
 use Rattle.sheet_model.specs.Sheets.{SheetValue}
-use Rattle.sheet_cli.specs.Answers.{Answer, Answers, Owes, Gives, HasNoSheet, IsTextOf, status_of}
+use Rattle.sheet_cli.specs.Answers.{Answer, Answers, Owes, HasNoSheet, IsTextOf, status_of}
 use Rattle.sheet_cli.specs.Answers.Answer.{output, refusal}
-use Rattle.sheet_cli.specs.Answers.Answers.{shows, outside, no_sheet}
+use Rattle.sheet_cli.specs.Answers.Answers.{written, outside, no_sheet}
 use Rattle.sheet_cli.specs.Answers.HasNoSheet.{too_long, refused}
 use Rattle.sheet_cli.specs.Answers.Owes.{answers, usage}
 use Rattle.sheet_cli.specs.Lines.{refused_line, too_long_line, usage_line}
 use Rattle.sheet_cli.specs.Requests.{Request}
-use Rattle.sheet_cli.specs.Requests.Request.{show}
+use Rattle.sheet_cli.specs.Requests.Request.{of_window}
 use Rattle.sheet_cli.specs.Replies.{AnswersWindow, IsOwed, RepliesTo, answer_of}
-use Rattle.sheet_cli.specs.Replies.AnswersWindow.{shown, beyond, long, unread}
+use Rattle.sheet_cli.specs.Replies.AnswersWindow.{told, beyond, long, unread}
 use Rattle.sheet_cli.specs.Words.{Asks, AsksNothing}
+use Rattle.sheet_cli.specs.declared.words.WindowCommand.{WindowCommand}
 use Rattle.sheet_cli.specs.declared.reply.Reply.{Reply}
 use Rattle.sheet_cli.specs.declared.reply.Reply.TheVariants.{Output, Refusal}
 
@@ -32,25 +33,25 @@ same_cause : {a b : SheetRefused} → no_sheet_for a ≡ no_sheet_for b → a �
 same_cause h = cc
 
 -- the refusal of a text that is no sheet
-pub unread_window : {E : Type 0} (result : Result Reply E) (text : List ℕ) (window : Corners) (cause : SheetRefused) → IfOk result (λ reply. answer_of reply ≡ refusal 3 (refused_line cause)) → IfOk result (λ reply. cause ≢ why.Memory) → (no_sheet_for cause ≢ no_sheet_for why.Memory → IsResult text (no_sheet_for cause)) → IfOk result (λ reply. AnswersWindow text window (answer_of reply))
-unread_window (Ok reply) text window cause line known gives = subst (AnswersWindow text window) (sym line) (unread cause (gives (λ same. known (same_cause same))))
-unread_window (Err e) text window cause line known gives = tt
+pub unread_window : {E : Type 0} (result : Result Reply E) (text : List ℕ) (command : WindowCommand) (window : Corners) (cause : SheetRefused) → IfOk result (λ reply. answer_of reply ≡ refusal 3 (refused_line cause)) → IfOk result (λ reply. cause ≢ why.Memory) → (no_sheet_for cause ≢ no_sheet_for why.Memory → IsResult text (no_sheet_for cause)) → IfOk result (λ reply. AnswersWindow text command window (answer_of reply))
+unread_window (Ok reply) text command window cause line known gives = subst (AnswersWindow text command window) (sym line) (unread cause (gives (λ same. known (same_cause same))))
+unread_window (Err e) text command window cause line known gives = tt
 
 -- a text that was fetched whole is past the limit
 pub is_past : (told : Option (List ℕ)) (text : List ℕ) → IfSome told (λ t. text ≡ t) → 16777216 < length text → IfSome told (λ t. 16777216 < length t)
 is_past None text whole past = tt
 is_past (Some t) text whole past = subst (λ x. 16777216 < length x) whole past
 
-module _ (holds : List ℕ → Option (List ℕ)) (name text : List ℕ) (window : Corners) (stands : IsTextOf holds name text) where
-  pub over_shelf : (answer : Answer) → AnswersWindow text window answer → Answers holds (show name window) answer
-  over_shelf _ (shown sheet read within) = shows name window sheet (record { text = text; stands = stands; gives = read }) within
-  over_shelf _ (beyond sheet read past) = outside name window sheet (record { text = text; stands = stands; gives = read }) past
-  over_shelf _ (long past) = no_sheet name window 3 too_long_line (too_long (is_past (holds name) text stands.told past))
-  over_shelf _ (unread cause read) = no_sheet name window 3 (refused_line cause) (refused cause (record { text = text; stands = stands; gives = read }))
+module _ (holds : List ℕ → Option (List ℕ)) (command : WindowCommand) (name text : List ℕ) (window : Corners) (stands : IsTextOf holds name text) where
+  pub over_shelf : (answer : Answer) → AnswersWindow text command window answer → Answers holds (of_window command name window) answer
+  over_shelf _ (told sheet said read within writes) = written command name window sheet said (record { text = text; stands = stands; gives = read }) within writes
+  over_shelf _ (beyond sheet read past) = outside command name window sheet (record { text = text; stands = stands; gives = read }) past
+  over_shelf _ (long past) = no_sheet command name window 3 too_long_line (too_long (is_past (holds name) text stands.told past))
+  over_shelf _ (unread cause read) = no_sheet command name window 3 (refused_line cause) (refused cause (record { text = text; stands = stands; gives = read }))
 
 -- the refusal of a text that is past the limit
-pub past_limit : (holds : List ℕ → Option (List ℕ)) (name : List ℕ) (window : Corners) (before after : ℕ) (reply : Reply) → IfSome (holds name) (λ t. 16777216 < length t) → answer_of reply ≡ refusal 3 too_long_line → RepliesTo (show name window) holds before after reply
-past_limit holds name window before after reply far is = inr (subst (Answers holds (show name window)) (sym is) (no_sheet name window 3 too_long_line (too_long far)))
+pub past_limit : (holds : List ℕ → Option (List ℕ)) (command : WindowCommand) (name : List ℕ) (window : Corners) (before after : ℕ) (reply : Reply) → IfSome (holds name) (λ t. 16777216 < length t) → answer_of reply ≡ refusal 3 too_long_line → RepliesTo (of_window command name window) holds before after reply
+past_limit holds command name window before after reply far is = inr (subst (Answers holds (of_window command name window)) (sym is) (no_sheet command name window 3 too_long_line (too_long far)))
 
 same_status : {s t : ℕ} {l m : List ℕ} → refusal s l ≡ refusal t m → s ≡ t
 same_status h = ap status_of h
@@ -67,9 +68,9 @@ cause_status holds name _ _ (refused _ _) = inr refl
 
 -- the status of a refusal that a request is answered
 refusal_of_request : (holds : List ℕ → Option (List ℕ)) (request : Request) (answer : Answer) (status : ℕ) (line : List ℕ) → answer ≡ refusal status line → Answers holds request answer → (status ≡ 2) ⊎ (status ≡ 3)
-refusal_of_request holds _ _ status line is (shows _ _ _ _ _) = absurd (no_output is)
-refusal_of_request holds _ _ status line is (outside _ _ _ _ _) = inl (sym (same_status is))
-refusal_of_request holds _ _ status line is (no_sheet name _ given told none) = subst (λ s. (s ≡ 2) ⊎ (s ≡ 3)) (same_status is) (cause_status holds name given told none)
+refusal_of_request holds _ _ status line is (written _ _ _ _ _ _ _ _) = absurd (no_output is)
+refusal_of_request holds _ _ status line is (outside _ _ _ _ _ _) = inl (sym (same_status is))
+refusal_of_request holds _ _ status line is (no_sheet _ name _ given said none) = subst (λ s. (s ≡ 2) ⊎ (s ≡ 3)) (same_status is) (cause_status holds name given said none)
 
 -- the reply to what the words ask for
 pub to_words : (words : List (List ℕ)) (holds : List ℕ → Option (List ℕ)) (before after : ℕ) (request : Request) (reply : Reply) → Asks words request → RepliesTo request holds before after reply → IsOwed words holds before after reply
@@ -102,6 +103,6 @@ pub named_first : (name : List ℕ) → Contains (name ∷ []) name
 named_first name = (0, omega arith, refl)
 
 -- a text that is longer than it may be
-pub long_window : {E : Type 0} (result : Result Reply E) (text : List ℕ) (window : Corners) → 16777216 < length text → IfOk result (λ reply. answer_of reply ≡ refusal 3 too_long_line) → IfOk result (λ reply. AnswersWindow text window (answer_of reply))
-long_window (Ok reply) text window past is = subst (AnswersWindow text window) (sym is) (long past)
-long_window (Err e) text window past is = tt
+pub long_window : {E : Type 0} (result : Result Reply E) (text : List ℕ) (command : WindowCommand) (window : Corners) → 16777216 < length text → IfOk result (λ reply. answer_of reply ≡ refusal 3 too_long_line) → IfOk result (λ reply. AnswersWindow text command window (answer_of reply))
+long_window (Ok reply) text command window past is = subst (AnswersWindow text command window) (sym is) (long past)
+long_window (Err e) text command window past is = tt

@@ -3,7 +3,7 @@ use Rattle.std.proofs.Common.{◌≡◌, ℕ, ◌⊎◌, inl, inr, List, ◌∙�
 use Rattle.std.specs.Prelude.{Option, String, string_bytes}
 use Rattle.std.specs.declared.alloc.Global.{Global}
 use Rattle.sheet_io.specs.Faults.{Rose}
-use Rattle.sheet_cli.specs.Answers.{Answer, Owes, Tells, status_of}
+use Rattle.sheet_cli.specs.Answers.{Owes, status_of}
 use Rattle.sheet_cli.specs.Answers.Answer.{output, refusal}
 use Rattle.sheet_cli.specs.Replies.{IsOwed}
 use Rattle.sheet_cli.specs.Runs.{IsComplete, RefusesAll, IsUnfetched}

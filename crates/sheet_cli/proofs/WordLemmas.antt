@@ -1,15 +1,16 @@
 -- The words of a command line, by what they ask for.
-use Rattle.std.proofs.Common.{◌≡◌, ℕ, ◌≤◌, ◌<◌, ◌+◌, List, [], ◌∷◌, ◌++◌, length, map, refl, sym, ap, arith, All, inl, inr, ◌∙◌, slice_index_or, append_assoc, zero, suc}
+use Rattle.std.proofs.Common.{◌≡◌, ℕ, ◌≤◌, ◌<◌, List, [], ◌∷◌, ◌++◌, length, ap, arith, All, inl, inr, slice_index_or, append_assoc, zero, suc}
 use Rattle.std.proofs.lemmas.List.{append-nil}
 use Rattle.std.proofs.lemmas.List.Elements.{All-map}
-use Rattle.std.specs.Prelude.{Bool, true, false, IsTrue, ◌↔◌, Some, slice_get, String, string_bytes, codes, ◌⊎◌}
+use Rattle.std.specs.Prelude.{Bool, true, false, IsTrue, ◌↔◌, String, string_bytes, ◌⊎◌}
 use Rattle.std.specs.declared.alloc.Global.{Global}
 use Rattle.sheet_refs.specs.Cells.{Position, Corners}
 use Rattle.sheet_refs.specs.Names.{IsRangeName, IsCellName}
 use Rattle.sheet_refs.specs.Names.IsRangeName.{one, two}
 use Rattle.sheet_cli.specs.Requests.{Request}
-use Rattle.sheet_cli.specs.Words.{IsOption, Asks, bytes_of_words}
-use Rattle.sheet_cli.specs.Words.Asks.{shows}
+use Rattle.sheet_cli.specs.Words.{IsOption, Asks, AsksNothing, bytes_of_words, command_word}
+use Rattle.sheet_cli.specs.Words.Asks.{asks_of_window}
+use Rattle.sheet_cli.specs.declared.words.WindowCommand.{WindowCommand}
 
 -- a name of a cell, and what follows it, begins with a letter
 letter_first : (letters rest : List ℕ) → 0 < length letters → ((k : ℕ) (d : ℕ) → k < length letters → ((65 ≤ slice_index_or letters k d) × (slice_index_or letters k d ≤ 90)) ⊎ ((97 ≤ slice_index_or letters k d) × (slice_index_or letters k d ≤ 122))) → ¬ IsOption (letters ++ rest)
@@ -44,9 +45,15 @@ two_plain (a ∷ b ∷ x ∷ xs) sheet name is plain named k d within = absurd (
 
 -- no word after a command that is asked for is an option
 pub plain_rest : (command : List ℕ) (rest : List (String Global)) (request : Request) → Asks (command ∷ bytes_of_words rest) request → All (λ w. ¬ IsOption (string_bytes w)) rest
-plain_rest command rest _ (shows sheet name window is plain range) =
+plain_rest command rest _ (asks_of_window given sheet name window is plain range) =
     let tail : bytes_of_words rest ≡ sheet ∷ name ∷ [] = cc is in
     two_plain rest sheet name tail plain (range_plain name window range)
+
+-- words ask for nothing where the first of them is the word of no command
+pub no_command : (word : List ℕ) (rest : List (List ℕ)) → ((command : WindowCommand) → word ≡ command_word command → ⊥) → AsksNothing (word ∷ rest)
+no_command word rest none _ (asks_of_window command sheet name window is _ _) =
+    let same : word ≡ command_word command = cc is in
+    none command same
 
 -- what a test that failed has told
 pub refuted : {P : Type 0} (b : Bool) → IsTrue b ↔ P → b ≡ false → ¬ P

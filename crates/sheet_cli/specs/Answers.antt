@@ -5,11 +5,14 @@ use Rattle.sheet_refs.specs.Cells.{Corners}
 use Rattle.sheet_model.specs.Sheets.{SheetValue}
 use Rattle.csv_sheet.specs.Results.{IsResult}
 use Rattle.csv_sheet.specs.declared.refused.SheetRefused.{SheetRefused}
-use Rattle.window_text.specs.Texts.{IsWithinSheet, show_text}
+use Rattle.window_text.specs.Texts.{IsWithinSheet, show_text, runs_text}
+use Rattle.sheet_cli.specs.Graphs.{AreDependents, ArePrecedents}
 use Rattle.sheet_cli.specs.Lines.{usage_line, outside_line, too_long_line, refused_line}
 use Rattle.sheet_cli.specs.Requests.{Request, texts_named}
-use Rattle.sheet_cli.specs.Requests.Request.{show}
+use Rattle.sheet_cli.specs.Requests.Request.{of_window}
 use Rattle.sheet_cli.specs.Words.{Asks, AsksNothing}
+use Rattle.sheet_cli.specs.declared.words.WindowCommand.{WindowCommand}
+use Rattle.sheet_cli.specs.declared.words.WindowCommand.TheVariants.{Show, Deps, Precs}
 
 -- what a command line is answered: the text that is written, or the status and the line of a refusal
 pub data Answer : Type 0 where
@@ -39,14 +42,28 @@ pub data HasNoSheet (holds : List ℕ → Option (List ℕ)) (name : List ℕ) :
   -- its text is no sheet
   refused : (why : SheetRefused) → Gives holds name (Err why) → HasNoSheet holds name 3 (refused_line why)
 
+-- what a command writes of a window of a sheet
+pub data Writes (sheet : SheetValue) (window : Corners) : WindowCommand → List ℕ → Type 0 where
+  -- `show` writes the value of each cell
+  values : Writes sheet window Show (show_text sheet window)
+  -- `deps` lists the window's cells and all that depend on them
+  dependents : (runs : List Corners) → AreDependents sheet window runs → Writes sheet window Deps (runs_text runs)
+  -- `precs` lists the window's cells and all on which they depend
+  precedents : (runs : List Corners) → ArePrecedents sheet window runs → Writes sheet window Precs (runs_text runs)
+
 -- what a request is answered
 pub data Answers (holds : List ℕ → Option (List ℕ)) : Request → Answer → Type 0 where
-  -- `show` writes the value of each cell of its window
-  shows : (name : List ℕ) (window : Corners) (sheet : SheetValue) → Gives holds name (Ok sheet) → IsWithinSheet window sheet → Answers holds (show name window) (output (show_text sheet window))
+  -- a command about a window writes what it writes of the sheet
+  written : (command : WindowCommand) (name : List ℕ) (window : Corners) (sheet : SheetValue) (text : List ℕ)
+      → Gives holds name (Ok sheet) → IsWithinSheet window sheet → Writes sheet window command text
+      → Answers holds (of_window command name window) (output text)
   -- unless the window is not wholly in the sheet
-  outside : (name : List ℕ) (window : Corners) (sheet : SheetValue) → Gives holds name (Ok sheet) → ¬ IsWithinSheet window sheet → Answers holds (show name window) (refusal 2 outside_line)
+  outside : (command : WindowCommand) (name : List ℕ) (window : Corners) (sheet : SheetValue)
+      → Gives holds name (Ok sheet) → ¬ IsWithinSheet window sheet
+      → Answers holds (of_window command name window) (refusal 2 outside_line)
   -- or there is no sheet
-  no_sheet : (name : List ℕ) (window : Corners) (status : ℕ) (line : List ℕ) → HasNoSheet holds name status line → Answers holds (show name window) (refusal status line)
+  no_sheet : (command : WindowCommand) (name : List ℕ) (window : Corners) (status : ℕ) (line : List ℕ)
+      → HasNoSheet holds name status line → Answers holds (of_window command name window) (refusal status line)
 
 -- what words are answered, over the texts of a shelf
 pub data Owes (words : List (List ℕ)) (holds : List ℕ → Option (List ℕ)) : Answer → Type 0 where

@@ -1,5 +1,6 @@
 pub mod Answers
 pub mod Clap
+pub mod Graphs
 pub mod Lines
 pub mod Replies
 pub mod Requests

@@ -1,17 +1,18 @@
 -- Replies, before a byte is written.
-use Rattle.std.specs.Prelude.{◌≡◌, ◌<◌, ℕ, List, length, ◌⊎◌, Contains, Result, Ok, Err, string_bytes}
+use Rattle.std.specs.Prelude.{◌≡◌, ◌<◌, ℕ, List, length, ◌⊎◌, Contains, Ok, Err, string_bytes}
 use Rattle.std.specs.declared.option.Option.{Option}
 use Rattle.sheet_refs.specs.Cells.{Corners}
 use Rattle.csv_sheet.specs.Results.{IsResult}
 use Rattle.csv_sheet.specs.declared.refused.SheetRefused.{SheetRefused}
 use Rattle.sheet_model.specs.Sheets.{SheetValue}
-use Rattle.window_text.specs.Texts.{IsWithinSheet, show_text}
+use Rattle.window_text.specs.Texts.{IsWithinSheet}
 use Rattle.sheet_io.specs.Faults.{Rose}
-use Rattle.sheet_cli.specs.Answers.{Answer, Answers, Owes}
+use Rattle.sheet_cli.specs.Answers.{Answer, Answers, Owes, Writes}
 use Rattle.sheet_cli.specs.Answers.Answer.{output, refusal}
 use Rattle.sheet_cli.specs.Lines.{outside_line, read_failed_line, refused_line, too_long_line}
 use Rattle.sheet_cli.specs.Requests.{Request, texts_named}
 use Rattle.sheet_cli.specs.Words.{Asks}
+use Rattle.sheet_cli.specs.declared.words.WindowCommand.{WindowCommand}
 use Rattle.sheet_cli.specs.declared.reply.Reply.{Reply}
 use Rattle.sheet_cli.specs.declared.reply.Reply.TheVariants.{Output, Refusal}
 
@@ -20,12 +21,14 @@ abbrev pub answer_of : Reply → Answer
 answer_of (Output text) = output text.items
 answer_of (Refusal status line) = refusal status (string_bytes line)
 
--- what a window of a text's sheet is answered
-pub data AnswersWindow (text : List ℕ) (window : Corners) : Answer → Type 0 where
-  shown : (sheet : SheetValue) → IsResult text (Ok sheet) → IsWithinSheet window sheet → AnswersWindow text window (output (show_text sheet window))
-  beyond : (sheet : SheetValue) → IsResult text (Ok sheet) → ¬ IsWithinSheet window sheet → AnswersWindow text window (refusal 2 outside_line)
-  long : 16777216 < length text → AnswersWindow text window (refusal 3 too_long_line)
-  unread : (why : SheetRefused) → IsResult text (Err why) → AnswersWindow text window (refusal 3 (refused_line why))
+-- what a command about a window of a text's sheet is answered
+pub data AnswersWindow (text : List ℕ) (command : WindowCommand) (window : Corners) : Answer → Type 0 where
+  told : (sheet : SheetValue) (said : List ℕ) → IsResult text (Ok sheet) → IsWithinSheet window sheet
+      → Writes sheet window command said → AnswersWindow text command window (output said)
+  beyond : (sheet : SheetValue) → IsResult text (Ok sheet) → ¬ IsWithinSheet window sheet
+      → AnswersWindow text command window (refusal 2 outside_line)
+  long : 16777216 < length text → AnswersWindow text command window (refusal 3 too_long_line)
+  unread : (why : SheetRefused) → IsResult text (Err why) → AnswersWindow text command window (refusal 3 (refused_line why))
 
 -- a text that a request names was not fetched
 pub record IsReadFailure (request : Request) (before after : ℕ) (reply : Reply) : Type 0 where

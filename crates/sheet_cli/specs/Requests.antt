@@ -1,12 +1,13 @@
 -- What the words of a command line can ask for, and which texts it names.
 use Rattle.std.specs.Prelude.{ℕ, List, [], ◌∷◌}
 use Rattle.sheet_refs.specs.Cells.{Corners}
+use Rattle.sheet_cli.specs.declared.words.WindowCommand.{WindowCommand}
 
 -- a command with what it is given
 pub data Request : Type 0 where
-  -- the values of a window of a sheet
-  show : (sheet : List ℕ) (window : Corners) → Request
+  -- a command about a window of a sheet
+  of_window : (command : WindowCommand) (sheet : List ℕ) (window : Corners) → Request
 
 -- the names of the texts that a request reads, in the order in which they are fetched
 abbrev pub texts_named : Request → List (List ℕ)
-texts_named (show sheet window) = sheet ∷ []
+texts_named (of_window command sheet window) = sheet ∷ []

@@ -4,9 +4,11 @@ use Rattle.std.specs.declared.alloc.Global.{Global}
 use Rattle.sheet_refs.specs.Cells.{Corners}
 use Rattle.sheet_refs.specs.Names.{IsRangeName}
 use Rattle.sheet_cli.specs.Requests.{Request}
-use Rattle.sheet_cli.specs.Requests.Request.{show}
+use Rattle.sheet_cli.specs.Requests.Request.{of_window}
 use Rattle.sheet_cli.specs.declared.words.Asked.{Asked}
-use Rattle.sheet_cli.specs.declared.words.Asked.TheVariants.{Nothing, Show}
+use Rattle.sheet_cli.specs.declared.words.Asked.TheVariants.{Nothing, OfWindow}
+use Rattle.sheet_cli.specs.declared.words.WindowCommand.{WindowCommand}
+use Rattle.sheet_cli.specs.declared.words.WindowCommand.TheVariants.{Show, Deps, Precs}
 
 -- the words of a command line, as bytes
 abbrev pub bytes_of_words : List (String Global) → List (List ℕ)
@@ -16,10 +18,18 @@ bytes_of_words words = map string_bytes words
 abbrev pub IsOption : List ℕ → Type 0
 IsOption word = slice_get word 0 ≡ Some 45
 
+-- the word of a command about a window
+abbrev pub command_word : WindowCommand → List ℕ
+command_word Show = codes "show"
+command_word Deps = codes "deps"
+command_word Precs = codes "precs"
+
 -- the words after the program's name ask for this
 pub data Asks (words : List (List ℕ)) : Request → Type 0 where
-  -- `show SHEET RANGE`
-  shows : (sheet name : List ℕ) (window : Corners) → words ≡ codes "show" ∷ sheet ∷ name ∷ [] → ¬ IsOption sheet → IsRangeName name window → Asks words (show sheet window)
+  -- `COMMAND SHEET RANGE`
+  asks_of_window : (command : WindowCommand) (sheet name : List ℕ) (window : Corners)
+      → words ≡ command_word command ∷ sheet ∷ name ∷ [] → ¬ IsOption sheet → IsRangeName name window
+      → Asks words (of_window command sheet window)
 
 -- the words are no command
 abbrev pub AsksNothing : List (List ℕ) → Type 0
@@ -28,4 +38,4 @@ AsksNothing words = (request : Request) → ¬ Asks words request
 -- what the program read of the words is what they ask for
 abbrev pub IsAskedBy : List (List ℕ) → Asked → Type 0
 IsAskedBy words Nothing = AsksNothing words
-IsAskedBy words (Show sheet window) = Asks words (show (string_bytes sheet) window)
+IsAskedBy words (OfWindow command sheet window) = Asks words (of_window command (string_bytes sheet) window)

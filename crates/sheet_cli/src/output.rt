@@ -1,26 +1,72 @@
 ghost use Rattle.std.specs.Prelude.{◌≡◌, IfOk};
-ghost use Rattle.sheet_model.specs.Values.{AreValues};
-ghost use Rattle.window_text.specs.Texts.{IsWithinSheet, show_text};
+ghost use Rattle.sheet_cli.specs.Answers.{Writes};
+ghost use Rattle.sheet_cli.specs.Graphs.{AreDependents, ArePrecedents};
+ghost use Rattle.window_text.specs.Texts.{IsWithinSheet, runs_text, show_text};
 
-use sheet_model::Sheet;
+use crate::words::WindowCommand;
+use edit_log::graph_of;
+use graph_walk::{dependents, precedents};
+use plain_graph::PlainGraph;
+use sheet_model::{Sheet, all_values};
 use sheet_refs::{Memory, Range};
 use std::alloc::Global;
 use window_text::Printer;
 
-/// The whole text that `show` writes of a range of the sheet, given the codes of all its cells' values.
-pub(crate) fn show_output(
+/// The whole text that a command writes of a window of the sheet.
+pub(crate) fn window_output(
     alloc: Global,
+    command: WindowCommand,
     sheet: &Sheet,
     range: Range,
-    values: &[u64],
 ) -> Result<Vec<u8>, Memory>
-    requires values { AreValues sheet.now values.now }
-    requires within { IsWithinSheet range sheet.now }
-    ensures { IfOk result (λ text. text.items ≡ show_text sheet.now range) }
+    requires { IsWithinSheet range sheet.now }
+    ensures { IfOk result (λ text. Writes sheet.now range command text.items) }
+{
+    match command {
+        WindowCommand::Show => show_output(alloc, sheet, range),
+        WindowCommand::Deps => runs_output(alloc, &dependents_of(alloc, sheet, range)?),
+        WindowCommand::Precs => runs_output(alloc, &precedents_of(alloc, sheet, range)?),
+    }
+}
+
+// The vertical runs of the cells of a range and of all that depend on them.
+fn dependents_of(alloc: Global, sheet: &Sheet, range: Range) -> Result<Vec<Range>, Memory>
+    ensures { IfOk result (λ runs. AreDependents sheet.now range runs.items) }
+{
+    let graph = graph_of(alloc, PlainGraph::new(alloc), sheet)?;
+    dependents(alloc, &graph, range)?.columns()
+}
+
+// The vertical runs of the cells of a range and of all on which they depend.
+fn precedents_of(alloc: Global, sheet: &Sheet, range: Range) -> Result<Vec<Range>, Memory>
+    ensures { IfOk result (λ runs. ArePrecedents sheet.now range runs.items) }
+{
+    let graph = graph_of(alloc, PlainGraph::new(alloc), sheet)?;
+    precedents(alloc, &graph, range)?.columns()
+}
+
+// The text of a list of ranges.
+fn runs_output(alloc: Global, runs: &[Range]) -> Result<Vec<u8>, Memory>
+    ensures { IfOk result (λ text. text.items ≡ runs_text runs.now) }
 {
     let mut text = Vec::new(alloc);
     let mut keep = |piece: &[u8]| text.extend_from_slice(piece).is_ok();
-    if Printer::show(sheet, range, values, &mut keep) {
+    if Printer::runs(runs, &mut keep) {
+        Ok(text)
+    } else {
+        Err(Memory)
+    }
+}
+
+// The text of the values of a range of the sheet.
+fn show_output(alloc: Global, sheet: &Sheet, range: Range) -> Result<Vec<u8>, Memory>
+    requires { IsWithinSheet range sheet.now }
+    ensures { IfOk result (λ text. text.items ≡ show_text sheet.now range) }
+{
+    let values = all_values(alloc, sheet)?;
+    let mut text = Vec::new(alloc);
+    let mut keep = |piece: &[u8]| text.extend_from_slice(piece).is_ok();
+    if Printer::show(sheet, range, &values, &mut keep) {
         Ok(text)
     } else {
         Err(Memory)

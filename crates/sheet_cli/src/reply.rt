@@ -3,23 +3,23 @@ ghost use Rattle.csv_sheet.specs.declared.refused.SheetRefused.TheVariants as re
 ghost use Rattle.window_text.specs.Texts.{IsWithinSheet};
 ghost use Rattle.sheet_cli.specs.Answers.Answer.{refusal as refusal_answer};
 ghost use Rattle.sheet_cli.specs.Lines.{refused_line, too_long_line};
-ghost use Rattle.sheet_cli.specs.Requests.Request.{show};
+ghost use Rattle.sheet_cli.specs.Requests.Request.{of_window};
 ghost use Rattle.sheet_cli.specs.Replies.{AnswersWindow, IsOwed, RepliesTo, answer_of};
 ghost use Rattle.sheet_cli.specs.Words.{AsksNothing, bytes_of_words};
 
-use crate::output::show_output;
-use crate::words::{Asked, read_words};
+use crate::output::window_output;
+use crate::words::{Asked, WindowCommand, read_words};
 use csv_sheet::{SheetRefused, load};
 use sheet_io::{Fetch, Shelf};
-use sheet_model::{Sheet, all_values};
+use sheet_model::Sheet;
 use sheet_refs::{Memory, Range};
 use std::alloc::Global;
 
 /// The longest text of a sheet that is read, in bytes.
 pub(crate) const MAX_SHEET: usize = 16_777_216;
 
-const USAGE: &str =
-    "antifreeze: usage: antifreeze show|deps|precs SHEET RANGE; check SHEET; play|live SHEET SCRIPT; gen NUMBER; --workers N with live, gen\n";
+const USAGE: &str = "antifreeze: usage: antifreeze show|deps|precs SHEET RANGE; check SHEET; \
+    play|live SHEET SCRIPT; gen NUMBER; --workers N with live, gen\n";
 
 /// What a run has found out before it writes a byte.
 #[derive(Drop)]
@@ -36,32 +36,40 @@ pub(crate) fn reply_to<F: Shelf>(
     words: &[String],
     shelf: &mut F,
 ) -> Result<Reply, Memory>
-    ensures owed { IfOk result (IsOwed (bytes_of_words words.now) (F.holds shelf.old) (F.faults shelf.old) (F.faults shelf.new)) }
+    ensures owed { IfOk result (IsOwed (bytes_of_words words.now)
+        (F.holds shelf.old) (F.faults shelf.old) (F.faults shelf.new)) }
     ensures held { F.holds shelf.new ≡ F.holds shelf.old }
     ensures counted { F.faults shelf.old ≤ F.faults shelf.new }
-    ensures nothing_fetched { AsksNothing (bytes_of_words words.now) → F.faults shelf.new ≡ F.faults shelf.old }
+    ensures nothing_fetched { AsksNothing (bytes_of_words words.now)
+        → F.faults shelf.new ≡ F.faults shelf.old }
 {
     match read_words(alloc, words)? {
-        Asked::Show { sheet, range } => reply_to_show(alloc, sheet.as_str(), range, shelf),
+        Asked::OfWindow {
+            command,
+            sheet,
+            range,
+        } => reply_of_window(alloc, command, sheet.as_str(), range, shelf),
         Asked::Nothing => refusal(alloc, 2, USAGE),
     }
 }
 
-// The reply to `show`. The sheet is fetched and read, then the range is looked for in it; the first of these
-// that fails gives the refusal.
-fn reply_to_show<F: Shelf>(
+// The reply to a command about a window. The sheet is fetched and read, then the range is looked for in it;
+// the first of these that fails gives the refusal.
+fn reply_of_window<F: Shelf>(
     alloc: Global,
+    command: WindowCommand,
     name: &str,
     range: Range,
     shelf: &mut F,
 ) -> Result<Reply, Memory>
-    ensures reply { IfOk result (RepliesTo (show name.now range) (F.holds shelf.old) (F.faults shelf.old) (F.faults shelf.new)) }
+    ensures reply { IfOk result (RepliesTo (of_window command name.now range)
+        (F.holds shelf.old) (F.faults shelf.old) (F.faults shelf.new)) }
     ensures held { F.holds shelf.new ≡ F.holds shelf.old }
     ensures counted { F.faults shelf.old ≤ F.faults shelf.new }
 {
     let mut text = Vec::new(alloc);
     match shelf.fetch(name, MAX_SHEET, &mut text) {
-        Ok(()) => window_reply(alloc, &text, range),
+        Ok(()) => window_reply(alloc, command, &text, range),
         Err(Fetch::Failed) => Ok(Reply::Refusal {
             status: 5,
             line: format!(in alloc; "antifreeze: {name}: read failed\n")?,
@@ -71,9 +79,14 @@ fn reply_to_show<F: Shelf>(
     }
 }
 
-// The reply to a window and the sheet's text.
-fn window_reply(alloc: Global, text: &[u8], range: Range) -> Result<Reply, Memory>
-    ensures { IfOk result (λ reply. AnswersWindow text.now range (answer_of reply)) }
+// The reply to a command about a window, given the sheet's text.
+fn window_reply(
+    alloc: Global,
+    command: WindowCommand,
+    text: &[u8],
+    range: Range,
+) -> Result<Reply, Memory>
+    ensures { IfOk result (λ reply. AnswersWindow text.now command range (answer_of reply)) }
 {
     // A shelf that doesn't tell its texts may give more than it was asked for.
     if text.len() > MAX_SHEET {
@@ -86,8 +99,7 @@ fn window_reply(alloc: Global, text: &[u8], range: Range) -> Result<Reply, Memor
     if !covers(&sheet, range) {
         return refusal(alloc, 2, "antifreeze: range outside the sheet\n");
     }
-    let values = all_values(alloc, &sheet)?;
-    Ok(Reply::Output(show_output(alloc, &sheet, range, &values)?))
+    Ok(Reply::Output(window_output(alloc, command, &sheet, range)?))
 }
 
 // The refusal of a text that is no sheet.

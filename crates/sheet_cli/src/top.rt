@@ -9,8 +9,9 @@ use crate::reply::{Reply, reply_to};
 use sheet_io::{Shelf, Sink};
 use std::alloc::Global;
 
-/// Does what the words ask for: `show SHEET RANGE` writes the values of the range to `out`. The sheet's
-/// text is what stands under its name on the shelf.
+/// Does what the words ask for, and writes it to `out`: `show SHEET RANGE` the values of the range, and
+/// `deps` and `precs` with the same words the vertical runs of the range's cells and of all that depend on
+/// them, or on which they depend. The sheet's text is what stands under its name on the shelf.
 ///
 /// The result is the status of the process: 0 for done, 2 for words that are no command or a range that
 /// isn't in the sheet, 3 for a sheet's text that is refused, 5 for a fetch that failed, 6 for a put on

@@ -1,22 +1,38 @@
 ghost use Rattle.std.specs.Prelude.{◌≡◌, ◌≢◌, ◌↔◌, ◌∷◌, [], length, IsTrue, IfOk, MatchOption, All};
-ghost use Rattle.std.specs.Prelude.{codes, string_bytes};
+ghost use Rattle.std.specs.Prelude.{string_bytes};
 ghost use Rattle.clap.specs.Simple.{app_of};
 ghost use Rattle.clap.specs.Values.{kind_of};
+ghost use Rattle.sheet_refs.specs.Names.{Finds};
 ghost use Rattle.sheet_cli.specs.Clap.{two_positions};
-ghost use Rattle.sheet_cli.specs.Words.{IsAskedBy, IsOption, bytes_of_words};
+ghost use Rattle.sheet_cli.specs.Words.{IsAskedBy, IsOption, bytes_of_words, command_word};
 
 use clap::error::ErrorKind;
 use clap::{Arg, Command, Error};
 use sheet_refs::{Memory, Range, range_of};
 use std::alloc::{AllocError, Global};
 
+/// A command about a window of a sheet.
+#[derive(Clone, Copy)]
+pub enum WindowCommand {
+    /// `show`: the values of the window's cells.
+    Show,
+    /// `deps`: the window's cells and all that depend on them.
+    Deps,
+    /// `precs`: the window's cells and all on which they depend.
+    Precs,
+}
+
 /// What the words of a command line ask for.
 #[derive(Drop)]
 pub enum Asked {
     /// Nothing: they are no command.
     Nothing,
-    /// `show SHEET RANGE`: the values of a window of the sheet with this name.
-    Show { sheet: String, range: Range },
+    /// `COMMAND SHEET RANGE`: a command about a window of the sheet with this name.
+    OfWindow {
+        command: WindowCommand,
+        sheet: String,
+        range: Range,
+    },
 }
 
 /// What the words after the program's name ask for; nothing exactly where they are no command. The
@@ -30,9 +46,21 @@ pub fn read_words(alloc: Global, words: &[String]) -> Result<Asked, Memory>
     if !are_positions(rest) {
         return Ok(Asked::Nothing);
     }
-    match command.as_str() {
-        "show" => read_show(alloc, rest),
-        _ => Ok(Asked::Nothing),
+    match window_command(command.as_str()) {
+        Some(command) => read_window(alloc, command, rest),
+        None => Ok(Asked::Nothing),
+    }
+}
+
+// The command about a window that this word names; None exactly where it names none.
+fn window_command(word: &str) -> Option<WindowCommand>
+    ensures { Finds result (λ command. word.now ≡ command_word command) }
+{
+    match word {
+        "show" => Some(WindowCommand::Show),
+        "deps" => Some(WindowCommand::Deps),
+        "precs" => Some(WindowCommand::Precs),
+        _ => None,
     }
 }
 
@@ -50,10 +78,10 @@ fn is_option(word: &str) -> bool
     word.as_bytes().first() == Some(&b'-')
 }
 
-// What `show` and the words after it ask for.
-fn read_show(alloc: Global, words: &[String]) -> Result<Asked, Memory>
+// What a command about a window and the words after it ask for.
+fn read_window(alloc: Global, command: WindowCommand, words: &[String]) -> Result<Asked, Memory>
     requires plain { All (λ w. ¬ IsOption w) (bytes_of_words words.now) }
-    ensures { IfOk result (IsAskedBy (codes "show" ∷ bytes_of_words words.now)) }
+    ensures { IfOk result (IsAskedBy (command_word command ∷ bytes_of_words words.now)) }
 {
     let Some((sheet, range)) = two_words(alloc, words)? else {
         return Ok(Asked::Nothing);
@@ -62,7 +90,11 @@ fn read_show(alloc: Global, words: &[String]) -> Result<Asked, Memory>
         return Ok(Asked::Nothing);
     };
     let sheet = String::from_str(alloc, sheet)?;
-    Ok(Asked::Show { sheet, range })
+    Ok(Asked::OfWindow {
+        command,
+        sheet,
+        range,
+    })
 }
 
 // The positions of a command that has two; None exactly where the words are not two.

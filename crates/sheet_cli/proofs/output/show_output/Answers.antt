@@ -1,4 +1,4 @@
-use Rattle.std.proofs.Common.{rules, of_calls, ◌≡◌, ◌++◌, [], ap, sym, ◌∙◌}
+use Rattle.std.proofs.Common.{rules, of_calls, ◌≡◌, ◌++◌, ap, ◌∙◌}
 use Rattle.window_text.specs.Texts.{show_text}
 use Rattle.sheet_cli.proofs.KeepLemmas.{kept, same}
 use Rattle.sheet_cli.specs.contracts.output.fn.show_output.keep as closure

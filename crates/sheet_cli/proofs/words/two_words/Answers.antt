@@ -1,4 +1,4 @@
-use Rattle.std.proofs.Common.{◌≡◌, ap₂, sym, ◌∙◌, ◌∷◌, [], codes, ℕ, List}
+use Rattle.std.proofs.Common.{ap₂, sym, ◌∙◌, ◌∷◌, []}
 use Rattle.sheet_cli.specs.Words.{bytes_of_words}
 use Rattle.sheet_cli.proofs.ClapLemmas.{both, not_two, some_of, taken_of}
 use Rattle.sheet_cli.proofs.WordLemmas.{refuted}

@@ -1,0 +1,8 @@
+use Rattle.sheet_cli.specs.Graphs.{ArePrecedents}
+use Rattle.sheet_cli.proofs.GraphLemmas.{if_listed}
+use Rattle.sheet_cli.proofs.output.precedents_of.Goals as goal
+
+pub returns : goal.returns
+returns c =
+    if_listed (λ v. v.items) c.columns-2.result c.in_ok-precedents.field-0 (ArePrecedents c.args.sheet.now c.args.range) c.columns-2.ensures.listed c.columns-2.ensures.runs
+    (λ maximal. record { pairs = c.in_ok-graph.graph.pairs; of_sheet = c.in_ok-graph.ensures; reached = c.in_ok-precedents.ensures; maximal = maximal })
