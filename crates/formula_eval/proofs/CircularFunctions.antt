@@ -22,7 +22,7 @@ use Rattle.formula_syntax.specs.declared.functions.Place.TheVariants.{Sequence, 
 use Rattle.formula_syntax.specs.Functions.{shape_of}
 use Rattle.formula_eval.specs.declared.items.Item.{Item}
 use Rattle.formula_eval.specs.declared.items.Item.TheVariants.{Cell, Alone}
-use Rattle.formula_eval.specs.Functions.{Contribution, some_of, number_in, truth_in, count_in, if_number, contribution, add_contribution, contributions, truth_of_some, total_of, or_error, sequence_value, empty_cells, blank_count, on_both, chosen, unless_error, division_value, floor_remainder, scalar_value, scalar_at, by_place, function_value}
+use Rattle.formula_eval.specs.Functions.{Contribution, some_of, number_in, truth_in, count_in, if_number, contribution, add_contribution, contributions, truth_of_some, total_of, or_error, sequence_value, empty_cells, blank_count, on_both, choice, unless_error, division_value, floor_remainder, scalar_value, scalar_at, by_place, function_value}
 use Rattle.formula_eval.specs.Items.{Parameter, is_filled, items_of_cells, items_among, items_of_parameter, items_of}
 use Rattle.formula_eval.specs.Meaning.{is_circular}
 
@@ -320,9 +320,9 @@ on_both_plain (Ok m) (Ok n) f h k fs = fs m n
 divided_plain : (f : ℤ → ℤ → ℤ) (m n : ℤ) → is_circular (division_value f m n) ≡ false
 divided_plain f m n = cond_plain (int_eq n _) (Error error.Div0) (in_range (f m n)) refl (in_range_plain (f m n))
 
-chosen_plain : (b : Bool) (x y : Value) → is_circular x ≡ false → is_circular y ≡ false → is_circular (chosen b x y) ≡ false
-chosen_plain true x y h k = h
-chosen_plain false x y h k = k
+choice_plain : (b : Bool) (x y : Value) → is_circular x ≡ false → is_circular y ≡ false → is_circular (choice b x y) ≡ false
+choice_plain true x y h k = h
+choice_plain false x y h k = k
 
 unless_error_plain : (a b : Value) → is_circular b ≡ false → is_circular (unless_error a b) ≡ false
 unless_error_plain Empty b k = refl
@@ -339,7 +339,7 @@ scalar_plain Max a b c h k l = refl
 scalar_plain Count a b c h k l = refl
 scalar_plain Counta a b c h k l = refl
 scalar_plain Countblank a b c h k l = refl
-scalar_plain If a b c h k l = or_error_plain (as_truth a) _ (as_truth_plain a h) (λ t. chosen_plain t b c k l)
+scalar_plain If a b c h k l = or_error_plain (as_truth a) _ (as_truth_plain a h) (λ t. choice_plain t b c k l)
 scalar_plain Iferror a b c h k l = unless_error_plain a b k
 scalar_plain And a b c h k l = refl
 scalar_plain Or a b c h k l = refl

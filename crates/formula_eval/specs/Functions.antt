@@ -113,9 +113,9 @@ on_both (Err kind) right value = Error kind
 on_both (Ok m) (Err kind) value = Error kind
 on_both (Ok m) (Ok n) value = value m n
 
-abbrev pub chosen : Bool → Value → Value → Value
-chosen true first second = first
-chosen false first second = second
+abbrev pub choice : Bool → Value → Value → Value
+choice true first second = first
+choice false first second = second
 
 abbrev pub unless_error : Value → Value → Value
 unless_error (Error kind) other = other
@@ -149,7 +149,7 @@ is_label _ = false
 
 -- the result of a function of scalars, of which there are up to three; one that isn't written is FALSE
 abbrev pub scalar_value : Function → Value → Value → Value → Value
-scalar_value If a b c = or_error (as_truth a) (λ truth. chosen truth b c)
+scalar_value If a b c = or_error (as_truth a) (λ truth. choice truth b c)
 scalar_value Iferror a b c = unless_error a b
 scalar_value Not a b c = or_error (as_truth a) (λ truth. Truth (not truth))
 scalar_value Abs a b c = or_error (as_number a) (λ n. Number (pos (nat_abs n)))

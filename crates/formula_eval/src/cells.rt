@@ -45,9 +45,11 @@ pub(crate) fn add_cells<I: Inputs>(
     let Some(part) = sizes(inputs).clip(range) else {
         return Ok(());
     };
-    for place in 0..part.cells() {
-        let value = value_at(inputs, part.cell_at(place));
+    let mut cell = part.head();
+    for _place in 0..part.cells() {
+        let value = value_at(inputs, cell);
         add_cell(function, value, tally)?;
+        cell = part.cell_behind(cell);
     }
     Ok(())
 }

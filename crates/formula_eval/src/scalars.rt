@@ -3,7 +3,7 @@ ghost use Rattle.value_core.specs.declared.value.Value.TheVariants.{Number, Trut
 ghost use Rattle.value_core.specs.Wholes.{IsWhole};
 ghost use Rattle.formula_eval.specs.Functions.{scalar_value as scalar_value_of};
 ghost use Rattle.formula_eval.specs.Functions.{floor_remainder as remainder_of, or_error};
-ghost use Rattle.formula_eval.specs.Functions.{unless_error as value_unless_error, chosen, on_both};
+ghost use Rattle.formula_eval.specs.Functions.{unless_error as value_unless_error, choice, on_both};
 ghost use Rattle.formula_eval.specs.Functions.{division_value, sign_of};
 
 use formula_syntax::Function;
@@ -31,7 +31,7 @@ pub(crate) fn scalar_value(function: Function, first: Value, second: Value, thir
 }
 
 fn choose(condition: Result<bool, ErrorKind>, yes: Value, no: Value) -> Value
-    ensures { result ≡ or_error condition (λ truth. chosen truth yes no) }
+    ensures { result ≡ or_error condition (λ truth. choice truth yes no) }
 {
     match &condition {
         Err(kind) => Value::Error(*kind),

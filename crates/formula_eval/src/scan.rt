@@ -74,14 +74,15 @@ fn scan_range<I: Inputs>(inputs: &I, range: Range) -> Result<(), Stop>
     let Some(part) = sizes(inputs).clip(range) else {
         return Ok(());
     };
-    for place in 0..part.cells() {
-        let cell = part.cell_at(place);
+    let mut cell = part.head();
+    for _place in 0..part.cells() {
         let Some(word) = inputs.get(cell) else {
             return Err(Stop::Missing(cell));
         };
         if word == CIRCULAR {
             return Err(Stop::Circular(cell));
         }
+        cell = part.cell_behind(cell);
     }
     Ok(())
 }

@@ -87,6 +87,9 @@ impl Tally {
 }
 
 /// Adds an item to the sequence of a function; answers the item's error, where it hands one on.
+///
+/// It is a part of the loop over the cells of a range, whose time is mostly spent here.
+#[inline(always)]
 pub(crate) fn add(function: Function, item: Item, tally: &mut Tally) -> Result<(), ErrorKind>
     requires bounded { IsBounded tally.old }
     requires room { tally.old.count < 2 ^ 60 }

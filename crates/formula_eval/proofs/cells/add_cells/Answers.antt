@@ -1,11 +1,12 @@
-use Rattle.std.proofs.Common.{◌≡◌, ◌+◌, ◌∷◌, ◌∙◌, ap, sym, map, take, drop, [], arith, refl}
+use Rattle.std.proofs.Common.{◌≡◌, ◌+◌, ◌<◌, length, ◌∷◌, ◌∙◌, ap, sym, map, take, drop, [], arith, refl}
 use Rattle.std.proofs.lemmas.Result.{err_from_is_err_and}
 use Rattle.sheet_refs.specs.Cells.{Corners, cells_of}
+use Rattle.sheet_refs.proofs.Places.{comes_to_head, comes_to_next}
 use Rattle.formula_eval.specs.declared.items.Item.TheVariants.{Cell}
 use Rattle.formula_eval.specs.Functions.{contributions}
 use Rattle.formula_eval.specs.Inputs.{seen}
 use Rattle.formula_eval.specs.Items.{items_of_cells}
-use Rattle.formula_eval.proofs.ClipLemmas.{clipped_shows, past_shows, items_step, items_split, items_length}
+use Rattle.formula_eval.proofs.ClipLemmas.{part_shows, past_shows, items_step, items_split, items_length}
 use Rattle.formula_eval.proofs.NodeLemmas.{take-all}
 use Rattle.formula_eval.proofs.TallyLemmas.{adds_nothing, adds_same, adds_both, append_err, first_err}
 use Rattle.formula_eval.proofs.cells.add_cells.Goals as goal
@@ -21,14 +22,20 @@ returns-in_default-clause-ok g c =
 pub add_cell-requires-clause-room : goal.add_cell-requires-clause-room
 add_cell-requires-clause-room g c =
     let h = seen (g.I.Inputs.sizes c.args.inputs.now) (g.I.Inputs.codes c.args.inputs.now) in
-    omega (arith, c.loop-place.invariant.count, items_length h (cells_of c.in-Some.part) c.loop-place.place, c.cells-place-end.ensures.small, c.requires.room)
+    omega (arith, c.loop-place.invariant.0.count, items_length h (cells_of c.in-Some.part) c.loop-place._place, c.cells-place-end.ensures.small, c.requires.room)
+
+pub loop-place-init : goal.loop-place-init
+loop-place-init g c =
+    (adds_nothing c.args.function c.args.tally.now c.requires.bounded, rw c.head-cell.ensures.head (comes_to_head c.in-Some.part c.head-cell.ensures.ordered))
 
 pub loop-place-preserved : goal.loop-place-preserved
 loop-place-preserved g c =
     let h = seen (g.I.Inputs.sizes c.args.inputs.now) (g.I.Inputs.codes c.args.inputs.now) in
-    let step = items_step h (cells_of c.in-Some.part) c.loop-place.place c.cell_at.result c.value_at-value.result c.cell_at.ensures.listed c.value_at-value.ensures in
-    adds_same c.args.function c.args.tally.now c.add_cell.new.tally _ _ step
-    (adds_both c.args.function c.args.tally.now c.loop-place.tally c.add_cell.new.tally _ _ c.loop-place.invariant c.in_ok-add_cell.ensures.ok)
+    let below : c.loop-place._place < length (cells_of c.in-Some.part) = omega (arith, c.loop-place-test.true, c.cells-place-end.ensures.count) in
+    let next = comes_to_next c.in-Some.part c.loop-place._place c.loop-place.cell c.cell_behind-cell.result c.loop-place.invariant.1 below c.cell_behind-cell.ensures.next c.cell_behind-cell.ensures.inside in
+    let step = items_step h (cells_of c.in-Some.part) c.loop-place._place c.loop-place.cell c.value_at-value.result (c.loop-place.invariant.1.listed below) c.value_at-value.ensures in
+    let adds = adds_both c.args.function c.args.tally.now c.loop-place.tally c.add_cell.new.tally _ _ c.loop-place.invariant.0 c.in_ok-add_cell.ensures.ok in
+    (adds_same c.args.function c.args.tally.now c.add_cell.new.tally _ _ step adds, next)
 
 pub returns-in_err-add_cell-clause-err : goal.returns-in_err-add_cell-clause-err
 returns-in_err-add_cell-clause-err g c =
@@ -38,13 +45,13 @@ returns-in_err-add_cell-clause-err g c =
     let h = seen sizes codes in
     let f = c.args.function in
     let cells = cells_of c.in-Some.part in
-    let k = c.loop-place.place in
+    let k = c.loop-place._place in
     let corners = rw c.sizes.ensures at c.in-Some.ensures.corners in
     let inside = rw c.sizes.ensures at (c.in-Some.ensures.some.0 refl) in
-    let same : items_of_cells (map h (cells_of c.args.range)) ≡ items_of_cells (map h cells) = ap (map Cell) (clipped_shows sizes codes c.args.range inside) ∙ ap (λ (part : Corners). items_of_cells (map h (cells_of part))) (sym corners) in
-    let split = items_split h cells k c.cell_at.result c.value_at-value.result c.cell_at.ensures.listed c.value_at-value.ensures in
+    let same : items_of_cells (map h (cells_of c.args.range)) ≡ items_of_cells (map h cells) = ap (map Cell) (part_shows sizes codes c.args.range inside) ∙ ap (λ (part : Corners). items_of_cells (map h (cells_of part))) (sym corners) in
+    let split = items_split h cells k c.loop-place.cell c.value_at-value.result (c.loop-place.invariant.1.listed (omega (arith, c.loop-place-test.true, c.cells-place-end.ensures.count))) c.value_at-value.ensures in
     let here = first_err f (items_of_cells (c.value_at-value.result ∷ [])) (items_of_cells (map h (drop (k + 1) cells))) c.in_err-add_cell.field-0.0 c.in_err-add_cell.ensures.err in
-    let all = append_err f (items_of_cells (map h (take k cells))) _ c.loop-place.invariant.numbers c.in_err-add_cell.field-0.0 c.loop-place.invariant.given here in
+    let all = append_err f (items_of_cells (map h (take k cells))) _ c.loop-place.invariant.0.numbers c.in_err-add_cell.field-0.0 c.loop-place.invariant.0.given here in
     rw (p.1, p.2) (ap (contributions f) (same ∙ split) ∙ all)
 
 pub returns-clause-ok : goal.returns-clause-ok
@@ -55,11 +62,11 @@ returns-clause-ok g c =
     let cells = cells_of c.in-Some.part in
     let corners = rw c.sizes.ensures at c.in-Some.ensures.corners in
     let inside = rw c.sizes.ensures at (c.in-Some.ensures.some.0 refl) in
-    let same : items_of_cells (map h (cells_of c.args.range)) ≡ items_of_cells (map h cells) = ap (map Cell) (clipped_shows sizes codes c.args.range inside) ∙ ap (λ (part : Corners). items_of_cells (map h (cells_of part))) (sym corners) in
-    let whole = take-all cells c.loop-place.place (omega (arith, c.cells-place-end.ensures.count)) in
-    adds_same c.args.function c.args.tally.now c.loop-place.tally _ _ same (rw whole at c.loop-place.invariant)
+    let same : items_of_cells (map h (cells_of c.args.range)) ≡ items_of_cells (map h cells) = ap (map Cell) (part_shows sizes codes c.args.range inside) ∙ ap (λ (part : Corners). items_of_cells (map h (cells_of part))) (sym corners) in
+    let whole = take-all cells c.loop-place._place (omega (arith, c.cells-place-end.ensures.count)) in
+    adds_same c.args.function c.args.tally.now c.loop-place.tally _ _ same (rw whole at c.loop-place.invariant.0)
 
 pub returns-clause-few : goal.returns-clause-few
 returns-clause-few g c =
     let h = seen (g.I.Inputs.sizes c.args.inputs.now) (g.I.Inputs.codes c.args.inputs.now) in
-    omega (arith, c.loop-place.invariant.count, items_length h (cells_of c.in-Some.part) c.loop-place.place, c.cells-place-end.ensures.small)
+    omega (arith, c.loop-place.invariant.0.count, items_length h (cells_of c.in-Some.part) c.loop-place._place, c.cells-place-end.ensures.small)
