@@ -1,112 +1,142 @@
 #!/usr/bin/env python3
-"""Times `show` on sheets of 1,024 rows by 64 columns, which it makes in a temporary folder. Run by hand: bench/show.py [RUNS]
+"""Times the built program on large sheets, each beside Python's csv module, which reads the same text into lists.
 
-Each line has the least and the median wall time of RUNS runs (5 by default) of the built program, from its start to its
-end, with the output sent to a file. `start` is a sheet of one cell: what any run costs.
+Run by hand: bench/show.py [RUNS] [WORD]. A line for each sheet whose name contains WORD (all by default), with the least of
+RUNS runs each (3 by default), program and csv in turn:
+
+    program   seconds of processor time of the whole run of the program, its output sent to a file
+    csv       seconds of processor time in which csv.reader makes its lists of the file, in a process of its own
+    ratio     the one divided by the other
+    B/cell    the most memory that the program had resident, divided by the cells of the sheet
+
+The program is started by a small process of its own: what a process had resident before it turned into the program counts as
+the program's, so it must not come from this one, which holds the texts.
 """
 
+import json
 import os
 import pathlib
-import statistics
 import subprocess
 import sys
 import tempfile
-import time
 
 ROOT = pathlib.Path(__file__).resolve().parent.parent
 PROGRAM = ROOT / "crates" / "antifreeze" / "out" / "antifreeze"
-ROWS, COLS = 1024, 64
-CELLS = ROWS * COLS
-CHAIN = 60_000
 LETTERS = "ABCDEFGHIJKLMNOPQRSTUVWXYZ"
 
+STARTER = """
+import json, os, sys
+pid = os.fork()
+if not pid:
+    os.dup2(os.open("output", os.O_WRONLY | os.O_CREAT | os.O_TRUNC, 0o644), 1)
+    os.execv(sys.argv[1], sys.argv[1:])
+_, status, used = os.wait4(pid, 0)
+print(json.dumps([os.waitstatus_to_exitcode(status), used.ru_utime + used.ru_stime, used.ru_maxrss * 1024]))
+"""
 
-def name(cell):
-    """The name of a cell, counted row by row from 0."""
-    row, col = divmod(cell, COLS)
-    return ("" if col < 26 else LETTERS[col // 26 - 1]) + LETTERS[col % 26] + str(row + 1)
-
-
-def sheet(content):
-    """A sheet's text, from a function that gives each cell's."""
-    rows = (",".join(content(cell) for cell in range(first, first + COLS)) for first in range(0, CELLS, COLS))
-    return "".join(f"{row}\n" for row in rows)
-
-
-def sums(cell):
-    """The first row and the first column are numbers; each other cell adds the heads of its row and its column."""
-    row, col = divmod(cell, COLS)
-    return f"={name(col)}+{name(row * COLS)}+1" if row and col else str(row + col)
-
-
-def columns(cell):
-    """64 chains side by side: each cell is one more than the one above it."""
-    return f"={name(cell - COLS)}+1" if cell >= COLS else "1"
+READER = """
+import csv, json, time
+start = time.process_time()
+with open("sheet.csv", newline="") as file:
+    rows = list(csv.reader(file))
+print(json.dumps([time.process_time() - start, len(rows) * max(map(len, rows))]))
+"""
 
 
-def chain(cell):
-    """One chain of 60,000 cells, each one more than the cell before it."""
-    if cell >= CHAIN:
-        return ""
-    return f"={name(cell - 1)}+1" if cell else "1"
+def name(row, col):
+    """The name of a cell, by its row and its column from 1."""
+    letters = ""
+    while col:
+        col, digit = divmod(col - 1, 26)
+        letters = LETTERS[digit] + letters
+    return f"{letters}{row}"
 
 
-def chain_from_the_end(cell):
-    """One chain of 60,000 cells, each one more than the cell after it: the first cell waits for all."""
-    if cell >= CHAIN:
-        return ""
-    return f"={name(cell + 1)}+1" if cell < CHAIN - 1 else "1"
+def lines(count, line):
+    """A text of so many lines, from a function that gives each by its number from 1."""
+    return "".join(f"{line(number)}\n" for number in range(1, count + 1))
 
 
-def cycle(cell):
-    """One cycle of 60,000 cells."""
-    return f"={name((cell - 1) % CHAIN)}+1" if cell < CHAIN else ""
+def grid(content):
+    """A text of 1,024 rows and 64 columns, from a function that gives each cell's content."""
+    return lines(1_024, lambda row: ",".join(content(row, col) for col in range(1, 65)))
 
 
-def many_references(cell):
-    """Each cell below the first row adds up 60 references to the first, so nearly 4 million are read."""
-    if cell < COLS:
-        return "1"
-    return "=" + "+".join(LETTERS[it % 26] + "1" for it in range(60))
+def ledger(row):
+    """One booking: day, kind, what was planned and spent, the rest, and the balance so far."""
+    balance = f"=E{row}" if row == 1 else f"=F{row - 1}+E{row}"
+    return f'2026-{row % 12 + 1:02}-{row % 28 + 1:02},"Rent, flat",{row % 900},{row % 700},=C{row}-D{row},{balance}'
 
 
+def sums(row, col):
+    """The first row and column are numbers; each other cell adds the heads of its row and its column."""
+    return f"={name(1, col)}+{name(row, 1)}+1" if row > 1 and col > 1 else str(row + col)
+
+
+# What is measured: the sheet's text, the words behind `show sheet.csv`, and how many cells the formulas look at where that is told.
 MEASURED = {
-    "sums of a row and a column": sums,
-    "64 chains of 1,024 cells": columns,
-    "chain of 60,000 cells": chain,
-    "the same, each cell naming the next": chain_from_the_end,
-    "cycle of 60,000 cells": cycle,
-    "60 references a cell": many_references,
+    "start: a sheet of one cell": (lambda: "1\n", "show A1", 0),
+    "a cell of 1,048,576, half of them =Ar*2": (lambda: lines(524_288, lambda r: f"{r},=A{r}*2"), "show B524288", 0),
+    "the last cell of a chain of 100,000": (lambda: lines(100_000, lambda r: f"=A{r - 1}+1" if r > 1 else "1"), "show A100000", 0),
+    "5,000 sums =SUM($A$1:Ar)": (lambda: lines(5_000, lambda r: f"{r},=SUM($A$1:A{r})"), "show B5000", 12_502_500),
+    "100,000 sums of windows of ten cells": (lambda: lines(100_000, lambda r: f"{r},=SUM(A{r}:A{r + 9})"), "show B1", 1_000_000),
+    "100,000 formulas =$A$1*2": (lambda: lines(100_000, lambda r: f"{r},=$A$1*2"), "show B1", 0),
+    "a ledger of 50,000 rows and six columns": (lambda: lines(50_000, ledger), "show F50000", 0),
+    "65,536 cells, each the sum of two heads": (lambda: grid(sums), "show A1:BL1024", 0),
+    "64 chains of 1,024 cells": (lambda: grid(lambda row, col: f"={name(row - 1, col)}+1" if row > 1 else "1"), "show A1:BL1024", 0),
+    "a chain of 60,000, each naming the next": (lambda: lines(60_000, lambda r: f"=A{r + 1}+1" if r < 60_000 else "1"), "show A1", 0),
+    "a cycle of 60,000 cells": (lambda: lines(60_000, lambda r: f"=A{r % 60_000 + 1}+1"), "show A1", 0),
+    "65,536 cells with 60 references each": (
+        lambda: grid(lambda row, col: "=" + "+".join(f"{LETTERS[it % 26]}1" for it in range(60)) if row > 1 else "1"),
+        "show A1",
+        3_928_320,
+    ),
+    "deps: a chain of 2,000 over the plain graph": (lambda: lines(2_000, lambda r: f"=A{r - 1}+1" if r > 1 else "1"), "deps A1", 0),
+    "precs: a sum over all names": (lambda: "1,=SUM(A1:XFD1048576)\n", "precs B1", 0),
 }
 
 
-def seconds(words, folder):
-    """The wall time of one run. A run that doesn't end with status 0 ends the whole."""
-    with open(folder / "output", "wb") as to:
-        start = time.perf_counter()
-        status = subprocess.run([PROGRAM, *words], cwd=folder, stdin=subprocess.DEVNULL, stdout=to).returncode
-        taken = time.perf_counter() - start
-    if status:
-        sys.exit(f"bench/show.py: {' '.join(words)} ended with status {status}")
-    return taken
+def told(code, folder, *words):
+    """What a Python program of its own process prints."""
+    ran = subprocess.run([sys.executable, "-S", "-E", "-c", code, *words], cwd=folder, stdin=subprocess.DEVNULL, stdout=subprocess.PIPE)
+    if ran.returncode:
+        sys.exit("bench/show.py: a measuring process failed")
+    return json.loads(ran.stdout)
+
+
+def measure(folder, words, runs):
+    """The least times of program and csv, and the least peak of the program's memory, in as many runs, in turn."""
+    command, window = words.split()
+    times, reads, peaks = [], [], []
+    for _ in range(runs):
+        status, taken, peak = told(STARTER, folder, PROGRAM, command, "sheet.csv", window)
+        if status:
+            sys.exit(f"bench/show.py: {words} ended with status {status}")
+        read, cells = told(READER, folder)
+        times.append(taken)
+        peaks.append(peak)
+        reads.append(read)
+    return min(times), min(reads), min(peaks), cells
 
 
 def main():
-    runs = int(sys.argv[1]) if len(sys.argv) > 1 else 5
+    runs = int(sys.argv[1]) if len(sys.argv) > 1 else 3
+    word = sys.argv[2] if len(sys.argv) > 2 else ""
     # (the launcher builds what isn't built)
     built = subprocess.run([ROOT / "antifreeze", "show", ROOT / "examples" / "first.csv", "A1:B2"], stdout=subprocess.DEVNULL)
     if built.returncode:
         sys.exit("bench/show.py: the program could not be built")
-    usable = len(os.sched_getaffinity(0))
-    print(f"{usable} processors, load {os.getloadavg()[0]:.1f}, {runs} runs each; seconds, least and median")
+    print(f"{len(os.sched_getaffinity(0))} processors, load {os.getloadavg()[0]:.1f}, least of {runs} runs each")
+    print(f"{'program':>8} {'csv':>8} {'ratio':>7} {'B/cell':>8}")
     with tempfile.TemporaryDirectory(prefix="antifreeze-bench-") as folder:
         folder = pathlib.Path(folder)
-        texts = {"start": ("1\n", "A1"), **{what: (sheet(it), f"A1:{name(CELLS - 1)}") for what, it in MEASURED.items()}}
-        for what, (text, window) in texts.items():
-            (folder / "sheet.csv").write_text(text)
-            taken = [seconds(["show", "sheet.csv", window], folder) for _ in range(runs)]
-            size = len(text) / 1e6
-            print(f"{min(taken):8.3f} {statistics.median(taken):8.3f}  {what} ({size:.1f} MB)", flush=True)
+        for what, (text, words, looks) in MEASURED.items():
+            if word not in what:
+                continue
+            (folder / "sheet.csv").write_text(text())
+            program, read, peak, cells = measure(folder, words, runs)
+            each = f", {program / looks * 1e9:.1f} ns for each of {looks:,} looks" if looks else ""
+            print(f"{program:8.3f} {read:8.3f} {program / read:7.2f} {peak / cells:8.0f}  {what}{each}", flush=True)
 
 
 if __name__ == "__main__":
