@@ -6,6 +6,7 @@ pub mod HonestLemmas
 pub mod LabelLemmas
 pub mod LeftLemmas
 pub mod ListLemmas
+pub mod LogLemmas
 pub mod LookLemmas
 pub mod LoopLemmas
 pub mod PartLemmas

@@ -1,5 +1,8 @@
 -- What stands at a place of a list after a push or a write.
-use Rattle.std.proofs.Common.{◌≡◌, ◌≢◌, ℕ, zero, suc, ◌+◌, ◌≤◌, ◌⊎◌, inl, inr, List, [], ◌∷◌, ◌++◌, length, map, slice_get, set, count_by, Result, Ok, Err, OnOk, Some, Bool, true, false, cond, refl, sym, ap, arith}
+use Rattle.std.proofs.Common.{◌≡◌, ◌≢◌, ℕ, zero, suc, ◌+◌, ◌<◌, ◌≤◌, take, get_or, ◌∙◌, ◌⊎◌, inl, inr, List, [], ◌∷◌, ◌++◌, length, map, slice_get, set, count_by, Result, Ok, Err, OnOk, Some, Bool, true, false, cond, refl, sym, ap, arith}
+use Rattle.std.specs.List.{AllZip}
+use Rattle.std.proofs.Math.Seq.{take-suc}
+use Rattle.std.proofs.lemmas.List.{map-append}
 use Rattle.std.proofs.lemmas.List.Sums.{sum_by-cons}
 
 pub slice_get-append : {A : Type 0} (xs ys : List A) (i : ℕ) (x : A) → slice_get xs i ≡ Some x → slice_get (xs ++ ys) i ≡ Some x
@@ -102,3 +105,17 @@ empty_list (x ∷ xs) e = absurd (omega arith)
 pub map_after : {A B C : Type 0} (f : B → C) (g : A → B) (xs : List A) → map (λ x. f (g x)) xs ≡ map f (map g xs)
 map_after f g [] = refl
 map_after f g (x ∷ xs) = ap (λ ys. f (g x) ∷ ys) (map_after f g xs)
+
+-- where each element of the one list is seen as that of the other, the lists are
+pub seen_alike : {A B : Type 0} (f : A → B) (xs ys : List A) → AllZip (λ x y. f y ≡ f x) xs ys → map f ys ≡ map f xs
+seen_alike f [] [] alike = refl
+seen_alike f [] (y ∷ ys) alike = absurd alike
+seen_alike f (x ∷ xs) [] alike = absurd alike
+seen_alike f (x ∷ xs) (y ∷ ys) alike = let first = alike.0 in let rest = seen_alike f xs ys alike.1 in cc
+
+-- the first elements of a list, and one more, as they are seen
+pub seen_more : {A B : Type 0} (f : A → B) (xs ys : List A) (i : ℕ) (x y : A) → map f ys ≡ map f (take i xs) → i < length xs → x ≡ get_or xs i x → f y ≡ f x → map f (ys ++ y ∷ []) ≡ map f (take (i + 1) xs)
+seen_more f xs ys i x y so_far below at same =
+    let more : i + 1 ≡ suc i = omega arith in
+    map-append f ys (y ∷ []) ∙ ap (λ zs. zs ++ f y ∷ []) so_far ∙ ap (λ z. map f (take i xs) ++ z ∷ []) same
+    ∙ sym (rw (more, take-suc xs i x below, ← at) (map-append f (take i xs) (x ∷ [])))

@@ -1,7 +1,9 @@
+pub mod Boards
 pub mod Budget
 pub mod Changes
 pub mod Fields
 pub mod Labels
+pub mod Logs
 pub mod Parts
 pub mod Sheets
 pub mod Tables

@@ -1,4 +1,5 @@
 ghost use Rattle.sheet_model.specs.Fields.{WritesOneContent, RefusedWritesNone};
+ghost use Rattle.sheet_model.specs.Logs.{OneMoreEntryIsOneMoreEdit, LogsKeepSizes, LogsKeepLabels};
 ghost use Rattle.sheet_model.specs.Sheets.{SheetsAreTheirCells};
 
 /// What holds of fields: over a table of labels a text writes at most one content, and a text that is
@@ -12,4 +13,12 @@ pub fn field_laws()
 /// cells.
 pub fn sheet_laws()
     ensures { SheetsAreTheirCells }
+{}
+
+/// What holds of sheets after logs of edits: a log with one more entry makes one more edit, and no log changes
+/// the sizes or the labels of a sheet.
+pub fn log_laws()
+    ensures more { OneMoreEntryIsOneMoreEdit }
+    ensures sizes { LogsKeepSizes }
+    ensures labels { LogsKeepLabels }
 {}

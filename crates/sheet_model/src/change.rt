@@ -1,5 +1,5 @@
 use crate::content::Content;
-use sheet_refs::Cell;
+use sheet_refs::{Cell, Memory};
 use std::marker::Model;
 
 /// A cell, and what it is to hold: anything but `#CIRC!`.
@@ -26,9 +26,36 @@ impl Model for Change {
     ghost invariant = { λ c. IsWritten (content_value c.content) };
 }
 
+impl Change {
+    ghost use Rattle.std.specs.Prelude.{◌≡◌, IfOk};
+
+    /// An equal change. A formula is shared, so that it takes no time by its length.
+    pub fn copy(&self) -> Result<Change, Memory>
+        ensures { IfOk result (λ change. change ≡ self.now) }
+    {
+        let content = self.content.copy()?;
+        Ok(Change {
+            cell: self.cell,
+            content,
+        })
+    }
+}
+
 /// What is done to a sheet in one step.
 #[derive(Drop)]
 pub struct Edit {
     /// The change that it makes.
     pub change: Change,
+}
+
+impl Edit {
+    ghost use Rattle.std.specs.Prelude.{◌≡◌, IfOk};
+
+    /// An equal edit. A formula is shared, so that it takes no time by its length.
+    pub fn copy(&self) -> Result<Edit, Memory>
+        ensures { IfOk result (λ edit. edit ≡ self.now) }
+    {
+        let change = self.change.copy()?;
+        Ok(Edit { change })
+    }
 }

@@ -1,4 +1,9 @@
+ghost use Rattle.std.specs.Prelude.{◌≡◌, map, IfOk};
+ghost use Rattle.sheet_model.specs.Sheets.{content_value};
+
 use formula_syntax::Formula;
+use sheet_refs::Memory;
+use std::alloc::Global;
 use std::sync::Arc;
 use value_core::{ErrorKind, Whole};
 
@@ -17,4 +22,33 @@ pub enum Content {
     Label(u32),
     /// A formula.
     Formula(Arc<Formula>),
+}
+
+impl Content {
+    /// An equal content. A formula is shared, so that it takes no time by its length.
+    pub fn copy(&self) -> Result<Content, Memory>
+        ensures { IfOk result (λ copy. content_value copy ≡ content_value self.now) }
+    {
+        Ok(match self {
+            Content::Empty => Content::Empty,
+            Content::Number(number) => Content::Number(*number),
+            Content::Truth(truth) => Content::Truth(*truth),
+            Content::Error(kind) => Content::Error(*kind),
+            Content::Label(place) => Content::Label(*place),
+            Content::Formula(formula) => Content::Formula(formula.clone()?),
+        })
+    }
+}
+
+/// Equal contents, in their order.
+pub(crate) fn copy_all(alloc: Global, contents: &[Content]) -> Result<Vec<Content>, Memory>
+    ensures { IfOk result
+        (λ copies. map content_value copies.items ≡ map content_value contents.now) }
+{
+    let mut copies = Vec::with_capacity(alloc, contents.len())?;
+    for content in contents {
+        let copy = content.copy()?;
+        copies.push(copy)?;
+    }
+    Ok(copies)
 }

@@ -70,4 +70,15 @@ impl Labels {
             None => unreachable!(),
         }
     }
+
+    /// An equal table. It takes time and memory in proportion to the texts.
+    pub(crate) fn copy(&self) -> Result<Labels, Memory>
+        ensures { IfOk result (λ labels. labels ≡ self.now) }
+    {
+        let texts = self.texts.clone()?;
+        Ok(Labels {
+            texts,
+            alloc: self.alloc,
+        })
+    }
 }

@@ -15,9 +15,13 @@
 //! `indexmap`.
 #![tactic(auto)]
 
+mod board;
+#[cfg(test)]
+mod board_tests;
 mod cell_laws;
 mod change;
 mod content;
+mod entry;
 mod eval;
 #[cfg(test)]
 mod field_tests;
@@ -27,16 +31,20 @@ mod labels;
 mod laws;
 mod parts;
 mod sheet;
+mod subject;
 #[cfg(test)]
 mod value_tests;
 mod walk;
 mod words;
 
-pub use cell_laws::{field_laws, sheet_laws};
+pub use board::{Board, Shown};
+pub use cell_laws::{field_laws, log_laws, sheet_laws};
 pub use change::{Change, Edit};
 pub use content::Content;
+pub use entry::Entry;
 pub use fields::{ContentRefused, read_content};
 pub use labels::Labels;
 pub use laws::value_laws;
 pub use sheet::Sheet;
+pub use subject::SheetSubject;
 pub use walk::all_values;

@@ -9,7 +9,7 @@ ghost use Rattle.sheet_model.specs.Sheets.{blank_sheet, with_labels, content_val
 ghost use Rattle.sheet_model.specs.declared.fields.ContentRefused.TheVariants as refused;
 
 use crate::change::Edit;
-use crate::content::Content;
+use crate::content::{Content, copy_all};
 use crate::fields::{ContentRefused, read_content};
 use crate::labels::Labels;
 use sheet_refs::{Cell, Memory, Sizes};
@@ -62,6 +62,22 @@ impl Sheet {
             labels: Labels::new(alloc),
             outside: Content::Empty,
             alloc,
+        })
+    }
+
+    /// An equal sheet. Formulas are shared, not copied: it takes time and memory in proportion to the cells and
+    /// to the texts of the labels.
+    pub fn copy(&self) -> Result<Sheet, Memory>
+        ensures { IfOk result (λ sheet. sheet ≡ self.now) }
+    {
+        let contents = copy_all(self.alloc, &self.contents)?;
+        let labels = self.labels.copy()?;
+        Ok(Sheet {
+            sizes: self.sizes,
+            contents,
+            labels,
+            outside: Content::Empty,
+            alloc: self.alloc,
         })
     }
 
@@ -166,6 +182,7 @@ impl Sheet {
         requires label { HasLabel (length self.old.labels) edit.change.content }
         ensures replaced { content_value result ≡ content_of self.old edit.change.cell }
         ensures placed { self.new ≡ after_change self.old edit.change }
+        ensures sheet { IsSheet self.new }
     {
         let Edit { change } = edit;
         let place = self.sizes.place(change.cell);

@@ -20,3 +20,6 @@ invariant_of-self c =
 pub returns-clause-placed : goal.returns-clause-placed
 returns-clause-placed c =
     rw (c.requires.inside, c.place-place.ensures.place, c.replace.ensures.after, ← c.self.view_is, ← c.change.view_is) (simp map-set)
+
+pub returns-clause-sheet : goal.returns-clause-sheet
+returns-clause-sheet c = (invariant_of-self c).sheet

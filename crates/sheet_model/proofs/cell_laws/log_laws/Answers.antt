@@ -1,0 +1,11 @@
+use Rattle.sheet_model.proofs.LogLemmas.{after-more, after-sizes, after-labels}
+use Rattle.sheet_model.proofs.cell_laws.log_laws.Goals as goal
+
+pub returns-clause-more : goal.returns-clause-more
+returns-clause-more c = after-more
+
+pub returns-clause-sizes : goal.returns-clause-sizes
+returns-clause-sizes c = after-sizes
+
+pub returns-clause-labels : goal.returns-clause-labels
+returns-clause-labels c = after-labels
