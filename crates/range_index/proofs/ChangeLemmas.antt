@@ -1,8 +1,6 @@
 -- Tables after an entry came or went.
 use Rattle.std.proofs.Common.{◌≡◌, ◌≢◌, ◌↔◌, ◌⊎◌, inl, inr, ℕ, ◌+◌, ◌-◌, ◌<◌, ◌≤◌, Bool, true, false, true≢false, Option, Some, None, refl, sym, ◌∙◌, ap, subst, arith}
 use Rattle.std.specs.Option.{IsSome}
-use Rattle.std.proofs.lemmas.Bool.{cases_eq}
-use Rattle.std.proofs.Math.Nat.{eq-or-lt_of_le}
 use Rattle.sheet_refs.specs.Cells.{Corners}
 use Rattle.range_index.specs.declared.tiles.Home.{Home}
 use Rattle.range_index.specs.declared.tiles.Slot.{Slot}
@@ -56,8 +54,10 @@ grid_with at new_at count new_count stands new_stands tallest widest new_tallest
   where
     home : Home
     home = home_of range
+
     place : ℕ
     place = count home
+
     slot : Slot
     slot = slot_of home place
 
@@ -122,6 +122,7 @@ stands_with at new_at slot added entry free items = (to, from)
       | inl same ↦ inr (some_same entry added (sym is ∙ ap new_at same ∙ items.here))
       | inr other ↦ inl (s, sym (items.others s other) ∙ is)
     ]
+
     from : Stands at entry ⊎ (entry ≡ added) → Stands new_at entry
     from (inl (s, is)) =
         let other : s ≢ slot = λ same. none_is_some entry (sym free ∙ ap at (sym same) ∙ is) in (s, items.others s other ∙ is)
@@ -189,6 +190,7 @@ grid_without at new_at count new_count stands new_stands tallest widest slot las
           | inl same ↦ omega (arith, below, ap count same, ap new_count same, takes.counts.here)
           | inr away ↦ omega (arith, below, takes.counts.others h away)
         ]
+
         before_end : (h : Home) (p : ℕ) → p < new_count h → slot_of h p ≢ last
         before_end h p below end =
             let is = end ∙ takes.last_is in

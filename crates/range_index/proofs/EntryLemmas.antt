@@ -1,6 +1,6 @@
 -- How entries come and go.
-use Rattle.std.proofs.Common.{◌≡◌, ◌≢◌, ◌↔◌, ◌⊎◌, inl, inr, ℕ, zero, suc, ◌+◌, ◌-◌, ◌<◌, ◌≤◌, List, [], ◌∷◌, ◌++◌, length, get_or, take, Option, Some, None, refl, sym, ◌∙◌, ap, subst, arith}
-use Rattle.std.specs.List.{Contains, AllPairs, slice_get}
+use Rattle.std.proofs.Common.{◌≡◌, ◌≢◌, ◌⊎◌, inl, inr, ℕ, ◌+◌, ◌-◌, ◌<◌, List, [], ◌∷◌, ◌++◌, length, get_or, take, Some, None, sym, ◌∙◌, ap, subst, arith}
+use Rattle.std.specs.List.{Contains, slice_get}
 use Rattle.std.proofs.lemmas.Option.{get_or_from_slice_get, slice_get_cases}
 use Rattle.std.proofs.lemmas.Bool.{cases_lt, cases_eq}
 use Rattle.std.proofs.lemmas.List.{append-nil, append_assoc, get_or_default, length-take, get_or-take, take_more}
@@ -8,7 +8,7 @@ use Rattle.std.proofs.lemmas.List.Elements.{Contains-push_cases, Contains-append
 use Rattle.std.proofs.lemmas.List.Quantifiers.{all_pairs_push}
 use Rattle.sheet_refs.specs.Cells.{Corners}
 use Rattle.sheet_refs.specs.Rectangles.{Overlap}
-use Rattle.range_index.specs.Entries.{Entry, entry_of, HaveOneRange, HasNoId, SameEntries, Inserts, Removes, IsOverlapping, AddsOverlapping, KeepsIds, IsPlaceOf}
+use Rattle.range_index.specs.Entries.{Entry, entry_of, HaveOneRange, HasNoId, Inserts, Removes, IsOverlapping, AddsOverlapping, KeepsIds, IsPlaceOf}
 
 -- one entry more
 
@@ -172,7 +172,7 @@ within_of entries place entry here = elim (slice_get_cases entries place).1 [ in
 take_one : (entries : List Entry) (place next : ℕ) (entry : Entry) → next ≡ place + 1 → slice_get entries place ≡ Some entry → take next entries ≡ take place entries ++ entry ∷ []
 take_one entries place next entry is_next here =
     ap (λ n. take n entries) is_next ∙ (take_more entries place entry (within_of entries place entry here)
-      ∙ ap (λ (e : Entry). take place entries ++ e ∷ []) (get_or_from_slice_get entries place entry entry here))
+    ∙ ap (λ (e : Entry). take place entries ++ e ∷ []) (get_or_from_slice_get entries place entry entry here))
 
 pub passes_by : (entries : List Entry) (place next : ℕ) (entry : Entry) (query : Corners) (old new : List ℕ) → next ≡ place + 1 → slice_get entries place ≡ Some entry → ¬ Overlap entry.range query → AddsOverlapping (take place entries) query old new → AddsOverlapping (take next entries) query old new
 passes_by entries place next entry query old new is_next here apart adds =

@@ -1,5 +1,5 @@
 -- The ids that are found near a query are those whose ranges overlap it.
-use Rattle.std.proofs.Common.{◌≡◌, ◌⊎◌, ℕ, List, Option, Some, refl, sym, ◌∙◌, ap, subst}
+use Rattle.std.proofs.Common.{◌⊎◌, ℕ, List, Option, refl, subst}
 use Rattle.std.specs.List.{Contains}
 use Rattle.std.specs.Map.{lookup, values_of}
 use Rattle.sheet_refs.specs.Cells.{Corners}

@@ -1,6 +1,6 @@
 -- Which ids are found at the places of homes.
-use Rattle.std.proofs.Common.{◌≡◌, ◌≢◌, ◌↔◌, ◌⊎◌, inl, inr, ℕ, ◌+◌, ◌-◌, ◌<◌, ◌≤◌, ◌/◌, List, [], ◌∷◌, ◌++◌, Option, Some, None, length, get_or, refl, sym, ◌∙◌, ap, subst, arith, nat_eq}
-use Rattle.std.specs.List.{Contains, AllPairs}
+use Rattle.std.proofs.Common.{◌≡◌, ◌≢◌, ◌↔◌, ◌⊎◌, inl, inr, ℕ, ◌+◌, ◌-◌, ◌<◌, ◌≤◌, ◌/◌, List, [], ◌∷◌, ◌++◌, Option, Some, length, get_or, refl, sym, ◌∙◌, ap, subst, arith, nat_eq}
+use Rattle.std.specs.List.{Contains}
 use Rattle.std.specs.Map.{lookup}
 use Rattle.std.proofs.lemmas.List.{append-nil, append_assoc}
 use Rattle.std.proofs.lemmas.List.Elements.{Contains-push_cases, Contains-append_left, Contains-append_right, Contains-append_cases, Contains-push, Contains-get_or}
@@ -11,7 +11,7 @@ use Rattle.sheet_refs.specs.Rectangles.{Overlap}
 use Rattle.range_index.specs.declared.tiles.Home.{Home}
 use Rattle.range_index.specs.declared.tiles.Slot.{Slot}
 use Rattle.range_index.specs.Entries.{Entry}
-use Rattle.range_index.specs.Grids.{IsGrid, AreGrid, IsReached, IsFound, AddsFound, IsInRow, IsNear, IsNearAt, slot_of, same_slot, same_home, or_none}
+use Rattle.range_index.specs.Grids.{IsGrid, AreGrid, IsFound, AddsFound, IsInRow, IsNear, IsNearAt, slot_of, same_slot, same_home, or_none}
 
 -- no id stands at two places
 abbrev pub HasOnePlace : (Slot → Option Entry) → Type 0
@@ -36,6 +36,7 @@ found_same at V W query old new same adds = record {
   where
     to : (id : ℕ) → IsFound at V query id → IsFound at W query id
     to id f = record { slot = f.slot; entry = f.entry; visited = (same f.slot f.entry f.here).0 f.visited; here = f.here; id_is = f.id_is; overlaps = f.overlaps }
+
     from : (id : ℕ) → IsFound at W query id → IsFound at V query id
     from id f = record { slot = f.slot; entry = f.entry; visited = (same f.slot f.entry f.here).1 f.visited; here = f.here; id_is = f.id_is; overlaps = f.overlaps }
 
@@ -62,8 +63,10 @@ found_here at slot entry query old new here overlaps pushed = record {
       | inl none ↦ absurd (omega (arith, none.1))
       | inr same ↦ record { slot = slot; entry = entry; visited = refl; here = here; id_is = same; overlaps = overlaps }
     ]
+
     some_same : (a b : Entry) → Some a ≡ Some b → a ≡ b
     some_same a b is = cc
+
     to_one : (id : ℕ) → IsFound at (λ s. s ≡ slot) query id → Contains (entry.id ∷ []) id
     to_one id found =
         let same : found.entry ≡ entry = some_same found.entry entry (sym found.here ∙ ap at found.visited ∙ here) in
@@ -116,6 +119,7 @@ below_next home place slot = (to, from)
     to : IsBelow home place slot ⊎ (slot ≡ slot_of home place) → IsBelow home (place + 1) slot
     to (inl below) = (below.0, omega (arith, below.1))
     to (inr same) = (ap (λ (s : Slot). s.home) same, omega (arith, ap (λ (s : Slot). s.place) same))
+
     from : IsBelow home (place + 1) slot → IsBelow home place slot ⊎ (slot ≡ slot_of home place)
     from below = elim (eq-or-lt_of_le (omega (arith, below.1))) [
       | inl same ↦ inr (slot_is slot home place below.0 same)
@@ -143,8 +147,7 @@ left_next query height width row col slot from_first to_last = (to, from)
     to : IsLeftOf query height width row col slot ⊎ (slot.home ≡ home_at height width row col) → IsLeftOf query height width row (col + 1) slot
     to (inl left) = (left.0, omega (arith, left.1))
     to (inr same) =
-        let col_is : slot.home.col ≡ col = ap (λ (h : Home). h.col) same in
-        (
+        let col_is : slot.home.col ≡ col = ap (λ (h : Home). h.col) same in (
           record {
             height_is = ap (λ (h : Home). h.height) same;
             width_is = ap (λ (h : Home). h.width) same;
@@ -154,6 +157,7 @@ left_next query height width row col slot from_first to_last = (to, from)
           },
           omega (arith, col_is),
         )
+
     from : IsLeftOf query height width row (col + 1) slot → IsLeftOf query height width row col slot ⊎ (slot.home ≡ home_at height width row col)
     from left = elim (eq-or-lt_of_le (omega (arith, left.1))) [
       | inl same ↦ inr (home_is slot.home height width row col left.0.height_is left.0.width_is left.0.row_is same)
@@ -184,6 +188,7 @@ above_next query height width row slot from_first to_last = (to, from)
       },
       omega (arith, here.row_is),
     )
+
     from : IsAbove query height width (row + 1) slot → IsAbove query height width row slot ⊎ IsInRow query height width row slot
     from above = elim (eq-or-lt_of_le (omega (arith, above.1))) [
       | inl same ↦ inr (record { height_is = above.0.height_is; width_is = above.0.width_is; row_is = same; col_from = above.0.col_from; col_to = above.0.col_to })
@@ -211,6 +216,7 @@ one_of_three {A} {B} {C} = (to, from)
     to (inl (inl a)) = inl a
     to (inl (inr b)) = inr (inl b)
     to (inr c) = inr (inr c)
+
     from : A ⊎ (B ⊎ C) → (A ⊎ B) ⊎ C
     from (inl a) = inl (inl a)
     from (inr (inl b)) = inl (inr b)

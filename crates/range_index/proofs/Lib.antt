@@ -2,6 +2,7 @@ pub mod ChangeLemmas
 pub mod EntryLemmas
 pub mod FoundLemmas
 pub mod GridLemmas
+pub mod ListedLemmas
 pub mod NearLemmas
 pub mod SlotLemmas
 pub mod TableLemmas

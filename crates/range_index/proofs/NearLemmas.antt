@@ -1,5 +1,5 @@
 -- A range that overlaps a query stands at a home near it.
-use Rattle.std.proofs.Common.{◌≡◌, ◌⊎◌, inl, inr, ℕ, ◌+◌, ◌-◌, ◌*◌, ◌/◌, ◌<◌, ◌≤◌, Bool, true, false, nat_le, if◌then◌else◌, refl, sym, ◌∙◌, ap, subst, arith}
+use Rattle.std.proofs.Common.{◌≡◌, ◌⊎◌, inl, inr, ℕ, ◌-◌, ◌/◌, ◌<◌, ◌≤◌, Bool, true, false, nat_le, if◌then◌else◌, refl, sym, ap, subst, arith}
 use Rattle.std.proofs.Math.Nat.{div-mul-le_self, le-div_iff_mul-le}
 use Rattle.std.proofs.lemmas.Bool.Decides.{nat_tests}
 use Rattle.sheet_refs.specs.Cells.{Corners, height, width}
@@ -68,10 +68,13 @@ near_of_kind query range slot high wide here (cell, both) = record {
   where
     H : ℕ
     H = tile_height (height range)
+
     W : ℕ
     W = tile_width (width range)
+
     row : slot.home.row ≡ (range.head.row - 1) / H
     row = ap (λ (h : Home). h.row) here
+
     col : slot.home.col ≡ (range.head.col - 1) / W
     col = ap (λ (h : Home). h.col) here
 

@@ -1,5 +1,5 @@
 -- Places of homes as keys of a table, and the entries that stand there.
-use Rattle.std.proofs.Common.{◌≡◌, ◌≢◌, ◌↔◌, ◌⊎◌, inl, inr, ℕ, Bool, true, false, ◌&&◌, true≢false, List, Option, Some, None, refl, sym, ◌∙◌, ap, subst, arith, nat_eq}
+use Rattle.std.proofs.Common.{◌≡◌, ◌↔◌, ℕ, Bool, true, false, ◌&&◌, true≢false, List, Some, refl, sym, ◌∙◌, ap, subst, arith, nat_eq}
 use Rattle.std.specs.Cmp.{IsEquivalence}
 use Rattle.std.specs.List.{Contains, IsDistinct}
 use Rattle.std.specs.Map.{lookup, keys_of, values_of}
@@ -9,7 +9,7 @@ use Rattle.std.proofs.lemmas.Map.Views.{lookup-from_Contains, Contains-from_look
 use Rattle.range_index.specs.declared.tiles.Home.{Home}
 use Rattle.range_index.specs.declared.tiles.Slot.{Slot}
 use Rattle.range_index.specs.Entries.{Entry}
-use Rattle.range_index.specs.Grids.{same_home, same_slot, slot_of}
+use Rattle.range_index.specs.Grids.{same_home, same_slot}
 use Rattle.range_index.proofs.GridLemmas.{home_is, slot_is}
 
 -- numbers that are equal by their test are the same
@@ -58,6 +58,7 @@ exact_equivalence {K} eq same self = record { refl = self; symm = symm; congr = 
     by_tests a b false false e f = refl
     by_tests a b true false e f = absurd (true≢false (sym (subst (λ (x : K). eq b x ≡ true) (sym (same a b e)) (self b)) ∙ f))
     by_tests a b false true e f = absurd (true≢false (sym (subst (λ (x : K). eq a x ≡ true) (sym (same b a f)) (self a)) ∙ e))
+
     symm : (x y : K) → eq x y ≡ eq y x
     symm x y = by_tests x y (eq x y) (eq y x) refl refl
 

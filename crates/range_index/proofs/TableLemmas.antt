@@ -2,7 +2,7 @@
 use Rattle.std.proofs.Common.{◌≡◌, ◌≢◌, ◌↔◌, ◌⊎◌, inl, inr, ℕ, ◌+◌, ◌-◌, ◌<◌, ◌≤◌, Bool, true, false, true≢false, ◌||◌, cond, List, [], ◌∷◌, length, get_or, map, Option, Some, None, Result, Ok, Err, refl, sym, ◌∙◌, ap, subst, arith, max, nat_eq}
 use Rattle.std.specs.Option.{IsSome, is_some}
 use Rattle.std.specs.Result.{IsOk, OnOk}
-use Rattle.std.specs.List.{Contains, IsDistinct, list_any}
+use Rattle.std.specs.List.{IsDistinct, list_any}
 use Rattle.std.specs.Map.{lookup, keys_of, values_of}
 use Rattle.std.proofs.lemmas.Bool.Decides.{nat_tests}
 use Rattle.std.proofs.lemmas.List.{get_or-map, length-map}
@@ -19,7 +19,7 @@ use Rattle.range_index.specs.Entries.{Entry, entry_of, HasId, HasNoId, HaveOneRa
 use Rattle.range_index.specs.Grids.{AreGrid, FitsNames, HoldGrid, IsGrid, IsReached, count_at, entries_of, entry_at, home_of, or_none, slot_of, same_home, same_slot, stands_at}
 use Rattle.range_index.specs.Changes.{HaveOneKey, Sets}
 use Rattle.range_index.proofs.ChangeLemmas.{Stands, TakesOut, free_place, grid_with, grid_without, stands_with, stands_without}
-use Rattle.range_index.proofs.GridLemmas.{HasOnePlace, places_of}
+use Rattle.range_index.proofs.GridLemmas.{places_of}
 use Rattle.range_index.proofs.SlotLemmas.{stands_somewhere, slots_equal, slot_same, slot_self, home_same, home_self}
 
 -- what a call ensures where it succeeds, and it does
@@ -85,10 +85,13 @@ one_range {items} {counts} {slots} {tallest} {widest} are i j d before within sa
   where
     none : Slot
     none = slot_of (record { height = 0; width = 0; row = 0; col = 0 }) 0
+
     at : ℕ → Slot × Entry
     at k = get_or items k (none, d)
+
     key : ℕ → Slot
     key k = (at k).0
+
     item : ℕ → Entry
     item k = (at k).1
 
@@ -124,8 +127,8 @@ pub are_same : {items : List (Slot × Entry)} {counts : List (Home × ℕ)} {slo
 are_same {items} {counts} {slots} {tallest} {widest} new_items new_counts new_slots are unique same_items same_counts same_slots = record {
   unique = unique;
   grid =
-    grid_same (λ s. lookup (same_slot s) items) (λ s. lookup (same_slot s) new_items) (λ h. or_none (lookup (same_home h) counts)) (λ h. or_none (lookup (same_home h) new_counts)) (λ i. lookup (nat_eq i) slots) (λ i. lookup (nat_eq i) new_slots) tallest widest
-    are.grid same_items (λ h. ap or_none (same_counts h)) same_slots;
+      grid_same (λ s. lookup (same_slot s) items) (λ s. lookup (same_slot s) new_items) (λ h. or_none (lookup (same_home h) counts)) (λ h. or_none (lookup (same_home h) new_counts)) (λ i. lookup (nat_eq i) slots) (λ i. lookup (nat_eq i) new_slots) tallest widest
+      are.grid same_items (λ h. ap or_none (same_counts h)) same_slots;
 }
 
 pub entries_same : (items new_items : List (Slot × Entry)) → IsDistinct same_slot (keys_of items) → IsDistinct same_slot (keys_of new_items) → ((s : Slot) → lookup (same_slot s) new_items ≡ lookup (same_slot s) items) → SameEntries (values_of items) (values_of new_items)
@@ -144,30 +147,36 @@ pub added : {items : List (Slot × Entry)} {counts : List (Home × ℕ)} {slots 
 added {items} {counts} {slots} {tallest} {widest} new_items new_counts new_slots new_tallest new_widest id range home place are home_is fits place_is absent unique with_item with_count with_slot high wide = record {
   unique = unique;
   grid =
-    grid_with at new_at count new_count stands new_stands tallest widest new_tallest new_widest id range are.grid fits
-    (λ s e is. absent e ((stands_somewhere items are.unique e).1 (s, is)))
-    (subst (λ (s : Slot). Sets at new_at s (Some (entry_of id range))) slot_same_as (sets_slot at new_at (slot_of home place) (Some (entry_of id range)) with_item))
-    (subst (λ n. Sets count new_count (home_of range) (n + 1)) place_same (subst (λ (h : Home). Sets count new_count h (place + 1)) home_is (sets_count (λ h. lookup (same_home h) counts) (λ h. lookup (same_home h) new_counts) home (Some (place + 1)) with_count)))
-    (subst (λ (s : Slot). Sets stands new_stands id (Some s)) slot_same_as (sets_id stands new_stands id (Some (slot_of home place)) with_slot))
-    (omega (arith, high)) (omega (arith, wide))
-    (subst (λ (h : Home). IsReached new_tallest new_widest h) home_is (record { high = omega (arith, high); wide = omega (arith, wide) }));
+      grid_with at new_at count new_count stands new_stands tallest widest new_tallest new_widest id range are.grid fits
+      (λ s e is. absent e ((stands_somewhere items are.unique e).1 (s, is)))
+      (subst (λ (s : Slot). Sets at new_at s (Some (entry_of id range))) slot_same_as (sets_slot at new_at (slot_of home place) (Some (entry_of id range)) with_item))
+      (subst (λ n. Sets count new_count (home_of range) (n + 1)) place_same (subst (λ (h : Home). Sets count new_count h (place + 1)) home_is (sets_count (λ h. lookup (same_home h) counts) (λ h. lookup (same_home h) new_counts) home (Some (place + 1)) with_count)))
+      (subst (λ (s : Slot). Sets stands new_stands id (Some s)) slot_same_as (sets_id stands new_stands id (Some (slot_of home place)) with_slot))
+      (omega (arith, high)) (omega (arith, wide))
+      (subst (λ (h : Home). IsReached new_tallest new_widest h) home_is (record { high = omega (arith, high); wide = omega (arith, wide) }));
 }
   where
     at : Slot → Option Entry
     at s = lookup (same_slot s) items
+
     new_at : Slot → Option Entry
     new_at s = lookup (same_slot s) new_items
+
     count : Home → ℕ
     count h = or_none (lookup (same_home h) counts)
+
     new_count : Home → ℕ
     new_count h = or_none (lookup (same_home h) new_counts)
+
     stands : ℕ → Option Slot
     stands i = lookup (nat_eq i) slots
+
     new_stands : ℕ → Option Slot
     new_stands i = lookup (nat_eq i) new_slots
 
     place_same : place ≡ count (home_of range)
     place_same = place_is ∙ ap count home_is
+
     slot_same_as : slot_of home place ≡ slot_of (home_of range) (count (home_of range))
     slot_same_as = ap (λ (h : Home). slot_of h place) home_is ∙ ap (λ n. slot_of (home_of range) n) place_same
 
@@ -185,8 +194,10 @@ inserted {items} {counts} {slots} {tallest} {widest} new_items id range home pla
   where
     at : Slot → Option Entry
     at s = lookup (same_slot s) items
+
     new_at : Slot → Option Entry
     new_at s = lookup (same_slot s) new_items
+
     count : Home → ℕ
     count h = or_none (lookup (same_home h) counts)
 
@@ -220,8 +231,8 @@ pub grid_after : (old new : Tables) (slot last : Slot) (out moved : Entry) → H
 grid_after old new slot last out moved are one_key tallest widest takes = record {
   unique = one_key;
   grid =
-    subst (λ h. IsGrid (entry_at new) (count_at new) (stands_at new) h new.widest) (sym tallest)
-    (subst (λ w. IsGrid (entry_at new) (count_at new) (stands_at new) old.tallest w) (sym widest)
+      subst (λ h. IsGrid (entry_at new) (count_at new) (stands_at new) h new.widest) (sym tallest)
+      (subst (λ w. IsGrid (entry_at new) (count_at new) (stands_at new) old.tallest w) (sym widest)
       (grid_without (entry_at old) (entry_at new) (count_at old) (count_at new) (stands_at old) (stands_at new) old.tallest old.widest slot last out moved are.grid takes));
 }
 

@@ -1,5 +1,5 @@
 -- How the tables of an index by tiles change.
-use Rattle.std.specs.Prelude.{◌≡◌, ◌≢◌, ℕ, ◌-◌, ◌≤◌, Option, Some, None}
+use Rattle.std.specs.Prelude.{◌≡◌, ◌≢◌, ℕ, ◌-◌, ◌≤◌, Some, None}
 use Rattle.std.specs.HashMap.{spare}
 use Rattle.std.specs.Map.{keys_of}
 use Rattle.std.specs.List.{IsDistinct}

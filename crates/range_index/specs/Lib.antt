@@ -1,4 +1,5 @@
 pub mod Changes
 pub mod Entries
 pub mod Grids
+pub mod Listed
 pub mod Lists

@@ -10,15 +10,16 @@ use std::marker::Model;
 ///
 /// Each range stands at one home: a tile of rows and columns, the one in which its head lies. There are nine kinds of
 /// tile, of three heights and three widths, and a range's kind is the smallest that is as high and as wide as the range
-/// itself. So the ranges of a kind that overlap a query have their heads in the query, or less than a tile above it or to
-/// its left, and a query looks at the homes there, of each kind that is no higher and no wider than any range has been.
-/// Where these are more than there are entries it looks at all entries instead.
+/// itself. So the ranges of a kind that overlap a query have their heads in the query, or less than a tile above it or
+/// to its left, and a query looks at the homes there, of each kind that is no higher and no wider than a range has ever
+/// been. Where these are more than there are entries it looks at all entries instead.
 ///
 /// The entries of a home have the places from 0 up to its count, and a table has each entry under its home and place;
 /// another has the home and place of each id. A removal puts the last entry of a home into the place that becomes free.
 ///
-/// Costs, as looks into a table: an insert four, a removal seven at most, and a query of one cell one for each home near
-/// it, which are two for ranges of one column and up to eight rows and twenty at most, and one for each entry of these.
+/// Costs, as looks into a table: an insert takes four and a removal eight at most, whatever else is there. A query of
+/// one cell takes one for each home near it, which are two where all ranges have one column and up to eight rows, and
+/// never more than twenty, and one for each entry of these.
 #[derive(Drop)]
 pub struct GridIndex {
     tables: Tables,

@@ -5,7 +5,7 @@ ghost use Rattle.range_index.specs.Entries.{Inserts, Removes, AddsOverlapping, K
 use sheet_refs::{Memory, Range};
 use std::alloc::Global;
 
-/// Ids, each with a range, and which of them overlap a query.
+/// Ids, each with one range, and which of them overlap a query.
 pub trait RangeIndex {
     /// The entries, as a list in which the order means nothing.
     ghost entries: { Self → List Entry };
@@ -17,7 +17,7 @@ pub trait RangeIndex {
     fn empty(alloc: Global) -> Self
         ensures { entries result ≡ [] };
 
-    /// Makes room for so many inserts. The entries stay, after Memory too.
+    /// Makes room for so many inserts. The entries and what room there was stay, after Memory too.
     fn reserve(&mut self, inserts: u32) -> Result<(), Memory>
         ensures room { OnOk result (inserts ≤ spare self.new) }
         ensures keeps_room { spare self.old ≤ spare self.new }
@@ -39,7 +39,8 @@ pub trait RangeIndex {
     /// Adds exactly the ids whose ranges overlap a query to a list, each once. After Memory the list begins
     /// with what it held.
     fn overlapping(&self, q: Range, out: &mut Vec<usize>) -> Result<(), Memory>
-        ensures found { OnOk result (AddsOverlapping (entries self.now) q out.old.items out.new.items) }
+        ensures found { OnOk result
+            (AddsOverlapping (entries self.now) q out.old.items out.new.items) }
         ensures kept { KeepsIds out.old.items out.new.items }
         ensures one_range { HaveOneRange (entries self.now) };
 }

@@ -1,5 +1,5 @@
-use Rattle.std.proofs.Common.{◌≡◌, ◌++◌, ◌∷◌, [], ap, sym, ◌∙◌, subst, List}
-use Rattle.range_index.specs.Entries.{Entry, entry_of, HaveOneRange, HasNoId, Inserts}
+use Rattle.std.proofs.Common.{◌≡◌, ap, sym, subst, List}
+use Rattle.range_index.specs.Entries.{Entry, HaveOneRange, HasNoId, Inserts}
 use Rattle.range_index.specs.Lists.{ListValue}
 use Rattle.range_index.proofs.EntryLemmas.{one_more, inserts}
 use Rattle.range_index.proofs.list.ListIndexRangeIndex.insert.Goals as goal

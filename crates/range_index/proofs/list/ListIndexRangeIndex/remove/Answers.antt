@@ -1,4 +1,4 @@
-use Rattle.std.proofs.Common.{◌≡◌, ap, sym, subst, List, refl, rules, arith, length, vec_len}
+use Rattle.std.proofs.Common.{◌≡◌, ap, subst, List, refl, rules, arith, length, vec_len}
 use Rattle.range_index.specs.Entries.{Entry, entry_of, IsPlaceOf, Removes}
 use Rattle.range_index.specs.Lists.{ListValue}
 use Rattle.range_index.proofs.EntryLemmas.{TookOut, one_less, removes}
@@ -13,6 +13,7 @@ took_out c = record {
   where
     old : vec_len c.self.inside.slots ≡ length c.self.inside.slots.items
     old = search rules
+
     new : vec_len c.swap_remove.new.self ≡ length c.swap_remove.new.self.items
     new = search rules
 

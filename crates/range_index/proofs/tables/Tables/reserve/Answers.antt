@@ -1,4 +1,4 @@
-use Rattle.std.proofs.Common.{◌≡◌, refl}
+use Rattle.std.proofs.Common.{refl}
 use Rattle.range_index.proofs.TableLemmas.{are_same, entries_same}
 use Rattle.range_index.proofs.tables.Tables.reserve.Goals as goal
 

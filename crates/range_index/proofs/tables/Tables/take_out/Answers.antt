@@ -1,4 +1,4 @@
-use Rattle.std.proofs.Common.{◌≡◌, ◌≢◌, ◌<◌, Some, None, refl, sym, ◌∙◌, ap, arith}
+use Rattle.std.proofs.Common.{◌≡◌, ◌≢◌, Some, None, refl, sym, ◌∙◌, ap, arith}
 use Rattle.range_index.specs.declared.tables.Tables.{Tables}
 use Rattle.range_index.specs.declared.tiles.Slot.{Slot}
 use Rattle.range_index.specs.Entries.{Entry, entry_of}

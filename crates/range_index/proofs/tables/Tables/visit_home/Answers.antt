@@ -1,4 +1,4 @@
-use Rattle.std.proofs.Common.{◌≡◌, ◌<◌, ◌+◌, ap, arith}
+use Rattle.std.proofs.Common.{◌≡◌, ◌+◌, ap, arith}
 use Rattle.range_index.specs.Grids.{entry_at, count_at, slot_of}
 use Rattle.range_index.proofs.GridLemmas.{places_of, found_more, found_same, IsBelow, not_below, below_next}
 use Rattle.range_index.proofs.tables.Tables.visit_home.Goals as goal

@@ -14,7 +14,7 @@ loop-row-preserved c =
     let to_last : row ≤ (q.tail.row - 1) / c.args.height = omega (arith, before) in (
       omega (arith, c.loop-row.invariant.0),
       found_more (entry_at c.args.self.now) (IsAbove q c.args.height c.args.width row) (IsInRow q c.args.height c.args.width row) (IsAbove q c.args.height c.args.width (row + 1)) q c.args.out.now.items c.loop-row.out.items c.visit_row.new.out.items
-      (places_of c.requires.grid) (not_above q c.args.height c.args.width row) (λ slot entry here. above_next q c.args.height c.args.width row slot c.loop-row.invariant.0 to_last) c.loop-row.invariant.1 c.in_ok-visit_row.ensures.found,
+          (places_of c.requires.grid) (not_above q c.args.height c.args.width row) (λ slot entry here. above_next q c.args.height c.args.width row slot c.loop-row.invariant.0 to_last) c.loop-row.invariant.1 c.in_ok-visit_row.ensures.found,
     )
 
 pub returns-clause-found : goal.returns-clause-found

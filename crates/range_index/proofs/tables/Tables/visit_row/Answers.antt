@@ -13,7 +13,7 @@ loop-col-preserved c =
     let to_last : col ≤ (q.tail.col - 1) / c.args.width = omega (arith, before) in (
       omega (arith, c.loop-col.invariant.0),
       found_more (entry_at c.args.self.now) (IsLeftOf q c.args.height c.args.width c.args.row col) (λ s. s.home ≡ home_at c.args.height c.args.width c.args.row col) (IsLeftOf q c.args.height c.args.width c.args.row (col + 1)) q c.args.out.now.items c.loop-col.out.items c.visit_home.new.out.items
-      (places_of c.requires.grid) (not_left q c.args.height c.args.width c.args.row col) (λ slot entry here. left_next q c.args.height c.args.width c.args.row col slot c.loop-col.invariant.0 to_last) c.loop-col.invariant.1 c.in_ok-visit_home.ensures.found,
+          (places_of c.requires.grid) (not_left q c.args.height c.args.width c.args.row col) (λ slot entry here. left_next q c.args.height c.args.width c.args.row col slot c.loop-col.invariant.0 to_last) c.loop-col.invariant.1 c.in_ok-visit_home.ensures.found,
     )
 
 pub returns-clause-found : goal.returns-clause-found

@@ -1,9 +1,9 @@
-use Rattle.std.proofs.Common.{◌≡◌, ◌++◌, ◌∷◌, [], true, false, Some, None, List, ap, sym, ◌∙◌, subst, rules}
+use Rattle.std.proofs.Common.{◌≡◌, true, false, Some, None, ap, sym, ◌∙◌, subst}
 use Rattle.sheet_refs.specs.Cells.{Corners}
 use Rattle.sheet_refs.specs.Rectangles.{Overlap}
 use Rattle.range_index.specs.Entries.{Entry}
 use Rattle.range_index.specs.Grids.{entry_at}
-use Rattle.range_index.proofs.GridLemmas.{found_nowhere, found_here}
+use Rattle.range_index.proofs.GridLemmas.{found_nowhere}
 use Rattle.range_index.proofs.tables.Tables.visit_slot.Goals as goal
 
 pub returns-in_default-clause-found : goal.returns-in_default-clause-found
@@ -19,6 +19,6 @@ returns-else-overlaps-clause-found c =
     let test : c.overlaps.result ≡ false = c.if-overlaps.false in
     found_nowhere (entry_at c.args.self.now) (λ s. s ≡ c.args.slot) c.args.q c.args.out.now.items
     (λ slot entry same at_slot overlap.
-      let entries : entry ≡ c.in-Some.item = (let both : Some entry ≡ Some c.in-Some.item = sym at_slot ∙ ap (entry_at c.args.self.now) same ∙ here in cc) in
-      let own : Overlap c.item-2.inside.range c.args.q = subst (λ (r : Corners). Overlap r c.args.q) (ap (λ (e : Entry). e.range) entries ∙ sym range) overlap in
-      absurd (let yes : c.overlaps.result ≡ true = c.overlaps.ensures.1 own in cc))
+    let entries : entry ≡ c.in-Some.item = (let both : Some entry ≡ Some c.in-Some.item = sym at_slot ∙ ap (entry_at c.args.self.now) same ∙ here in cc) in
+    let own : Overlap c.item-2.inside.range c.args.q = subst (λ (r : Corners). Overlap r c.args.q) (ap (λ (e : Entry). e.range) entries ∙ sym range) overlap in
+    absurd (let yes : c.overlaps.result ≡ true = c.overlaps.ensures.1 own in cc))
