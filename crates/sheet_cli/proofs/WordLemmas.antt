@@ -8,7 +8,7 @@ use Rattle.sheet_refs.specs.Cells.{Position, Corners}
 use Rattle.sheet_refs.specs.Names.{IsRangeName, IsCellName}
 use Rattle.sheet_refs.specs.Names.IsRangeName.{one, two}
 use Rattle.sheet_cli.specs.Requests.{Request}
-use Rattle.sheet_cli.specs.Words.{IsOption, Asks, AsksNothing, bytes_of_words, command_word}
+use Rattle.sheet_cli.specs.Words.{IsOption, Asks, AsksNothing, bytes_of, command_word}
 use Rattle.sheet_cli.specs.Words.Asks.{asks_of_window}
 use Rattle.sheet_cli.specs.declared.words.WindowCommand.{WindowCommand}
 
@@ -32,10 +32,10 @@ range_plain name _ (one _ cell is) option = cell_first name cell [] is (rw appen
 range_plain name _ (two _ first second a b text_is is _) option = cell_first first a (58 ∷ second) is (rw text_is at option)
 
 -- words of which none is an option, as bytes
-pub as_bytes : (words : List (String Global)) → All (λ w. ¬ IsOption (string_bytes w)) words → All (λ w. ¬ IsOption w) (bytes_of_words words)
+pub as_bytes : (words : List (String Global)) → All (λ w. ¬ IsOption (string_bytes w)) words → All (λ w. ¬ IsOption w) (bytes_of words)
 as_bytes words plain = All-map (λ w. ¬ IsOption w) string_bytes words plain
 
-two_plain : (rest : List (String Global)) (sheet name : List ℕ) → bytes_of_words rest ≡ sheet ∷ name ∷ [] → ¬ IsOption sheet → ¬ IsOption name → All (λ w. ¬ IsOption (string_bytes w)) rest
+two_plain : (rest : List (String Global)) (sheet name : List ℕ) → bytes_of rest ≡ sheet ∷ name ∷ [] → ¬ IsOption sheet → ¬ IsOption name → All (λ w. ¬ IsOption (string_bytes w)) rest
 two_plain [] sheet name is plain named k d within = absurd (omega (arith, within))
 two_plain (a ∷ []) sheet name is plain named k d within = absurd (omega (arith, ap length is))
 two_plain (a ∷ b ∷ []) sheet name is plain named zero d within = λ option. let same : string_bytes a ≡ sheet = cc is in plain (rw same at option)
@@ -44,9 +44,9 @@ two_plain (a ∷ b ∷ []) sheet name is plain named (suc (suc k)) d within = ab
 two_plain (a ∷ b ∷ x ∷ xs) sheet name is plain named k d within = absurd (omega (arith, ap length is))
 
 -- no word after a command that is asked for is an option
-pub plain_rest : (command : List ℕ) (rest : List (String Global)) (request : Request) → Asks (command ∷ bytes_of_words rest) request → All (λ w. ¬ IsOption (string_bytes w)) rest
+pub plain_rest : (command : List ℕ) (rest : List (String Global)) (request : Request) → Asks (command ∷ bytes_of rest) request → All (λ w. ¬ IsOption (string_bytes w)) rest
 plain_rest command rest _ (asks_of_window given sheet name window is plain range) =
-    let tail : bytes_of_words rest ≡ sheet ∷ name ∷ [] = cc is in
+    let tail : bytes_of rest ≡ sheet ∷ name ∷ [] = cc is in
     two_plain rest sheet name tail plain (range_plain name window range)
 
 -- words ask for nothing where the first of them is the word of no command

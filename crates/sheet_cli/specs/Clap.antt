@@ -8,9 +8,9 @@ abbrev pub position : List ℕ → Rule
 position id = record (new_rule id) { required = true }
 
 -- a command without a program's name before its words, and without an option for help
-abbrev pub bare : App
-bare = on_top (λ s. record s { no_binary_name = true; disable_help_flag = true }) (new_app (codes "command"))
+abbrev pub words_alone : App
+words_alone = on_top (λ s. record s { no_binary_name = true; disable_help_flag = true }) (new_app (codes "command"))
 
 -- two positions, which have to be given
 abbrev pub two_positions : App
-two_positions = with_rule (with_rule bare (position (codes "first"))) (position (codes "second"))
+two_positions = with_rule (with_rule words_alone (position (codes "first"))) (position (codes "second"))

@@ -19,6 +19,10 @@ abbrev pub TakesLine : {N : Type 0} → (N → Option (List ℕ)) → (N → ℕ
 TakesLine written faults old new line =
     Appends (written old) (written new) line ⊎ (Rose (faults old) (faults new) × AppendsPrefix (written old) (written new) line)
 
+-- no fault of an object was counted
+abbrev pub IsCalm : {O : Type 0} → (O → ℕ) → O → O → Type 0
+IsCalm faults old new = ¬ Rose (faults old) (faults new)
+
 -- out has gained the whole text that is owed
 pub record HasWritten (words : List (List ℕ)) (holds : List ℕ → Option (List ℕ)) (old new : Option (List ℕ)) : Type 0 where
   pub text : List ℕ

@@ -11,8 +11,8 @@ use Rattle.sheet_cli.specs.declared.words.WindowCommand.{WindowCommand}
 use Rattle.sheet_cli.specs.declared.words.WindowCommand.TheVariants.{Show, Deps, Precs}
 
 -- the words of a command line, as bytes
-abbrev pub bytes_of_words : List (String Global) → List (List ℕ)
-bytes_of_words words = map string_bytes words
+abbrev pub bytes_of : List (String Global) → List (List ℕ)
+bytes_of words = map string_bytes words
 
 -- a word is written as an option is: it begins with a dash, also where it is nothing else
 abbrev pub IsOption : List ℕ → Type 0

@@ -5,7 +5,7 @@ ghost use Rattle.sheet_cli.specs.Answers.Answer.{refusal as refusal_answer};
 ghost use Rattle.sheet_cli.specs.Lines.{refused_line, too_long_line};
 ghost use Rattle.sheet_cli.specs.Requests.Request.{of_window};
 ghost use Rattle.sheet_cli.specs.Replies.{AnswersWindow, IsOwed, RepliesTo, answer_of};
-ghost use Rattle.sheet_cli.specs.Words.{AsksNothing, bytes_of_words};
+ghost use Rattle.sheet_cli.specs.Words.{AsksNothing, bytes_of};
 
 use crate::output::window_output;
 use crate::words::{Asked, WindowCommand, read_words};
@@ -36,11 +36,11 @@ pub(crate) fn reply_to<F: Shelf>(
     words: &[String],
     shelf: &mut F,
 ) -> Result<Reply, Memory>
-    ensures owed { IfOk result (IsOwed (bytes_of_words words.now)
+    ensures owed { IfOk result (IsOwed (bytes_of words.now)
         (F.holds shelf.old) (F.faults shelf.old) (F.faults shelf.new)) }
     ensures held { F.holds shelf.new ≡ F.holds shelf.old }
     ensures counted { F.faults shelf.old ≤ F.faults shelf.new }
-    ensures nothing_fetched { AsksNothing (bytes_of_words words.now)
+    ensures nothing_fetched { AsksNothing (bytes_of words.now)
         → F.faults shelf.new ≡ F.faults shelf.old }
 {
     match read_words(alloc, words)? {

@@ -2,8 +2,8 @@ ghost use Rattle.std.specs.Prelude.{◌≡◌, ◌≢◌, ◌⊎◌};
 ghost use Rattle.sheet_io.specs.Faults.{Rose};
 ghost use Rattle.sheet_cli.specs.Lines.{write_failed_line, no_memory_line};
 ghost use Rattle.sheet_cli.specs.Runs.{IsStatus, HasWritten, HasBegun, IsRefused, IsUnfetched};
-ghost use Rattle.sheet_cli.specs.Runs.{TakesLine, IsComplete, RefusesAll};
-ghost use Rattle.sheet_cli.specs.Words.{AsksNothing, bytes_of_words};
+ghost use Rattle.sheet_cli.specs.Runs.{TakesLine, IsCalm, IsComplete, RefusesAll};
+ghost use Rattle.sheet_cli.specs.Words.{AsksNothing, bytes_of};
 
 use crate::reply::{Reply, reply_to};
 use sheet_io::{Shelf, Sink};
@@ -28,26 +28,30 @@ pub fn run<F: Shelf, K: Sink, N: Sink>(
 
     // What each status tells.
     ensures done { result ≡ 0
-        → HasWritten (bytes_of_words words.now) (F.holds shelf.old) (K.written out.old) (K.written out.new) }
+        → HasWritten (bytes_of words.now) (F.holds shelf.old) (K.written out.old) (K.written out.new) }
     ensures refused { (result ≡ 2) ⊎ (result ≡ 3)
-        → IsRefused (bytes_of_words words.now) (F.holds shelf.old) result (TakesLine N.written N.faults notes.old notes.new) }
+        → IsRefused (bytes_of words.now) (F.holds shelf.old) result
+            (TakesLine N.written N.faults notes.old notes.new) }
     ensures read_failed { result ≡ 5 → Rose (F.faults shelf.old) (F.faults shelf.new) }
     ensures unfetched { result ≡ 5
-        → IsUnfetched (bytes_of_words words.now) (TakesLine N.written N.faults notes.old notes.new) }
+        → IsUnfetched (bytes_of words.now) (TakesLine N.written N.faults notes.old notes.new) }
     ensures write_failed { result ≡ 6 → Rose (K.faults out.old) (K.faults out.new) }
     ensures cut { result ≡ 6
-        → HasBegun (bytes_of_words words.now) (F.holds shelf.old) (K.written out.old) (K.written out.new) }
-    ensures cut_noted { result ≡ 6 → TakesLine N.written N.faults notes.old notes.new write_failed_line }
-    ensures no_memory { result ≡ 7 → TakesLine N.written N.faults notes.old notes.new no_memory_line }
+        → HasBegun (bytes_of words.now) (F.holds shelf.old) (K.written out.old) (K.written out.new) }
+    ensures cut_noted { result ≡ 6
+        → TakesLine N.written N.faults notes.old notes.new write_failed_line }
+    ensures no_memory { result ≡ 7
+        → TakesLine N.written N.faults notes.old notes.new no_memory_line }
     ensures nothing_written { result ≢ 0 → result ≢ 6 → K.written out.new ≡ K.written out.old }
     ensures nothing_noted { result ≡ 0 → N.written notes.new ≡ N.written notes.old }
-    ensures nothing_fetched { AsksNothing (bytes_of_words words.now) → F.faults shelf.new ≡ F.faults shelf.old }
+    ensures nothing_fetched { AsksNothing (bytes_of words.now)
+        → F.faults shelf.new ≡ F.faults shelf.old }
 
     // Where no fault rises, what the words and the texts that they name ask for is done.
-    ensures complete { ¬ Rose (F.faults shelf.old) (F.faults shelf.new) → ¬ Rose (K.faults out.old) (K.faults out.new)
-        → IsComplete (bytes_of_words words.now) (F.holds shelf.old) result }
-    ensures refuses { ¬ Rose (F.faults shelf.old) (F.faults shelf.new)
-        → RefusesAll (bytes_of_words words.now) (F.holds shelf.old) result }
+    ensures complete { IsCalm F.faults shelf.old shelf.new → IsCalm K.faults out.old out.new
+        → IsComplete (bytes_of words.now) (F.holds shelf.old) result }
+    ensures refuses { IsCalm F.faults shelf.old shelf.new
+        → RefusesAll (bytes_of words.now) (F.holds shelf.old) result }
 {
     match reply_to(alloc, words, shelf) {
         Ok(Reply::Output(text)) => match out.put(&text) {

@@ -4,7 +4,7 @@ ghost use Rattle.clap.specs.Simple.{app_of};
 ghost use Rattle.clap.specs.Values.{kind_of};
 ghost use Rattle.sheet_refs.specs.Names.{Finds};
 ghost use Rattle.sheet_cli.specs.Clap.{two_positions};
-ghost use Rattle.sheet_cli.specs.Words.{IsAskedBy, IsOption, bytes_of_words, command_word};
+ghost use Rattle.sheet_cli.specs.Words.{IsAskedBy, IsOption, bytes_of, command_word};
 
 use clap::error::ErrorKind;
 use clap::{Arg, Command, Error};
@@ -38,7 +38,7 @@ pub enum Asked {
 /// What the words after the program's name ask for; nothing exactly where they are no command. The
 /// time is in proportion to the words.
 pub fn read_words(alloc: Global, words: &[String]) -> Result<Asked, Memory>
-    ensures { IfOk result (IsAskedBy (bytes_of_words words.now)) }
+    ensures { IfOk result (IsAskedBy (bytes_of words.now)) }
 {
     let Some((command, rest)) = words.split_first() else {
         return Ok(Asked::Nothing);
@@ -80,8 +80,8 @@ fn is_option(word: &str) -> bool
 
 // What a command about a window and the words after it ask for.
 fn read_window(alloc: Global, command: WindowCommand, words: &[String]) -> Result<Asked, Memory>
-    requires plain { All (λ w. ¬ IsOption w) (bytes_of_words words.now) }
-    ensures { IfOk result (IsAskedBy (command_word command ∷ bytes_of_words words.now)) }
+    requires plain { All (λ w. ¬ IsOption w) (bytes_of words.now) }
+    ensures { IfOk result (IsAskedBy (command_word command ∷ bytes_of words.now)) }
 {
     let Some((sheet, range)) = two_words(alloc, words)? else {
         return Ok(Asked::Nothing);
@@ -99,9 +99,9 @@ fn read_window(alloc: Global, command: WindowCommand, words: &[String]) -> Resul
 
 // The positions of a command that has two; None exactly where the words are not two.
 fn two_words<'a>(alloc: Global, words: &'a [String]) -> Result<Option<(&'a str, &'a str)>, Memory>
-    requires plain { All (λ w. ¬ IsOption w) (bytes_of_words words.now) }
-    ensures { IfOk result (λ found. MatchOption found (length (bytes_of_words words.now) ≢ 2)
-        (λ pair. bytes_of_words words.now ≡ pair.0.now ∷ pair.1.now ∷ [])) }
+    requires plain { All (λ w. ¬ IsOption w) (bytes_of words.now) }
+    ensures { IfOk result (λ found. MatchOption found (length (bytes_of words.now) ≢ 2)
+        (λ pair. bytes_of words.now ≡ pair.0.now ∷ pair.1.now ∷ [])) }
 {
     match two_positions(alloc)?.try_get_matches_from(words) {
         Ok(matches) => {

@@ -1,18 +1,18 @@
 use Rattle.std.proofs.Common.{subst}
-use Rattle.sheet_cli.specs.Words.{IsAskedBy, bytes_of_words}
+use Rattle.sheet_cli.specs.Words.{IsAskedBy, bytes_of}
 use Rattle.sheet_cli.proofs.ReplyLemmas.{if_reply, owed_usage, to_words}
 use Rattle.sheet_cli.proofs.reply.reply_to.Goals as goal
 
 pub returns-in-OfWindow-clause-owed : goal.returns-in-OfWindow-clause-owed
 returns-in-OfWindow-clause-owed g c =
-    let asked = subst (IsAskedBy (bytes_of_words c.args.words.now)) c.in-OfWindow.is c.in_ok-command.ensures in
+    let asked = subst (IsAskedBy (bytes_of c.args.words.now)) c.in-OfWindow.is c.in_ok-command.ensures in
     if_reply c.reply_of_window.result _ _ c.reply_of_window.ensures.reply (λ reply is. to_words _ _ _ _ _ reply asked (rw c.as_str.ensures.value at is))
 
 pub returns-in-OfWindow-clause-nothing_fetched : goal.returns-in-OfWindow-clause-nothing_fetched
 returns-in-OfWindow-clause-nothing_fetched g c =
-    λ none. absurd (none _ (subst (IsAskedBy (bytes_of_words c.args.words.now)) c.in-OfWindow.is c.in_ok-command.ensures))
+    λ none. absurd (none _ (subst (IsAskedBy (bytes_of c.args.words.now)) c.in-OfWindow.is c.in_ok-command.ensures))
 
 pub returns-in-Nothing-clause-owed : goal.returns-in-Nothing-clause-owed
 returns-in-Nothing-clause-owed g c =
-    let nothing = subst (IsAskedBy (bytes_of_words c.args.words.now)) c.in-Nothing.is c.in_ok-command.ensures in
+    let nothing = subst (IsAskedBy (bytes_of c.args.words.now)) c.in-Nothing.is c.in_ok-command.ensures in
     if_reply c.refusal.result _ _ c.refusal.ensures (λ reply is. owed_usage _ _ _ _ reply nothing is)

@@ -1,13 +1,13 @@
 use Rattle.std.proofs.Common.{◌≡◌, ap, sym, ◌∷◌, [], subst}
 use Rattle.std.proofs.lemmas.Option.{MatchOption-at_some}
 use Rattle.sheet_cli.specs.Requests.Request.{of_window}
-use Rattle.sheet_cli.specs.Words.{Asks, bytes_of_words, command_word}
+use Rattle.sheet_cli.specs.Words.{Asks, bytes_of, command_word}
 use Rattle.sheet_cli.specs.Words.Asks.{asks_of_window}
 use Rattle.sheet_cli.proofs.WordLemmas.{first_plain}
 use Rattle.sheet_cli.proofs.words.read_window.Goals as goal
 
 pub returns : goal.returns
 returns c =
-    let words_are : bytes_of_words c.args.words.now ≡ c.in-Some.sheet.now ∷ c.in-Some.range.now ∷ [] = MatchOption-at_some _ _ _ c.in-Some.is c.in_ok-sheet.ensures in
+    let words_are : bytes_of c.args.words.now ≡ c.in-Some.sheet.now ∷ c.in-Some.range.now ∷ [] = MatchOption-at_some _ _ _ c.in-Some.is c.in_ok-sheet.ensures in
     let asked = asks_of_window c.args.command c.in-Some.sheet.now c.in-Some.range.now c.in-Some-range_of.range (ap (λ ws. command_word c.args.command ∷ ws) words_are) (first_plain _ _ _ words_are c.requires.plain) (rw c.as_bytes.ensures.value at c.in-Some-range_of.ensures) in
-    subst (λ name. Asks (command_word c.args.command ∷ bytes_of_words c.args.words.now) (of_window c.args.command name c.in-Some-range_of.range)) (sym c.in_ok-sheet-2.ensures.ok) asked
+    subst (λ name. Asks (command_word c.args.command ∷ bytes_of c.args.words.now) (of_window c.args.command name c.in-Some-range_of.range)) (sym c.in_ok-sheet-2.ensures.ok) asked

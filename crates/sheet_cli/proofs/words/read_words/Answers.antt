@@ -1,5 +1,5 @@
 use Rattle.std.proofs.Common.{◌≡◌, ap, sym, ◌∙◌, ◌∷◌, subst}
-use Rattle.sheet_cli.specs.Words.{IsAskedBy, bytes_of_words, command_word}
+use Rattle.sheet_cli.specs.Words.{IsAskedBy, bytes_of, command_word}
 use Rattle.std.proofs.lemmas.Option.{MatchOption-at_some}
 use Rattle.std.specs.Prelude.{IfOk, string_bytes}
 use Rattle.sheet_cli.proofs.WordLemmas.{plain_rest, no_command, as_bytes, refuted}
@@ -16,10 +16,10 @@ read_window-requires c = record { plain = as_bytes c.in-Some.rest.now (c.are_pos
 pub returns-in-Some-window_command : goal.returns-in-Some-window_command
 returns-in-Some-window_command c =
     let named : string_bytes c.in-Some.command.now ≡ command_word c.in-Some-window_command.command = sym c.as_str.ensures.value ∙ MatchOption-at_some _ _ _ c.in-Some-window_command.is c.window_command.ensures in
-    let words_are : bytes_of_words c.args.words.now ≡ command_word c.in-Some-window_command.command ∷ bytes_of_words c.in-Some.rest.now = ap bytes_of_words c.in-Some.ensures.cases.0 ∙ ap (λ w. w ∷ bytes_of_words c.in-Some.rest.now) named in
+    let words_are : bytes_of c.args.words.now ≡ command_word c.in-Some-window_command.command ∷ bytes_of c.in-Some.rest.now = ap bytes_of c.in-Some.ensures.cases.0 ∙ ap (λ w. w ∷ bytes_of c.in-Some.rest.now) named in
     subst (λ words. IfOk c.read_window.result (IsAskedBy words)) (sym words_are) c.read_window.ensures
 
 pub returns-in-None : goal.returns-in-None
 returns-in-None c = λ request asked.
-    no_command (string_bytes c.in-Some.command.now) (bytes_of_words c.in-Some.rest.now) (λ command is. c.in-None.ensures command (c.as_str.ensures.value ∙ is)) request
+    no_command (string_bytes c.in-Some.command.now) (bytes_of c.in-Some.rest.now) (λ command is. c.in-None.ensures command (c.as_str.ensures.value ∙ is)) request
     (rw c.in-Some.ensures.cases.0 at asked)
