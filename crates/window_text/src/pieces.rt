@@ -6,6 +6,7 @@ ghost use Rattle.value_core.specs.Values.{error_text, in_quotes};
 ghost use Rattle.window_text.specs.Pieces.{HandsOut};
 ghost use Rattle.window_text.specs.Texts.{shown_value};
 ghost use Rattle.sheet_model.specs.Labels.{label_text};
+ghost use Rattle.window_text.specs.Quotes.{HasNoQuote, IsFirstQuote};
 
 use itoa::Buffer;
 use sheet_model::Labels;
@@ -92,8 +93,7 @@ fn send_quoted<F: FnMut(&[u8]) -> bool>(text: &str, to: &mut F) -> bool
 
 // The place of the first quote.
 fn quote_place(text: &[u8]) -> Option<usize>
-    ensures { MatchOption result (All (λ b. b ≢ 34) text.now)
-        (λ place. (place < length text.now) × (All (λ b. b ≢ 34) (take place text.now) × (slice_get text.now place ≡ Some 34))) }
+    ensures { MatchOption result (HasNoQuote text.now) (IsFirstQuote text.now) }
 {
     text.iter().position(|byte| *byte == b'"')
 }

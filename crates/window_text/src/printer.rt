@@ -2,7 +2,8 @@ ghost use Rattle.std.specs.Prelude.{◌≡◌, ◌≤◌, IsTrue};
 ghost use Rattle.sheet_refs.specs.Sizes.{is_inside};
 ghost use Rattle.sheet_model.specs.Values.{AreValues, value_of};
 ghost use Rattle.window_text.specs.Pieces.{HandsOut};
-ghost use Rattle.window_text.specs.Texts.{IsWithinSheet, row_text, runs_text, show_text, shown_cell};
+ghost use Rattle.window_text.specs.Texts.{IsWithinSheet, row_text, runs_text, show_text};
+ghost use Rattle.window_text.specs.Texts.{shown_cell};
 
 use crate::pieces::{send, send_range, send_value};
 use sheet_model::Sheet;
@@ -77,7 +78,8 @@ fn send_row<F: FnMut(&[u8]) -> bool>(
     requires within { IsWithinSheet range sheet.now }
     requires from { range.head.row ≤ row }
     requires to { row ≤ range.tail.row }
-    ensures sent { HandsOut F.FnMut to.old (row_text (shown_cell sheet.now) range row) result to.new }
+    ensures sent { HandsOut F.FnMut to.old
+        (row_text (shown_cell sheet.now) range row) result to.new }
     ensures callable { F.IsAlwaysCallable to.new }
 {
     let first = Cell::new(row, range.head().col()).unwrap();

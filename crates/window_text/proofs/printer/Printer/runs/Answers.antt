@@ -1,9 +1,7 @@
-use Rattle.std.proofs.Common.{◌≡◌, true, false, ℕ, List, [], ◌∷◌, ◌++◌, sym, subst}
-use Rattle.sheet_refs.specs.Names.{range_text}
+use Rattle.std.proofs.Common.{◌≡◌, true, ℕ, List, [], ◌∷◌, sym, subst}
 use Rattle.window_text.specs.Pieces.{HandsOut}
-use Rattle.window_text.specs.Texts.{runs_text}
-use Rattle.window_text.proofs.PieceLemmas.{Completes, none, next, ended}
-use Rattle.window_text.proofs.RunsLemmas.{runs_go_on, runs_end}
+use Rattle.window_text.proofs.PieceLemmas.{none, next, ended}
+use Rattle.window_text.proofs.RunsLemmas.{next_run, runs_end}
 use Rattle.window_text.proofs.printer.Printer.runs.Goals as goal
 
 pub loop-run-init : goal.loop-run-init
@@ -11,23 +9,18 @@ loop-run-init g c = (c.requires.callable, λ last told rest. rest)
 
 pub returns-then-not-send_range : goal.returns-then-not-send_range
 returns-then-not-send_range g c =
-    let goes = runs_go_on c.args.runs.now c.loop-run.run-index c.run-item.result c.loop-run-test.true c.run-item.is in
-    let rest = subst (Completes g.F.FnMut c.args.to.now (runs_text c.args.runs.now) c.loop-run.to) goes c.loop-run.invariant.1 in
+    let rest = next_run g.F.FnMut _ _ c.args.runs.now c.loop-run.run-index c.run-item.result c.loop-run-test.true c.run-item.is c.loop-run.invariant.1 in
     record { sent = ended g.F.FnMut _ _ _ _ _ _ rest c.if-not-send_range.ensures.sent }
 
 pub returns-then-not-send : goal.returns-then-not-send
 returns-then-not-send g c =
-    let goes = runs_go_on c.args.runs.now c.loop-run.run-index c.run-item.result c.loop-run-test.true c.run-item.is in
-    let rest = subst (Completes g.F.FnMut c.args.to.now (runs_text c.args.runs.now) c.loop-run.to) goes c.loop-run.invariant.1 in
+    let rest = next_run g.F.FnMut _ _ c.args.runs.now c.loop-run.run-index c.run-item.result c.loop-run-test.true c.run-item.is c.loop-run.invariant.1 in
     record { sent = ended g.F.FnMut _ _ _ _ (10 ∷ []) _ (next g.F.FnMut _ _ _ _ _ _ rest c.if-not-send_range.ensures.sent) c.if-not-send.ensures.sent }
 
 pub loop-run-preserved : goal.loop-run-preserved
 loop-run-preserved g c =
-    let goes = runs_go_on c.args.runs.now c.loop-run.run-index c.run-item.result c.loop-run-test.true c.run-item.is in
-    let rest = subst (Completes g.F.FnMut c.args.to.now (runs_text c.args.runs.now) c.loop-run.to) goes c.loop-run.invariant.1 in (
-      c.if-not-send.ensures.callable,
-      next g.F.FnMut _ _ _ _ (10 ∷ []) _ (next g.F.FnMut _ _ _ _ _ _ rest c.if-not-send_range.ensures.sent) c.if-not-send.ensures.sent,
-    )
+    let rest = next_run g.F.FnMut _ _ c.args.runs.now c.loop-run.run-index c.run-item.result c.loop-run-test.true c.run-item.is c.loop-run.invariant.1 in
+    (c.if-not-send.ensures.callable, next g.F.FnMut _ _ _ _ (10 ∷ []) _ (next g.F.FnMut _ _ _ _ _ _ rest c.if-not-send_range.ensures.sent) c.if-not-send.ensures.sent)
 
 pub returns : goal.returns
 returns g c =
