@@ -6,17 +6,17 @@ use Rattle.sheet_refs.specs.Cells.{Position, IsNamed}
 use Rattle.sheet_refs.specs.declared.sizes.Sizes.{Sizes}
 use Rattle.sheet_model.specs.Sheets.{SheetValue, IsSheetSize}
 use Rattle.csv_sheet.specs.Reading.{Measures}
-use Rattle.csv_sheet.specs.Records.{Rows, cell_there, longest, sizes_of, unmarked}
+use Rattle.csv_sheet.specs.Records.{Rows, cell_there, longest, sizes_of, without_marks}
 use Rattle.csv_sheet.specs.Results.{AreText, IsTooLarge, NoField, IsFirstField, IsLong, IsAnswer, IsResult}
 use Rattle.csv_sheet.specs.declared.extent.Extent.{Extent}
 use Rattle.csv_sheet.specs.declared.refused.SheetRefused.{SheetRefused}
 use Rattle.csv_sheet.specs.declared.refused.SheetRefused.TheVariants as refused
 use Rattle.csv_sheet.proofs.FieldLemmas.{few_rows, longest_of}
-use Rattle.csv_sheet.proofs.MarkLemmas.{length-unmarked, unmarked_twice}
+use Rattle.csv_sheet.proofs.MarkLemmas.{length-without_marks, without_marks_twice}
 use Rattle.csv_sheet.proofs.RecordLemmas.{has_columns}
 use Rattle.csv_sheet.proofs.ResultLemmas.{one_result, field_inside}
 
-pub result_from : (text records : List ℕ) (rows : Rows) (result : Result SheetValue SheetRefused) → records ≡ unmarked text
+pub result_from : (text records : List ℕ) (rows : Rows) (result : Result SheetValue SheetRefused) → records ≡ without_marks text
     → AreRecords default_config StartRecord records rows → IsAnswer rows result → IsResult text result
 result_from text records rows result same has answer = record { rows = rows; has = subst (λ t. AreRecords default_config StartRecord t rows) same has; answer = answer }
 
@@ -24,11 +24,11 @@ result_from text records rows result same has answer = record { rows = rows; has
 pub exact_from : (text : List ℕ) (result : Result SheetValue SheetRefused) → IsResult text result → (answer : Result SheetValue SheetRefused) → (result ≡ answer) ↔ IsResult text answer
 exact_from text result is answer = (λ same. subst (IsResult text) same is, λ other. one_result text result answer is other)
 
-pub records_unmarked : (text records : List ℕ) → records ≡ unmarked text → unmarked records ≡ records
-records_unmarked text records same = subst (λ t. unmarked t ≡ t) (sym same) (unmarked_twice text)
+pub records_without_marks : (text records : List ℕ) → records ≡ without_marks text → without_marks records ≡ records
+records_without_marks text records same = subst (λ t. without_marks t ≡ t) (sym same) (without_marks_twice text)
 
-pub records_short : (text records : List ℕ) → records ≡ unmarked text → length text ≤ 16777216 → length records ≤ 16777216
-records_short text records same short = let less = length-unmarked text in subst (λ t. length t ≤ 16777216) (sym same) (omega (arith, less, short))
+pub records_short : (text records : List ℕ) → records ≡ without_marks text → length text ≤ 16777216 → length records ≤ 16777216
+records_short text records same short = let less = length-without_marks text in subst (λ t. length t ≤ 16777216) (sym same) (omega (arith, less, short))
 
 module _ (rows : Rows) (extent : Extent) (is : Measures rows extent) where
   pub large : (1048576 < extent.rows * extent.cols) ⊎ (16384 < extent.cols) → IsTooLarge rows

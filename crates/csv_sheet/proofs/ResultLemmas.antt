@@ -15,7 +15,7 @@ use Rattle.sheet_model.specs.Sheets.{SheetValue, content_of}
 use Rattle.sheet_model.proofs.ContentLemmas.{one_content, refused_none}
 use Rattle.sheet_model.proofs.SameSheets.{same_sheet}
 use Rattle.sheet_model.proofs.TableLemmas.{adds_one}
-use Rattle.csv_sheet.specs.Records.{Rows, fields_at, field_at, all_fields, cell_there, longest, sizes_of, unmarked}
+use Rattle.csv_sheet.specs.Records.{Rows, fields_at, field_at, all_fields, cell_there, longest, sizes_of, without_marks}
 use Rattle.csv_sheet.specs.Results.{AreText, IsFirstNotText, IsTooLarge, IsBefore, NoField, IsFirstField, IsLong, IsRefusedFormula, AreReadable, IsSheetOf, IsFirstRefused, IsAnswer, IsResult}
 use Rattle.csv_sheet.specs.declared.refused.SheetRefused.{SheetRefused}
 use Rattle.csv_sheet.specs.declared.refused.SheetRefused.TheVariants.{NotUtf8, TooManyCells, FieldTooLong, FormulaTooDeep, TooManyRefs, Memory}
@@ -163,5 +163,5 @@ one_answer rows (Err Memory) (Err Memory) x y = absurd x
 
 pub one_result : (text : List ℕ) (a b : Result SheetValue SheetRefused) → IsResult text a → IsResult text b → a ≡ b
 one_result text a b x y =
-    let same : y.rows ≡ x.rows = one_rows default_config StartRecord (unmarked text) y.rows x.rows y.has x.has in
+    let same : y.rows ≡ x.rows = one_rows default_config StartRecord (without_marks text) y.rows x.rows y.has x.has in
     one_answer x.rows a b x.answer (subst (λ rows. IsAnswer rows b) same y.answer)

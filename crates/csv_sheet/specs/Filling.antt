@@ -17,7 +17,8 @@ use Rattle.csv_sheet.specs.declared.refused.SheetRefused.TheVariants.{NotUtf8, T
 pub record Holds (rows : Rows) (sheet : SheetValue) : Type 0 where
   pub kept : IsSheet sheet
   pub labels : AddsLabels (all_fields rows) [] sheet.labels
-  pub cells : (row col : ℕ) → row < sheet.sizes.rows → col < sheet.sizes.cols → IsContent sheet.labels (field_at rows row col) (content_of sheet (cell_there row col))
+  pub cells : (row col : ℕ) → row < sheet.sizes.rows → col < sheet.sizes.cols
+      → IsContent sheet.labels (field_at rows row col) (content_of sheet (cell_there row col))
 
 -- a field was put into a cell
 pub record PutsField (field : List ℕ) (cell : Position) (old new : SheetValue) : Type 0 where

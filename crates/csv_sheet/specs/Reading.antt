@@ -18,12 +18,14 @@ pub record HasRead {R : Type 0} (left : R → Option (List ℕ)) (text : List �
   pub source : source_of left reader ≡ Some rest
   pub reached : Reached default_config StartRecord text rows reader.state rest
 
--- the extent of records: their number, the length of the longest, the first that isn't text, and the first field that is too long
+-- the extent of records: their number, the length of the longest, the first that isn't text, and the first field
+-- that is too long
 pub record Measures (rows : Rows) (extent : Extent) : Type 0 where
   pub count : extent.rows ≡ length rows
   pub cols : extent.cols ≡ longest rows
   pub text : MatchOption extent.not_text (AreText rows) (λ row. IsFirstNotText rows (row + 1))
-  pub short : MatchOption extent.long (NoField IsLong rows) (λ place. IsFirstField IsLong rows (cell_there place.0 place.1))
+  pub short : MatchOption extent.long (NoField IsLong rows)
+      (λ place. IsFirstField IsLong rows (cell_there place.0 place.1))
 
 -- no field is too long
 abbrev pub AreShort : List (List ℕ) → Type 0

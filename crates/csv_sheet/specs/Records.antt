@@ -10,15 +10,15 @@ abbrev pub Rows : Type 0
 Rows = List (List (List ℕ))
 
 -- a text without the byte order marks at its front
-abbrev pub unmarked : List ℕ → List ℕ
-unmarked [] = []
-unmarked (a ∷ []) = a ∷ []
-unmarked (a ∷ b ∷ []) = a ∷ b ∷ []
-unmarked (a ∷ b ∷ c ∷ rest) = if is_bom a b c then unmarked rest else a ∷ b ∷ c ∷ rest
+abbrev pub without_marks : List ℕ → List ℕ
+without_marks [] = []
+without_marks (a ∷ []) = a ∷ []
+without_marks (a ∷ b ∷ []) = a ∷ b ∷ []
+without_marks (a ∷ b ∷ c ∷ rest) = if is_bom a b c then without_marks rest else a ∷ b ∷ c ∷ rest
 
 -- the records of a text as `csv` reads them, with no header row
 abbrev pub HasRows : List ℕ → Rows → Type 0
-HasRows text rows = AreRecords default_config StartRecord (unmarked text) rows
+HasRows text rows = AreRecords default_config StartRecord (without_marks text) rows
 
 -- the fields of a record, counted from 0
 abbrev pub fields_at : Rows → ℕ → List (List ℕ)

@@ -66,7 +66,8 @@ pub record IsSheetOf (rows : Rows) (sheet : SheetValue) : Type 0 where
   pub kept : IsSheet sheet
   pub sizes : sheet.sizes ≡ sizes_of rows
   pub labels : AddsLabels (all_fields rows) [] sheet.labels
-  pub cells : (row col : ℕ) → row < length rows → col < longest rows → IsContent sheet.labels (field_at rows row col) (content_of sheet (cell_there row col))
+  pub cells : (row col : ℕ) → row < length rows → col < longest rows
+      → IsContent sheet.labels (field_at rows row col) (content_of sheet (cell_there row col))
 
 -- the cell of the first formula that is refused, and why
 pub record IsFirstRefused (Why : List ℕ → Type 0) (rows : Rows) (cell : Position) : Type 0 where
@@ -78,7 +79,8 @@ pub record IsFirstRefused (Why : List ℕ → Type 0) (rows : Rows) (cell : Posi
 abbrev pub IsAnswer : Rows → Result SheetValue SheetRefused → Type 0
 IsAnswer rows (Ok sheet) = IsSheetOf rows sheet
 IsAnswer rows (Err (NotUtf8 number)) = IsFirstNotText rows number
-IsAnswer rows (Err (TooManyCells height width)) = AreText rows × IsTooLarge rows × (height ≡ length rows) × (width ≡ longest rows)
+IsAnswer rows (Err (TooManyCells height width)) =
+    AreText rows × IsTooLarge rows × (height ≡ length rows) × (width ≡ longest rows)
 IsAnswer rows (Err (FieldTooLong cell)) = AreText rows × (¬ IsTooLarge rows) × IsFirstField IsLong rows cell
 IsAnswer rows (Err (FormulaTooDeep cell)) = IsFirstRefused IsDeepFormula rows cell
 IsAnswer rows (Err (TooManyRefs cell)) = IsFirstRefused HasTooManyRefs rows cell

@@ -4,7 +4,7 @@ ghost use Rattle.csv.specs.Reading.{AreRecords, default_config};
 ghost use Rattle.csv.specs.Records.{fields_of, AllText};
 ghost use Rattle.csv.specs.declared.parser.State.TheVariants.{StartRecord};
 ghost use Rattle.csv_sheet.specs.Reading.{Measures, AreShort, IsFirstLong};
-ghost use Rattle.csv_sheet.specs.Records.{Rows, cell_there, unmarked as without_marks};
+ghost use Rattle.csv_sheet.specs.Records.{Rows, cell_there, without_marks};
 ghost use Rattle.csv_sheet.specs.Results.{AreText, IsFirstNotText, IsFirstField, NoField, IsLong};
 
 use crate::records::{field, read_next, reader_of};
@@ -47,7 +47,8 @@ fn is_text(fields: &ByteRecord) -> bool
 
 // The column of the first field of a record that is too long.
 fn first_long(fields: &ByteRecord) -> Option<usize>
-    ensures { MatchOption result (AreShort (fields_of fields.now)) (IsFirstLong (fields_of fields.now)) }
+    ensures { MatchOption result (AreShort (fields_of fields.now))
+        (IsFirstLong (fields_of fields.now)) }
 {
     for col in 0..fields.len() {
         if field(fields, col).len() > MAX_FIELD {
@@ -113,7 +114,7 @@ impl Extent {
 
 /// The extent of all records of a text, in time proportional to its length; none of the fields is kept.
 pub(crate) fn measure(alloc: Global, text: &[u8]) -> Result<Extent, Memory>
-    requires unmarked { without_marks text.now ≡ text.now }
+    requires no_marks { without_marks text.now ≡ text.now }
     requires short { length text.now ≤ 16777216 }
     ensures { IfOk result (λ extent. (rows : Rows)
         × AreRecords default_config StartRecord text.now rows × Measures rows extent) }

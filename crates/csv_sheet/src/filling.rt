@@ -7,7 +7,7 @@ ghost use Rattle.sheet_refs.specs.Sizes.{is_inside};
 ghost use Rattle.sheet_model.specs.Sheets.{blank_sheet};
 ghost use Rattle.csv_sheet.specs.Filling.{Holds, PutsField, IsFieldRefusal, IsRecordFor};
 ghost use Rattle.csv_sheet.specs.Filling.{IsRowRefusal};
-ghost use Rattle.csv_sheet.specs.Records.{Rows, sizes_of, unmarked as without_marks};
+ghost use Rattle.csv_sheet.specs.Records.{Rows, sizes_of, without_marks};
 ghost use Rattle.csv_sheet.specs.Results.{AreReadable, IsAnswer, IsSheetOf};
 ghost use Rattle.csv_sheet.specs.declared.refused.SheetRefused.TheVariants as refused;
 
@@ -61,7 +61,7 @@ fn fill_row(sheet: &mut Sheet, row: u32, fields: &ByteRecord) -> Result<(), Shee
 
 /// Fills a blank sheet of the right sizes with what the fields of all records of a text write.
 pub(crate) fn fill(alloc: Global, text: &[u8], sheet: &mut Sheet) -> Result<(), SheetRefused>
-    requires unmarked { without_marks text.now ≡ text.now }
+    requires no_marks { without_marks text.now ≡ text.now }
     requires blank { (rows : Rows) × AreRecords default_config StartRecord text.now rows
         × AreReadable rows × (sheet.old ≡ blank_sheet (sizes_of rows)) }
     ensures filled { OnOk result ((rows : Rows)

@@ -6,7 +6,7 @@ ghost use Rattle.csv_sheet.specs.declared.refused.SheetRefused.TheVariants as re
 
 use crate::extent::measure;
 use crate::filling::fill;
-use crate::records::unmarked;
+use crate::records::behind_marks;
 use crate::refused::SheetRefused;
 use sheet_model::Sheet;
 use sheet_refs::Cell;
@@ -17,7 +17,7 @@ fn load_text(alloc: Global, text: &[u8]) -> Result<Sheet, SheetRefused>
     requires { length text.now ≤ 16777216 }
     ensures { result ≢ Err refused.Memory → IsResult text.now result }
 {
-    let records = unmarked(text);
+    let records = behind_marks(text);
     let extent = measure(alloc, records)?;
     if let Some(row) = extent.not_text {
         return Err(SheetRefused::NotUtf8 { number: row + 1 });

@@ -4,14 +4,14 @@ ghost use Rattle.csv.specs.Reading.{AreRecords, default_config};
 ghost use Rattle.csv.specs.Records.{fields_of};
 ghost use Rattle.csv.specs.declared.parser.State.TheVariants.{StartRecord};
 ghost use Rattle.csv_sheet.specs.Reading.{HasRead};
-ghost use Rattle.csv_sheet.specs.Records.{Rows, unmarked as without_marks};
+ghost use Rattle.csv_sheet.specs.Records.{Rows, without_marks};
 
 use csv::{ByteRecord, Reader, ReaderBuilder};
 use sheet_refs::Memory;
 use std::alloc::Global;
 
 /// The text without the byte order marks at its front.
-pub(crate) fn unmarked(text: &[u8]) -> &[u8]
+pub(crate) fn behind_marks(text: &[u8]) -> &[u8]
     ensures { result.now ≡ without_marks text.now }
 {
     let mut rest = text;
