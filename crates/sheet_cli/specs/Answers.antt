@@ -24,19 +24,23 @@ abbrev pub status_of : Answer → ℕ
 status_of (output text) = 0
 status_of (refusal status line) = status
 
+-- the texts of a shelf by their names, of which it may tell some or none
+abbrev pub Texts : Type 0
+Texts = List ℕ → Option (List ℕ)
+
 -- a text stands under a name: it is the one that the shelf tells, if it tells one, and within the limit
-pub record IsTextOf (holds : List ℕ → Option (List ℕ)) (name text : List ℕ) : Type 0 where
+pub record IsTextOf (holds : Texts) (name text : List ℕ) : Type 0 where
   pub told : IfSome (holds name) (λ t. text ≡ t)
   pub short : IfSome (holds name) (λ t. length t ≤ 16777216)
 
 -- what the text under a name gives: a sheet, or why there is none
-pub record Gives (holds : List ℕ → Option (List ℕ)) (name : List ℕ) (result : Result SheetValue SheetRefused) : Type 0 where
+pub record Gives (holds : Texts) (name : List ℕ) (result : Result SheetValue SheetRefused) : Type 0 where
   pub text : List ℕ
   pub stands : IsTextOf holds name text
   pub gives : IsResult text result
 
 -- there is no sheet under a name, and this says why
-pub data HasNoSheet (holds : List ℕ → Option (List ℕ)) (name : List ℕ) : ℕ → List ℕ → Type 0 where
+pub data HasNoSheet (holds : Texts) (name : List ℕ) : ℕ → List ℕ → Type 0 where
   -- its text is past the limit
   too_long : IfSome (holds name) (λ t. 16777216 < length t) → HasNoSheet holds name 3 too_long_line
   -- its text is no sheet
@@ -52,7 +56,7 @@ pub data Writes (sheet : SheetValue) (window : Corners) : WindowCommand → List
   precedents : (runs : List Corners) → ArePrecedents sheet window runs → Writes sheet window Precs (runs_text runs)
 
 -- what a request is answered
-pub data Answers (holds : List ℕ → Option (List ℕ)) : Request → Answer → Type 0 where
+pub data Answers (holds : Texts) : Request → Answer → Type 0 where
   -- a command about a window writes what it writes of the sheet
   written : (command : WindowCommand) (name : List ℕ) (window : Corners) (sheet : SheetValue) (text : List ℕ)
       → Gives holds name (Ok sheet) → IsWithinSheet window sheet → Writes sheet window command text
@@ -66,15 +70,16 @@ pub data Answers (holds : List ℕ → Option (List ℕ)) : Request → Answer �
       → HasNoSheet holds name status line → Answers holds (of_window command name window) (refusal status line)
 
 -- what words are answered, over the texts of a shelf
-pub data Owes (words : List (List ℕ)) (holds : List ℕ → Option (List ℕ)) : Answer → Type 0 where
+pub data Owes (words : List (List ℕ)) (holds : Texts) : Answer → Type 0 where
   -- words that are no command
   usage : AsksNothing words → Owes words holds (refusal 2 usage_line)
   -- words that ask for something
   answers : (request : Request) (answer : Answer) → Asks words request → Answers holds request answer → Owes words holds answer
 
 -- the shelf tells each text that the words name
-abbrev pub Tells : List (List ℕ) → (List ℕ → Option (List ℕ)) → Type 0
-Tells words holds = (request : Request) → Asks words request → All (λ name. (text : List ℕ) × (holds name ≡ Some text)) (texts_named request)
+abbrev pub Tells : List (List ℕ) → Texts → Type 0
+Tells words holds =
+    (request : Request) → Asks words request → All (λ name. (text : List ℕ) × (holds name ≡ Some text)) (texts_named request)
 
 -- words ask for at most one thing
 abbrev pub WordsAskForOne : Type 0
@@ -82,4 +87,5 @@ WordsAskForOne = (words : List (List ℕ)) (a b : Request) → Asks words a → 
 
 -- words are answered in one way, where the shelf tells the texts that they name
 abbrev pub OneAnswer : Type 0
-OneAnswer = (words : List (List ℕ)) (holds : List ℕ → Option (List ℕ)) (a b : Answer) → Tells words holds → Owes words holds a → Owes words holds b → a ≡ b
+OneAnswer =
+    (words : List (List ℕ)) (holds : Texts) (a b : Answer) → Tells words holds → Owes words holds a → Owes words holds b → a ≡ b

@@ -6,7 +6,8 @@ use Rattle.sheet_model.specs.Sheets.{SheetValue}
 use Rattle.graph_walk.specs.Graphs.{Pair, HoldsReach, HoldsBack}
 use Rattle.edit_log.specs.Pairs.{ArePairsOf}
 
--- the maximal vertical runs of the cells of a window and of all that depend on them in any number of steps, by the pairs of a sheet
+-- the maximal vertical runs of the cells of a window and of all that depend on them in any number of steps, by the
+-- pairs of a sheet
 pub record AreDependents (sheet : SheetValue) (window : Corners) (runs : List Corners) : Type 0 where
   pub pairs : List Pair
   pub of_sheet : ArePairsOf sheet pairs

@@ -7,7 +7,7 @@ use Rattle.csv_sheet.specs.declared.refused.SheetRefused.{SheetRefused}
 use Rattle.sheet_model.specs.Sheets.{SheetValue}
 use Rattle.window_text.specs.Texts.{IsWithinSheet}
 use Rattle.sheet_io.specs.Faults.{Rose}
-use Rattle.sheet_cli.specs.Answers.{Answer, Answers, Owes, Writes}
+use Rattle.sheet_cli.specs.Answers.{Answer, Answers, Owes, Texts, Writes}
 use Rattle.sheet_cli.specs.Answers.Answer.{output, refusal}
 use Rattle.sheet_cli.specs.Lines.{outside_line, read_failed_line, refused_line, too_long_line}
 use Rattle.sheet_cli.specs.Requests.{Request, texts_named}
@@ -38,7 +38,7 @@ pub record IsReadFailure (request : Request) (before after : ℕ) (reply : Reply
   pub reply_is : answer_of reply ≡ refusal 5 (read_failed_line name)
 
 -- a reply to a request over a shelf, whose faults went from a number to another
-abbrev pub RepliesTo : Request → (List ℕ → Option (List ℕ)) → ℕ → ℕ → Reply → Type 0
+abbrev pub RepliesTo : Request → Texts → ℕ → ℕ → Reply → Type 0
 RepliesTo request holds before after reply = IsReadFailure request before after reply ⊎ Answers holds request (answer_of reply)
 
 -- the words ask for something of which a text was not fetched
@@ -52,11 +52,12 @@ pub record IsUnread (words : List (List ℕ)) (before after status : ℕ) (line 
   pub line_is : line ≡ read_failed_line name
 
 -- the words, or a text that they name, are refused
-pub record IsRefusal (words : List (List ℕ)) (holds : List ℕ → Option (List ℕ)) (status : ℕ) (line : List ℕ) : Type 0 where
+pub record IsRefusal (words : List (List ℕ)) (holds : Texts) (status : ℕ) (line : List ℕ) : Type 0 where
   pub status_is : (status ≡ 2) ⊎ (status ≡ 3)
   pub owed : Owes words holds (refusal status line)
 
 -- a reply to words over a shelf, whose faults went from a number to another
-abbrev pub IsOwed : List (List ℕ) → (List ℕ → Option (List ℕ)) → ℕ → ℕ → Reply → Type 0
+abbrev pub IsOwed : List (List ℕ) → Texts → ℕ → ℕ → Reply → Type 0
 IsOwed words holds before after (Output text) = Owes words holds (output text.items)
-IsOwed words holds before after (Refusal status line) = IsUnread words before after status (string_bytes line) ⊎ IsRefusal words holds status (string_bytes line)
+IsOwed words holds before after (Refusal status line) =
+    IsUnread words before after status (string_bytes line) ⊎ IsRefusal words holds status (string_bytes line)

@@ -4,7 +4,7 @@ use Rattle.std.specs.declared.option.Option.{Option}
 use Rattle.std.specs.Io.KnownBytes.{Appends}
 use Rattle.sheet_io.specs.Faults.{Rose}
 use Rattle.sheet_io.specs.Sink.{AppendsPrefix}
-use Rattle.sheet_cli.specs.Answers.{Answer, Owes, Tells, status_of}
+use Rattle.sheet_cli.specs.Answers.{Answer, Owes, Tells, Texts, status_of}
 use Rattle.sheet_cli.specs.Answers.Answer.{output, refusal}
 use Rattle.sheet_cli.specs.Lines.{read_failed_line}
 use Rattle.sheet_cli.specs.Requests.{Request, texts_named}
@@ -17,26 +17,27 @@ IsStatus status = (status ≡ 0) ⊎ ((status ≡ 2) ⊎ ((status ≡ 3) ⊎ ((s
 -- a sink has taken a line whole, or a prefix of it where its faults rose
 abbrev pub TakesLine : {N : Type 0} → (N → Option (List ℕ)) → (N → ℕ) → N → N → List ℕ → Type 0
 TakesLine written faults old new line =
-    Appends (written old) (written new) line ⊎ (Rose (faults old) (faults new) × AppendsPrefix (written old) (written new) line)
+    Appends (written old) (written new) line
+    ⊎ (Rose (faults old) (faults new) × AppendsPrefix (written old) (written new) line)
 
 -- no fault of an object was counted
 abbrev pub IsCalm : {O : Type 0} → (O → ℕ) → O → O → Type 0
 IsCalm faults old new = ¬ Rose (faults old) (faults new)
 
 -- out has gained the whole text that is owed
-pub record HasWritten (words : List (List ℕ)) (holds : List ℕ → Option (List ℕ)) (old new : Option (List ℕ)) : Type 0 where
+pub record HasWritten (words : List (List ℕ)) (holds : Texts) (old new : Option (List ℕ)) : Type 0 where
   pub text : List ℕ
   pub owed : Owes words holds (output text)
   pub gained : Appends old new text
 
 -- out has gained a prefix of the text that is owed
-pub record HasBegun (words : List (List ℕ)) (holds : List ℕ → Option (List ℕ)) (old new : Option (List ℕ)) : Type 0 where
+pub record HasBegun (words : List (List ℕ)) (holds : Texts) (old new : Option (List ℕ)) : Type 0 where
   pub text : List ℕ
   pub owed : Owes words holds (output text)
   pub gained : AppendsPrefix old new text
 
 -- the words, or a text that they name, are refused with this status, and a line of which Noted holds says why
-pub record IsRefused (words : List (List ℕ)) (holds : List ℕ → Option (List ℕ)) (status : ℕ) (Noted : List ℕ → Type 0) : Type 0 where
+pub record IsRefused (words : List (List ℕ)) (holds : Texts) (status : ℕ) (Noted : List ℕ → Type 0) : Type 0 where
   pub line : List ℕ
   pub owed : Owes words holds (refusal status line)
   pub noted : Noted line
@@ -50,11 +51,12 @@ pub record IsUnfetched (words : List (List ℕ)) (Noted : List ℕ → Type 0) :
   pub noted : Noted (read_failed_line name)
 
 -- where the shelf tells the texts that the words name, the status is that of what is owed, or memory ran out
-abbrev pub IsComplete : List (List ℕ) → (List ℕ → Option (List ℕ)) → ℕ → Type 0
+abbrev pub IsComplete : List (List ℕ) → Texts → ℕ → Type 0
 IsComplete words holds status =
     (answer : Answer) → Tells words holds → Owes words holds answer → (status ≡ status_of answer) ⊎ (status ≡ 7)
 
 -- the same of refusals alone
-abbrev pub RefusesAll : List (List ℕ) → (List ℕ → Option (List ℕ)) → ℕ → Type 0
+abbrev pub RefusesAll : List (List ℕ) → Texts → ℕ → Type 0
 RefusesAll words holds status =
-    (given : ℕ) (line : List ℕ) → Tells words holds → Owes words holds (refusal given line) → (status ≡ given) ⊎ (status ≡ 7)
+    (given : ℕ) (line : List ℕ) → Tells words holds → Owes words holds (refusal given line)
+    → (status ≡ given) ⊎ (status ≡ 7)

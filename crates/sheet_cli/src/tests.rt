@@ -8,8 +8,8 @@ const WORKED: &str = "1,=A1+1\n2,=A2+B1\n";
 
 const SHOWN: &str = "sheet 0 A1:B2\n1,2\n2,4\n";
 
-const USAGE: &str =
-    "antifreeze: usage: antifreeze show|deps|precs SHEET RANGE; check SHEET; play|live SHEET SCRIPT; gen NUMBER; --workers N with live, gen\n";
+const USAGE: &str = "antifreeze: usage: antifreeze show|deps|precs SHEET RANGE; check SHEET; \
+    play|live SHEET SCRIPT; gen NUMBER; --workers N with live, gen\n";
 
 const MISSED: &str = "antifreeze: s: read failed\n";
 
@@ -129,6 +129,15 @@ fn a_run_ends_by_its_words_and_its_sheet(rt: HostRuntime) -> Result<(), Fail> {
         (
             "",
             "show s A1:A1",
+            2,
+            "",
+            "antifreeze: range outside the sheet\n",
+        ),
+        (WORKED, "deps s A1", 0, "A1:A1\nB1:B2\n", ""),
+        (WORKED, "precs s B2", 0, "A1:A2\nB1:B2\n", ""),
+        (
+            WORKED,
+            "deps s B3",
             2,
             "",
             "antifreeze: range outside the sheet\n",

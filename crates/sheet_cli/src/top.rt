@@ -31,7 +31,7 @@ pub fn run<F: Shelf, K: Sink, N: Sink>(
         → HasWritten (bytes_of words.now) (F.holds shelf.old) (K.written out.old) (K.written out.new) }
     ensures refused { (result ≡ 2) ⊎ (result ≡ 3)
         → IsRefused (bytes_of words.now) (F.holds shelf.old) result
-            (TakesLine N.written N.faults notes.old notes.new) }
+        (TakesLine N.written N.faults notes.old notes.new) }
     ensures read_failed { result ≡ 5 → Rose (F.faults shelf.old) (F.faults shelf.new) }
     ensures unfetched { result ≡ 5
         → IsUnfetched (bytes_of words.now) (TakesLine N.written N.faults notes.old notes.new) }
