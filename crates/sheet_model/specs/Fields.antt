@@ -1,5 +1,5 @@
 -- What a field of a sheet holds: for each content, the texts that write it.
-use Rattle.std.specs.Prelude.{◌≡◌, ◌≢◌, ◌⊎◌, ℕ, ℤ, pos, neg_ℤ, Bool, List, [], ◌∷◌, slice_get, Some}
+use Rattle.std.specs.Prelude.{◌≡◌, ◌≢◌, ◌⊎◌, ℕ, ℤ, pos, neg_ℤ, Bool, List, [], ◌∷◌, slice_get, Option, Some, MatchOption}
 use Rattle.sheet_refs.specs.Names.{IsDecimal}
 use Rattle.value_core.specs.declared.value.ErrorKind.{ErrorKind}
 use Rattle.value_core.specs.declared.value.ErrorKind.TheVariants.{Name, Circ}
@@ -20,6 +20,17 @@ pub data IsNumberField : List ℕ → ℤ → Type 0 where
 pub record IsErrorField (text : List ℕ) (kind : ErrorKind) : Type 0 where
   pub written : kind ≢ Circ
   pub name : text ≡ error_text kind
+
+-- the number, the truth and the error that a field writes; None exactly where it writes none
+abbrev pub IsNumberOf : List ℕ → Option ℤ → Type 0
+IsNumberOf text result = MatchOption result ((number : ℤ) → ¬ IsNumberField text number) (IsNumberField text)
+
+abbrev pub IsTruthOf : List ℕ → Option Bool → Type 0
+IsTruthOf text result =
+    MatchOption result ((truth : Bool) → ¬ IsSpelt text (truth_text truth)) (λ truth. IsSpelt text (truth_text truth))
+
+abbrev pub IsErrorOf : List ℕ → Option ErrorKind → Type 0
+IsErrorOf text result = MatchOption result ((kind : ErrorKind) → ¬ IsErrorField text kind) (IsErrorField text)
 
 -- a text that begins as a formula does
 abbrev pub BeginsFormula : List ℕ → Type 0

@@ -1,12 +1,9 @@
-ghost use Rattle.std.specs.Prelude.{◌≡◌, ◌≢◌, ◌↔◌, ◌<◌, ◌≤◌, ◌^◌, ◌-◌, ℤ, Bool, [], length, IfOk};
-ghost use Rattle.std.specs.Prelude.{OnOk, OnErr, IsTrue, MatchOption};
-ghost use Rattle.formula_syntax.specs.Lexing.{IsSpelt};
+ghost use Rattle.std.specs.Prelude.{◌≡◌, ◌≢◌, ◌↔◌, ◌<◌, ◌≤◌, ◌^◌, ◌-◌, [], length, IfOk};
+ghost use Rattle.std.specs.Prelude.{OnOk, OnErr, IsTrue};
 ghost use Rattle.formula_syntax.specs.Spelling.{HasTooManyRefs};
-ghost use Rattle.value_core.specs.Values.{truth_text};
-ghost use Rattle.value_core.specs.declared.value.ErrorKind.{ErrorKind as AnError};
 ghost use Rattle.sheet_model.specs.Sheets.{content_value};
-ghost use Rattle.sheet_model.specs.Fields.{IsNumberField, IsErrorField, BeginsFormula, IsContent};
-ghost use Rattle.sheet_model.specs.Fields.{IsDeepFormula, IsTableAfter};
+ghost use Rattle.sheet_model.specs.Fields.{IsNumberOf, IsTruthOf, IsErrorOf, BeginsFormula};
+ghost use Rattle.sheet_model.specs.Fields.{IsContent, IsDeepFormula, IsTableAfter};
 ghost use Rattle.formula_syntax.specs.declared.reader.TheConstants.{MAX_TEXT};
 
 use crate::content::Content;
@@ -40,7 +37,7 @@ impl From<Memory> for ContentRefused {
 
 // The number that a field writes, with or without a sign before its digits.
 fn number_of(field: &[u8]) -> Option<Whole>
-    ensures { MatchOption result ((number : ℤ) → ¬ IsNumberField field.now number) (IsNumberField field.now) }
+    ensures { IsNumberOf field.now result }
 {
     match field.split_first() {
         Some((b'-', digits)) => {
@@ -60,7 +57,7 @@ fn number_of(field: &[u8]) -> Option<Whole>
 
 // The truth that a field writes, in letters of either case.
 fn truth_of(field: &[u8]) -> Option<bool>
-    ensures { MatchOption result ((truth : Bool) → ¬ IsSpelt field.now (truth_text truth)) (λ truth. IsSpelt field.now (truth_text truth)) }
+    ensures { IsTruthOf field.now result }
 {
     if field.eq_ignore_ascii_case(b"TRUE") {
         return Some(true);
@@ -73,7 +70,7 @@ fn truth_of(field: &[u8]) -> Option<bool>
 
 // The error whose name a field is.
 fn error_of(field: &[u8]) -> Option<ErrorKind>
-    ensures { MatchOption result ((kind : AnError) → ¬ IsErrorField field.now kind) (IsErrorField field.now) }
+    ensures { IsErrorOf field.now result }
 {
     match field {
         b"#NULL!" => Some(ErrorKind::Null),

@@ -163,8 +163,10 @@ impl Sheet {
     pub fn read(&mut self, text: &str) -> Result<Content, ContentRefused>
         requires short { length text.now ≤ 8192 }
         requires room { length self.old.labels < 2 ^ 32 - 1 }
-        ensures read { IfOk result (λ content. IsContent self.new.labels text.now (content_value content)) }
-        ensures held { IfOk result (λ content. IsHeld (length self.new.labels) (content_value content)) }
+        ensures read { IfOk result
+            (λ content. IsContent self.new.labels text.now (content_value content)) }
+        ensures held { IfOk result
+            (λ content. IsHeld (length self.new.labels) (content_value content)) }
         ensures table { OnOk result (IsTableAfter text.now self.old.labels self.new.labels) }
         ensures kept { self.new ≡ with_labels self.old self.new.labels }
         ensures refused { OnErr result (self.new ≡ self.old) }

@@ -50,11 +50,16 @@ fn first_stop(sizes: Sizes, words: &[u64], part: Part) -> u64
 {
     let cells = part.range.cells();
     let mut place = part.next;
+    if place >= cells {
+        return place;
+    }
+    let mut cell = part.range.cell_at(place);
     while place < cells {
-        if !is_plain(sizes, words, part.range.cell_at(place)) {
+        if !is_plain(sizes, words, cell) {
             return place;
         }
         place += 1;
+        cell = part.range.cell_behind(cell);
     }
     place
 }
