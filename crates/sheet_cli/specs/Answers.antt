@@ -74,12 +74,14 @@ pub data Owes (words : List (List ℕ)) (holds : Texts) : Answer → Type 0 wher
   -- words that are no command
   usage : AsksNothing words → Owes words holds (refusal 2 usage_line)
   -- words that ask for something
-  answers : (request : Request) (answer : Answer) → Asks words request → Answers holds request answer → Owes words holds answer
+  answers : (request : Request) (answer : Answer) → Asks words request → Answers holds request answer
+      → Owes words holds answer
 
 -- the shelf tells each text that the words name
 abbrev pub Tells : List (List ℕ) → Texts → Type 0
 Tells words holds =
-    (request : Request) → Asks words request → All (λ name. (text : List ℕ) × (holds name ≡ Some text)) (texts_named request)
+    (request : Request) → Asks words request
+    → All (λ name. (text : List ℕ) × (holds name ≡ Some text)) (texts_named request)
 
 -- words ask for at most one thing
 abbrev pub WordsAskForOne : Type 0
@@ -88,4 +90,5 @@ WordsAskForOne = (words : List (List ℕ)) (a b : Request) → Asks words a → 
 -- words are answered in one way, where the shelf tells the texts that they name
 abbrev pub OneAnswer : Type 0
 OneAnswer =
-    (words : List (List ℕ)) (holds : Texts) (a b : Answer) → Tells words holds → Owes words holds a → Owes words holds b → a ≡ b
+    (words : List (List ℕ)) (holds : Texts) (a b : Answer)
+    → Tells words holds → Owes words holds a → Owes words holds b → a ≡ b

@@ -7,7 +7,9 @@ abbrev pub line_end : List ℕ
 line_end = 10 ∷ []
 
 abbrev pub usage_line : List ℕ
-usage_line = codes "antifreeze: usage: antifreeze show|deps|precs SHEET RANGE; check SHEET; play|live SHEET SCRIPT; gen NUMBER; --workers N with live, gen" ++ line_end
+usage_line =
+    codes "antifreeze: usage: antifreeze show|deps|precs SHEET RANGE; check SHEET; "
+    ++ (codes "play|live SHEET SCRIPT; gen NUMBER; --workers N with live, gen" ++ line_end)
 
 abbrev pub outside_line : List ℕ
 outside_line = codes "antifreeze: range outside the sheet" ++ line_end

@@ -28,7 +28,8 @@ pub data AnswersWindow (text : List ℕ) (command : WindowCommand) (window : Cor
   beyond : (sheet : SheetValue) → IsResult text (Ok sheet) → ¬ IsWithinSheet window sheet
       → AnswersWindow text command window (refusal 2 outside_line)
   long : 16777216 < length text → AnswersWindow text command window (refusal 3 too_long_line)
-  unread : (why : SheetRefused) → IsResult text (Err why) → AnswersWindow text command window (refusal 3 (refused_line why))
+  unread : (why : SheetRefused) → IsResult text (Err why)
+      → AnswersWindow text command window (refusal 3 (refused_line why))
 
 -- a text that a request names was not fetched
 pub record IsReadFailure (request : Request) (before after : ℕ) (reply : Reply) : Type 0 where
@@ -39,7 +40,8 @@ pub record IsReadFailure (request : Request) (before after : ℕ) (reply : Reply
 
 -- a reply to a request over a shelf, whose faults went from a number to another
 abbrev pub RepliesTo : Request → Texts → ℕ → ℕ → Reply → Type 0
-RepliesTo request holds before after reply = IsReadFailure request before after reply ⊎ Answers holds request (answer_of reply)
+RepliesTo request holds before after reply =
+    IsReadFailure request before after reply ⊎ Answers holds request (answer_of reply)
 
 -- the words ask for something of which a text was not fetched
 pub record IsUnread (words : List (List ℕ)) (before after status : ℕ) (line : List ℕ) : Type 0 where
