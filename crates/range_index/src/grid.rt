@@ -17,7 +17,7 @@ use std::marker::Model;
 /// The entries of a home have the places from 0 up to its count, and a table has each entry under its home and place;
 /// another has the home and place of each id. A removal puts the last entry of a home into the place that becomes free.
 ///
-/// Costs, as looks into a table: an insert takes four and a removal eight at most, whatever else is there. A query of
+/// Costs, as looks into a table: an insert takes four and a removal six at most, whatever else is there. A query of
 /// one cell takes one for each home near it, which are two where all ranges have one column and up to eight rows, and
 /// never more than twenty, and one for each entry of these.
 #[derive(Drop)]
