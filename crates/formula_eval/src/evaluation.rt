@@ -2,6 +2,7 @@ ghost use Rattle.std.specs.Prelude.{◌≡◌, ◌↔◌, None, IfOk, IfErr, IsE
 ghost use Rattle.value_core.specs.declared.value.Value.TheVariants.{Error};
 ghost use Rattle.value_core.specs.declared.value.ErrorKind.TheVariants.{Circ};
 ghost use Rattle.formula_eval.specs.Meaning.{IsFormulaValue};
+ghost use Rattle.formula_eval.specs.Seen.{IsPlainTree};
 ghost use Rattle.formula_eval.specs.Stops.{IsMissing, stop_cell, stop_code};
 
 use crate::inputs::{Inputs, Missing};
@@ -26,12 +27,21 @@ pub fn eval<I: Inputs>(formula: &Formula, inputs: &I, stack: &mut Stack) -> Resu
     ensures missing { IfErr result
         (λ missing. IsMissing (I.sizes inputs.now) (I.codes inputs.now) formula.now missing.cell) }
 {
-    let root = formula.root();
-    if let Err(stop) = scan(inputs, root) {
+    if let Err(stop) = scan(inputs, formula.root()) {
         return answer_at(stop);
     }
-    let value = value(inputs, root, &mut stack.pending);
-    Ok(never_empty(value))
+    Ok(eval_known(formula, inputs, stack))
+}
+
+/// The same of a formula of which it is known that evaluation can read past each cell of the rectangle that
+/// it names: its value is known, and isn't `#CIRC!`. It looks at each cell at most once each time that the
+/// formula names it.
+pub fn eval_known<I: Inputs>(formula: &Formula, inputs: &I, stack: &mut Stack) -> Value
+    requires { IsPlainTree (I.sizes inputs.now) (I.codes inputs.now) formula.now }
+    ensures { IsFormulaValue (I.sizes inputs.now) (I.codes inputs.now) formula.now result }
+{
+    let value = value(inputs, formula.root(), &mut stack.pending);
+    never_empty(value)
 }
 
 // What evaluation answers at a cell that it can't read past.

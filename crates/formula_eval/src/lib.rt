@@ -21,6 +21,6 @@ mod tally;
 #[cfg(test)]
 mod tests;
 
-pub use evaluation::eval;
+pub use evaluation::{eval, eval_known};
 pub use inputs::{Inputs, Missing};
 pub use stack::Stack;
