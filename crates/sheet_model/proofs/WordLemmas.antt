@@ -3,7 +3,9 @@ use Rattle.std.proofs.Common.{◌≡◌, ◌≢◌, ℕ, zero, suc, ◌<◌, ◌
 use Rattle.std.proofs.lemmas.Bool.Decides.{nat_tests}
 use Rattle.std.proofs.lemmas.List.{map-set}
 use Rattle.std.proofs.lemmas.Option.{slice_get-map, slice_get-get_or, get_or_from_slice_get}
+use Rattle.std.proofs.lemmas.List.Elements.{All-cons, All-nil}
 use Rattle.sheet_refs.specs.Cells.{Position}
+use Rattle.sheet_refs.specs.Ends.{Reference, corners_of}
 use Rattle.sheet_refs.specs.Sizes.{is_inside, cell_count, place_of}
 use Rattle.sheet_refs.proofs.Places.{place-lt}
 use Rattle.sheet_refs.specs.declared.sizes.Sizes.{Sizes}
@@ -12,10 +14,9 @@ use Rattle.value_core.specs.declared.value.Value.{Value}
 use Rattle.value_core.specs.declared.value.Value.TheVariants.{Empty, Number, Truth, Error, Label}
 use Rattle.value_core.specs.Decoding.{value_of_word, value_of_its_code}
 use Rattle.value_core.specs.Values.{IsValue, code_of}
-use Rattle.formula_eval.specs.Inputs.{IsCode}
+use Rattle.formula_eval.specs.Inputs.{IsCode, IsKnownPlain, IsPlainRange, ArePlain}
 use Rattle.formula_eval.specs.Meaning.{is_circular, formula_value, IsNamedBy, IsFormulaValue}
-use Rattle.formula_eval.specs.Stops.{IsMissing}
-use Rattle.formula_syntax.specs.Tree.{Tree, references_of}
+use Rattle.formula_syntax.specs.Tree.{Tree}
 use Rattle.sheet_model.specs.Walks.{known_value, known_values}
 use Rattle.sheet_model.specs.Words.{Unseen, Open, Known, state_of, IsWord, AreWords, states_of, known_code, known_codes, is_plain_state, is_plain}
 use Rattle.sheet_model.proofs.ListLemmas.{slice_get-pushed}
@@ -92,20 +93,6 @@ plain_at sizes words cell place d is below =
 pub known_is_code : (word : ℕ) → IsWord word → word ≢ 5 → word ≢ 6 → IsCode word
 known_is_code word is a b = let code = is (value_of_word word) (state_known word a b) in (value_of_word word, code.0, code.1)
 
--- what is known of a cell that evaluation can read past
-pub plain_code : (sizes : Sizes) (words : List ℕ) (cell : Position) → place_of sizes cell < length words → IsTrue (is_plain sizes (states_of words) cell) → known_codes sizes words cell ≢ None
-plain_code sizes words cell below plain none =
-    let at = plain_at sizes words cell (place_of sizes cell) 0 refl below in
-    by_word (get_or words (place_of sizes cell) 0) (at ∙ plain) none
-  where
-    by_word : (word : ℕ) → is_plain_state (state_of word) ≡ true → known_code word ≢ None
-    by_word word plain = by_tests (word == 5) (word == 6) plain
-      where
-        by_tests : (p q : Bool) → is_plain_state (cond p Unseen (cond q Open (Known (value_of_word word)))) ≡ true → cond p None (cond q None (Some word)) ≢ None
-        by_tests true q is none = cc
-        by_tests false true is none = cc
-        by_tests false false is none = cc
-
 -- the code that is held of a cell is that of its known value
 pub held_value : (sizes : Sizes) (words : List ℕ) (cell : Position) (word : ℕ) → AreWords words → place_of sizes cell < length words → known_codes sizes words cell ≡ Some word → IsValue (known_values sizes (states_of words) cell) × (code_of (known_values sizes (states_of words) cell) ≡ word)
 held_value sizes words cell word are below held =
@@ -163,7 +150,32 @@ pub evaluated : (sizes : Sizes) (words : List ℕ) (tree : Tree) (v : Value) →
 evaluated sizes words tree v are count is =
     is (known_values sizes (states_of words)) (λ cell word named inside held. held_value sizes words cell word are (omega (arith, count, place-lt sizes cell inside)) held)
 
--- no cell is missing where evaluation can read past each
-pub none_missing : (sizes : Sizes) (words : List ℕ) (tree : Tree) (cell : Position) → length words ≡ cell_count sizes → ((c : Position) → IsNamedBy (references_of tree) c → IsTrue (is_inside sizes c) → IsTrue (is_plain sizes (states_of words) c)) → IsMissing sizes (known_codes sizes words) tree cell → ⊥
-none_missing sizes words tree cell count plain missing =
-    plain_code sizes words cell (omega (arith, count, place-lt sizes cell missing.inside)) (plain cell missing.referenced missing.inside) missing.unknown
+-- evaluation can read past a cell of which the words tell so
+pub passes_known : (sizes : Sizes) (words : List ℕ) (cell : Position) → AreWords words → place_of sizes cell < length words → IsTrue (is_plain sizes (states_of words) cell) → IsKnownPlain (known_codes sizes words) cell
+passes_known sizes words cell are below plain =
+    let at = plain_at sizes words cell (place_of sizes cell) 0 refl below in
+    by_word (get_or words (place_of sizes cell) 0) (word_at words (place_of sizes cell) 0 are below) (at ∙ plain)
+  where
+    not_circular : (word : ℕ) → not (is_circular (value_of_word word)) ≡ true → word ≢ code_of (Error error.Circ)
+    not_circular word plain is =
+        let circular = ap (λ v. not (is_circular v)) (ap value_of_word is ∙ value_of_its_code (Error error.Circ) tt) in
+        cc
+
+    by_tests : (word : ℕ) → IsWord word → (p q : Bool) → (word == 5) ≡ p → (word == 6) ≡ q → is_plain_state (cond p Unseen (cond q Open (Known (value_of_word word)))) ≡ true → (known : ℕ) × IsCode known × (cond p None (cond q None (Some word)) ≡ Some known) × (known ≢ code_of (Error error.Circ))
+    by_tests word is true q is_p is_q plain = absurd (cc)
+    by_tests word is false true is_p is_q plain = absurd (cc)
+    by_tests word is false false is_p is_q plain =
+        (word, known_is_code word is (grind (arith, nat_tests)) (grind (arith, nat_tests)), refl, not_circular word plain)
+
+    by_word : (word : ℕ) → IsWord word → is_plain_state (state_of word) ≡ true → (known : ℕ) × IsCode known × (known_code word ≡ Some known) × (known ≢ code_of (Error error.Circ))
+    by_word word is plain = by_tests word is (word == 5) (word == 6) refl refl plain
+
+-- and so past the ranges of references of all whose cells in the rectangle they tell so
+pub plain_references : (sizes : Sizes) (words : List ℕ) (references : List Reference) → AreWords words → length words ≡ cell_count sizes → ((cell : Position) → IsNamedBy references cell → IsTrue (is_inside sizes cell) → IsTrue (is_plain sizes (states_of words) cell)) → ArePlain sizes (known_codes sizes words) references
+plain_references sizes words [] are count plain = All-nil (λ (r : Reference). IsPlainRange sizes (known_codes sizes words) (corners_of r))
+plain_references sizes words (r ∷ rest) are count plain =
+    All-cons (λ (r : Reference). IsPlainRange sizes (known_codes sizes words) (corners_of r)) r rest
+    (record {
+      plain = λ cell inside held. passes_known sizes words cell are (omega (arith, count, place-lt sizes cell held)) (plain cell (record { through = r; place = 0; listed = refl; inside = inside }) held);
+    })
+    (plain_references sizes words rest are count (λ cell named held. plain cell (record { through = named.through; place = suc named.place; listed = named.listed; inside = named.inside }) held))

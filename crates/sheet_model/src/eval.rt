@@ -13,7 +13,7 @@ use crate::content::Content;
 use crate::known::Known;
 use crate::parts::{Part, add_parts};
 use crate::words::UNSEEN;
-use formula_eval::{Stack, eval};
+use formula_eval::{Stack, eval_known};
 use sheet_refs::Sizes;
 use std::alloc::{AllocError, Global};
 use value_core::{Value, code};
@@ -75,8 +75,5 @@ pub(crate) fn evaluate(sizes: Sizes, words: &[u64], content: &Content, stack: &m
         return first_word(content);
     };
     let known = Known::new(sizes, words);
-    match eval(formula, &known, stack) {
-        Ok(value) => code(value),
-        Err(_) => unreachable!(),
-    }
+    code(eval_known(formula, &known, stack))
 }

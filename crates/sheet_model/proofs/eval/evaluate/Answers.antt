@@ -1,13 +1,20 @@
 use Rattle.std.proofs.Common.{◌∙◌, ap, subst, sym}
+use Rattle.formula_syntax.specs.Tree.{references_of}
 use Rattle.sheet_model.specs.Words.{IsWord, Known, state_of}
-use Rattle.sheet_model.proofs.WordLemmas.{state_of_code, code_is_word, evaluated}
+use Rattle.sheet_model.proofs.WordLemmas.{state_of_code, code_is_word, evaluated, plain_references}
 use Rattle.sheet_model.proofs.eval.evaluate.Goals as goal
+
+pub eval_known-requires : goal.eval_known-requires
+eval_known-requires c =
+    let plain = rw c.in-Formula.is at c.requires.plain in
+    rw (c.new-known.ensures.sizes, c.new-known.ensures.words, c.deref.ensures)
+    (plain_references c.args.sizes c.args.words.now (references_of c.in-Formula.formula.value) c.requires.words c.requires.count plain)
 
 pub returns-clause-state : goal.returns-clause-state
 returns-clause-state c =
-    let means = rw (c.new-known.ensures.sizes, c.new-known.ensures.words, c.deref.ensures) at c.in-Ok.ensures.value in
-    let same = evaluated c.args.sizes c.args.words.now c.in-Formula.formula.value c.in-Ok.value c.requires.words c.requires.count means in
-    rw c.in-Formula.is (ap state_of c.code.ensures.code ∙ state_of_code c.in-Ok.value c.code.ensures.value ∙ ap Known same)
+    let means = rw (c.new-known.ensures.sizes, c.new-known.ensures.words, c.deref.ensures) at c.eval_known.ensures in
+    let same = evaluated c.args.sizes c.args.words.now c.in-Formula.formula.value c.eval_known.result c.requires.words c.requires.count means in
+    rw c.in-Formula.is (ap state_of c.code.ensures.code ∙ state_of_code c.eval_known.result c.code.ensures.value ∙ ap Known same)
 
 pub returns-clause-word : goal.returns-clause-word
-returns-clause-word c = subst IsWord (sym c.code.ensures.code) (code_is_word c.in-Ok.value c.code.ensures.value)
+returns-clause-word c = subst IsWord (sym c.code.ensures.code) (code_is_word c.eval_known.result c.code.ensures.value)
