@@ -66,35 +66,31 @@ record Near (edge : EdgeValue) (before behind index : ℕ) : Type 0 where
 pair_here : (edge : EdgeValue) (index : ℕ) → index < run_length edge → IsPair edge (range_at edge index) (run_cell edge index)
 pair_here edge index within = record { index = index; within = within; cell_is = refl; range_is = refl }
 
-near_before : (edge : EdgeValue) → AllReferBefore edge → (index : ℕ) → index < run_length edge → Near edge 1 0 index
-near_before edge refers index within =
+-- a range of one cell in the line of the run
+near_from : (edge : EdgeValue) (before behind index : ℕ) → (range_at edge index).head ≡ (range_at edge index).tail → along (axis_of edge.dep) (range_at edge index).head + before ≡ along (axis_of edge.dep) (run_cell edge index) + behind → across (axis_of edge.dep) (range_at edge index).head ≡ across (axis_of edge.dep) (run_cell edge index) → Near edge before behind index
+near_from edge before behind index one at in_line =
     let axis = axis_of edge.dep in
     let range = spans axis edge index in
-    let (one, next) = refers (range_at edge index) (run_cell edge index) (pair_here edge index within) in
-    let step = next.one_on in
     let head = range.head in
     let line = cell_line edge index in
     record {
       one = sym range.head ∙ ap (along axis) one ∙ range.tail;
-      at = omega (arith, step, head, line);
-      left = sym range.left ∙ sym next.same_line ∙ cell_across edge index;
-      right = sym range.right ∙ ap (across axis) (sym one) ∙ sym next.same_line ∙ cell_across edge index;
+      at = omega (arith, at, head, line);
+      left = sym range.left ∙ in_line ∙ cell_across edge index;
+      right = sym range.right ∙ ap (across axis) (sym one) ∙ in_line ∙ cell_across edge index;
     }
+
+near_before : (edge : EdgeValue) → AllReferBefore edge → (index : ℕ) → index < run_length edge → Near edge 1 0 index
+near_before edge refers index within =
+    let (one, next) = refers (range_at edge index) (run_cell edge index) (pair_here edge index within) in
+    let step = next.one_on in
+    near_from edge 1 0 index one (omega (arith, step)) (sym next.same_line)
 
 near_behind : (edge : EdgeValue) → AllReferBehind edge → (index : ℕ) → index < run_length edge → Near edge 0 1 index
 near_behind edge refers index within =
-    let axis = axis_of edge.dep in
-    let range = spans axis edge index in
     let (one, next) = refers (range_at edge index) (run_cell edge index) (pair_here edge index within) in
     let step = next.one_on in
-    let head = range.head in
-    let line = cell_line edge index in
-    record {
-      one = sym range.head ∙ ap (along axis) one ∙ range.tail;
-      at = omega (arith, step, head, line);
-      left = sym range.left ∙ next.same_line ∙ cell_across edge index;
-      right = sym range.right ∙ ap (across axis) (sym one) ∙ next.same_line ∙ cell_across edge index;
-    }
+    near_from edge 0 1 index one (omega (arith, step)) next.same_line
 
 -- an edge whose first and last ranges are such is a chain, as no other pattern's are
 chain_of : (edge : EdgeValue) → IsEdge edge → (before behind : ℕ) → (before ≡ 1 × behind ≡ 0) ⊎ (before ≡ 0 × behind ≡ 1) → (pattern : Pattern) → edge.pattern ≡ pattern → IsShapeOf (axis_of edge.dep) pattern edge → pattern ≢ Single → Near edge before behind 0 → Near edge before behind (run_length edge - 1) → pattern ≡ Chain

@@ -42,8 +42,8 @@ impl Pattern {
 
 /// A run of cells, one cell wide, whose references follow a pattern.
 ///
-/// Contracts see an edge as its three parts (`EdgeValue`), of which the type keeps that they are an edge (`IsEdge`), and
-/// as the pairs of a range and a cell for which it stands (`IsPair`).
+/// Contracts see an edge as its three parts (`EdgeValue`), of which the type keeps that they are an edge
+/// (`IsEdge`), and as the pairs of a range and a cell for which it stands (`IsPair`).
 #[derive(Clone, Copy, Debug, PartialEq, Eq)]
 pub struct Edge {
     dep: Range,

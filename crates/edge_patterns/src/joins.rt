@@ -11,8 +11,9 @@ use crate::axis::Axis;
 use crate::edge::{Edge, Pattern};
 use sheet_refs::Range;
 
-/// The one edge with exactly the pairs of two edges whose runs are neighbours in one line, in constant time. None exactly
-/// where the runs aren't neighbours, or no edge has these pairs. The order of the two doesn't matter.
+/// The one edge with exactly the pairs of two edges whose runs are neighbours in one line, in constant time.
+/// None exactly where the runs aren't neighbours, or no edge has these pairs. The order of the two doesn't
+/// matter.
 pub fn join(a: &Edge, b: &Edge) -> Option<Edge>
     ensures joined { Finds result (IsJoin a.now b.now) }
     ensures either_order { Finds result (IsJoin b.now a.now) }

@@ -2,11 +2,12 @@ ghost use Rattle.edge_patterns.specs.Laws.{CellsHaveOneRange, RunsHaveRanges, Si
 ghost use Rattle.edge_patterns.specs.Laws.{RangesAreOrdered, RectanglesHaveTheRanges, RunsAreAsked};
 ghost use Rattle.edge_patterns.specs.Laws.{ChainsReferToNeighbours, PairsTellTheEdge, UnionsAreOne};
 
-/// What holds of edges: each cell of a run has one range, and no other cell has any; a `Single` has its one pair; no range
-/// has its head past its tail, and the rectangle has exactly the cells of the ranges; a query refers to some cell exactly
-/// where it shares one with the run; the chains of several cells are the edges whose cells all refer to the one before
-/// them, or all to the next; edges with the same pairs are the same in all three parts, so no two patterns fit one set of
-/// pairs; and two edges have one union, in whatever order.
+/// What holds of edges: each cell of a run has one range, and no other cell has any; a `Single` has its one
+/// pair; no range has its head past its tail, and the rectangle has exactly the cells of the ranges; a query
+/// refers to some cell exactly where it shares one with the run; the chains of several cells are the edges
+/// whose cells all refer to the one before them, or all to the next; edges with the same pairs are the same
+/// in all three parts, so no two patterns fit one set of pairs; and two edges have one union, in whatever
+/// order.
 pub fn edge_laws()
     ensures cells_have_one_range { CellsHaveOneRange }
     ensures runs_have_ranges { RunsHaveRanges }

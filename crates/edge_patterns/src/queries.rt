@@ -90,8 +90,8 @@ pub fn direct(e: &Edge, q: Range) -> Option<Range>
     Some(e.cells(hit.from, hit.to))
 }
 
-/// The cells that the edge's own pairs reach from the query, in constant time: for a Chain in one or more steps, and for
-/// the other patterns as `direct`. None exactly where there is none.
+/// The cells that the edge's own pairs reach from the query, in constant time: for a Chain in one or more
+/// steps, and for the other patterns as `direct`. None exactly where there is none.
 pub fn spread(e: &Edge, q: Range) -> Option<Range>
     ensures chain { e.now.pattern ≡ Chain → Covers result (IsSpreadTo e.now q) }
     ensures others { e.now.pattern ≢ Chain → Covers result (IsDirect e.now q) }

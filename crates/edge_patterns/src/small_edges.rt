@@ -142,7 +142,8 @@ fn agrees(edge: &Edge, pairs: &[Pair], query: &Area) -> bool {
         && cells_in(back(edge, query.range)) == behind
 }
 
-// Whether each cell can be taken out of an edge, so that the parts stand for the pairs before it and for those after it.
+// Whether each cell can be taken out of an edge, so that the parts stand for the pairs before it and for
+// those after it.
 fn splits(edge: &Edge, pairs: &[Pair]) -> bool {
     for (index, pair) in pairs.iter().enumerate() {
         if !edge.dep().contains(pair.cell) {
