@@ -8,8 +8,8 @@
 //!
 //! The words after a command's name are read with the kit's `clap`, once it is known that none of them is
 //! written as an option. Below stand `csv_sheet`, which reads sheets, `sheet_model`, which computes values,
-//! `window_text`, which prints them, and `sheet_io`, through which all input and output goes; above stands
-//! the program's `main`.
+//! `edit_log`, `plain_graph` and `graph_walk`, by which dependents and precedents are found, `window_text`,
+//! which prints, and `sheet_io`, through which all input and output goes; above stands the program's `main`.
 #![tactic(auto)]
 
 mod laws;
