@@ -1,0 +1,10 @@
+pub mod FindLemmas
+pub mod LineLemmas
+pub mod NameLemmas
+pub mod OrderLemmas
+pub mod ReadLemmas
+pub mod SpaceLemmas
+pub mod StateLemmas
+pub mod TableLemmas
+pub mod TakeLemmas
+pub mod WayLemmas

@@ -1,0 +1,21 @@
+//! Scripts: edits and looks of several clients, a line each.
+//!
+//! What a line says is a relation with a case a kind of line (`specs/Lines.antt`); lines are those of the
+//! kit's `bstr`, without the LF or CR LF that ends them. What lines bring is counted from the first on: the
+//! clients, the edits and the cells of windows. A text has one answer, a script or the first line that is
+//! refused, by the first of its causes (`specs/Scripts.antt`), and `read_script` gives it.
+//!
+//! Below stand `sheet_refs`, `sheet_model` and the kit's `bstr`; the program stands above.
+#![tactic(auto)]
+
+mod line;
+mod progress;
+mod reading;
+mod refused;
+mod script;
+#[cfg(test)]
+mod tests;
+
+pub use reading::read_script;
+pub use refused::ScriptRefused;
+pub use script::{Command, Mode, Script, Step};

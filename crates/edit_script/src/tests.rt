@@ -1,0 +1,80 @@
+// What no clause says: that scripts are read as a person expects. The expected values were worked out by hand.
+use crate::{Command, Mode, Script, ScriptRefused, read_script};
+use sheet_model::Sheet;
+use std::alloc::Global;
+use std::fmt::Write;
+use std::test::Fail;
+
+// Each step of a script, in one letter a command behind the client's place, and the names.
+fn shown(alloc: Global, script: &Script) -> Result<String, Fail> {
+    let mut text = String::new(alloc);
+    for name in script.names() {
+        write!(text, "{name} ")?;
+    }
+    for step in script.steps() {
+        match &step.command {
+            Command::Put(edit) => write!(text, "[{} put {}]", step.client, edit.change.cell)?,
+            Command::Look(range) => write!(text, "[{} look {range}]", step.client)?,
+            Command::Firm(range) => write!(text, "[{} firm {range}]", step.client)?,
+            Command::Work(turns) => write!(text, "[{} work {turns}]", step.client)?,
+        }
+    }
+    Ok(text)
+}
+
+#[test]
+fn scripts_have_clients_and_steps(rt: HostRuntime) -> Result<(), Fail> {
+    let alloc = rt.alloc();
+    for (text, wanted) in [
+        ("", ""),
+        ("\n# a note\r\n", ""),
+        (
+            "look A1\nclient ann\nset B2 x\n",
+            "main ann [0 look A1:A1][1 put B2]",
+        ),
+        (
+            "client bob\nclient ann\r\nclear A1\nclient bob\nfirm b2:a1\nwork 0000010",
+            "bob ann [1 put A1][0 firm A1:B2][0 work 10]",
+        ),
+        ("client main\nwork 1\n", "main [0 work 1]"),
+    ] {
+        let mut sheet = Sheet::blank(alloc, 2, 2)?;
+        let Ok(script) = read_script(alloc, text.as_bytes(), Mode::Play, &mut sheet) else {
+            return Err(Fail::from("refused"));
+        };
+        assert_eq!(rt; shown(alloc, &script)?.as_str(), wanted, "{text}");
+    }
+    Ok(())
+}
+
+#[test]
+fn the_first_fault_decides(rt: HostRuntime) -> Result<(), Fail> {
+    let alloc = rt.alloc();
+    for (text, mode, wanted) in [
+        (
+            &b"look A1\nloook A1"[..],
+            Mode::Play,
+            ScriptRefused::BadLine(2),
+        ),
+        (b"work 1", Mode::Live, ScriptRefused::BadLine(1)),
+        (b"set A1", Mode::Live, ScriptRefused::BadLine(1)),
+        (
+            b"\n#\xFF\r\nset A1 \xFF",
+            Mode::Live,
+            ScriptRefused::BadLine(3),
+        ),
+        (b"set C1 1", Mode::Live, ScriptRefused::OutOfSheet(1)),
+        (
+            b"look A1:C1\nlook",
+            Mode::Live,
+            ScriptRefused::OutOfSheet(1),
+        ),
+    ] {
+        let mut sheet = Sheet::blank(alloc, 2, 2)?;
+        assert_eq!(rt;
+            read_script(alloc, text, mode, &mut sheet).err(),
+            Some(wanted)
+        );
+    }
+    Ok(())
+}
