@@ -191,8 +191,8 @@ pub record IsScript (mode : Mode) (sizes : Sizes) (old new : List (List ℕ)) (t
   pub steps : AreSteps new lines script.steps
   pub labels : AddsLabels (set_texts lines) old new
 
--- the first line that is refused, and why
-pub record IsFirstFault (mode : Mode) (sizes : Sizes) (text : List ℕ) (why : ScriptRefused) : Type 0 where
+-- the first line that is refused, and why; the labels after it are those of the lines before it
+pub record IsFirstFault (mode : Mode) (sizes : Sizes) (old new : List (List ℕ)) (text : List ℕ) (why : ScriptRefused) : Type 0 where
   pub before : List (List ℕ)
   pub line : List ℕ
   pub behind : List (List ℕ)
@@ -201,11 +201,12 @@ pub record IsFirstFault (mode : Mode) (sizes : Sizes) (text : List ℕ) (why : S
   pub said : AreLines mode sizes before lines
   pub number : line_number why ≡ length before + 1
   pub fault : IsFault mode sizes (brought_by lines) line why
+  pub labels : AddsLabels (set_texts lines) old new
 
 -- what a text gives: a script and the labels after it, or the first refusal
 abbrev pub IsResult : Mode → Sizes → List (List ℕ) → List (List ℕ) → List ℕ → Result ScriptValue ScriptRefused → Type 0
 IsResult mode sizes old new text (Ok script) = IsScript mode sizes old new text script
-IsResult mode sizes old new text (Err why) = IsFirstFault mode sizes text why
+IsResult mode sizes old new text (Err why) = IsFirstFault mode sizes old new text why
 
 -- the names of a script are distinct, and each of its steps belongs to one of them
 pub record IsWhole (script : ScriptValue) : Type 0 where

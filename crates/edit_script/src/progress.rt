@@ -1,5 +1,6 @@
 ghost use Rattle.std.specs.Prelude.{◌≡◌, ◌≢◌, ◌⊎◌, ◌<◌, ◌≤◌, ◌+◌, ◌-◌, ◌^◌, ◌∷◌, ◌++◌, [], length, map};
-ghost use Rattle.std.specs.Prelude.{string_bytes, slice_get, Some, Contains, IfOk, IfErr, OnOk, OnErr, MatchOption, IsTrue};
+ghost use Rattle.std.specs.Prelude.{string_bytes, slice_get, Some, Contains, MatchOption, IsTrue};
+ghost use Rattle.std.specs.Prelude.{IfOk, IfErr, OnOk, OnErr};
 ghost use Rattle.sheet_refs.specs.Sizes.{is_inside};
 ghost use Rattle.sheet_model.specs.Fields.{IsContent, IsTableAfter};
 ghost use Rattle.sheet_model.specs.Labels.{with_label};
@@ -88,6 +89,7 @@ impl Progress {
             sheet.old.labels self.old sheet.new.labels self.new) }
         ensures fault { IfErr result (λ why. why ≢ refused.Memory → (line_number why ≡ number)
             × IsLineFault sheet.old.sizes (brought self.old) (line_value line.now) why) }
+        ensures same { IfErr result (λ why. why ≢ refused.Memory → sheet.new ≡ sheet.old) }
         ensures kept { sheet.new ≡ with_labels sheet.old sheet.new.labels }
         ensures grown { Extends sheet.old.labels sheet.new.labels }
     {
@@ -113,6 +115,7 @@ impl Progress {
             sheet.old.labels self.old sheet.new.labels self.new) }
         ensures fault { IfErr result (λ why. why ≢ refused.Memory → (line_number why ≡ number)
             × IsLineFault sheet.old.sizes (brought self.old) (line_value line.now) why) }
+        ensures same { IfErr result (λ why. why ≢ refused.Memory → sheet.new ≡ sheet.old) }
         ensures kept { sheet.new ≡ with_labels sheet.old sheet.new.labels }
         ensures grown { Extends sheet.old.labels sheet.new.labels }
     {
@@ -316,6 +319,7 @@ impl Progress {
         requires short { length text.now ≤ 8192 }
         requires room { length sheet.old.labels < 2 ^ 32 - 1 }
         ensures refused { IfErr result (λ why. why ≢ refused.Memory → IsTextFault text.now number why) }
+        ensures same { IfErr result (λ why. why ≢ refused.Memory → sheet.new ≡ sheet.old) }
         ensures sound { OnOk result (IsSound self.new) }
         ensures brought { OnOk result (brought self.new
             ≡ with_edit (with_client (brought self.old) (brought self.old).client)) }

@@ -78,3 +78,27 @@ fn the_first_fault_decides(rt: HostRuntime) -> Result<(), Fail> {
     }
     Ok(())
 }
+
+// A line that names a client, for each number up to this one.
+fn naming(alloc: Global, clients: u32) -> Result<String, Fail> {
+    let mut text = String::new(alloc);
+    for client in 0..clients {
+        writeln!(text, "client c{client}")?;
+    }
+    Ok(text)
+}
+
+#[test]
+fn limits_are_told_at_their_lines(rt: HostRuntime) -> Result<(), Fail> {
+    let alloc = rt.alloc();
+    let mut sheet = Sheet::blank(alloc, 100_000, 1)?;
+    let window = read_script(alloc, b"look A1:A65537", Mode::Live, &mut sheet);
+    assert_eq!(rt; window.err(), Some(ScriptRefused::WindowTooLarge(1)));
+    let named = naming(alloc, 33)?;
+    if named.len() > 16_777_216 || sheet.labels().length() > 3_000_000_000 {
+        return Err(Fail::from("a longer text"));
+    }
+    let clients = read_script(alloc, named.as_bytes(), Mode::Live, &mut sheet);
+    assert_eq!(rt; clients.err(), Some(ScriptRefused::TooManyClients(33)));
+    Ok(())
+}
