@@ -15,6 +15,9 @@ pub(crate) enum Item {
 }
 
 /// What an item adds to the sequence of a function: a number, nothing or an error. A truth adds 0 or 1.
+///
+/// It is a part of the loop over the cells of a range.
+#[inline(always)]
 pub(crate) fn contribution(function: Function, item: Item) -> Result<Option<Whole>, ErrorKind>
     ensures { result ≡ contribution_of function item }
 {
