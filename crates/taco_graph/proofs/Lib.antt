@@ -1,0 +1,6 @@
+mod StoreLemmas
+mod AnswerLemmas
+mod GraphLemmas
+mod ChainLemmas
+mod ChangeLemmas
+mod ReplaceLemmas

@@ -1,0 +1,156 @@
+-- What is stored after an edge has come or gone.
+use Rattle.std.proofs.Common.{◌≡◌, ◌≢◌, ◌⊎◌, inl, inr, ℕ, List, [], Option, Some, None, Contains, refl, sym, ◌∙◌, ap, subst, arith}
+use Rattle.std.proofs.lemmas.Bool.{cases_eq}
+use Rattle.std.proofs.lemmas.Option.{same_Some, none-some}
+use Rattle.std.proofs.lemmas.List.Elements.{Contains-append_right}
+use Rattle.std.specs.Prelude.{Result, Ok, Err, OnOk}
+use Rattle.sheet_refs.specs.Cells.{Position, Corners}
+use Rattle.sheet_refs.specs.Rectangles.{Overlap}
+use Rattle.edge_patterns.specs.Edges.{EdgeValue, IsEdge, IsPair}
+use Rattle.range_index.specs.Entries.{Entry, entry_of, HasNoId, SameEntries, Inserts, Removes, AddsOverlapping}
+use Rattle.taco_graph.specs.Pairs.{AreApart}
+use Rattle.taco_graph.specs.Stores.{edge_at, IsKept, IsKeptPair, IsApart, IsFiled, FilesAll, AreStored, Puts, NamesOverlapping, LeavesApart}
+
+-- an edge that is there after one was taken out was there before, under another key
+pub still_here : (old new : List (Option EdgeValue)) (taken key : ℕ) (edge : EdgeValue) → Puts old new taken None → edge_at new key ≡ Some edge → (key ≢ taken) × (edge_at old key ≡ Some edge)
+still_here old new taken key edge puts here = elim (cases_eq key taken) [
+  | inl same ↦ absurd (none-some edge (sym puts.changed ∙ (ap (edge_at new) (sym same) ∙ here)))
+  | inr other ↦ (other, sym (puts.others key other) ∙ here)
+]
+
+-- an edge that is there after one has come is that one, or was there before under another key
+pub here_more : (old new : List (Option EdgeValue)) (came key : ℕ) (one edge : EdgeValue) → Puts old new came (Some one) → edge_at new key ≡ Some edge → ((key ≡ came) × (edge ≡ one)) ⊎ ((key ≢ came) × (edge_at old key ≡ Some edge))
+here_more old new came key one edge puts here = elim (cases_eq key came) [
+  | inl same ↦ inl (same, same_Some edge one (sym here ∙ (ap (edge_at new) same ∙ puts.changed)))
+  | inr other ↦ inr (other, sym (puts.others key other) ∙ here)
+]
+
+-- an edge doesn't stand under a key that is free
+pub not_free : (slots : List (Option EdgeValue)) (free key : ℕ) (edge : EdgeValue) → edge_at slots free ≡ None → edge_at slots key ≡ Some edge → key ≢ free
+not_free slots free key edge none here same = none-some edge (sym none ∙ (ap (edge_at slots) (sym same) ∙ here))
+
+same_entry : (entry : Entry) (id : ℕ) (range : Corners) → entry.id ≡ id → entry.range ≡ range → entry ≡ entry_of id range
+same_entry entry id range same_id same_range = rw (← same_id, ← same_range) refl
+
+-- ---- nothing is stored
+
+pub none_stored : (runs rectangles : List Entry) → runs ≡ [] → rectangles ≡ [] → AreStored [] runs rectangles
+none_stored runs rectangles no_run no_rectangle = record {
+  edges = λ edge kept. absurd (none-some edge kept.here);
+  apart = λ key other a b differ here there. absurd (none-some a here);
+  runs_filed = rw no_run (none_filed (λ edge. edge.dep));
+  rectangles_filed = rw no_rectangle (none_filed (λ edge. edge.prec));
+}
+  where
+    none_filed : (side : EdgeValue → Corners) → FilesAll [] side []
+    none_filed side entry = (λ listed. absurd (omega (arith, listed.1)), λ filed. absurd (none-some filed.edge filed.here))
+
+-- ---- the same is stored
+
+pub same_stored : (slots : List (Option EdgeValue)) (runs new_runs rectangles new_rectangles : List Entry) → SameEntries runs new_runs → SameEntries rectangles new_rectangles → AreStored slots runs rectangles → AreStored slots new_runs new_rectangles
+same_stored slots runs new_runs rectangles new_rectangles same_runs same_rectangles stored = record {
+  edges = stored.edges;
+  apart = stored.apart;
+  runs_filed = same_filed (λ edge. edge.dep) runs new_runs same_runs stored.runs_filed;
+  rectangles_filed = same_filed (λ edge. edge.prec) rectangles new_rectangles same_rectangles stored.rectangles_filed;
+}
+  where
+    same_filed : (side : EdgeValue → Corners) (entries more : List Entry) → SameEntries entries more → FilesAll slots side entries → FilesAll slots side more
+    same_filed side entries more same files entry = (λ there. (files entry).0 ((same entry).0 there), λ filed. (same entry).1 ((files entry).1 filed))
+
+-- ---- one edge less
+
+filed_less : (old new : List (Option EdgeValue)) (side : EdgeValue → Corners) (entries less : List Entry) (key : ℕ) → Puts old new key None → Removes entries less key → FilesAll old side entries → FilesAll new side less
+filed_less old new side entries less key puts removes files entry = (to, from)
+  where
+    to : Contains less entry → IsFiled new side entry
+    to there =
+        let was = (removes entry).0 there in
+        let filed = (files entry).0 was.1 in
+        record { edge = filed.edge; here = puts.others entry.id was.0 ∙ filed.here; range_is = filed.range_is }
+
+    from : IsFiled new side entry → Contains less entry
+    from filed =
+        let was = still_here old new key entry.id filed.edge puts filed.here in
+        (removes entry).1 (was.0, (files entry).1 (record { edge = filed.edge; here = was.1; range_is = filed.range_is }))
+
+pub stored_less : (old new : List (Option EdgeValue)) (runs less_runs rectangles less_rectangles : List Entry) (key : ℕ) → Puts old new key None → Removes runs less_runs key → Removes rectangles less_rectangles key → AreStored old runs rectangles → AreStored new less_runs less_rectangles
+stored_less old new runs less_runs rectangles less_rectangles key puts run_gone rectangle_gone stored = record {
+  edges = λ edge kept. stored.edges edge (record { key = kept.key; here = (still_here old new key kept.key edge puts kept.here).1 });
+  apart = λ k other a b differ here there. stored.apart k other a b differ (still_here old new key k a puts here).1 (still_here old new key other b puts there).1;
+  runs_filed = filed_less old new (λ edge. edge.dep) runs less_runs key puts run_gone stored.runs_filed;
+  rectangles_filed = filed_less old new (λ edge. edge.prec) rectangles less_rectangles key puts rectangle_gone stored.rectangles_filed;
+}
+
+-- ---- one edge more
+
+filed_more : (old new : List (Option EdgeValue)) (side : EdgeValue → Corners) (entries more : List Entry) (key : ℕ) (one : EdgeValue) → edge_at old key ≡ None → Puts old new key (Some one) → Inserts entries more key (side one) → FilesAll old side entries → FilesAll new side more
+filed_more old new side entries more key one free puts inserts files entry = (to, from)
+  where
+    to : Contains more entry → IsFiled new side entry
+    to there = elim ((inserts entry).0 there) [
+      | inl was ↦
+          let filed = (files entry).0 was in
+          record { edge = filed.edge; here = puts.others entry.id (not_free old key entry.id filed.edge free filed.here) ∙ filed.here; range_is = filed.range_is }
+      | inr is ↦ subst (IsFiled new side) (sym is) (record { edge = one; here = puts.changed; range_is = refl })
+    ]
+
+    from : IsFiled new side entry → Contains more entry
+    from filed = (inserts entry).1 (elim (here_more old new key entry.id one filed.edge puts filed.here) [
+      | inl (same, is) ↦ inr (same_entry entry key (side one) same (filed.range_is ∙ ap side is))
+      | inr (other, was) ↦ inl ((files entry).1 (record { edge = filed.edge; here = was; range_is = filed.range_is }))
+    ])
+
+pub stored_more : (old new : List (Option EdgeValue)) (runs more_runs rectangles more_rectangles : List Entry) (key : ℕ) (one : EdgeValue) → edge_at old key ≡ None → Puts old new key (Some one) → IsEdge one → IsApart old one → Inserts runs more_runs key one.dep → Inserts rectangles more_rectangles key one.prec → AreStored old runs rectangles → AreStored new more_runs more_rectangles
+stored_more old new runs more_runs rectangles more_rectangles key one free puts is_edge away run_came rectangle_came stored = record {
+  edges = edges;
+  apart = apart;
+  runs_filed = filed_more old new (λ edge. edge.dep) runs more_runs key one free puts run_came stored.runs_filed;
+  rectangles_filed = filed_more old new (λ edge. edge.prec) rectangles more_rectangles key one free puts rectangle_came stored.rectangles_filed;
+}
+  where
+    edges : (edge : EdgeValue) → IsKept new edge → IsEdge edge
+    edges edge kept = elim (here_more old new key kept.key one edge puts kept.here) [
+      | inl (same, is) ↦ subst IsEdge (sym is) is_edge
+      | inr (other, was) ↦ stored.edges edge (record { key = kept.key; here = was })
+    ]
+
+    kept_pair : (k : ℕ) (edge : EdgeValue) (range : Corners) (cell : Position) → edge_at old k ≡ Some edge → IsPair edge range cell → IsKeptPair old range cell
+    kept_pair k edge range cell here pair = record { edge = edge; kept = record { key = k; here = here }; pair = pair }
+
+    apart : (k other : ℕ) (a b : EdgeValue) → k ≢ other → edge_at new k ≡ Some a → edge_at new other ≡ Some b → AreApart a b
+    apart k other a b differ here there range cell of_a of_b = elim (here_more old new key k one a puts here) [
+      | inl (same, is) ↦ elim (here_more old new key other one b puts there) [
+        | inl (same_other, is_other) ↦ differ (same ∙ sym same_other)
+        | inr (not_came, was) ↦ away range cell (subst (λ (e : EdgeValue). IsPair e range cell) is of_a) (kept_pair other b range cell was of_b)
+      ]
+      | inr (not_came, was) ↦ elim (here_more old new key other one b puts there) [
+        | inl (same_other, is_other) ↦ away range cell (subst (λ (e : EdgeValue). IsPair e range cell) is_other of_b) (kept_pair k a range cell was of_a)
+        | inr (not_other, was_other) ↦ stored.apart k other a b differ was was_other range cell of_a of_b
+      ]
+    ]
+
+-- ---- what the indexes ask and answer
+
+pub is_listed : (slots : List (Option EdgeValue)) (side : EdgeValue → Corners) (entries : List Entry) (key : ℕ) (edge : EdgeValue) → FilesAll slots side entries → edge_at slots key ≡ Some edge → Contains entries (entry_of key (side edge))
+is_listed slots side entries key edge files here = (files (entry_of key (side edge))).1 (record { edge = edge; here = here; range_is = refl })
+
+pub has_no_id : (slots : List (Option EdgeValue)) (side : EdgeValue → Corners) (entries : List Entry) (key : ℕ) → FilesAll slots side entries → edge_at slots key ≡ None → HasNoId entries key
+has_no_id slots side entries key files free entry there = let filed = (files entry).0 there in not_free slots key entry.id filed.edge free filed.here
+
+pub names : (slots : List (Option EdgeValue)) (side : EdgeValue → Corners) (entries : List Entry) (query : Corners) (old new : List ℕ) → FilesAll slots side entries → AddsOverlapping entries query old new → (key : ℕ) (edge : EdgeValue) → edge_at slots key ≡ Some edge → Overlap (side edge) query → Contains new key
+names slots side entries query old new files adds key edge here overlap =
+    subst (λ (keys : List ℕ). Contains keys key) (sym adds.whole)
+    (Contains-append_right old adds.added key ((adds.exact key).1 (record { range = side edge; listed = is_listed slots side entries key edge files here; overlaps = overlap })))
+
+pub names_runs : {E : Type 0} (result : Result (Unit {0}) E) (slots : List (Option EdgeValue)) (runs rectangles : List Entry) (query : Corners) (old new : List ℕ) → AreStored slots runs rectangles → OnOk result (AddsOverlapping runs query old new) → OnOk result (NamesOverlapping slots query new)
+names_runs (Ok x) slots runs rectangles query old new stored adds = names slots (λ edge. edge.dep) runs query old new stored.runs_filed adds
+names_runs (Err e) slots runs rectangles query old new stored adds = adds
+
+pub leaves_apart : (old new : List (Option EdgeValue)) (runs rectangles : List Entry) (key : ℕ) → AreStored old runs rectangles → Puts old new key None → LeavesApart old new key
+leaves_apart old new runs rectangles key stored puts edge here range cell pair kept =
+    let was = still_here old new key kept.kept.key kept.edge puts kept.kept.here in
+    stored.apart kept.kept.key key kept.edge edge was.0 was.1 here range cell kept.pair pair
+
+pub same_all : (entries : List Entry) → SameEntries entries entries
+same_all entries entry = (λ there. there, λ there. there)

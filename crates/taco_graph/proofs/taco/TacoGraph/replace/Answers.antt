@@ -1,0 +1,82 @@
+use Rattle.std.proofs.Common.{◌≡◌, ◌+◌, ◌-◌, ◌/◌, ◌++◌, ◌∷◌, [], List, take, sym, ◌∙◌, ap, subst, arith}
+use Rattle.std.proofs.lemmas.List.{take_all, take_more}
+use Rattle.sheet_refs.specs.Cells.{Corners}
+use Rattle.sheet_refs.specs.Refs.{AreRefs}
+use Rattle.graph_walk.specs.Graphs.{Replaces}
+use Rattle.edge_patterns.specs.Edges.{EdgeValue, single_edge}
+use Rattle.taco_graph.specs.Pairs.{pairs_of}
+use Rattle.taco_graph.specs.Stores.{IsApart, edges_of}
+use Rattle.taco_graph.specs.Changes.{GainsPairs}
+use Rattle.taco_graph.specs.Taco.{TacoValue}
+use Rattle.taco_graph.proofs.ChangeLemmas.{keeps_same}
+use Rattle.taco_graph.proofs.ReplaceLemmas.{AreReplaced, at_most_still, not_before, replaced_more, replaced_none, replaced_on, replaces_pairs, single_apart}
+use Rattle.taco_graph.proofs.taco.TacoGraph.replace.Goals as goal
+
+pub take_out-requires : goal.take_out-requires
+take_out-requires g c =
+    let spare : c.self.inside.store.room / 765 ≡ c.args.self.now.spare = ap (λ (t : TacoValue). t.spare) c.self.view_is in
+    record { room = record { most = 255; few = c.self.invariant c.args.cell; fits = omega (arith, spare, c.requires) } }
+
+pub loop-range-init : goal.loop-range-init
+loop-range-init g c =
+    let spare : c.self.inside.store.room / 765 ≡ c.args.self.now.spare = ap (λ (t : TacoValue). t.spare) c.self.view_is in
+    let left = c.take_out.ensures.room 255 (record { most = 255; few = c.self.invariant c.args.cell; fits = omega (arith, spare, c.requires) }) in (
+      subst (λ (l : List Corners). AreRefs l) (sym c.ranges-range-items.ensures.ranges) c.ranges-range-items.ensures.distinct_and_few,
+      replaced_none c.take_out.new.store.slots c.take_out.new.store.slots c.args.cell c.take_out.ensures.gone (keeps_same c.take_out.new.store.slots c.args.cell),
+      omega arith,
+      omega (arith, left.fits),
+    )
+
+pub add-requires-clause-apart : goal.add-requires-clause-apart
+add-requires-clause-apart g c =
+    subst (λ (e : EdgeValue). IsApart c.loop-range.self-inside.store.slots e) (sym c.single.ensures)
+    (single_apart c.take_out.new.store.slots c.loop-range.self-inside.store.slots c.args.cell (take c.loop-range.range-index c.ranges-range-items.result.now) c.range-item.result
+    (not_before c.ranges-range-items.result.now c.loop-range.range-index c.range-item.result c.loop-range.invariant.0.distinct c.loop-range-test.true c.range-item.is) c.loop-range.invariant.1)
+
+pub add-requires-clause-room : goal.add-requires-clause-room
+add-requires-clause-room g c = omega (arith, c.loop-range.invariant.0.few, c.loop-range-test.true, c.loop-range.invariant.2, c.loop-range.invariant.3)
+
+pub loop-range-preserved : goal.loop-range-preserved
+loop-range-preserved g c =
+    let items : List Corners = c.ranges-range-items.result.now in
+    let k = c.loop-range.range-index in
+    let one : Corners = c.range-item.result in
+    let mid = c.take_out.new.store.slots in
+    let now = c.loop-range.self-inside.store.slots in
+    let next = c.add.new.store.slots in
+    let more : take (k + 1) items ≡ take k items ++ one ∷ [] = take_more items k one c.loop-range-test.true ∙ ap (λ (r : Corners). take k items ++ r ∷ []) (sym c.range-item.is) in (
+      c.loop-range.invariant.0,
+      subst (λ (l : List Corners). AreReplaced mid next c.args.cell l) (sym more)
+          (replaced_more mid now next c.args.cell (take k items) one (subst (λ (e : EdgeValue). GainsPairs now next e) c.single.ensures c.add.ensures.pairs) c.loop-range.invariant.1),
+      omega (arith, c.add.ensures.room, c.loop-range.invariant.2),
+      c.loop-range.invariant.3,
+    )
+
+pub invariant_of-self : goal.invariant_of-self
+invariant_of-self g c =
+    let items : List Corners = c.ranges-range-items.result.now in
+    let all : take c.loop-range.range-index items ≡ c.args.refs.now = take_all c.loop-range.range-index items c.loop-range-test.false ∙ c.ranges-range-items.ensures.ranges in
+    let now = c.loop-range.self-inside.store.slots in
+    let replaced : AreReplaced c.self.inside.store.slots now c.args.cell c.args.refs.now =
+    replaced_on c.self.inside.store.slots c.take_out.new.store.slots now c.args.cell c.args.refs.now c.take_out.ensures.others
+    (subst (λ (l : List Corners). AreReplaced c.take_out.new.store.slots now c.args.cell l) all c.loop-range.invariant.1) in
+    at_most_still c.self.inside.store.slots now c.args.cell c.args.refs.now
+    (subst (λ (l : List Corners). AreRefs l) c.ranges-range-items.ensures.ranges c.loop-range.invariant.0) replaced c.self.invariant
+
+pub returns-clause-replaced : goal.returns-clause-replaced
+returns-clause-replaced g c =
+    let items : List Corners = c.ranges-range-items.result.now in
+    let all : take c.loop-range.range-index items ≡ c.args.refs.now = take_all c.loop-range.range-index items c.loop-range-test.false ∙ c.ranges-range-items.ensures.ranges in
+    let now = c.loop-range.self-inside.store.slots in
+    let replaced : AreReplaced c.self.inside.store.slots now c.args.cell c.args.refs.now =
+    replaced_on c.self.inside.store.slots c.take_out.new.store.slots now c.args.cell c.args.refs.now c.take_out.ensures.others
+    (subst (λ (l : List Corners). AreReplaced c.take_out.new.store.slots now c.args.cell l) all c.loop-range.invariant.1) in
+    let view : edges_of c.self.inside.store.slots ≡ c.args.self.now.edges = ap (λ (t : TacoValue). t.edges) c.self.view_is in
+    subst (λ (es : List EdgeValue). Replaces (pairs_of es) (pairs_of (edges_of now)) c.args.cell c.args.refs.now) view
+    (replaces_pairs c.self.inside.store.slots now c.args.cell c.args.refs.now replaced)
+
+pub returns-clause-room : goal.returns-clause-room
+returns-clause-room g c =
+    let spare : c.self.inside.store.room / 765 ≡ c.args.self.now.spare = ap (λ (t : TacoValue). t.spare) c.self.view_is in
+    let left = c.take_out.ensures.room (c.self.inside.store.room - 510) (record { most = 255; few = c.self.invariant c.args.cell; fits = omega (arith, spare, c.requires) }) in
+    omega (arith, spare, left.fits, c.loop-range.invariant.2, c.loop-range.invariant.0.few, c.loop-range-test.false)

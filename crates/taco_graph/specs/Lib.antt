@@ -1,0 +1,6 @@
+pub mod Answers
+pub mod Changes
+pub mod Order
+pub mod Pairs
+pub mod Stores
+pub mod Taco

@@ -1,0 +1,208 @@
+// How edges are taken out and put back.
+ghost use Rattle.std.specs.Prelude.{◌≡◌, ◌+◌, ◌≤◌, IfSome};
+ghost use Rattle.taco_graph.specs.Stores.{IsApart};
+ghost use Rattle.taco_graph.specs.Changes.{LacksCell, LackCell, GainsPairs, MovesPairs, IsJoinedAt};
+ghost use Rattle.taco_graph.specs.Changes.{HoldNoMore, HoldElsewhere, KeepsOthers, HoldersAreAmong};
+ghost use Rattle.taco_graph.specs.Changes.{HasRoomForParts, KeepsRoomForParts};
+ghost use Rattle.taco_graph.specs.Changes.{IsPartApart, GainsPartPairs, PartLacksCell};
+
+use crate::store::EdgeStore;
+use edge_patterns::{Edge, join, split};
+use range_index::RangeIndex;
+use sheet_refs::{Cell, Range};
+
+// Adds the keys of the edges that hold the cell with these coordinates, if there is one. Where that wants memory, the
+// list has some keys or none: an edge is then not joined with its neighbour.
+fn note_at<I: RangeIndex>(store: &EdgeStore<I>, row: u32, col: u32, near: &mut Vec<usize>) {
+    if let Some(cell) = Cell::new(row, col) {
+        let _ = store.keys_by_run(Range::of(cell, cell), near);
+    }
+}
+
+// Notes the keys of the edges that hold a cell beside an edge's run in its line, those above and below first.
+fn note_neighbours<I: RangeIndex>(store: &EdgeStore<I>, edge: &Edge, near: &mut Vec<usize>) {
+    let head = edge.dep().head();
+    let tail = edge.dep().tail();
+    near.clear();
+    if head.col() == tail.col() {
+        note_at(store, head.row() - 1, head.col(), near);
+        note_at(store, tail.row() + 1, tail.col(), near);
+    }
+    if head.row() == tail.row() {
+        note_at(store, head.row(), head.col() - 1, near);
+        note_at(store, tail.row(), tail.col() + 1, near);
+    }
+}
+
+// The edge with the pairs of an edge and of the one under a key, if there is one and the other doesn't hold the cell.
+fn joined_at<I: RangeIndex>(
+    store: &EdgeStore<I>,
+    key: usize,
+    edge: &Edge,
+    cell: Cell,
+) -> Option<Edge>
+    ensures { IfSome result (IsJoinedAt store.now.slots key edge.now cell) }
+{
+    let Some(other) = store.get(key) else {
+        return None;
+    };
+    if other.dep().contains(cell) {
+        return None;
+    }
+    join(edge, &other)
+}
+
+// The first of these keys whose edge can be joined with an edge and doesn't hold the cell.
+fn first_joined<I: RangeIndex>(
+    store: &EdgeStore<I>,
+    near: &[usize],
+    edge: &Edge,
+    cell: Cell,
+) -> Option<usize> {
+    for key in near {
+        if joined_at(store, *key, edge, cell).is_some() {
+            return Some(*key);
+        }
+    }
+    None
+}
+
+// Joins an edge with a neighbour that can be joined with it and doesn't hold the cell, and takes that one out.
+fn absorb<I: RangeIndex>(
+    store: &mut EdgeStore<I>,
+    near: &mut Vec<usize>,
+    edge: Edge,
+    cell: Cell,
+) -> Edge
+    requires apart { IsApart store.old.slots edge }
+    ensures pairs { MovesPairs store.old.slots store.new.slots edge result }
+    ensures apart { IsApart store.new.slots result }
+    ensures cell { LacksCell edge cell → LacksCell result cell }
+    ensures holders { HoldNoMore store.old.slots store.new.slots cell }
+    ensures room { store.old.room ≤ store.new.room }
+{
+    note_neighbours(store, &edge, near);
+    let Some(key) = first_joined(store, near, &edge, cell) else {
+        return edge;
+    };
+    let Some(joined) = joined_at(store, key, &edge, cell) else {
+        return edge;
+    };
+    store.remove(key);
+    joined
+}
+
+/// Adds an edge, joined with up to two of its neighbours that don't hold the cell.
+pub(crate) fn add<I: RangeIndex>(
+    store: &mut EdgeStore<I>,
+    near: &mut Vec<usize>,
+    edge: Edge,
+    cell: Cell,
+)
+    requires apart { IsApart store.old.slots edge }
+    requires room { 1 ≤ store.old.room }
+    ensures pairs { GainsPairs store.old.slots store.new.slots edge }
+    ensures holders { LacksCell edge cell → HoldNoMore store.old.slots store.new.slots cell }
+    ensures room { store.old.room ≤ store.new.room + 1 }
+{
+    let once = absorb(store, near, edge, cell);
+    let twice = absorb(store, near, once, cell);
+    store.insert(twice);
+}
+
+// Adds a part that is left of an edge, if there is one.
+fn add_part<I: RangeIndex>(
+    store: &mut EdgeStore<I>,
+    near: &mut Vec<usize>,
+    part: Option<Edge>,
+    cell: Cell,
+)
+    requires apart { IsPartApart store.old.slots part }
+    requires room { 1 ≤ store.old.room }
+    ensures pairs { GainsPartPairs store.old.slots store.new.slots part }
+    ensures holders { PartLacksCell part cell → HoldNoMore store.old.slots store.new.slots cell }
+    ensures room { store.old.room ≤ store.new.room + 1 }
+{
+    let Some(edge) = part else {
+        return;
+    };
+    add(store, near, edge, cell);
+}
+
+// Takes the cell out of the edge under a key, if that one holds it.
+fn take_out_at<I: RangeIndex>(
+    store: &mut EdgeStore<I>,
+    near: &mut Vec<usize>,
+    key: usize,
+    cell: Cell,
+)
+    requires room { HasRoomForParts store.old.slots cell 0 store.old.room }
+    ensures holders { HoldElsewhere store.old.slots store.new.slots cell key }
+    ensures others { KeepsOthers store.old.slots store.new.slots cell }
+    ensures room { KeepsRoomForParts store.old.slots store.new.slots cell
+        store.old.room store.new.room }
+{
+    let Some(edge) = store.get(key) else {
+        return;
+    };
+    if !edge.dep().contains(cell) {
+        return;
+    }
+    let (before, after) = split(&edge, cell);
+    store.remove(key);
+    add_part(store, near, before, cell);
+    add_part(store, near, after, cell);
+}
+
+// Takes the cell out of the edges under these keys.
+fn take_out_listed<I: RangeIndex>(
+    store: &mut EdgeStore<I>,
+    held: &[usize],
+    near: &mut Vec<usize>,
+    cell: Cell,
+)
+    requires all { HoldersAreAmong store.old.slots cell held.now }
+    requires room { HasRoomForParts store.old.slots cell 0 store.old.room }
+    ensures gone { LackCell store.new.slots cell }
+    ensures others { KeepsOthers store.old.slots store.new.slots cell }
+    ensures room { KeepsRoomForParts store.old.slots store.new.slots cell
+        store.old.room store.new.room }
+{
+    for key in held {
+        take_out_at(store, near, *key, cell);
+    }
+}
+
+// Takes the cell out of all edges, each of which it looks at.
+fn take_out_of_all<I: RangeIndex>(store: &mut EdgeStore<I>, near: &mut Vec<usize>, cell: Cell)
+    requires room { HasRoomForParts store.old.slots cell 0 store.old.room }
+    ensures gone { LackCell store.new.slots cell }
+    ensures others { KeepsOthers store.old.slots store.new.slots cell }
+    ensures room { KeepsRoomForParts store.old.slots store.new.slots cell
+        store.old.room store.new.room }
+{
+    for key in 0..store.end() {
+        take_out_at(store, near, key, cell);
+    }
+}
+
+/// Takes a cell out of the edges that hold it. It looks at these edges and their neighbours; where the index wants
+/// memory for its answer, which has room, it looks at all.
+pub(crate) fn take_out<I: RangeIndex>(
+    store: &mut EdgeStore<I>,
+    held: &mut Vec<usize>,
+    near: &mut Vec<usize>,
+    cell: Cell,
+)
+    requires room { HasRoomForParts store.old.slots cell 0 store.old.room }
+    ensures gone { LackCell store.new.slots cell }
+    ensures others { KeepsOthers store.old.slots store.new.slots cell }
+    ensures room { KeepsRoomForParts store.old.slots store.new.slots cell
+        store.old.room store.new.room }
+{
+    held.clear();
+    match store.keys_by_run(Range::of(cell, cell), held) {
+        Ok(()) => take_out_listed(store, held, near, cell),
+        Err(_) => take_out_of_all(store, near, cell),
+    }
+}

@@ -1,0 +1,19 @@
+//! A dependency graph that keeps cells whose references follow a pattern as one edge, after TACO (Tang et al.,
+//! ICDE 2023).
+//!
+//! A `Taco` keeps edges in a slab, no pair in two of them, and files each under its key in two indexes: in the one
+//! with its run, in the other with the smallest rectangle that has its ranges (`specs/Stores.antt`). Its pairs are
+//! those of its edges (`specs/Pairs.antt`), and what its calls promise is the contract of `Graph`: a query looks at the
+//! edges that an index names and adds at most one range for each, and a change takes the cell out of the edges that hold
+//! it and joins what is left and what comes with edges beside it.
+//!
+//! Below stand `sheet_refs`, `graph_walk` with the trait, `edge_patterns`, and `range_index` with the indexes.
+#![tactic(auto)]
+
+mod answers;
+mod changes;
+mod order;
+mod store;
+mod taco;
+
+pub use taco::Taco;

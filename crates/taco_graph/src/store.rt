@@ -1,0 +1,171 @@
+// The edges of a graph, and the two indexes of them.
+ghost use Rattle.std.specs.Prelude.{◌≡◌, ◌+◌, ◌≤◌, None, IsSome, IfSome, IfOk, OnOk};
+ghost use Rattle.taco_graph.specs.Stores.{edge_at, edges_of, AreEdges, IsApart, Puts, Gains, LeavesApart};
+ghost use Rattle.edge_patterns.specs.Queries.{Covers};
+ghost use Rattle.taco_graph.specs.Answers.{NamesAnswering, IsMeantAt, AddsAnswers};
+ghost use Rattle.graph_walk.specs.Graphs.{Keeps};
+
+use crate::answers::{Question, answer};
+use edge_patterns::Edge;
+use range_index::RangeIndex;
+use sheet_refs::{Memory, Range};
+use slab::Slab;
+use std::alloc::Global;
+use std::marker::Model;
+
+/// Edges under keys, each in both indexes: in the one with its run, in the other with the rectangle of its ranges.
+#[derive(Drop)]
+pub(crate) struct EdgeStore<I: RangeIndex> {
+    edges: Slab<Edge>,
+    runs: I,
+    rectangles: I,
+    alloc: Global,
+}
+
+impl<I: RangeIndex> Model for EdgeStore<I> {
+    ghost use Rattle.std.specs.Prelude.{◌-◌, min};
+    ghost use Rattle.slab.specs.Slab.{slab_len};
+    ghost use Rattle.taco_graph.specs.Stores.{StoreValue, AreStored};
+
+    ghost Value = { StoreValue };
+
+    ghost view = { λ s. record {
+      slots = s.edges.slots;
+      room = min (s.edges.capacity - slab_len s.edges) (min (I.spare s.runs) (I.spare s.rectangles));
+    } };
+
+    ghost invariant = { λ s. AreStored s.edges.slots (I.entries s.runs) (I.entries s.rectangles) };
+}
+
+impl<I: RangeIndex> EdgeStore<I> {
+    ghost use Rattle.std.specs.Prelude.{[], length};
+    ghost use Rattle.edge_patterns.specs.Edges.{IsEdge};
+    ghost use Rattle.taco_graph.specs.Stores.{NamesOverlapping};
+
+    /// The store of no edges.
+    pub(crate) fn new(alloc: Global) -> EdgeStore<I>
+        ensures { result.slots ≡ [] }
+    {
+        EdgeStore {
+            edges: Slab::new(alloc),
+            runs: I::empty(alloc),
+            rectangles: I::empty(alloc),
+            alloc,
+        }
+    }
+
+    /// Makes room for so many more edges. The edges stay, after Memory too.
+    pub(crate) fn reserve(&mut self, edges: u32) -> Result<(), Memory>
+        ensures room { OnOk result (edges ≤ self.new.room) }
+        ensures same { self.new.slots ≡ self.old.slots }
+    {
+        self.edges.reserve(edges as usize)?;
+        self.runs.reserve(edges)?;
+        self.rectangles.reserve(edges)?;
+        Ok(())
+    }
+
+    /// The edge under a key.
+    pub(crate) fn get(&self, key: usize) -> Option<Edge>
+        ensures edge { result ≡ edge_at self.now.slots key }
+        ensures is_edge { IfSome result IsEdge }
+    {
+        self.edges.get(key).copied()
+    }
+
+    /// Takes the edge under a key out.
+    pub(crate) fn remove(&mut self, key: usize)
+        requires there { IsSome (edge_at self.old.slots key) }
+        ensures removed { Puts self.old.slots self.new.slots key None }
+        ensures apart { LeavesApart self.old.slots self.new.slots key }
+        ensures room { self.old.room ≤ self.new.room }
+    {
+        let edge = self.edges.remove(key);
+        self.runs.remove(key, edge.dep());
+        self.rectangles.remove(key, edge.prec());
+    }
+
+    /// Adds an edge, which takes no memory.
+    pub(crate) fn insert(&mut self, edge: Edge)
+        requires apart { IsApart self.old.slots edge }
+        requires room { 1 ≤ self.old.room }
+        ensures gained { Gains self.old.slots self.new.slots edge }
+        ensures room { self.old.room ≤ self.new.room + 1 }
+    {
+        let key = self.edges.insert_reserved(edge);
+        self.runs.insert(key, edge.dep());
+        self.rectangles.insert(key, edge.prec());
+    }
+
+    /// A number above every key.
+    pub(crate) fn end(&self) -> usize
+        ensures { length self.now.slots ≤ result }
+    {
+        self.edges.capacity()
+    }
+
+    /// Adds the keys of the edges whose runs overlap a query to a list.
+    pub(crate) fn keys_by_run(&self, q: Range, keys: &mut Vec<usize>) -> Result<(), Memory>
+        ensures named { OnOk result (NamesOverlapping self.now.slots q keys.new.items) }
+        ensures edges { AreEdges self.now.slots }
+    {
+        self.runs.overlapping(q, keys)
+    }
+
+    /// All edges, by rising key. It looks at each key that has been given out.
+    pub(crate) fn edges(&self) -> Result<Vec<Edge>, Memory>
+        ensures { IfOk result (λ edges. edges.items ≡ edges_of self.now.slots) }
+    {
+        let mut edges = Vec::new(self.alloc);
+        for key in 0..self.end() {
+            if let Some(edge) = self.get(key) {
+                edges.push(edge)?;
+            }
+        }
+        Ok(edges)
+    }
+
+    // The keys of the edges that have an answer.
+    fn keys_for(&self, question: Question, q: Range) -> Result<Vec<usize>, Memory>
+        ensures { IfOk result (λ keys. NamesAnswering self.now.slots question q keys.items) }
+    {
+        let mut keys = Vec::new(self.alloc);
+        match question {
+            Question::Dependents => self.rectangles.overlapping(q, &mut keys)?,
+            Question::Precedents => self.runs.overlapping(q, &mut keys)?,
+            Question::Ahead => self.rectangles.overlapping(q, &mut keys)?,
+            Question::Behind => self.runs.overlapping(q, &mut keys)?,
+        }
+        Ok(keys)
+    }
+
+    // What the edge under a key answers, if there is one.
+    fn answer_at(&self, question: Question, q: Range, key: usize) -> Option<Range>
+        ensures { Covers result (IsMeantAt self.now.slots question q key) }
+    {
+        let Some(edge) = self.get(key) else {
+            return None;
+        };
+        answer(question, &edge, q)
+    }
+
+    /// Adds what the edges answer to a list: at most one range for each. It looks at the edges that an index names.
+    pub(crate) fn ask(
+        &self,
+        question: Question,
+        q: Range,
+        out: &mut Vec<Range>,
+    ) -> Result<(), Memory>
+        ensures found { OnOk result
+            (AddsAnswers self.now.slots question q out.old.items out.new.items) }
+        ensures kept { Keeps out.old.items out.new.items }
+    {
+        let keys = self.keys_for(question, q)?;
+        for key in &keys {
+            if let Some(range) = self.answer_at(question, q, *key) {
+                out.push(range)?;
+            }
+        }
+        Ok(())
+    }
+}

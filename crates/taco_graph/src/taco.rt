@@ -1,0 +1,116 @@
+ghost use Rattle.std.specs.Prelude.{◌≡◌, [], IfOk};
+ghost use Rattle.std.specs.List.Sorted.{IsPermutation};
+ghost use Rattle.taco_graph.specs.Order.{AreInOrder};
+
+use crate::answers::Question;
+use crate::changes::{add, take_out};
+use crate::order::sort_edges;
+use crate::store::EdgeStore;
+use edge_patterns::Edge;
+use graph_walk::Graph;
+use range_index::RangeIndex;
+use sheet_refs::{Cell, Memory, Range, Refs};
+use std::alloc::Global;
+use std::marker::Model;
+
+/// The most ranges to which one cell refers.
+const MOST_REFS: u32 = 255;
+
+/// The most edges that come in one change: the two parts that are left of each edge that holds the cell, and one
+/// for each new range.
+const MOST_EDGES: u32 = 3 * MOST_REFS;
+
+/// A dependency graph as edges, over two indexes.
+#[derive(Drop)]
+pub struct Taco<I: RangeIndex> {
+    store: EdgeStore<I>,
+    // Where a change notes the keys of edges that it looks at.
+    held: Vec<usize>,
+    near: Vec<usize>,
+}
+
+impl<I: RangeIndex> Model for Taco<I> {
+    ghost use Rattle.std.specs.Prelude.{◌/◌};
+    ghost use Rattle.taco_graph.specs.Stores.{edges_of};
+    ghost use Rattle.taco_graph.specs.Changes.{EachHasAtMost};
+    ghost use Rattle.taco_graph.specs.Taco.{TacoValue};
+
+    ghost Value = { TacoValue };
+
+    ghost view = { λ t. record {
+      edges = edges_of t.store.slots;
+      spare = t.store.room / 765;
+    } };
+
+    // Each cell has at most 255 ranges, so that a change has room for what it puts back.
+    ghost invariant = { λ t. EachHasAtMost t.store.slots 255 };
+}
+
+impl<I: RangeIndex> Taco<I> {
+    /// The graph without pairs.
+    pub fn new(alloc: Global) -> Taco<I>
+        ensures { result.edges ≡ [] }
+    {
+        Taco {
+            store: EdgeStore::new(alloc),
+            held: Vec::new(alloc),
+            near: Vec::new(alloc),
+        }
+    }
+
+    /// All edges, each once, in order: by the head and then the tail of the run, by those of the rectangle, and by
+    /// the pattern; cells stand by column and then by row.
+    pub fn edges(&self) -> Result<Vec<Edge>, Memory>
+        ensures all { IfOk result (λ edges. IsPermutation self.now.edges edges.items) }
+        ensures order { IfOk result (λ edges. AreInOrder edges.items) }
+    {
+        let mut edges = self.store.edges()?;
+        sort_edges(&mut edges)?;
+        Ok(edges)
+    }
+}
+
+impl<I: RangeIndex> Graph for Taco<I> {
+    ghost use Rattle.taco_graph.specs.Pairs.{pairs_of};
+
+    ghost pairs = { λ t. pairs_of t.edges };
+
+    ghost spare = { λ t. t.spare };
+
+    fn direct_dependents(&self, q: Range, out: &mut Vec<Range>) -> Result<(), Memory> {
+        self.store.ask(Question::Dependents, q, out)
+    }
+
+    fn direct_precedents(&self, q: Range, out: &mut Vec<Range>) -> Result<(), Memory> {
+        self.store.ask(Question::Precedents, q, out)
+    }
+
+    fn ahead(&self, q: Range, out: &mut Vec<Range>) -> Result<(), Memory> {
+        self.store.ask(Question::Ahead, q, out)
+    }
+
+    fn behind(&self, q: Range, out: &mut Vec<Range>) -> Result<(), Memory> {
+        self.store.ask(Question::Behind, q, out)
+    }
+
+    fn reserve(&mut self, changes: u32) -> Result<(), Memory> {
+        self.store.reserve(changes * MOST_EDGES)?;
+        self.held.clear();
+        self.held.reserve(MOST_REFS as usize)?;
+        self.near.clear();
+        self.near.reserve(4 * MOST_REFS as usize)?;
+        Ok(())
+    }
+
+    fn replace(&mut self, cell: Cell, refs: &Refs) {
+        take_out(&mut self.store, &mut self.held, &mut self.near, cell);
+        for range in refs.ranges() {
+            add(
+                &mut self.store,
+                &mut self.near,
+                Edge::single(cell, *range),
+                cell,
+            );
+        }
+    }
+}
