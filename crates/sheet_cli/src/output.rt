@@ -6,10 +6,11 @@ ghost use Rattle.window_text.specs.Texts.{IsWithinSheet, runs_text, show_text};
 use crate::words::WindowCommand;
 use edit_log::graph_of;
 use graph_walk::{dependents, precedents};
-use plain_graph::PlainGraph;
+use range_index::GridIndex;
 use sheet_model::{Sheet, all_values};
 use sheet_refs::{Memory, Range};
 use std::alloc::Global;
+use taco_graph::Taco;
 use window_text::Printer;
 
 /// The whole text that a command writes of a window of the sheet.
@@ -33,7 +34,7 @@ pub(crate) fn window_output(
 fn dependents_of(alloc: Global, sheet: &Sheet, range: Range) -> Result<Vec<Range>, Memory>
     ensures { IfOk result (λ runs. AreDependents sheet.now range runs.items) }
 {
-    let graph = graph_of(alloc, PlainGraph::new(alloc), sheet)?;
+    let graph = graph_of(alloc, Taco::<GridIndex>::new(alloc), sheet)?;
     dependents(alloc, &graph, range)?.columns()
 }
 
@@ -41,7 +42,7 @@ fn dependents_of(alloc: Global, sheet: &Sheet, range: Range) -> Result<Vec<Range
 fn precedents_of(alloc: Global, sheet: &Sheet, range: Range) -> Result<Vec<Range>, Memory>
     ensures { IfOk result (λ runs. ArePrecedents sheet.now range runs.items) }
 {
-    let graph = graph_of(alloc, PlainGraph::new(alloc), sheet)?;
+    let graph = graph_of(alloc, Taco::<GridIndex>::new(alloc), sheet)?;
     precedents(alloc, &graph, range)?.columns()
 }
 

@@ -1,7 +1,7 @@
 -- The cells to which the cells of a chain refer stand to them as the rectangle stands to the run.
 use Rattle.std.proofs.Common.{◌≡◌, ℕ, ◌+◌, ◌-◌, ◌<◌, ◌≤◌, inl, inr, arith, sym, subst}
 use Rattle.std.specs.Prelude.{◌↔◌}
-use Rattle.sheet_refs.specs.Cells.{Position, Corners, IsIn, IsOrdered, IsNamed, spanned}
+use Rattle.sheet_refs.specs.Cells.{Position, Corners, IsIn, IsOrdered, IsNamed, span_of}
 use Rattle.sheet_refs.specs.Rectangles.{HoldsShared}
 use Rattle.edge_patterns.specs.declared.axis.Axis.{Axis}
 use Rattle.edge_patterns.specs.declared.axis.Axis.TheVariants.{Down, Right}
@@ -83,7 +83,7 @@ module _ (edge : EdgeValue) (is : IsEdge edge) (chain : edge.pattern ≡ Chain) 
       }
 
   module _ (query asked : Corners) (head tail : Position) (shared : HoldsShared edge.dep query asked) (ordered : IsOrdered asked.head asked.tail) (head_row : head.row + edge.dep.head.row ≡ asked.head.row + edge.prec.head.row) (head_col : head.col + edge.dep.head.col ≡ asked.head.col + edge.prec.head.col) (tail_row : tail.row + edge.dep.head.row ≡ asked.tail.row + edge.prec.head.row) (tail_col : tail.col + edge.dep.head.col ≡ asked.tail.col + edge.prec.head.col) where
-    pub moved_covers : (cell : Position) → IsIn cell (spanned head tail) ↔ IsReferred edge query cell
+    pub moved_covers : (cell : Position) → IsIn cell (span_of head tail) ↔ IsReferred edge query cell
     moved_covers cell = (to, from)
       where
         rows : head.row ≤ tail.row
@@ -92,7 +92,7 @@ module _ (edge : EdgeValue) (is : IsEdge edge) (chain : edge.pattern ≡ Chain) 
         cols : head.col ≤ tail.col
         cols = omega (arith, ordered.cols, head_col, tail_col)
 
-        to : IsIn cell (spanned head tail) → IsReferred edge query cell
+        to : IsIn cell (span_of head tail) → IsReferred edge query cell
         to inside =
             let source : Position = record { row = cell.row + edge.dep.head.row - edge.prec.head.row; col = cell.col + edge.dep.head.col - edge.prec.head.col } in
             let within : IsIn source asked = record {
@@ -117,7 +117,7 @@ module _ (edge : EdgeValue) (is : IsEdge edge) (chain : edge.pattern ≡ Chain) 
               };
             }
 
-        from : IsReferred edge query cell → IsIn cell (spanned head tail)
+        from : IsReferred edge query cell → IsIn cell (span_of head tail)
         from referred =
             let at = pair_moved referred.range referred.from referred.pair in
             let in_run = (run_has_ranges edge is referred.from).1 (referred.range, referred.pair) in
