@@ -72,7 +72,8 @@ fn read_order<'a>(word: &str, behind: &'a str, mode: Mode) -> Option<Line<'a>>
 
 // A client's name.
 fn read_client(text: &str) -> Option<Line<'_>>
-    ensures { Finds (option_map line_value result) (λ value. (value ≡ Client text.now) × IsClientName text.now) }
+    ensures { Finds (option_map line_value result)
+        (λ value. (value ≡ Client text.now) × IsClientName text.now) }
 {
     if is_client_name(text.as_bytes()) {
         Some(Line::Client(text))

@@ -110,7 +110,8 @@ impl Progress {
         requires sound { IsSound self.old }
         requires fits { IsFit (line_value line.now) }
         requires room { length sheet.old.labels < 2 ^ 32 - 1 }
-        requires allowed { IsPlainlyAllowed sheet.old.sizes (brought self.old) (line_value line.now) }
+        requires allowed { IsPlainlyAllowed sheet.old.sizes
+            (brought self.old) (line_value line.now) }
         ensures taken { OnOk result (Takes sheet.old.sizes (line_value line.now)
             sheet.old.labels self.old sheet.new.labels self.new) }
         ensures fault { IfErr result (λ why. why ≢ refused.Memory → (line_number why ≡ number)
@@ -318,7 +319,8 @@ impl Progress {
         requires edits { self.old.edits < 1048576 }
         requires short { length text.now ≤ 8192 }
         requires room { length sheet.old.labels < 2 ^ 32 - 1 }
-        ensures refused { IfErr result (λ why. why ≢ refused.Memory → IsTextFault text.now number why) }
+        ensures refused { IfErr result
+            (λ why. why ≢ refused.Memory → IsTextFault text.now number why) }
         ensures same { IfErr result (λ why. why ≢ refused.Memory → sheet.new ≡ sheet.old) }
         ensures sound { OnOk result (IsSound self.new) }
         ensures brought { OnOk result (brought self.new
@@ -367,7 +369,8 @@ fn place_of(names: &[String], name: &str) -> Option<u32>
 fn content_of(text: &str, number: u32, sheet: &mut Sheet) -> Result<Content, ScriptRefused>
     requires short { length text.now ≤ 8192 }
     requires room { length sheet.old.labels < 2 ^ 32 - 1 }
-    ensures read { IfOk result (λ content. IsContent sheet.new.labels text.now (content_value content)) }
+    ensures read { IfOk result
+        (λ content. IsContent sheet.new.labels text.now (content_value content)) }
     ensures written { IfOk result (λ content. IsWritten (content_value content)) }
     ensures table { OnOk result (IsTableAfter text.now sheet.old.labels sheet.new.labels) }
     ensures kept { sheet.new ≡ with_labels sheet.old sheet.new.labels }

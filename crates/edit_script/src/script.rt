@@ -56,7 +56,8 @@ impl Model for Script {
 
     ghost view = { λ s. record { names = map string_bytes s.names.items; steps = s.steps.items } };
 
-    ghost invariant = { λ s. IsWhole (record { names = map string_bytes s.names.items; steps = s.steps.items }) };
+    ghost invariant = { λ s. IsWhole
+        (record { names = map string_bytes s.names.items; steps = s.steps.items }) };
 }
 
 impl Script {

@@ -28,7 +28,8 @@ pub fn run<F: Shelf, K: Sink, N: Sink>(
 
     // What each status tells.
     ensures done { result ≡ 0
-        → HasWritten (bytes_of words.now) (F.holds shelf.old) (K.written out.old) (K.written out.new) }
+        → HasWritten (bytes_of words.now) (F.holds shelf.old)
+        (K.written out.old) (K.written out.new) }
     ensures refused { (result ≡ 2) ⊎ (result ≡ 3)
         → IsRefused (bytes_of words.now) (F.holds shelf.old) result
         (TakesLine N.written N.faults notes.old notes.new) }
@@ -37,7 +38,8 @@ pub fn run<F: Shelf, K: Sink, N: Sink>(
         → IsUnfetched (bytes_of words.now) (TakesLine N.written N.faults notes.old notes.new) }
     ensures write_failed { result ≡ 6 → Rose (K.faults out.old) (K.faults out.new) }
     ensures cut { result ≡ 6
-        → HasBegun (bytes_of words.now) (F.holds shelf.old) (K.written out.old) (K.written out.new) }
+        → HasBegun (bytes_of words.now) (F.holds shelf.old)
+        (K.written out.old) (K.written out.new) }
     ensures cut_noted { result ≡ 6
         → TakesLine N.written N.faults notes.old notes.new write_failed_line }
     ensures no_memory { result ≡ 7
