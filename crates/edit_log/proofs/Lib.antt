@@ -1,1 +1,4 @@
+pub mod ListMembers
 pub mod PairLemmas
+pub mod RowLemmas
+pub mod TouchLemmas

@@ -17,11 +17,11 @@ use Rattle.sheet_model.specs.Sheets.{SheetValue, content_value, content_of}
 use Rattle.edit_log.specs.Pairs.{IsPairOf, ArePairsOf, HasNoPairs, IsBefore, HasPairsBefore, ranges_in}
 
 -- a cell of a pair lies in the sheet
-record IsCellOf (sheet : SheetValue) (cell : Position) : Type 0 where
-  row_from : 1 ≤ cell.row
-  row_to : cell.row ≤ sheet.sizes.rows
-  col_from : 1 ≤ cell.col
-  col_to : cell.col ≤ sheet.sizes.cols
+pub record IsCellOf (sheet : SheetValue) (cell : Position) : Type 0 where
+  pub row_from : 1 ≤ cell.row
+  pub row_to : cell.row ≤ sheet.sizes.rows
+  pub col_from : 1 ≤ cell.col
+  pub col_to : cell.col ≤ sheet.sizes.cols
 
 inside_cell : (sheet : SheetValue) (cell : Position) → is_inside sheet.sizes cell ≡ true → IsCellOf sheet cell
 inside_cell sheet cell is = record {
@@ -34,7 +34,7 @@ inside_cell sheet cell is = record {
 no_element : {A : Type 0} (x : A) → Contains [] x → ⊥
 no_element x there = absurd (omega (arith, there))
 
-pair_inside : (sheet : SheetValue) (pair : Pair) → IsPairOf sheet pair → IsCellOf sheet pair.cell
+pub pair_inside : (sheet : SheetValue) (pair : Pair) → IsPairOf sheet pair → IsCellOf sheet pair.cell
 pair_inside sheet pair is = by_test (is_inside sheet.sizes pair.cell) refl
   where
     by_test : (b : Bool) → is_inside sheet.sizes pair.cell ≡ b → IsCellOf sheet pair.cell

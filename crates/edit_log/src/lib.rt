@@ -1,13 +1,33 @@
-//! The graph of a sheet, and later the log of its edits.
+//! The graph of a sheet, and the book of its edits.
 //!
 //! A sheet's pairs are those of each cell whose formula refers to a range, with that range
 //! (`specs/Pairs.antt`). `graph_of` gives a graph exactly these.
 //!
-//! Below stand `sheet_refs`, `formula_syntax`, `sheet_model` and `graph_walk`.
+//! A `Book` is a sheet with its graph and the log of its edits, which agree at every moment
+//! (`specs/Books.antt`). `prepare` finds the cells that an edit touches and takes all memory; `apply` then
+//! makes the edit and can't fail. Which cells an entry touches, `specs/Touches.antt` says: its own and all
+//! that depend on it. `touch_laws` says that every other cell keeps its value, and by this an `OverSheet` is
+//! what the marks of a sheet are about.
+//!
+//! Below stand `sheet_refs`, `formula_syntax`, `sheet_model`, `graph_walk` and `mark_core`.
 #![tactic(auto)]
 
+mod book;
+#[cfg(test)]
+mod book_tests;
 mod graphs;
+mod laws;
+mod over_sheet;
+mod prepared;
+mod preparing;
+mod refused;
+mod rows;
 #[cfg(test)]
 mod tests;
 
+pub use book::Book;
 pub use graphs::graph_of;
+pub use laws::touch_laws;
+pub use over_sheet::OverSheet;
+pub use prepared::{Applied, Prepared};
+pub use refused::PrepareRefused;

@@ -1,0 +1,74 @@
+-- Books: a sheet, its graph, and the log of its edits.
+use Rattle.std.specs.Prelude.{◌≡◌, ℕ, ◌+◌, ◌<◌, ◌≤◌, IsTrue, List, [], ◌∷◌, ◌++◌, length}
+use Rattle.sheet_refs.specs.Cells.{Position, Corners}
+use Rattle.sheet_refs.specs.Sizes.{is_inside}
+use Rattle.formula_syntax.specs.Listing.{IsOnceEach}
+use Rattle.graph_walk.specs.Graphs.{Pair, SamePairs}
+use Rattle.sheet_model.specs.Changes.{ChangeValue}
+use Rattle.sheet_model.specs.Logs.{after, after_edit}
+use Rattle.sheet_model.specs.Sheets.{SheetValue, HasLabel}
+use Rattle.sheet_model.specs.declared.change.Edit.{Edit}
+use Rattle.sheet_model.specs.declared.entry.Entry.{Entry}
+use Rattle.edit_log.specs.Pairs.{ArePairsOf, ranges_in}
+use Rattle.edit_log.specs.Touches.{AreTouched}
+
+-- the sheet with which it was opened, the sheet and the graph now, the log, and how many changes there is room for
+pub record BookValue (G : Type 0) : Type 0 where
+  pub opening : SheetValue
+  pub sheet : SheetValue
+  pub graph : G
+  pub log : List Entry
+  pub spare : ℕ
+
+-- a sheet is the opening sheet after the log, and the pairs are those of the sheet
+pub record IsBookOf (opening sheet : SheetValue) (log : List Entry) (pairs : List Pair) : Type 0 where
+  pub replayed : sheet ≡ after opening log
+  pub pairs_are : ArePairsOf sheet pairs
+  pub few : length log ≤ 1048576
+
+abbrev pub IsBook : {G : Type 0} → (G → List Pair) → BookValue G → Type 0
+IsBook pairs book = IsBookOf book.opening book.sheet book.log (pairs book.graph)
+
+-- a new book of a sheet
+pub record IsOpenedWith {G : Type 0} (start : SheetValue) (book : BookValue G) : Type 0 where
+  pub opening : book.opening ≡ start
+  pub sheet : book.sheet ≡ start
+  pub log : book.log ≡ []
+
+-- nothing that a book tells has changed: its log, its contents and its pairs
+pub record IsUnchanged {G : Type 0} (pairs_of : G → List Pair) (old new : BookValue G) : Type 0 where
+  pub opening : new.opening ≡ old.opening
+  pub sheet : new.sheet ≡ old.sheet
+  pub log : new.log ≡ old.log
+  pub pairs : SamePairs (pairs_of old.graph) (pairs_of new.graph)
+
+-- the client with its edit
+abbrev pub entry_of : ℕ → Edit → Entry
+entry_of client edit = record { client = client; edit = edit }
+
+-- an edit that is ready to be made: the entry, its number, and the cells that it touches
+pub record PreparedValue : Type 0 where
+  pub entry : Entry
+  pub number : ℕ
+  pub touched : List Position
+
+-- it is for the next place of a log: it has the number of that place and the cells that the entry touches there, its
+-- cell is in the sheet and its label in the table, and the log isn't full
+pub record IsPreparedFor (opening : SheetValue) (log : List Entry) (prepared : PreparedValue) : Type 0 where
+  pub number : prepared.number ≡ length log + 1
+  pub touched : AreTouched opening log prepared.entry prepared.touched
+  pub inside : IsTrue (is_inside opening.sizes prepared.entry.edit.change.cell)
+  pub label : HasLabel (length opening.labels) prepared.entry.edit.change.content
+  pub room : length log < 1048576
+
+-- a prepared edit in memory: the change for the sheet is that of the entry, and the ranges are those to which its
+-- formula refers
+pub record IsStoredEdit (entry : Entry) (change : ChangeValue) (ranges : List Corners) : Type 0 where
+  pub same : change ≡ entry.edit.change
+  pub refs : IsOnceEach (ranges_in change.content) ranges
+
+-- a book after an edit: the entry is the last of the log, and the edit is made
+pub record HasApplied {G : Type 0} (entry : Entry) (old new : BookValue G) : Type 0 where
+  pub opening : new.opening ≡ old.opening
+  pub sheet : new.sheet ≡ after_edit old.sheet entry.edit
+  pub log : new.log ≡ old.log ++ entry ∷ []

@@ -1,0 +1,66 @@
+-- Which cells an entry touches: the one that it changes, and all that depend on it.
+use Rattle.std.specs.Prelude.{◌≡◌, ℕ, ◌+◌, ◌/◌, ◌%◌, ◌↔◌, IsTrue, List, [], ◌∷◌, ◌++◌, map, Contains}
+use Rattle.std.specs.List.Sorted.{IsStrictlyIncreasing}
+use Rattle.sheet_refs.specs.Cells.{Position, Corners, IsIn}
+use Rattle.sheet_refs.specs.Sizes.{is_inside, place_of}
+use Rattle.sheet_refs.specs.declared.sizes.Sizes.{Sizes}
+use Rattle.value_core.specs.Values.{code_of}
+use Rattle.graph_walk.specs.Graphs.{Pair, Reach}
+use Rattle.graph_walk.specs.Paths.{IsReached}
+use Rattle.sheet_model.specs.Logs.{after}
+use Rattle.sheet_model.specs.Sheets.{SheetValue}
+use Rattle.sheet_model.specs.Values.{value_of}
+use Rattle.sheet_model.specs.declared.entry.Entry.{Entry}
+use Rattle.edit_log.specs.Pairs.{IsPairOf}
+
+-- the one cell is in a range to which the other's formula refers: the other depends directly on it
+pub record IsStep (sheet : SheetValue) (from to : Position) : Type 0 where
+  pub pair : Pair
+  pub of_sheet : IsPairOf sheet pair
+  pub inside : IsIn from pair.range
+  pub cell_is : pair.cell ≡ to
+
+-- the cell that an entry changes
+abbrev pub IsChanged : Entry → Position → Type 0
+IsChanged entry cell = cell ≡ entry.edit.change.cell
+
+-- an entry touches its cell, and all cells that depend on it in any number of steps, by the formulas that stand in
+-- the sheet after the log, before the entry
+abbrev pub Touches : SheetValue → List Entry → Entry → Position → Type 0
+Touches opening log entry cell = IsReached (IsStep (after opening log)) (IsChanged entry) cell
+
+-- a cell that an entry doesn't touch keeps its value
+abbrev pub UntouchedCellsKeepTheirValues : Type 0
+UntouchedCellsKeepTheirValues =
+    (opening : SheetValue) (log : List Entry) (entry : Entry) (cell : Position) → ¬ Touches opening log entry cell
+    → value_of (after opening (log ++ entry ∷ [])) cell ≡ value_of (after opening log) cell
+
+-- by the formulas before an entry the same cells depend on its cell as by those after it
+abbrev pub TouchedBeforeAndAfter : Type 0
+TouchedBeforeAndAfter =
+    (opening : SheetValue) (log : List Entry) (entry : Entry) (cell : Position)
+    → Touches opening log entry cell ↔ Touches opening (log ++ entry ∷ []) entry cell
+
+-- all cells that a range reaches lie in the rectangle
+abbrev pub IsReachInside : Sizes → List Pair → Corners → Type 0
+IsReachInside sizes pairs range = (cell : Position) → Reach pairs range cell → IsTrue (is_inside sizes cell)
+
+-- a list has exactly the cells of a set, row by row, each once
+pub record ListsRowByRow (sizes : Sizes) (cells : List Position) (set : Position → Type 0) : Type 0 where
+  pub exact : (cell : Position) → Contains cells cell ↔ set cell
+  pub order : IsStrictlyIncreasing (map (place_of sizes) cells)
+
+-- a list has the cells that an entry touches
+abbrev pub AreTouched : SheetValue → List Entry → Entry → List Position → Type 0
+AreTouched opening log entry cells = ListsRowByRow opening.sizes cells (Touches opening log entry)
+
+-- the cell at a place of a rectangle, row by row, counted from 0
+abbrev pub cell_at : Sizes → ℕ → Position
+cell_at sizes place = record { row = place / sizes.cols + 1; col = place % sizes.cols + 1 }
+
+-- the code of the value that the cell at a place has after a log, and whether an entry touches it
+abbrev pub place_worth : SheetValue → List Entry → ℕ → ℕ
+place_worth opening log place = code_of (value_of (after opening log) (cell_at opening.sizes place))
+
+abbrev pub TouchesPlace : SheetValue → List Entry → Entry → ℕ → Type 0
+TouchesPlace opening log entry place = Touches opening log entry (cell_at opening.sizes place)

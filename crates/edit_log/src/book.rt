@@ -1,0 +1,123 @@
+ghost use Rattle.std.specs.Prelude.{◌≡◌, ◌≤◌, length, IfOk};
+ghost use Rattle.edit_log.specs.Books.{IsBook, IsOpenedWith, IsPreparedFor, HasApplied};
+ghost use Rattle.edit_log.specs.Pairs.{HasNoPairs};
+
+use crate::graphs::graph_of;
+use crate::prepared::{Applied, Prepared};
+use graph_walk::Graph;
+use sheet_model::{Edit, Entry, Sheet};
+use sheet_refs::Memory;
+use std::alloc::Global;
+use std::marker::Model;
+use std::snapshot::Snapshot;
+
+/// A sheet that is edited, with its dependency graph and the log of its edits.
+///
+/// Contracts see besides these the sheet with which it was opened, and for how many edits there is room (`spare`).
+/// Its type keeps that the sheet is the opening one after the log, that the graph's pairs are those of the sheet, and
+/// that the log has at most 1,048,576 entries.
+#[derive(Drop)]
+pub struct Book<G: Graph> {
+    pub(crate) opening: Snapshot<Sheet>,
+    pub(crate) sheet: Sheet,
+    pub(crate) graph: G,
+    pub(crate) log: Vec<Entry>,
+    pub(crate) alloc: Global,
+}
+
+impl<G: Graph> Model for Book<G> {
+    ghost use Rattle.std.specs.Prelude.{min, ◌-◌, vec_len, vec_capacity};
+    ghost use Rattle.std.specs.Coded.{codes};
+    ghost use Rattle.formula_syntax.specs.TreeCode.{tree_code};
+    ghost use Rattle.edit_log.specs.Books.{BookValue, IsBookOf};
+
+    ghost Value = { BookValue G };
+
+    ghost coded = { Prim.hlevel (codes, tree_code (Prim.hlevel codes)) };
+
+    ghost view = { λ b. record {
+      opening = b.opening.value;
+      sheet = b.sheet;
+      graph = b.graph;
+      log = b.log.items;
+      spare = min (G.spare b.graph) (vec_capacity b.log - vec_len b.log);
+    } };
+
+    ghost invariant = { λ b. IsBookOf b.opening.value b.sheet b.log.items (G.pairs b.graph) };
+}
+
+impl<G: Graph> Book<G> {
+    /// A book of a sheet, with an empty log. The graph has no pairs, and is given those of the sheet, in the time of
+    /// `graph_of`. After Memory both are dropped.
+    pub fn open(alloc: Global, sheet: Sheet, graph: G) -> Result<Book<G>, Memory>
+    where
+        G: Drop,
+        requires { HasNoPairs (G.pairs graph) }
+        ensures opened { IfOk result (IsOpenedWith sheet) }
+        ensures kept { IfOk result (IsBook G.pairs) }
+    {
+        let graph = graph_of(alloc, graph, &sheet)?;
+        Ok(Book {
+            opening: Snapshot::of(&sheet),
+            sheet,
+            graph,
+            log: Vec::new(alloc),
+            alloc,
+        })
+    }
+
+    /// The sheet, as it is after the log.
+    pub fn sheet(&self) -> &Sheet
+        ensures sheet { result.now ≡ self.now.sheet }
+        ensures kept { IsBook G.pairs self.now }
+    {
+        &self.sheet
+    }
+
+    /// The dependency graph of the sheet.
+    pub fn graph(&self) -> &G
+        ensures graph { result.now ≡ self.now.graph }
+        ensures kept { IsBook G.pairs self.now }
+    {
+        &self.graph
+    }
+
+    /// The entries, the first one first.
+    pub fn log(&self) -> &[Entry]
+        ensures log { result.now ≡ self.now.log }
+        ensures kept { IsBook G.pairs self.now }
+    {
+        &self.log
+    }
+
+    /// The number of entries: at most 1,048,576.
+    pub fn length(&self) -> u64
+        ensures length { result ≡ length self.now.log }
+        ensures kept { IsBook G.pairs self.now }
+    {
+        self.log.len() as u64
+    }
+
+    /// Makes a prepared edit: changes the cell, gives the graph its references, and adds the entry to the log. It takes
+    /// no memory, and the time of the graph's `replace`.
+    pub fn apply(&mut self, prepared: Prepared) -> Applied
+        requires prepared { IsPreparedFor self.old.opening self.old.log prepared }
+        requires room { 1 ≤ self.old.spare }
+        ensures applied { HasApplied prepared.entry self.old self.new }
+        ensures kept { IsBook G.pairs self.new }
+        ensures number { result.number ≡ prepared.number }
+        ensures touched { result.touched.items ≡ prepared.touched }
+    {
+        let Prepared {
+            entry,
+            number,
+            touched,
+            change,
+            refs,
+        } = prepared;
+        self.graph.replace(change.cell, &refs);
+        let _ = self.sheet.apply(Edit { change });
+        self.log.push_reserved(entry);
+        Applied { number, touched }
+    }
+}

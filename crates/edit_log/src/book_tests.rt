@@ -1,0 +1,100 @@
+// What no clause says: that edits are prepared where there is memory, and touch the cells that a person expects. The
+// expected cells were worked out by hand.
+use crate::tests::put;
+use crate::{Book, PrepareRefused};
+use graph_walk::Graph;
+use plain_graph::PlainGraph;
+use sheet_model::{Change, Content, Edit, Sheet};
+use sheet_refs::{Cell, cell_of};
+use std::alloc::Global;
+use std::fmt::Write;
+use std::test::Fail;
+
+fn cell(name: &str) -> Result<Cell, Fail> {
+    Ok(cell_of(name.as_bytes()).ok_or("no cell")?)
+}
+
+// A book of a sheet of three rows and columns with these fields in its cells.
+fn book(alloc: Global, fields: &[(&str, &str)]) -> Result<Book<PlainGraph>, Fail> {
+    let mut sheet = Sheet::blank(alloc, 3, 3)?;
+    for (name, field) in fields {
+        put(&mut sheet, name, field)?;
+    }
+    Ok(Book::open(alloc, sheet, PlainGraph::new(alloc))?)
+}
+
+// Makes an edit, and gives its number and the names of the cells that it touches.
+fn touched<G: Graph>(alloc: Global, book: &mut Book<G>, name: &str) -> Result<String, Fail> {
+    let edit = Edit {
+        change: Change {
+            cell: cell(name)?,
+            content: Content::Truth(true),
+        },
+    };
+    let Ok(prepared) = book.prepare(2, edit) else {
+        return Err(Fail::from("an edit that is refused"));
+    };
+    let applied = book.apply(prepared);
+    let mut text = String::new(alloc);
+    write!(text, "{}", applied.number)?;
+    for cell in &applied.touched {
+        write!(text, " {cell}")?;
+    }
+    Ok(text)
+}
+
+#[test]
+fn edits_touch_their_dependents_row_by_row(rt: HostRuntime) -> Result<(), Fail> {
+    let alloc = rt.alloc();
+    let fields = [
+        ("C1", "=B2"),
+        ("B2", "=A1+SUM(A3:B3)"),
+        ("A3", "=B2"),
+        ("C3", "=A1"),
+    ];
+    let mut book = book(alloc, &fields)?;
+    for (name, wanted) in [
+        ("A1", "1 A1 C1 B2 A3 C3"),
+        ("B1", "2 B1"),
+        ("B3", "3 C1 B2 A3 B3"),
+        ("B2", "4 C1 B2 A3"),
+        ("A3", "5 A3"),
+        ("A1", "6 A1 C3"),
+    ] {
+        let told = touched(alloc, &mut book, name)?;
+        assert_eq!(rt; told.as_str(), wanted, "{name}");
+    }
+    assert_eq!(rt; book.length(), 6);
+    assert_eq!(rt; book.log().len(), 6);
+    assert!(rt; matches!(book.sheet().content(cell("B2")?), Content::Truth(true)));
+    Ok(())
+}
+
+// Empties a cell of a book, and tells whether that was prepared.
+fn clears<G: Graph>(book: &mut Book<G>, cell: Cell) -> Result<u64, PrepareRefused> {
+    let content = Content::Empty;
+    let edit = Edit {
+        change: Change { cell, content },
+    };
+    let prepared = book.prepare(0, edit)?;
+    let applied = book.apply(prepared);
+    Ok(applied.number)
+}
+
+#[test]
+fn a_log_takes_a_million_entries(rt: HostRuntime) -> Result<(), Fail> {
+    let alloc = rt.alloc();
+    let sheet = Sheet::blank(alloc, 1, 1)?;
+    let mut book = Book::open(alloc, sheet, PlainGraph::new(alloc))?;
+    let first = cell("A1")?;
+    for _ in 0..1_048_576 {
+        if clears(&mut book, first).is_err() {
+            return Err(Fail::from("an edit that is refused"));
+        }
+    }
+    let full = clears(&mut book, first);
+    assert!(rt; matches!(full, Err(PrepareRefused::LogFull { length: 1_048_576 })));
+    let outside = clears(&mut book, cell("A2")?);
+    assert!(rt; matches!(outside, Err(PrepareRefused::OutOfSheet { .. })));
+    Ok(())
+}
