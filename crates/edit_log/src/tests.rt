@@ -1,4 +1,5 @@
-// What no clause says: that the pairs of a sheet are those that a person expects. The expected values were worked out by hand.
+// What no clause says: that the pairs of a sheet are those that a person expects. The expected values
+// were worked out by hand.
 use crate::graph_of;
 use graph_walk::{dependents, on_cycle, precedents};
 use plain_graph::PlainGraph;

@@ -10,7 +10,7 @@ use Rattle.sheet_refs.proofs.Places.{inside_bounds}
 use Rattle.value_core.specs.declared.value.Value.{Value}
 use Rattle.value_core.specs.declared.value.Value.TheVariants.{Empty, Number, Truth, Error, Label}
 use Rattle.formula_eval.specs.declared.items.Item.TheVariants.{Cell}
-use Rattle.formula_eval.specs.Inputs.{seen}
+use Rattle.formula_eval.specs.Inputs.{seen_values}
 use Rattle.formula_eval.specs.Items.{is_empty, is_filled, items_of_cells}
 
 abbrev at : ℕ → ℕ → Position
@@ -71,7 +71,7 @@ module _ (h : Position → Value) where
       ∙ ap₂ ◌++◌ (cut_cols top left wide_in wide_out (right top)) (cut_block left wide_in wide_out (top + 1) high_in high_out right (λ row col less most. below row col (omega arith) (omega arith)))
       ∙ sym (shown-append (cols top left wide_in) (block left wide_in (top + 1) high_in)))
 
-seen_outside : (sizes : Sizes) (codes : Position → Option ℕ) (cell : Position) → (is_inside sizes cell ≡ false) → seen sizes codes cell ≡ Empty
+seen_outside : (sizes : Sizes) (codes : Position → Option ℕ) (cell : Position) → (is_inside sizes cell ≡ false) → seen_values sizes codes cell ≡ Empty
 seen_outside sizes codes cell outside = rw outside refl
 
 past_cols : (sizes : Sizes) (row col : ℕ) → sizes.cols < col → is_inside sizes (at row col) ≡ false
@@ -81,21 +81,21 @@ past_rows : (sizes : Sizes) (row col : ℕ) → sizes.rows < row → is_inside s
 past_rows sizes row col past = grind (arith, nat_tests)
 
 -- a range that begins in the rectangle shows no more than its part there
-pub part_shows : (sizes : Sizes) (codes : Position → Option ℕ) (range : Corners) → IsTrue (is_inside sizes range.head) → shown (seen sizes codes) (cells_of range) ≡ shown (seen sizes codes) (cells_of (part_inside sizes range))
+pub part_shows : (sizes : Sizes) (codes : Position → Option ℕ) (range : Corners) → IsTrue (is_inside sizes range.head) → shown (seen_values sizes codes) (cells_of range) ≡ shown (seen_values sizes codes) (cells_of (part_inside sizes range))
 part_shows sizes codes range inside =
     let bounds = inside_bounds sizes range.head inside in
     let part = part_inside sizes range in
     let wide : width range ≡ width part + (width range - width part) = omega (arith, bounds.col_to) in
     let high : height range ≡ height part + (height range - height part) = omega (arith, bounds.row_to) in
-    let cut = cut_block (seen sizes codes) range.head.col (width part) (width range - width part) range.head.row (height part) (height range - height part)
+    let cut = cut_block (seen_values sizes codes) range.head.col (width part) (width range - width part) range.head.row (height part) (height range - height part)
     (λ row col less most. seen_outside sizes codes (at row col) (past_cols sizes row col (omega (arith, bounds.col_to))))
     (λ row col less most. seen_outside sizes codes (at row col) (past_rows sizes row col (omega (arith, bounds.row_to)))) in
-    ap₂ (λ w n. shown (seen sizes codes) (block range.head.col w range.head.row n)) wide high ∙ cut
+    ap₂ (λ w n. shown (seen_values sizes codes) (block range.head.col w range.head.row n)) wide high ∙ cut
 
 -- a range none of whose cells lies in the rectangle shows nothing
-pub past_shows : (sizes : Sizes) (codes : Position → Option ℕ) (range : Corners) → ((cell : Position) → IsIn cell range → is_inside sizes cell ≡ false) → shown (seen sizes codes) (cells_of range) ≡ []
+pub past_shows : (sizes : Sizes) (codes : Position → Option ℕ) (range : Corners) → ((cell : Position) → IsIn cell range → is_inside sizes cell ≡ false) → shown (seen_values sizes codes) (cells_of range) ≡ []
 past_shows sizes codes range outside =
-    outside_block (seen sizes codes) range.head.col (width range) range.head.row (height range)
+    outside_block (seen_values sizes codes) range.head.col (width range) range.head.row (height range)
     (λ row col from to left right. seen_outside sizes codes (at row col) (outside (at row col) (record { row_from = from; row_to = omega arith; col_from = left; col_to = omega arith })))
 
 map-joined : {A B : Type 0} (f : A → B) (xs ys : List A) → map f (xs ++ ys) ≡ map f xs ++ map f ys

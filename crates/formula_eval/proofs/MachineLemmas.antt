@@ -17,7 +17,7 @@ use Rattle.formula_syntax.specs.declared.tree.Node.{Node}
 use Rattle.formula_syntax.specs.Tree.{Tree, number, truth, error, reference, prefix, binary, call, tree_of, trees_of, references_of, all_references, node_count, all_nodes}
 use Rattle.formula_eval.specs.declared.machine.Pending.{Pending}
 use Rattle.formula_eval.specs.declared.machine.Pending.TheVariants as pending
-use Rattle.formula_eval.specs.Inputs.{ArePlain, IsPlainRange, seen}
+use Rattle.formula_eval.specs.Inputs.{ArePlain, IsPlainRange, seen_values}
 use Rattle.formula_eval.specs.Meaning.{meaning, parameter_values, parameter_value, cells_of_tree, IsNoReference}
 use Rattle.formula_eval.specs.Pending.{value_of_one, value_of_all}
 use Rattle.formula_eval.proofs.PendingLemmas.{value_of_all-push}
@@ -26,7 +26,7 @@ use Rattle.formula_eval.proofs.PendingLemmas.{value_of_all-push}
 pub record HasLeft (sizes : Sizes) (codes : Position → Option ℕ) (whole part : Tree) (old now : List Pending) : Type 0 where
   pub waiting : List Pending
   pub items : now ≡ old ++ waiting
-  pub means : meaning (seen sizes codes) whole ≡ value_of_all waiting (meaning (seen sizes codes) part)
+  pub means : meaning (seen_values sizes codes) whole ≡ value_of_all waiting (meaning (seen_values sizes codes) part)
   pub plain : ArePlain sizes codes (references_of part)
   pub count : length waiting + node_count part ≤ node_count whole
 
@@ -38,16 +38,16 @@ module _ (sizes : Sizes) (codes : Position → Option ℕ) (whole : Tree) (old n
   left_prefix op operand left = record {
     waiting = left.waiting ++ pending.Prefix op ∷ [];
     items = ap (λ xs. xs ++ pending.Prefix op ∷ []) left.items ∙ append_assoc old left.waiting (pending.Prefix op ∷ []);
-    means = left.means ∙ sym (value_of_all-push left.waiting (pending.Prefix op) (meaning (seen sizes codes) operand));
+    means = left.means ∙ sym (value_of_all-push left.waiting (pending.Prefix op) (meaning (seen_values sizes codes) operand));
     plain = left.plain;
     count = (let h = left.count in omega (arith, length-append left.waiting (pending.Prefix op ∷ [])));
   }
 
-  pub left_binary : (op : BinaryOp) (first second : Tree) (value : Value) → value ≡ meaning (seen sizes codes) second → HasLeft sizes codes whole (binary op first second) old now → ArePlain sizes codes (references_of first) → HasLeft sizes codes whole first old (now ++ pending.Binary op value ∷ [])
+  pub left_binary : (op : BinaryOp) (first second : Tree) (value : Value) → value ≡ meaning (seen_values sizes codes) second → HasLeft sizes codes whole (binary op first second) old now → ArePlain sizes codes (references_of first) → HasLeft sizes codes whole first old (now ++ pending.Binary op value ∷ [])
   left_binary op first second value is left plain = record {
     waiting = left.waiting ++ pending.Binary op value ∷ [];
     items = ap (λ xs. xs ++ pending.Binary op value ∷ []) left.items ∙ append_assoc old left.waiting (pending.Binary op value ∷ []);
-    means = left.means ∙ ap (λ v. value_of_all left.waiting (value_of_one (pending.Binary op v) (meaning (seen sizes codes) first))) (sym is) ∙ sym (value_of_all-push left.waiting (pending.Binary op value) (meaning (seen sizes codes) first));
+    means = left.means ∙ ap (λ v. value_of_all left.waiting (value_of_one (pending.Binary op v) (meaning (seen_values sizes codes) first))) (sym is) ∙ sym (value_of_all-push left.waiting (pending.Binary op value) (meaning (seen_values sizes codes) first));
     plain = plain;
     count = (let h = left.count in omega (arith, length-append left.waiting (pending.Binary op value ∷ [])));
   }

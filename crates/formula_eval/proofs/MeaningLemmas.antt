@@ -20,7 +20,7 @@ use Rattle.value_core.specs.Operators.{binary_of, prefix_of}
 use Rattle.value_core.specs.Values.{code_of}
 use Rattle.formula_syntax.specs.Tree.{Tree, Trees, number, truth, error, reference, prefix, binary, call, no_trees, and_trees, references_of, all_references}
 use Rattle.formula_eval.specs.Functions.{function_value}
-use Rattle.formula_eval.specs.Inputs.{within, seen, IsPlain, ArePlain}
+use Rattle.formula_eval.specs.Inputs.{within, seen_values, IsPlain, ArePlain}
 use Rattle.formula_eval.specs.Items.{Parameter}
 use Rattle.formula_eval.specs.Meaning.{meaning, parameter_values, cells_of_tree, scalar_of_range, is_one_cell, is_circular, has_circular, formula_value, Agrees, IsReferenced}
 use Rattle.formula_eval.specs.Stops.{StopsAt, stop_cell, stop_code}
@@ -145,7 +145,7 @@ formula_value_same sizes tree f g agree =
     ap₂ (λ circular v. if circular then Error error.Circ else never_empty v) (circular_same (within sizes f) (within sizes g) (references_of tree) same) (meaning_same (within sizes f) (within sizes g) tree same)
 
 module _ (sizes : Sizes) (codes : Position → Option ℕ) (tree : Tree) (values : Position → Value) (agrees : Agrees sizes codes tree values) where
-  cell_by : (cell : Position) (inside : Bool) → is_inside sizes cell ≡ inside → IsReferenced tree cell → IsPlain sizes codes cell → (within sizes values cell ≡ seen sizes codes cell) × (is_circular (within sizes values cell) ≡ false)
+  cell_by : (cell : Position) (inside : Bool) → is_inside sizes cell ≡ inside → IsReferenced tree cell → IsPlain sizes codes cell → (within sizes values cell ≡ seen_values sizes codes cell) × (is_circular (within sizes values cell) ≡ false)
   cell_by cell false is named plain = (rw is refl, rw is refl)
   cell_by cell true is named plain =
       let known = plain is in
@@ -154,7 +154,7 @@ module _ (sizes : Sizes) (codes : Position → Option ℕ) (tree : Tree) (values
       (rw (is, known.2) value, rw is (not_circular (values cell) (λ same. known.3 (sym at.1 ∙ same))))
 
   -- a plain cell that the formula names has the value that is held of it, and not #CIRC!
-  named_at : ArePlain sizes codes (references_of tree) → (i : ℕ) (d : Reference) → i < length (references_of tree) → (cell : Position) → IsIn cell (corners_of (get_or (references_of tree) i d)) → (within sizes values cell ≡ seen sizes codes cell) × (is_circular (within sizes values cell) ≡ false)
+  named_at : ArePlain sizes codes (references_of tree) → (i : ℕ) (d : Reference) → i < length (references_of tree) → (cell : Position) → IsIn cell (corners_of (get_or (references_of tree) i d)) → (within sizes values cell ≡ seen_values sizes codes cell) × (is_circular (within sizes values cell) ≡ false)
   named_at plain i d below cell inside =
       cell_by cell (is_inside sizes cell) refl (record { through = get_or (references_of tree) i d; place = i; listed = slice_get-get_or (references_of tree) i d below; inside = inside }) ((plain i d below).plain cell inside)
 
@@ -166,10 +166,10 @@ module _ (sizes : Sizes) (codes : Position → Option ℕ) (tree : Tree) (values
       (cells_all (λ cell. is_circular (within sizes values cell) ≡ false) range (λ cell inside. (named_at plain i d below cell inside).1)))
 
   -- the value of a formula of plain references
-  pub value_same : ArePlain sizes codes (references_of tree) → never_empty (meaning (seen sizes codes) tree) ≡ formula_value sizes tree values
+  pub value_same : ArePlain sizes codes (references_of tree) → never_empty (meaning (seen_values sizes codes) tree) ≡ formula_value sizes tree values
   value_same plain =
-      let same : AllSame (within sizes values) (seen sizes codes) (references_of tree) = (λ i d below. record { same = λ cell inside. (named_at plain i d below cell inside).0 }) in
-      rw (none_circular plain) (ap never_empty (sym (meaning_same (within sizes values) (seen sizes codes) tree same)))
+      let same : AllSame (within sizes values) (seen_values sizes codes) (references_of tree) = (λ i d below. record { same = λ cell inside. (named_at plain i d below cell inside).0 }) in
+      rw (none_circular plain) (ap never_empty (sym (meaning_same (within sizes values) (seen_values sizes codes) tree same)))
 
   -- a formula that names a cell of which the code of #CIRC! is held has that value
   pub value_circular : (stop : Stop) → StopsAt sizes codes (references_of tree) stop → stop_code stop ≡ Some (code_of (Error error.Circ)) → Error error.Circ ≡ formula_value sizes tree values

@@ -24,8 +24,8 @@ value_of_code None = Empty
 value_of_code (Some word) = value_of_word word
 
 -- the values of the codes that are held
-abbrev pub seen : Sizes → (Position → Option ℕ) → Position → Value
-seen sizes codes = within sizes (λ cell. value_of_code (codes cell))
+abbrev pub seen_values : Sizes → (Position → Option ℕ) → Position → Value
+seen_values sizes codes = within sizes (λ cell. value_of_code (codes cell))
 
 -- a cell of which the code of a value other than #CIRC! is held
 abbrev pub IsKnownPlain : (Position → Option ℕ) → Position → Type 0

@@ -4,7 +4,7 @@ use Rattle.sheet_refs.specs.Cells.{Position, Corners, cells_of}
 use Rattle.sheet_refs.specs.declared.sizes.Sizes.{Sizes}
 use Rattle.value_core.specs.declared.value.Value.{Value}
 use Rattle.formula_syntax.specs.Tree.{Tree, Trees, references_of, all_references}
-use Rattle.formula_eval.specs.Inputs.{ArePlain, seen}
+use Rattle.formula_eval.specs.Inputs.{ArePlain, seen_values}
 use Rattle.formula_eval.specs.declared.items.Item.{Item}
 use Rattle.formula_eval.specs.Items.{Parameter, items_of_cells}
 use Rattle.formula_eval.specs.Meaning.{meaning, parameter_value, parameter_values}
@@ -27,15 +27,15 @@ StopsTrees sizes codes trees stop = StopsAt sizes codes (all_references trees) s
 
 -- what a tree means over the values that are seen
 abbrev pub seen_value : Sizes → (Position → Option ℕ) → Tree → Value
-seen_value sizes codes tree = meaning (seen sizes codes) tree
+seen_value sizes codes tree = meaning (seen_values sizes codes) tree
 
 -- what a tree is as a parameter, and what some trees are
 abbrev pub seen_parameter : Sizes → (Position → Option ℕ) → Tree → Parameter
-seen_parameter sizes codes tree = parameter_value (seen sizes codes) tree
+seen_parameter sizes codes tree = parameter_value (seen_values sizes codes) tree
 
 abbrev pub seen_parameters : Sizes → (Position → Option ℕ) → Trees → List Parameter
-seen_parameters sizes codes trees = parameter_values (seen sizes codes) trees
+seen_parameters sizes codes trees = parameter_values (seen_values sizes codes) trees
 
 -- the items of a range's cells
 abbrev pub seen_items : Sizes → (Position → Option ℕ) → Corners → List Item
-seen_items sizes codes range = items_of_cells (map (seen sizes codes) (cells_of range))
+seen_items sizes codes range = items_of_cells (map (seen_values sizes codes) (cells_of range))

@@ -2,7 +2,7 @@ ghost use Rattle.std.specs.Prelude.{◌≡◌, ◌<◌, ◌≤◌, ◌+◌, ◌^
 ghost use Rattle.std.specs.Prelude.{◌∷◌};
 ghost use Rattle.sheet_refs.specs.Sizes.{is_inside};
 ghost use Rattle.formula_eval.specs.Functions.{contributions};
-ghost use Rattle.formula_eval.specs.Inputs.{IsPlainRange, IsKnownPlain, seen};
+ghost use Rattle.formula_eval.specs.Inputs.{IsPlainRange, IsKnownPlain, seen_values};
 ghost use Rattle.formula_eval.specs.Items.{items_of_cells};
 ghost use Rattle.formula_eval.specs.Seen.{seen_items};
 ghost use Rattle.formula_eval.specs.Tallies.{Adds, IsBounded};
@@ -19,7 +19,7 @@ use value_core::{ErrorKind, Value, decode};
 pub(crate) fn value_at<I: Inputs>(inputs: &I, cell: Cell) -> Value
     requires inside { IsTrue (is_inside (I.sizes inputs.now) cell) }
     requires known { IsKnownPlain (I.codes inputs.now) cell }
-    ensures { result ≡ seen (I.sizes inputs.now) (I.codes inputs.now) cell }
+    ensures { result ≡ seen_values (I.sizes inputs.now) (I.codes inputs.now) cell }
 {
     let word = inputs.get(cell).unwrap();
     decode(word).unwrap()

@@ -6,7 +6,7 @@ ghost use Rattle.formula_syntax.specs.Functions.{shape_of};
 ghost use Rattle.formula_syntax.specs.declared.functions.Place.TheVariants.{Sequence as SequencePlace};
 ghost use Rattle.formula_eval.specs.Functions.{function_value, sequence_value, contributions};
 ghost use Rattle.formula_eval.specs.Functions.{scalar_at, blank_count};
-ghost use Rattle.formula_eval.specs.Inputs.{IsPlainRange, seen};
+ghost use Rattle.formula_eval.specs.Inputs.{IsPlainRange, seen_values};
 ghost use Rattle.formula_eval.specs.Items.{items_of, items_of_parameter};
 ghost use Rattle.formula_eval.specs.Meaning.{IsNoReference, scalar_of_range};
 ghost use Rattle.formula_eval.specs.Pending.{value_of_all, value_of_one, HasRoomFor};
@@ -64,7 +64,7 @@ fn unwind(pending: &mut Vec<Pending>, first: usize, value: Value) -> Value
 // The value of a range where one value is wanted.
 fn scalar_of<I: Inputs>(inputs: &I, range: Range) -> Value
     requires { IsPlainRange (I.sizes inputs.now) (I.codes inputs.now) range }
-    ensures { result ≡ scalar_of_range (seen (I.sizes inputs.now) (I.codes inputs.now)) range }
+    ensures { result ≡ scalar_of_range (seen_values (I.sizes inputs.now) (I.codes inputs.now)) range }
 {
     let head = range.head();
     if head != range.tail() {

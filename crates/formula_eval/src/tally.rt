@@ -3,7 +3,7 @@ ghost use Rattle.std.specs.Prelude.{OnOk, IfErr, Err, if◌then◌else◌};
 ghost use Rattle.formula_syntax.specs.Functions.{shape_of};
 ghost use Rattle.formula_syntax.specs.declared.functions.Place.TheVariants.{Sequence};
 ghost use Rattle.formula_eval.specs.Functions.{contributions};
-ghost use Rattle.value_core.specs.Conversions.{in_range as ranged};
+ghost use Rattle.value_core.specs.Conversions.{in_range as value_in_range};
 ghost use Rattle.formula_eval.specs.Tallies.{Tallies, KeepsProduct, KeepsOneMore, TalliesOneMore};
 ghost use Rattle.formula_eval.specs.Tallies.{IsTotalOf};
 ghost use Rattle.formula_eval.specs.Tallies.{IsTruthOfSome};
@@ -164,7 +164,7 @@ fn greater(none: bool, first: Whole, second: Whole) -> Whole
 }
 
 fn sum_value(total: i128) -> Value
-    ensures { result ≡ ranged total }
+    ensures { result ≡ value_in_range total }
 {
     match i64::try_from(total) {
         Ok(total) => in_range(total),
@@ -173,7 +173,7 @@ fn sum_value(total: i128) -> Value
 }
 
 fn product_value(product: Option<Whole>) -> Value
-    ensures { (exact : ℤ) → KeepsProduct product exact → result ≡ ranged exact }
+    ensures { (exact : ℤ) → KeepsProduct product exact → result ≡ value_in_range exact }
 {
     match &product {
         Some(product) => in_range(product.get()),

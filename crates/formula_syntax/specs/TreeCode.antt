@@ -60,20 +60,20 @@ others [] = []
 others (x ∷ below) = below
 
 -- the trees, and the lists of trees, that heads leave, the last on top
-abbrev pub rebuilt : List Head → List Tree → List Trees → List Tree
-rebuilt [] trees lists = trees
-rebuilt (number_head n ∷ rest) trees lists = rebuilt rest (number n ∷ trees) lists
-rebuilt (truth_head b ∷ rest) trees lists = rebuilt rest (truth b ∷ trees) lists
-rebuilt (error_head kind ∷ rest) trees lists = rebuilt rest (error_tree kind ∷ trees) lists
-rebuilt (reference_head r ∷ rest) trees lists = rebuilt rest (reference r ∷ trees) lists
-rebuilt (prefix_head op ∷ rest) trees lists = rebuilt rest (over_one (prefix op) trees) lists
-rebuilt (binary_head op ∷ rest) trees lists = rebuilt rest (over_two (binary op) trees) lists
-rebuilt (call_head f ∷ rest) trees lists = rebuilt rest (call f (first_trees lists) ∷ trees) (others lists)
-rebuilt (end_head ∷ rest) trees lists = rebuilt rest trees (no_trees ∷ lists)
-rebuilt (pair_head ∷ rest) trees lists = rebuilt rest (others trees) (and_trees (first_tree trees) (first_trees lists) ∷ others lists)
+abbrev pub trees_from_heads : List Head → List Tree → List Trees → List Tree
+trees_from_heads [] trees lists = trees
+trees_from_heads (number_head n ∷ rest) trees lists = trees_from_heads rest (number n ∷ trees) lists
+trees_from_heads (truth_head b ∷ rest) trees lists = trees_from_heads rest (truth b ∷ trees) lists
+trees_from_heads (error_head kind ∷ rest) trees lists = trees_from_heads rest (error_tree kind ∷ trees) lists
+trees_from_heads (reference_head r ∷ rest) trees lists = trees_from_heads rest (reference r ∷ trees) lists
+trees_from_heads (prefix_head op ∷ rest) trees lists = trees_from_heads rest (over_one (prefix op) trees) lists
+trees_from_heads (binary_head op ∷ rest) trees lists = trees_from_heads rest (over_two (binary op) trees) lists
+trees_from_heads (call_head f ∷ rest) trees lists = trees_from_heads rest (call f (first_trees lists) ∷ trees) (others lists)
+trees_from_heads (end_head ∷ rest) trees lists = trees_from_heads rest trees (no_trees ∷ lists)
+trees_from_heads (pair_head ∷ rest) trees lists = trees_from_heads rest (others trees) (and_trees (first_tree trees) (first_trees lists) ∷ others lists)
 
 mutual
-  pub rebuilt_one : (tree : Tree) (rest : List Head) (trees : List Tree) (lists : List Trees) → rebuilt (postfix_of tree ++ rest) trees lists ≡ rebuilt rest (tree ∷ trees) lists
+  pub rebuilt_one : (tree : Tree) (rest : List Head) (trees : List Tree) (lists : List Trees) → trees_from_heads (postfix_of tree ++ rest) trees lists ≡ trees_from_heads rest (tree ∷ trees) lists
   rebuilt_one (number n) rest trees lists = refl
   rebuilt_one (truth b) rest trees lists = refl
   rebuilt_one (error_tree kind) rest trees lists = refl
@@ -86,15 +86,15 @@ mutual
   rebuilt_one (call f parameters) rest trees lists =
       rw append_assoc (rebuilt_all parameters (call_head f ∷ rest) trees lists)
 
-  pub rebuilt_all : (all : Trees) (rest : List Head) (trees : List Tree) (lists : List Trees) → rebuilt (postfix_all all ++ rest) trees lists ≡ rebuilt rest trees (all ∷ lists)
+  pub rebuilt_all : (all : Trees) (rest : List Head) (trees : List Tree) (lists : List Trees) → trees_from_heads (postfix_all all ++ rest) trees lists ≡ trees_from_heads rest trees (all ∷ lists)
   rebuilt_all no_trees rest trees lists = refl
   rebuilt_all (and_trees tree others) rest trees lists =
       rw (append_assoc, append_assoc)
       (rebuilt_one tree (postfix_all others ++ (pair_head ∷ rest)) trees lists ∙ rebuilt_all others (pair_head ∷ rest) (tree ∷ trees) lists)
 
-pub same_tree : (tree : Tree) → first_tree (rebuilt (postfix_of tree) [] []) ≡ tree
+pub same_tree : (tree : Tree) → first_tree (trees_from_heads (postfix_of tree) [] []) ≡ tree
 same_tree tree = rw append-nil at (ap first_tree (rebuilt_one tree [] [] []))
 
 -- a code of trees from one of heads
 abbrev pub tree_code : Coded Head → Coded Tree
-tree_code head_code = code_by (List Head) (coded_list head_code) postfix_of (λ heads. first_tree (rebuilt heads [] [])) same_tree
+tree_code head_code = code_by (List Head) (coded_list head_code) postfix_of (λ heads. first_tree (trees_from_heads heads [] [])) same_tree

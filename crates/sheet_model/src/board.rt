@@ -37,7 +37,8 @@ impl Model for Board {
     ghost view = { λ b.
         record { room = b.room; number = b.number; window = b.window; cells = b.cells.items } };
 
-    ghost invariant = { λ b. IsStoredBoard b.room b.window (vec_len b.cells) (vec_capacity b.cells) };
+    ghost invariant = { λ b.
+        IsStoredBoard b.room b.window (vec_len b.cells) (vec_capacity b.cells) };
 }
 
 impl Board {

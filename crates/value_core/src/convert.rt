@@ -1,6 +1,6 @@
 ghost use Rattle.std.specs.Prelude.{◌≡◌};
 ghost use Rattle.value_core.specs.Conversions.{as_number as number_of, as_truth as truth_of};
-ghost use Rattle.value_core.specs.Conversions.{in_range as ranged, never_empty as value_or_zero};
+ghost use Rattle.value_core.specs.Conversions.{in_range as value_in_range, never_empty as value_or_zero};
 ghost use Rattle.value_core.specs.Conversions.{truth_number as truth_as_number};
 
 use crate::value::{ErrorKind, Value};
@@ -43,7 +43,7 @@ pub fn as_truth(value: Value) -> Result<bool, ErrorKind>
 
 /// A number as a value; `#NUM!` for one out of range.
 pub fn in_range(number: i64) -> Value
-    ensures { result ≡ ranged number }
+    ensures { result ≡ value_in_range number }
 {
     match Whole::new(number) {
         Some(number) => Value::Number(number),

@@ -1,6 +1,6 @@
 ghost use Rattle.std.specs.Prelude.{◌≡◌, ◌<◌, ◌≤◌, ◌*ℤ◌, nat_abs, SomeIff};
 ghost use Rattle.value_core.specs.Wholes.{IsWhole};
-ghost use Rattle.value_core.specs.Conversions.{in_range as ranged};
+ghost use Rattle.value_core.specs.Conversions.{in_range as value_in_range};
 ghost use Rattle.value_core.specs.Operators.{binary_of, prefix_of, calculation, comparison};
 ghost use Rattle.value_core.specs.Operators.{by_kind as by_kind_of, beside as beside_of};
 ghost use Rattle.value_core.specs.Operators.{unordered_value};
@@ -183,7 +183,7 @@ fn times(left: Whole, right: Whole) -> Option<Whole>
 }
 
 fn product(left: Whole, right: Whole) -> Value
-    ensures { result ≡ ranged (left *ℤ right) }
+    ensures { result ≡ value_in_range (left *ℤ right) }
 {
     match times(left, right) {
         Some(product) => Value::Number(product),
@@ -220,7 +220,7 @@ fn power(base: Whole, exponent: Whole) -> Value
 // A power of -1, 0 or 1, which turns on whether the exponent is odd.
 fn power_of_unit(base: Whole, exponent: u64) -> Value
     requires { nat_abs base < 2 }
-    ensures { result ≡ ranged (power_of base exponent) }
+    ensures { result ≡ value_in_range (power_of base exponent) }
 {
     if exponent == 0 {
         in_range(1)
@@ -234,7 +234,7 @@ fn power_of_unit(base: Whole, exponent: u64) -> Value
 // A power of another base, which leaves the range after at most 53 products.
 fn repeated_product(base: Whole, exponent: u64) -> Value
     requires { 2 ≤ nat_abs base }
-    ensures { result ≡ ranged (power_of base exponent) }
+    ensures { result ≡ value_in_range (power_of base exponent) }
 {
     let mut product = Whole::ONE;
     for _done in 0..exponent {

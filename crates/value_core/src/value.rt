@@ -1,3 +1,6 @@
+ghost use Rattle.std.specs.Prelude.{◌≡◌, Some};
+ghost use Rattle.value_core.specs.Values.{error_text};
+
 use crate::whole::Whole;
 use std::fmt;
 
@@ -22,15 +25,12 @@ pub enum ErrorKind {
     Circ,
 }
 
-/// Prints the error's name, as `#NUM!`.
-impl fmt::Display for ErrorKind {
-    ghost use Rattle.std.specs.Prelude.{Some};
-    ghost use Rattle.value_core.specs.Values.{error_text};
-
-    ghost output = { λ kind. Some (error_text kind) };
-
-    fn fmt<W: fmt::Write>(&self, f: &mut fmt::Formatter<W>) -> fmt::Result {
-        f.write_str(match self {
+impl ErrorKind {
+    /// The error's name, as `#NUM!`.
+    pub fn name(self) -> &'static str
+        ensures { result.now ≡ error_text self }
+    {
+        match self {
             ErrorKind::Null => "#NULL!",
             ErrorKind::Div0 => "#DIV/0!",
             ErrorKind::Value => "#VALUE!",
@@ -39,7 +39,16 @@ impl fmt::Display for ErrorKind {
             ErrorKind::Num => "#NUM!",
             ErrorKind::Na => "#N/A",
             ErrorKind::Circ => "#CIRC!",
-        })
+        }
+    }
+}
+
+/// Prints the error's name.
+impl fmt::Display for ErrorKind {
+    ghost output = { λ kind. Some (error_text kind) };
+
+    fn fmt<W: fmt::Write>(&self, f: &mut fmt::Formatter<W>) -> fmt::Result {
+        f.write_str(self.name())
     }
 }
 

@@ -33,7 +33,7 @@ pub(crate) fn send_value<F: FnMut(&[u8]) -> bool>(value: Value, labels: &Labels,
         Value::Number(number) => send(Buffer::new().format(number.get()).as_bytes(), to),
         Value::Truth(true) => send(b"TRUE", to),
         Value::Truth(false) => send(b"FALSE", to),
-        Value::Error(kind) => send(error_name(*kind).as_bytes(), to),
+        Value::Error(kind) => send(kind.name().as_bytes(), to),
         Value::Label(place) => send_quoted(label_at(labels, *place), to),
     }
 }
@@ -46,22 +46,6 @@ fn label_at(labels: &Labels, place: u32) -> &str
         labels.text(place)
     } else {
         ""
-    }
-}
-
-// The name of an error.
-fn error_name(kind: ErrorKind) -> &'static str
-    ensures { result.now ≡ error_text kind }
-{
-    match kind {
-        ErrorKind::Null => "#NULL!",
-        ErrorKind::Div0 => "#DIV/0!",
-        ErrorKind::Value => "#VALUE!",
-        ErrorKind::Ref => "#REF!",
-        ErrorKind::Name => "#NAME?",
-        ErrorKind::Num => "#NUM!",
-        ErrorKind::Na => "#N/A",
-        ErrorKind::Circ => "#CIRC!",
     }
 }
 

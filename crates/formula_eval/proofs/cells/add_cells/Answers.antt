@@ -4,7 +4,7 @@ use Rattle.sheet_refs.specs.Cells.{Corners, cells_of}
 use Rattle.sheet_refs.proofs.Places.{comes_to_head, comes_to_next}
 use Rattle.formula_eval.specs.declared.items.Item.TheVariants.{Cell}
 use Rattle.formula_eval.specs.Functions.{contributions}
-use Rattle.formula_eval.specs.Inputs.{seen}
+use Rattle.formula_eval.specs.Inputs.{seen_values}
 use Rattle.formula_eval.specs.Items.{items_of_cells}
 use Rattle.formula_eval.proofs.ClipLemmas.{part_shows, past_shows, items_step, items_split, items_length}
 use Rattle.formula_eval.proofs.NodeLemmas.{take-all}
@@ -21,7 +21,7 @@ returns-in_default-clause-ok g c =
 
 pub add_cell-requires-clause-room : goal.add_cell-requires-clause-room
 add_cell-requires-clause-room g c =
-    let h = seen (g.I.Inputs.sizes c.args.inputs.now) (g.I.Inputs.codes c.args.inputs.now) in
+    let h = seen_values (g.I.Inputs.sizes c.args.inputs.now) (g.I.Inputs.codes c.args.inputs.now) in
     omega (arith, c.loop-place.invariant.0.count, items_length h (cells_of c.in-Some.part) c.loop-place._place, c.cells-place-end.ensures.small, c.requires.room)
 
 pub loop-place-init : goal.loop-place-init
@@ -30,7 +30,7 @@ loop-place-init g c =
 
 pub loop-place-preserved : goal.loop-place-preserved
 loop-place-preserved g c =
-    let h = seen (g.I.Inputs.sizes c.args.inputs.now) (g.I.Inputs.codes c.args.inputs.now) in
+    let h = seen_values (g.I.Inputs.sizes c.args.inputs.now) (g.I.Inputs.codes c.args.inputs.now) in
     let below : c.loop-place._place < length (cells_of c.in-Some.part) = omega (arith, c.loop-place-test.true, c.cells-place-end.ensures.count) in
     let next = comes_to_next c.in-Some.part c.loop-place._place c.loop-place.cell c.cell_behind-cell.result c.loop-place.invariant.1 below c.cell_behind-cell.ensures.next c.cell_behind-cell.ensures.inside in
     let step = items_step h (cells_of c.in-Some.part) c.loop-place._place c.loop-place.cell c.value_at-value.result (c.loop-place.invariant.1.listed below) c.value_at-value.ensures in
@@ -42,7 +42,7 @@ returns-in_err-add_cell-clause-err g c =
     let p = err_from_is_err_and c.from_residual.result c.from_residual.ensures.1 in
     let sizes = g.I.Inputs.sizes c.args.inputs.now in
     let codes = g.I.Inputs.codes c.args.inputs.now in
-    let h = seen sizes codes in
+    let h = seen_values sizes codes in
     let f = c.args.function in
     let cells = cells_of c.in-Some.part in
     let k = c.loop-place._place in
@@ -58,7 +58,7 @@ pub returns-clause-ok : goal.returns-clause-ok
 returns-clause-ok g c =
     let sizes = g.I.Inputs.sizes c.args.inputs.now in
     let codes = g.I.Inputs.codes c.args.inputs.now in
-    let h = seen sizes codes in
+    let h = seen_values sizes codes in
     let cells = cells_of c.in-Some.part in
     let corners = rw c.sizes.ensures at c.in-Some.ensures.corners in
     let inside = rw c.sizes.ensures at (c.in-Some.ensures.some.0 refl) in
@@ -68,5 +68,5 @@ returns-clause-ok g c =
 
 pub returns-clause-few : goal.returns-clause-few
 returns-clause-few g c =
-    let h = seen (g.I.Inputs.sizes c.args.inputs.now) (g.I.Inputs.codes c.args.inputs.now) in
+    let h = seen_values (g.I.Inputs.sizes c.args.inputs.now) (g.I.Inputs.codes c.args.inputs.now) in
     omega (arith, c.loop-place.invariant.0.count, items_length h (cells_of c.in-Some.part) c.loop-place._place, c.cells-place-end.ensures.small)

@@ -6,10 +6,10 @@ use Rattle.sheet_refs.specs.Sizes.{is_inside}
 use Rattle.value_core.specs.declared.value.Value.{Value}
 use Rattle.value_core.specs.Values.{IsValue, code_of}
 use Rattle.value_core.specs.Decoding.{value_of_word, value_of_its_code}
-use Rattle.formula_eval.specs.Inputs.{seen}
+use Rattle.formula_eval.specs.Inputs.{seen_values}
 use Rattle.formula_eval.proofs.cells.value_at.Goals as goal
 
-seen_known : (sizes : Sizes) (codes : Position → Option ℕ) (cell : Position) (word : ℕ) (v : Value) → IsTrue (is_inside sizes cell) → codes cell ≡ Some word → IsValue v × (code_of v ≡ word) → v ≡ seen sizes codes cell
+seen_known : (sizes : Sizes) (codes : Position → Option ℕ) (cell : Position) (word : ℕ) (v : Value) → IsTrue (is_inside sizes cell) → codes cell ≡ Some word → IsValue v × (code_of v ≡ word) → v ≡ seen_values sizes codes cell
 seen_known sizes codes cell word v inside held is =
     rw (inside, held) (sym (value_of_its_code v is.0) ∙ ap value_of_word is.1)
 

@@ -4,7 +4,7 @@ use Rattle.formula_syntax.specs.Tree.{reference, prefix, binary, call, tree_of, 
 use Rattle.formula_syntax.specs.declared.tree.Node as node
 use Rattle.formula_syntax.specs.declared.tree.Node.TheFolds.{the_lemmas}
 use Rattle.formula_eval.specs.Functions.{contributions, total_of, or_error}
-use Rattle.formula_eval.specs.Inputs.{seen}
+use Rattle.formula_eval.specs.Inputs.{seen_values}
 use Rattle.formula_eval.specs.Items.{items_of, items_of_parameter}
 use Rattle.formula_eval.specs.Meaning.{parameter_values, parameter_value}
 use Rattle.formula_eval.proofs.NodeLemmas.{count_among}
@@ -32,13 +32,13 @@ scalar-value-requires g t c κs within =
 pub scalar-returns-then-place-parameters-clause-value :
     goal.scalar-returns-then-place-parameters-clause-value
 scalar-returns-then-place-parameters-clause-value g t c =
-    let h = seen (g.I.Inputs.sizes c.args.inputs.now) (g.I.Inputs.codes c.args.inputs.now) in
+    let h = seen_values (g.I.Inputs.sizes c.args.inputs.now) (g.I.Inputs.codes c.args.inputs.now) in
     c.value.ensures.value ∙ sym (scalar_here h c.args.parameters.now c.args.place c.index-parameters-place.result c.if-place-parameters.true c.index-parameters-place.is)
 
 pub scalar-returns-else-place-parameters-clause-value :
     goal.scalar-returns-else-place-parameters-clause-value
 scalar-returns-else-place-parameters-clause-value g t c =
-    let h = seen (g.I.Inputs.sizes c.args.inputs.now) (g.I.Inputs.codes c.args.inputs.now) in
+    let h = seen_values (g.I.Inputs.sizes c.args.inputs.now) (g.I.Inputs.codes c.args.inputs.now) in
     sym (scalar_past h c.args.parameters.now c.args.place c.if-place-parameters.false)
 
 pub sequence-add_parameter-requires : goal.sequence-add_parameter-requires
@@ -53,7 +53,7 @@ sequence-add_parameter-requires g t c κs within =
 
 pub sequence-returns-in-Err-clause-value : goal.sequence-returns-in-Err-clause-value
 sequence-returns-in-Err-clause-value g t c =
-    let h = seen (g.I.Inputs.sizes c.args.inputs.now) (g.I.Inputs.codes c.args.inputs.now) in
+    let h = seen_values (g.I.Inputs.sizes c.args.inputs.now) (g.I.Inputs.codes c.args.inputs.now) in
     let f = c.args.function in
     let params = c.args.parameters.now in
     let i = c.loop-parameter.parameter-index in
@@ -64,7 +64,7 @@ sequence-returns-in-Err-clause-value g t c =
 
 pub sequence-loop-parameter-preserved : goal.sequence-loop-parameter-preserved
 sequence-loop-parameter-preserved g t c =
-    let h = seen (g.I.Inputs.sizes c.args.inputs.now) (g.I.Inputs.codes c.args.inputs.now) in
+    let h = seen_values (g.I.Inputs.sizes c.args.inputs.now) (g.I.Inputs.codes c.args.inputs.now) in
     let f = c.args.function in
     let params = c.args.parameters.now in
     let i = c.loop-parameter.parameter-index in

@@ -5,7 +5,7 @@ use Rattle.value_core.specs.Conversions.{in_range}
 use Rattle.value_core.specs.declared.value.Value.TheVariants.{Number}
 use Rattle.value_core.specs.Wholes.{IsWhole}
 use Rattle.value_core.proofs.ArithmeticLemmas.{in_range-in}
-use Rattle.formula_eval.specs.Inputs.{seen}
+use Rattle.formula_eval.specs.Inputs.{seen_values}
 use Rattle.formula_eval.specs.Items.{is_empty, items_of_cells}
 use Rattle.formula_eval.proofs.ClipLemmas.{items_and_empty, mapped_length}
 use Rattle.formula_eval.proofs.MachineLemmas.{blank_here, plain_among, plain_one_range}
@@ -23,7 +23,7 @@ add_cells-requires-clause-plain g c =
 
 pub overflow_sub-cells : goal.overflow_sub-cells
 overflow_sub-cells g c =
-    let h = seen (g.I.Inputs.sizes c.args.inputs.now) (g.I.Inputs.codes c.args.inputs.now) in
+    let h = seen_values (g.I.Inputs.sizes c.args.inputs.now) (g.I.Inputs.codes c.args.inputs.now) in
     let cells = cells_of c.range.result in
     let count = counta_here c.new-tally.result c.add_cells.new.tally (items_of_cells (map h cells)) c.add_cells.result c.add_cells.ensures.ok c.add_cells.ensures.err c.new-tally.ensures.tallies in
     let same : c.range-2.result ≡ c.range.result = c.range-2.ensures ∙ sym c.range.ensures in
@@ -32,7 +32,7 @@ overflow_sub-cells g c =
 
 pub returns : goal.returns
 returns g c =
-    let h = seen (g.I.Inputs.sizes c.args.inputs.now) (g.I.Inputs.codes c.args.inputs.now) in
+    let h = seen_values (g.I.Inputs.sizes c.args.inputs.now) (g.I.Inputs.codes c.args.inputs.now) in
     let cells = cells_of c.range.result in
     let params = c.args.parameters.now in
     let some : 0 < length params = search rules in

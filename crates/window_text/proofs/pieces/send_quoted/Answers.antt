@@ -1,17 +1,17 @@
 use Rattle.std.proofs.Common.{◌≡◌, ℕ, List, [], ◌∷◌, ◌++◌, ap, sym, ◌∙◌, subst, drop}
 use Rattle.value_core.specs.Values.{in_quotes}
 use Rattle.window_text.proofs.PieceLemmas.{Completes, begun, next, ended, and_then, cut}
-use Rattle.window_text.proofs.QuoteLemmas.{doubled, doubled_clean, from_place, from_second}
+use Rattle.window_text.proofs.QuoteLemmas.{with_double_quotes, double_quotes_clean, from_place, from_second}
 use Rattle.window_text.proofs.pieces.send_quoted.Goals as goal
 
 pub returns-then-not-send-clause-sent : goal.returns-then-not-send-clause-sent
-returns-then-not-send-clause-sent g c = cut g.F.FnMut _ _ (34 ∷ []) (doubled c.args.text.now ++ 34 ∷ []) c.if-not-send.ensures.sent
+returns-then-not-send-clause-sent g c = cut g.F.FnMut _ _ (34 ∷ []) (with_double_quotes c.args.text.now ++ 34 ∷ []) c.if-not-send.ensures.sent
 
 pub loop-place-init : goal.loop-place-init
 loop-place-init g c = (
   c.if-not-send.ensures.callable,
-  subst (λ t. Completes g.F.FnMut c.args.to.now (in_quotes c.args.text.now) c.send.new.to (doubled t ++ 34 ∷ [])) (sym c.as_bytes-rest.ensures.value)
-      (begun g.F.FnMut _ _ (34 ∷ []) (doubled c.args.text.now ++ 34 ∷ []) c.if-not-send.ensures.sent),
+  subst (λ t. Completes g.F.FnMut c.args.to.now (in_quotes c.args.text.now) c.send.new.to (with_double_quotes t ++ 34 ∷ [])) (sym c.as_bytes-rest.ensures.value)
+      (begun g.F.FnMut _ _ (34 ∷ []) (with_double_quotes c.args.text.now ++ 34 ∷ []) c.if-not-send.ensures.sent),
 )
 
 pub returns-then-not-send-2-clause-sent : goal.returns-then-not-send-2-clause-sent
@@ -31,14 +31,14 @@ loop-place-preserved g c =
     let place = c.in-Some.ensures in
     let parts = from_place c.loop-place.rest.now c.split_at.result.0.now c.split_at.result.1.now c.in-Some.place c.split_at.ensures.front c.split_at.ensures.back place.0 place.1.0 place.1.1 in
     let completes = next g.F.FnMut _ _ _ _ (34 ∷ 34 ∷ []) _ (next g.F.FnMut _ _ _ _ _ _ (subst (Completes g.F.FnMut c.args.to.now (in_quotes c.args.text.now) c.loop-place.to) parts c.loop-place.invariant.1) c.if-not-send-2.ensures.sent) c.if-not-send-3.ensures.sent in
-    (c.if-not-send-3.ensures.callable, subst (λ t. Completes g.F.FnMut c.args.to.now (in_quotes c.args.text.now) c.send-in-Some-2.new.to (doubled t ++ 34 ∷ [])) (sym (from_second c.split_at.result.1.now)) completes)
+    (c.if-not-send-3.ensures.callable, subst (λ t. Completes g.F.FnMut c.args.to.now (in_quotes c.args.text.now) c.send-in-Some-2.new.to (with_double_quotes t ++ 34 ∷ [])) (sym (from_second c.split_at.result.1.now)) completes)
 
 pub returns-then-not-send-4-clause-sent : goal.returns-then-not-send-4-clause-sent
 returns-then-not-send-4-clause-sent g c =
     ended g.F.FnMut _ _ _ _ c.loop-place.rest.now (34 ∷ [])
-    (subst (λ t. Completes g.F.FnMut c.args.to.now (in_quotes c.args.text.now) c.loop-place.to (t ++ 34 ∷ [])) (doubled_clean c.loop-place.rest.now c.in_default.ensures) c.loop-place.invariant.1) c.if-not-send-4.ensures.sent
+    (subst (λ t. Completes g.F.FnMut c.args.to.now (in_quotes c.args.text.now) c.loop-place.to (t ++ 34 ∷ [])) (double_quotes_clean c.loop-place.rest.now c.in_default.ensures) c.loop-place.invariant.1) c.if-not-send-4.ensures.sent
 
 pub returns-clause-sent : goal.returns-clause-sent
 returns-clause-sent g c =
-    subst (λ t. Completes g.F.FnMut c.args.to.now (in_quotes c.args.text.now) c.loop-place.to (t ++ 34 ∷ [])) (doubled_clean c.loop-place.rest.now c.in_default.ensures) c.loop-place.invariant.1 _ _
+    subst (λ t. Completes g.F.FnMut c.args.to.now (in_quotes c.args.text.now) c.loop-place.to (t ++ 34 ∷ [])) (double_quotes_clean c.loop-place.rest.now c.in_default.ensures) c.loop-place.invariant.1 _ _
     (and_then g.F.FnMut _ _ _ _ _ _ c.if-not-send-4.ensures.sent c.send-3.ensures.sent)
