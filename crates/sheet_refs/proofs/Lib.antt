@@ -9,5 +9,6 @@ pub mod Places
 pub mod PrintLemmas
 pub mod RunLemmas
 pub mod SetLemmas
+pub mod SpanLemmas
 pub mod Subtraction
 pub mod Tiles

@@ -1,6 +1,6 @@
 -- Spaced runs, as a function from first rows to last rows: how they stay spaced, and which rows they hold, as one is set and others are cleared.
 use Rattle.std.proofs.Common.{◌≡◌, ◌≢◌, ℕ, false, ◌+◌, ◌-◌, ◌<◌, ◌≤◌, ◌⊎◌, inl, inr, Option, None, Some, IsSome, refl, sym, ◌∙◌, subst, arith}
-use Rattle.std.specs.Prelude.{Result, Ok, Err, IfOk, OnOk, OnErr}
+use Rattle.std.specs.Prelude.{Result, Ok, Err, IfOk}
 use Rattle.std.specs.Ordering.{nat_cmp}
 use Rattle.std.specs.BTreeMap.{BTreeMap, get, is_at, Updates}
 use Rattle.std.proofs.lemmas.Bool.{cases_lt}
@@ -19,25 +19,25 @@ pub record Filled (f h : ℕ → Option ℕ) (start end : ℕ) : Type 0 where
   pub above : (q : ℕ) → q < start → h q ≡ f q
   pub below : (q : ℕ) → end + 1 < q → h q ≡ f q
 
-same_value : {x : Option ℕ} {a b : ℕ} → x ≡ Some a → x ≡ Some b → a ≡ b
+pub same_value : {x : Option ℕ} {a b : ℕ} → x ≡ Some a → x ≡ Some b → a ≡ b
 same_value p q = cc
 
-none_is_some : {x : Option ℕ} {a : ℕ} → x ≡ None → x ≡ Some a → ⊥
+pub none_is_some : {x : Option ℕ} {a : ℕ} → x ≡ None → x ≡ Some a → ⊥
 none_is_some p q = cc
 
-none_not_some : (x : Option ℕ) → x ≡ None → IsSome x → ⊥
+pub none_not_some : (x : Option ℕ) → x ≡ None → IsSome x → ⊥
 none_not_some None none some = cc
 none_not_some (Some a) none some = cc
 
 -- what an insert into the map says of its entries
-not_at : (a b : ℕ) → b ≢ a → is_at (nat_cmp a) b ≡ false
+pub not_at : (a b : ℕ) → b ≢ a → is_at (nat_cmp a) b ≡ false
 not_at a b other = grind (arith, nat_tests)
 
 pub sets_from_updates : (m n : BTreeMap ℕ ℕ) (key value : ℕ) → Updates nat_cmp m n key (Some value) → Sets (get nat_cmp m) (get nat_cmp n) key value
 sets_from_updates m n key value updates = record { at = updates.1; others = λ q other. updates.2 q (not_at key q other) }
 
 -- equal, or on either side
-cases_eq : (a b : ℕ) → (a < b) ⊎ (a ≡ b) ⊎ (b < a)
+pub cases_eq : (a b : ℕ) → (a < b) ⊎ (a ≡ b) ⊎ (b < a)
 cases_eq a b = elim (cases_lt a b) [ inl less ↦ inl less | inr not_less ↦ elim (cases_lt b a) [ inl more ↦ inr (inr more) | inr not_more ↦ inr (inl (omega arith)) ] ]
 
 -- a run that begins above the start of another ends a row before it at least
@@ -195,20 +195,6 @@ module _ (f h : ℕ → Option ℕ) (first last start end : ℕ) (spaced : AreSp
       from : Holds f row ⊎ ((first ≤ row) × (row ≤ last)) → Holds h row
       from (inl holds) = old holds
       from (inr (low, high)) = record { first = start; last = end; kept = filled.at; from = omega arith; to = omega arith }
-
--- a call that fails only at an absent key has gone well where it is present
-pub went_well : {X E : Type 0} (result : Result X E) (x : Option ℕ) (P : Type 0) → OnErr result (x ≡ None) → IsSome x → OnOk result P → P
-went_well (Ok v) x P failed present done = done
-went_well (Err e) x P failed present done = absurd (none_not_some x failed present)
-
--- a run that is set, and then those after it cleared
-pub filled_from : (f g h : ℕ → Option ℕ) (start end : ℕ) → Sets f g start end → ((q : ℕ) → start + 1 ≤ q → q ≤ end + 1 → h q ≡ None) → ((q : ℕ) → q < start + 1 → h q ≡ g q) → ((q : ℕ) → end + 1 < q → h q ≡ g q) → start ≤ end + 1 → Filled f h start end
-filled_from f g h start end sets cleared above below forward = record {
-  at = above start (omega arith) ∙ sets.at;
-  cleared = λ q after within. cleared q (omega arith) within;
-  above = λ q before. above q (omega arith) ∙ sets.others q (omega arith);
-  below = λ q past. below q past ∙ sets.others q (omega arith);
-}
 
 -- what an Ok has, in other words
 pub if_ok_map : {X E : Type 0} (result : Result X E) (P Q : X → Type 0) → ((x : X) → P x → Q x) → IfOk result P → IfOk result Q

@@ -1,5 +1,5 @@
 -- A set of rows as runs, each known by its first row and its last.
-use Rattle.std.specs.Prelude.{ℕ, ◌+◌, ◌≤◌, ◌<◌, ◌≡◌, ◌↔◌, ◌⊎◌, Option, Some, None, IsSome, List, [], ◌∷◌, ◌++◌, All, AllPairs, MatchOption, if◌then◌else◌, nat_le}
+use Rattle.std.specs.Prelude.{ℕ, ◌+◌, ◌≤◌, ◌<◌, ◌≡◌, ◌↔◌, ◌⊎◌, Option, Some, None, IsSome, IfSome, List, [], ◌∷◌, ◌++◌, All, AllPairs, MatchOption, if◌then◌else◌, nat_le}
 use Rattle.std.specs.Ordering.{nat_cmp}
 use Rattle.std.specs.BTreeMap.{BTreeMap, get, is_at, IsOrdered}
 use Rattle.std.specs.Map.{lookup}
@@ -58,6 +58,13 @@ pub record IsEnd (last_of : ℕ → Option ℕ) (row end : ℕ) : Type 0 where
   pub to : end ≤ 1048576
   pub held : (r : ℕ) → row < r → r ≤ end → Holds last_of r
   pub free : ¬ Holds last_of (end + 1)
+
+-- where the run that is to hold some rows begins and ends, and the last of the runs that it covers: those behind the first row
+pub record IsSpan (last_of : ℕ → Option ℕ) (first last start end : ℕ) (covered : Option ℕ) : Type 0 where
+  pub begins : IsStart last_of first start
+  pub ends : IsEnd last_of last end
+  pub bound : IfSome covered (λ s. (first < s) × (s ≤ end + 1))
+  pub others : (q : ℕ) → start < q → q ≤ end + 1 → IsSome (last_of q) → MatchOption covered ⊥ (λ s. (first < q) × (q ≤ s))
 
 -- a run that can grow to hold the row is there, so that its growth takes no memory
 pub record HasRoom (last_of : ℕ → Option ℕ) (row : ℕ) : Type 0 where

@@ -4,7 +4,7 @@ ghost use Rattle.std.specs.Prelude.{◌≤◌, [], Some, None, OnOk, OnErr};
 ghost use Rattle.std.specs.Ordering.{nat_cmp};
 ghost use Rattle.std.specs.BTreeMap.{get, IsOrdered, IsUnchanged};
 ghost use Rattle.sheet_refs.specs.Runs.{IsColumn, Holds, HoldsAll, HoldsNone, IsLastUpTo};
-ghost use Rattle.sheet_refs.specs.Runs.{IsNextFrom, IsRunAt, IsStart, IsEnd};
+ghost use Rattle.sheet_refs.specs.Runs.{IsNextFrom, IsRunAt, IsStart, IsSpan};
 ghost use Rattle.sheet_refs.specs.Runs.{HasRoom, SameRows, RowsJoin, HasRow, GainsRows, AreGaps};
 ghost use Rattle.sheet_refs.specs.Runs.{column_ranges, HaveSameRanges, last_from, strip};
 ghost use Rattle.sheet_refs.specs.Rectangles.{AreMaximalRuns};
@@ -54,16 +54,24 @@ fn start_of(runs: &BTreeMap<u32, u32>, row: u32) -> u32
     }
 }
 
-// The last row of the run that is to hold the row.
-fn end_of(runs: &BTreeMap<u32, u32>, row: u32) -> u32
+// Where the run that is to hold the rows begins and ends, and the first row of the last run that it covers. One
+// look-up tells, but where a run begins behind the first row.
+fn span_of(runs: &BTreeMap<u32, u32>, first: u32, last: u32) -> (u32, u32, Option<u32>)
     requires spaced { IsColumn runs.now }
-    requires row { row ≤ 1048576 }
-    ensures { IsEnd (get nat_cmp runs.now) row result }
+    requires rows { (1 ≤ first) × (first ≤ last) × (last ≤ 1048576) }
+    ensures { IsSpan (get nat_cmp runs.now) first last result.0 result.1 result.2 }
 {
-    match run_at(runs, row + 1) {
-        Some((_, last)) => last,
-        None => row,
+    let Some(run) = last_up_to(runs, last + 1) else {
+        return (first, last, None);
+    };
+    if run.1 + 1 < first {
+        return (first, last, None);
     }
+    let end = run.1.max(last);
+    if run.0 <= first {
+        return (run.0, end, None);
+    }
+    (start_of(runs, first), end, Some(run.0))
 }
 
 // Puts a run without rows where the run that is to hold the row begins, if no run begins there.
@@ -98,7 +106,40 @@ fn clear(runs: &mut BTreeMap<u32, u32>, from: u32, to: u32)
     }
 }
 
-// Joins the rows to those that are held, in one run with those that touch them. That takes no memory.
+// Takes out the runs that begin at these rows, one of them at the last.
+fn clear_to(runs: &mut BTreeMap<u32, u32>, from: u32, to: u32)
+    requires { from ≤ to }
+    ensures cleared { (q : ℕ) → from ≤ q → q ≤ to → get nat_cmp runs.new q ≡ None }
+    ensures above { (q : ℕ) → q < from → get nat_cmp runs.new q ≡ get nat_cmp runs.old q }
+    ensures below { (q : ℕ) → to < q → get nat_cmp runs.new q ≡ get nat_cmp runs.old q }
+    ensures ordered { IsOrdered nat_cmp runs.new }
+{
+    runs.remove(&to);
+    if from < to {
+        clear(runs, from, to - 1);
+    }
+}
+
+// Joins the rows to those that are held, in one run with those that touch them. It takes no memory where a run
+// begins at the row at which this one is to begin.
+fn join(runs: &mut BTreeMap<u32, u32>, first: u32, last: u32) -> Result<(), Memory>
+    requires spaced { IsColumn runs.old }
+    requires rows { (1 ≤ first) × (first ≤ last) × (last ≤ 1048576) }
+    ensures spaced { IsColumn runs.new }
+    ensures joined { OnOk result (RowsJoin (get nat_cmp runs.old) (get nat_cmp runs.new) first last) }
+    ensures err { OnErr result (IsUnchanged runs.old runs.new) }
+    ensures room { OnErr result (¬ HasRoom (get nat_cmp runs.old) first) }
+{
+    let (start, end, covered) = span_of(runs, first, last);
+    runs.insert(start, end)?;
+    let Some(lowest) = covered else {
+        return Ok(());
+    };
+    clear_to(runs, first + 1, lowest);
+    Ok(())
+}
+
+// Joins the rows to those that are held, where a run was put that can grow to hold them.
 fn fill(runs: &mut BTreeMap<u32, u32>, first: u32, last: u32)
     requires spaced { IsColumn runs.old }
     requires rows { (1 ≤ first) × (first ≤ last) × (last ≤ 1048576) }
@@ -106,10 +147,7 @@ fn fill(runs: &mut BTreeMap<u32, u32>, first: u32, last: u32)
     ensures spaced { IsColumn runs.new }
     ensures joined { RowsJoin (get nat_cmp runs.old) (get nat_cmp runs.new) first last }
 {
-    let start = start_of(runs, first);
-    let end = end_of(runs, last);
-    let _ = runs.insert(start, end);
-    clear(runs, start + 1, end + 1);
+    let _ = join(runs, first, last);
 }
 
 // Whether the row is held, and the last row up to which, and to the last that was asked for, all are held or none is.
@@ -122,6 +160,9 @@ fn stretch(runs: &BTreeMap<u32, u32>, row: u32, last: u32) -> (bool, u32)
 {
     if let Some((_, end)) = run_at(runs, row) {
         return (true, end.min(last));
+    }
+    if row == last {
+        return (false, last);
     }
     match next_from(runs, row + 1) {
         Some(next) => (false, last.min(next - 1)),
@@ -210,6 +251,15 @@ impl Column {
         ensures { IsTrue result ↔ HasRow self.now row }
     {
         run_at(&self.runs, row).is_some()
+    }
+
+    /// Joins the rows to the set. After Memory the set is as it was.
+    pub(crate) fn join(&mut self, first: u32, last: u32) -> Result<(), Memory>
+        requires { (1 ≤ first) × (first ≤ last) × (last ≤ 1048576) }
+        ensures joined { OnOk result (GainsRows self.old self.new first last) }
+        ensures err { OnErr result (self.new ≡ self.old) }
+    {
+        join(&mut self.runs, first, last)
     }
 
     /// Takes the memory that a fill from this row on needs. The rows stay as they are.

@@ -51,6 +51,18 @@ fn fill(columns: &mut Vec<Column>, from: usize, to: usize, first: u32, last: u32
     }
 }
 
+// Joins the rows to one column, counted from 0.
+fn join_one(columns: &mut Vec<Column>, place: usize, first: u32, last: u32) -> Result<(), Memory>
+    requires column { place < vec_len columns.old }
+    requires rows { (1 ≤ first) × (first ≤ last) × (last ≤ 1048576) }
+    ensures count { vec_len columns.new ≡ vec_len columns.old }
+    ensures filled { OnOk result
+        (AreFilled columns.old.items columns.new.items place (place + 1) first last) }
+    ensures same { OnErr result (ranges_from 1 columns.new.items ≡ ranges_from 1 columns.old.items) }
+{
+    columns[place].join(first, last)
+}
+
 // The rows from first to last that a column, counted from 1, doesn't have.
 fn gaps_at(
     columns: &[Column],
@@ -183,6 +195,9 @@ impl RectSet {
         let first = range.head().row();
         let last = range.tail().row();
         widen(&mut self.columns, self.alloc, right)?;
+        if left + 1 == right {
+            return join_one(&mut self.columns, left, first, last);
+        }
         reserve(&mut self.columns, left, right, first)?;
         fill(&mut self.columns, left, right, first, last);
         Ok(())
