@@ -7,6 +7,7 @@ pub mod Permission
 pub mod Step
 pub mod Legal
 pub mod Honest
+pub mod Knows
 pub mod Run
 pub mod Growth
 pub mod Law
