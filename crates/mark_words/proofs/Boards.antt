@@ -338,20 +338,20 @@ subject_added {S} {E} subject seats new name here j u e live =
     (at_push seats new u j e)
 
 -- a clean word is what its word stands for
-decoded_as : (upto : ℕ) (held : Bool) → (let c : Clean = record { upto = upto; held = held } in clean_at (code_of c) ≡ c)
-decoded_as upto true =
+clean_at-code_of_parts : (upto : ℕ) (held : Bool) → (let c : Clean = record { upto = upto; held = held } in clean_at (code_of c) ≡ c)
+clean_at-code_of_parts upto true =
     let half : (2 * upto + 1) / 2 ≡ upto = omega arith in
     let odd : (2 * upto + 1) % 2 ≡ 1 = omega arith in
     ap (λ n. (let c : Clean = record { upto = n; held = (2 * upto + 1) % 2 == 1 } in c)) half
     ∙ ap (λ n. (let c : Clean = record { upto = upto; held = n == 1 } in c)) odd
-decoded_as upto false =
+clean_at-code_of_parts upto false =
     let half : 2 * upto / 2 ≡ upto = omega arith in
     let even : 2 * upto % 2 ≡ 0 = omega arith in
     ap (λ n. (let c : Clean = record { upto = n; held = 2 * upto % 2 == 1 } in c)) half
     ∙ ap (λ n. (let c : Clean = record { upto = upto; held = n == 1 } in c)) even
 
-pub decoded : (clean : Clean) → clean_at (code_of clean) ≡ clean
-decoded clean = decoded_as clean.upto clean.held
+pub clean_at-code_of : (clean : Clean) → clean_at (code_of clean) ≡ clean
+clean_at-code_of clean = clean_at-code_of_parts clean.upto clean.held
 
 -- the words of a place, behind those of another one
 shown_next : (a b c : ℕ) (words : List ℕ) (place : ℕ) → shown_place (a ∷ b ∷ c ∷ words) (suc place) ≡ shown_place words place
@@ -367,6 +367,6 @@ pub shown_same : (count : ℕ) (places : List Place) (place : ℕ) → place < l
     → shown_place (count ∷ words_of_places places) place ≡ place_at places place
 shown_same count [] place lt = absurd (omega arith)
 shown_same count (p ∷ places) zero lt =
-    ap (λ c. (let q : Place = record { mark = p.mark; clean = c; value = p.value } in q)) (decoded p.clean)
+    ap (λ c. (let q : Place = record { mark = p.mark; clean = c; value = p.value } in q)) (clean_at-code_of p.clean)
 shown_same count (p ∷ places) (suc place) lt =
     shown_next count p.mark (code_of p.clean) (p.value ∷ words_of_places places) place ∙ shown_same p.value places place (omega arith)

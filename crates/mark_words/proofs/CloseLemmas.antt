@@ -28,6 +28,7 @@ use Rattle.mark_words.specs.Token.{subject_of, topic_of, places_of, seat_table, 
 use Rattle.mark_words.specs.Rule.{AreApart, IsKept, IsEditor, IsSpent, AreGathered}
 use Rattle.mark_words.specs.Closed.{HasClosed, ArePrefixes, AreLegal}
 use Rattle.mark_words.proofs.Boards.{Contains-cons_cases, not_spent, shown_same}
+use Rattle.mark_words.proofs.RunLemmas.{honest_state}
 
 pub all_front : {X : Type 0} (P : X → Type 0) (xs ys : List X) (x : X) → ys ≡ xs ++ x ∷ [] → All P ys → All P xs
 all_front {X} P xs ys x is all =
@@ -119,12 +120,15 @@ module _ {S E : Type 0} {G : Ghosts S E} (places : S → ℕ) (worth : S → Lis
     (marks : Marks S E) (editor : Seat S E G) (others : List (Seat S E G)) (words : Words S E G) where
   module _ (t : TableState E (Doing S E)) (kept : IsKept (subject_of marks) (places (subject_of marks)) (worth (subject_of marks)) (touches (subject_of marks)) (topic_of marks).opening.value.items t)
       (id : ℕ) (all : Doing S E) (at : get_elem? t.views id ≡ some all) (live : all.view.spent ≡ false) (on : all.editor ≡ true) where
-    pub closes : t.words ≡ slots_items words.closed.words → all.view ≡ view_of editor → all.edits ≡ edits_of editor
+    pub closes : ((log : List E) (entry : E) (place : ℕ) → place < places (subject_of marks) → (touches (subject_of marks) log entry place → ⊥)
+        → worth (subject_of marks) (log ++ entry ∷ []) place ≡ worth (subject_of marks) log place)
+        → t.words ≡ slots_items words.closed.words → all.view ≡ view_of editor → all.edits ≡ edits_of editor
         → log_of editor ≡ (edits_of editor).log → closed_places words ≡ places_of marks → closed_log words ≡ log_of editor
         → (before : List (View (List E))) → all.gathered ≡ map view_of others ++ before
         → HasClosed places worth touches marks editor others words
-    closes is view edits knows about log before handed =
+    closes untouched is view edits knows about log before handed =
         let core : State E = kept.core in
+        let honest = honest_state (subject_of marks) (places (subject_of marks)) (worth (subject_of marks)) (touches (subject_of marks)) (topic_of marks).opening.value.items t kept untouched in
         let ed : IsEditor core id all = (kept.seats.each id all at).editor on in
         let gathered : AreGathered core t.views all.gathered = kept.seats.gathered id all at in
         let front = numbers_front (view_at core) gathered.numbers (map view_of others) before (gathered.same ∙ handed) gathered.apart in
@@ -132,11 +136,13 @@ module _ {S E : Type 0} {G : Ghosts S E} (places : S → ℕ) (worth : S → Lis
           same_count = about;
           same_log = log;
           core = core;
-          honest = kept.honest;
+          events = kept.events;
+          run = kept.run;
+          honest = honest;
           same_places = λ place there.
               ap (λ ws. shown_place ws place) (sym is ∙ kept.words)
               ∙ shown_same (length core.edits.log) core.places place
-              (omega (arith, there, about, kept.honest.count, kept.sized));
+              (omega (arith, there, about, honest.count, kept.right.count));
           edits = sym ed.edits ∙ edits;
           log = ap (λ (x : Edits E). x.log) (sym ed.edits ∙ edits) ∙ sym knows ∙ sym log;
           editor_view = ap (λ i. view_at core i) (sym ed.first) ∙ kept.seats.views id all at live ∙ view;

@@ -16,14 +16,15 @@ use Rattle.mark_core.specs.View.{with_entry}
 use Rattle.mark_core.specs.Permission.{MayMark, MayCommit}
 use Rattle.mark_core.specs.Step.{marks_for, commits, after_mark, after_commit}
 use Rattle.mark_core.proofs.Prefixes.{prefix_more}
-use Rattle.mark_core.proofs.Steps.{mark_keeps, commit_keeps}
-use Rattle.mark_core.specs.Run.{IsCodeless}
+use Rattle.mark_core.specs.declared.events.Event.TheVariants.{Mark, Commit}
+use Rattle.mark_core.specs.declared.events.Outcome.TheVariants.{Done, Count}
 use Rattle.mark_words.specs.declared.board.Doing.{Doing}
 use Rattle.mark_words.specs.Doing.{with_mark, with_commit}
 use Rattle.mark_words.specs.Words.{words_of_places}
 use Rattle.mark_words.specs.Rule.{IsRightSeat, IsEditor, IsKept}
 use Rattle.mark_words.specs.Plays.{Marked, Committed}
 use Rattle.mark_words.proofs.Boards.{first_set, mark_word, mark_set, seat_changes, subject_set}
+use Rattle.mark_words.proofs.RunLemmas.{next_run, honest_state}
 use Rattle.mark_words.proofs.SeeSteps.{same_view}
 
 -- a compare-exchange that finds what it expects
@@ -48,17 +49,18 @@ module _ {S E : Type 0} (subject : S) (places : ℕ) (worth : List E → ℕ →
       → Allows (IsKept subject places worth touches opening) slots id me 0 (λ n. new) (λ n after. Committed step me new after)
   commits_entry slots id me step entry new live on pending all is t kept deep at fits =
       let core : State E = kept.core in
+      let honest = honest_state subject places worth touches opening t kept untouched in
       let same : view_at core id ≡ me.0.view = same_view subject places worth touches untouched opening t kept id me.0 at live in
       let seat : IsRightSeat core id me.0 = kept.seats.each id me.0 at in
       let ed : IsEditor core id me.0 = seat.editor on in
       let here : view_at core 0 ≡ me.0.view = ap (λ i. view_at core i) (sym ed.first) ∙ same in
-      let whole : me.0.view.log ≡ core.edits.log = ap (λ (v : View (List E)). v.log) (sym here) ∙ kept.honest.editor_log in
+      let whole : me.0.view.log ≡ core.edits.log = ap (λ (v : View (List E)). v.log) (sym here) ∙ honest.editor_log in
       let may : MayCommit touches (length core.places) core.edits (view_at core 0) entry =
       record {
         pending = ap (λ (x : Edits E). x.pending) (sym ed.edits) ∙ pending;
         marked = λ place lt touched.
             subst (λ (x : Edits E). Contains x.marked place) ed.edits
-            (all place (omega (arith, kept.honest.count, kept.sized)) (subst (λ (v : View (List E)). touches v.log entry place) here touched));
+            (all place (omega (arith, honest.count, kept.right.count)) (subst (λ (v : View (List E)). touches v.log entry place) here touched));
       } in
       let after : State E = after_commit core 0 entry in
       let doing : Doing S E = with_commit me.0 entry in
@@ -68,9 +70,12 @@ module _ {S E : Type 0} (subject : S) (places : ℕ) (worth : List E → ℕ →
         keeps,
         tt,
         record {
-          sized = kept.sized;
+          right = kept.right;
           core = after;
-          honest = commit_keeps places worth touches (IsCodeless opening) untouched core kept.honest entry may;
+          events = kept.events ++ Commit 0 entry ∷ [];
+          run =
+              next_run subject places worth touches opening t kept (Commit 0 entry) (Count (length core.edits.log + 1)) after
+              (record { allowed = (refl, honest.editor_live, may); gives = (refl, refl) });
           words =
               first_set t.words (length core.edits.log) new (words_of_places core.places) kept.words
               ∙ ap (λ n. n ∷ words_of_places core.places) count;
@@ -113,12 +118,13 @@ module _ {S E : Type 0} (subject : S) (places : ℕ) (worth : List E → ℕ →
       → Allows (IsKept subject places worth touches opening) slots id me (3 * place + 1) (λ n. either (n == old) new n) (λ n after. Marked step me n after)
   marks_place slots id me step entry place old new live on there idle touched is d known word second said t kept deep at fits =
       let core : State E = kept.core in
+      let honest = honest_state subject places worth touches opening t kept untouched in
       let same : view_at core id ≡ me.0.view = same_view subject places worth touches untouched opening t kept id me.0 at live in
       let seat : IsRightSeat core id me.0 = kept.seats.each id me.0 at in
       let ed : IsEditor core id me.0 = seat.editor on in
       let here : view_at core 0 ≡ me.0.view = ap (λ i. view_at core i) (sym ed.first) ∙ same in
-      let whole : me.0.view.log ≡ core.edits.log = ap (λ (v : View (List E)). v.log) (sym here) ∙ kept.honest.editor_log in
-      let lt : place < length core.places = omega (arith, kept.honest.count, kept.sized) in
+      let whole : me.0.view.log ≡ core.edits.log = ap (λ (v : View (List E)). v.log) (sym here) ∙ honest.editor_log in
+      let lt : place < length core.places = omega (arith, honest.count, kept.right.count) in
       let may : MayMark touches core.edits (view_at core 0) entry place =
       record {
         idle = subst (λ (x : Edits E). (x.pending ≡ None) ⊎ (x.pending ≡ Some entry)) ed.edits idle;
@@ -138,9 +144,12 @@ module _ {S E : Type 0} (subject : S) (places : ℕ) (worth : List E → ℕ →
         keeps,
         tt,
         record {
-          sized = kept.sized;
+          right = kept.right;
           core = after;
-          honest = mark_keeps places worth touches (IsCodeless opening) untouched core kept.honest entry place lt may;
+          events = kept.events ++ Mark 0 entry place ∷ [];
+          run =
+              next_run subject places worth touches opening t kept (Mark 0 entry place) Done after
+              (record { allowed = (refl, record { there = lt; live = honest.editor_live }, may); gives = (refl, refl) });
           words =
               ap (λ n. slice_set t.words (3 * place + 1) n) hits
               ∙ ap (λ ws. slice_set ws (3 * place + 1) new) kept.words

@@ -1,4 +1,5 @@
 pub mod Boards
+pub mod RunLemmas
 pub mod SeeSteps
 pub mod ViewSteps
 pub mod ReadSteps

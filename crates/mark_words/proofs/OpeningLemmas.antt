@@ -9,7 +9,6 @@ use Rattle.mark_core.specs.Place.{opening_place}
 use Rattle.mark_core.specs.State.{view_at, opening_state}
 use Rattle.mark_core.specs.Run.{IsOpening}
 use Rattle.mark_core.proofs.Prefixes.{prefix_itself}
-use Rattle.mark_core.proofs.Opening.{opening_honest}
 use Rattle.mark_words.specs.declared.board.Doing.{Doing}
 use Rattle.mark_words.specs.declared.board.Topic.{Topic}
 use Rattle.mark_words.specs.Words.{words_of_places, opening_words}
@@ -62,9 +61,10 @@ module _ {S E : Type 0} (places : ℕ) (worth : List E → ℕ → ℕ) (touches
       → IsKept topic.subject.value places worth touches topic.opening.value.items (opening_table words [] (first_doing topic))
   opens words is =
       record {
-        sized = right.count;
+        right = right;
         core = opening_state topic.opening.value.items;
-        honest = opening_honest places worth touches topic.opening.value.items right;
+        events = [];
+        run = refl;
         words = is ∙ ap (λ l. 0 ∷ l) (words_open topic.opening.value.items);
         subjects = subjects_open;
         seats =

@@ -23,14 +23,16 @@ use Rattle.mark_core.proofs.Prefixes.{prefix_length, take_is_prefix, last_mark_i
 use Rattle.mark_core.proofs.ViewLemmas.{shorter_prefix}
 use Rattle.mark_core.proofs.ReadLemmas.{read_ends}
 use Rattle.mark_core.proofs.ReadLaws.{ends_right}
-use Rattle.mark_core.proofs.Steps.{read_clean_keeps, read_value_keeps, read_mark_keeps}
+use Rattle.mark_core.specs.declared.events.Event.TheVariants.{ReadClean, ReadValue, ReadMark}
+use Rattle.mark_core.specs.declared.events.Outcome.TheVariants.{Word, Clean as AnswersClean, Mark as AnswersMark}
 use Rattle.mark_words.specs.declared.board.Doing.{Doing}
 use Rattle.mark_words.specs.Words.{clean_at}
 use Rattle.mark_words.specs.Doing.{with_clean_read, with_value_read, with_mark_read}
 use Rattle.mark_words.specs.Rule.{IsEditor, IsKept}
 use Rattle.mark_words.specs.Plays.{BeganRead, WentOn, EndedRead}
 use Rattle.mark_words.specs.Read.{IsWorthAfter, TellsOf, GoesOn, Ends, LearnsClean}
-use Rattle.mark_words.proofs.Boards.{clean_word, value_word, mark_word, decoded}
+use Rattle.mark_words.proofs.Boards.{clean_word, value_word, mark_word, clean_at-code_of}
+use Rattle.mark_words.proofs.RunLemmas.{honest_state}
 use Rattle.mark_words.proofs.SeeSteps.{same_view}
 use Rattle.mark_words.proofs.ViewSteps.{view_step}
 
@@ -147,18 +149,18 @@ module _ {S E : Type 0} (subject : S) (places : ℕ) (worth : List E → ℕ →
       → Allows (IsKept subject places worth touches opening) slots id me (3 * place + 2) (λ n. n) (λ n after. BeganRead step me n after)
   reads_clean word t kept deep at fits =
       let core : State E = kept.core in
+      let honest = honest_state subject places worth touches opening t kept untouched in
       let same : view_at core id ≡ me.0.view = same_view subject places worth touches untouched opening t kept id me.0 at live in
-      let lt : place < length core.places = omega (arith, kept.honest.count, kept.sized) in
+      let lt : place < length core.places = omega (arith, honest.count, kept.right.count) in
       let found : ℕ = slice_index t.words (3 * place + 2) in
       let is : clean_at found ≡ (place_at core.places place).clean =
-      ap (λ ws. clean_at (slice_index ws (3 * place + 2))) kept.words ∙ ap clean_at (clean_word (length core.edits.log) core.places place lt) ∙ decoded (place_at core.places place).clean in (
+      ap (λ ws. clean_at (slice_index ws (3 * place + 2))) kept.words ∙ ap clean_at (clean_word (length core.edits.log) core.places place lt) ∙ clean_at-code_of (place_at core.places place).clean in (
         with_clean_read me.0 place (clean_at found),
         keeps,
         tt,
-        view_step subject places worth touches opening t kept id me.0 at live (after_read_clean core id place) (with_half me.0.view place (clean_at found))
+        view_step subject places worth touches opening t kept id me.0 at live (ReadClean id place) (AnswersClean (place_at core.places place).clean) (after_read_clean core id place) (with_half me.0.view place (clean_at found))
             (slice_set t.words (3 * place + 2) found)
-            (read_clean_keeps places worth touches (IsCodeless opening) untouched core kept.honest id place
-            (record { there = lt; live = ap (λ (v : View (List E)). v.spent) same ∙ live }))
+            (record { allowed = record { there = lt; live = ap (λ (v : View (List E)). v.spent) same ∙ live }; gives = (refl, refl) })
             (set-get_or t.words (3 * place + 2) 0 ∙ kept.words) refl refl
             (ap (λ (v : View (List E)). slice_set core.views id (with_half v place (place_at core.places place).clean)) same
             ∙ ap (λ c. slice_set core.views id (with_half me.0.view place c)) (sym is))
@@ -170,18 +172,18 @@ module _ {S E : Type 0} (subject : S) (places : ℕ) (worth : List E → ℕ →
       → Allows (IsKept subject places worth touches opening) slots id me (3 * place + 3) (λ n. n) (λ n after. WentOn step me n after)
   reads_value word t kept deep at fits =
       let core : State E = kept.core in
+      let honest = honest_state subject places worth touches opening t kept untouched in
       let same : view_at core id ≡ me.0.view = same_view subject places worth touches untouched opening t kept id me.0 at live in
-      let lt : place < length core.places = omega (arith, kept.honest.count, kept.sized) in
+      let lt : place < length core.places = omega (arith, honest.count, kept.right.count) in
       let found : ℕ = slice_index t.words (3 * place + 3) in
       let is : found ≡ (place_at core.places place).value =
       ap (λ ws. slice_index ws (3 * place + 3)) kept.words ∙ value_word (length core.edits.log) core.places place lt in (
         with_value_read me.0 place found,
         keeps,
         tt,
-        view_step subject places worth touches opening t kept id me.0 at live (after_read_value core id place) (with_value me.0.view place found)
+        view_step subject places worth touches opening t kept id me.0 at live (ReadValue id place) (Word (place_at core.places place).value) (after_read_value core id place) (with_value me.0.view place found)
             (slice_set t.words (3 * place + 3) found)
-            (read_value_keeps places worth touches (IsCodeless opening) untouched core kept.honest id place
-            (record { there = lt; live = ap (λ (v : View (List E)). v.spent) same ∙ live }))
+            (record { allowed = record { there = lt; live = ap (λ (v : View (List E)). v.spent) same ∙ live }; gives = (refl, refl) })
             (set-get_or t.words (3 * place + 3) 0 ∙ kept.words) refl refl
             (ap (λ (v : View (List E)). slice_set core.views id (with_value v place (place_at core.places place).value)) same
             ∙ ap (λ w. slice_set core.views id (with_value me.0.view place w)) (sym is))
@@ -197,21 +199,21 @@ module _ {S E : Type 0} (subject : S) (places : S → ℕ) (worth : S → List E
       → Allows (IsKept subject (places subject) (worth subject) (touches subject) opening) slots id me (3 * place + 1) (λ n. n) (λ n after. EndedRead worth touches step me n after)
   reads_mark word t kept deep at fits =
       let core : State E = kept.core in
+      let honest = honest_state subject (places subject) (worth subject) (touches subject) opening t kept untouched in
       let same : view_at core id ≡ me.0.view = same_view subject (places subject) (worth subject) (touches subject) untouched opening t kept id me.0 at live in
-      let lt : place < length core.places = omega (arith, kept.honest.count, kept.sized) in
+      let lt : place < length core.places = omega (arith, honest.count, kept.right.count) in
       let found : ℕ = slice_index t.words (3 * place + 1) in
       let is : found ≡ (place_at core.places place).mark =
       ap (λ ws. slice_index ws (3 * place + 1)) kept.words ∙ mark_word (length core.edits.log) core.places place lt in
       let seat = kept.seats.each id me.0 at in
       let here : (place' : ℕ) → step.word ≡ 3 * place' + 1 → place ≡ place' = λ place' word'. omega (arith, word, word') in
-      let seen : length (view_at core id).log ≤ (view_at core id).seen = (kept.honest.views id).log.below_seen in (
+      let seen : length (view_at core id).log ≤ (view_at core id).seen = (honest.views id).log.below_seen in (
         with_mark_read me.0 place found,
         keeps,
         tt,
-        view_step subject (places subject) (worth subject) (touches subject) opening t kept id me.0 at live (after_read_mark core id place) (with_read_end me.0.view place found)
+        view_step subject (places subject) (worth subject) (touches subject) opening t kept id me.0 at live (ReadMark id place) (AnswersMark (place_at core.places place).mark) (after_read_mark core id place) (with_read_end me.0.view place found)
             (slice_set t.words (3 * place + 1) found)
-            (read_mark_keeps (places subject) (worth subject) (touches subject) (IsCodeless opening) untouched core kept.honest id place
-            (record { there = lt; live = ap (λ (v : View (List E)). v.spent) same ∙ live }))
+            (record { allowed = record { there = lt; live = ap (λ (v : View (List E)). v.spent) same ∙ live }; gives = (refl, refl) })
             (set-get_or t.words (3 * place + 1) 0 ∙ kept.words) refl refl
             (ap (λ (v : View (List E)). slice_set core.views id (with_read_end v place (place_at core.places place).mark)) same
             ∙ ap (λ m. slice_set core.views id (with_read_end me.0.view place m)) (sym is))
@@ -223,8 +225,8 @@ module _ {S E : Type 0} (subject : S) (places : S → ℕ) (worth : S → List E
           tells = λ place' subject' word' named half begun of.
               let of_place : half.place ≡ place = of ∙ sym (here place' word') in
               let told : TellsOf (worth subject) (touches subject) (view_at core id) half (place_at core.places half.place).mark =
-              tells_of (places subject) (worth subject) (touches subject) (IsCodeless opening) untouched core kept.honest id half
-              (ap (λ (v : View (List E)). v.half) same ∙ begun) (omega (arith, of_place, there, kept.sized)) in
+              tells_of (places subject) (worth subject) (touches subject) (IsCodeless opening) untouched core honest id half
+              (ap (λ (v : View (List E)). v.half) same ∙ begun) (omega (arith, of_place, there, kept.right.count)) in
               subst (λ (x : S). TellsOf (worth x) (touches x) me.0.view half found) (same_Some subject subject' (sym (kept.subjects id me.0 at live) ∙ named))
               (subst (λ (v : View (List E)). TellsOf (worth subject) (touches subject) v half found) same
               (subst (λ (m : ℕ). TellsOf (worth subject) (touches subject) (view_at core id) half m)
@@ -233,8 +235,8 @@ module _ {S E : Type 0} (subject : S) (places : S → ℕ) (worth : S → List E
               let ed : IsEditor core id me.0 = seat.editor on in
               let none : core.edits.pending ≡ None = ap (λ (x : Edits E). x.pending) (sym ed.edits) ∙ idle in
               let whole : me.0.view.log ≡ core.edits.log =
-              ap (λ (v : View (List E)). v.log) (sym same) ∙ ap (λ i. (view_at core i).log) ed.first ∙ kept.honest.editor_log in
-              elim (kept.honest.marks place (omega (arith, there, kept.sized))) [
+              ap (λ (v : View (List E)). v.log) (sym same) ∙ ap (λ i. (view_at core i).log) ed.first ∙ honest.editor_log in
+              elim (honest.marks place (omega (arith, there, kept.right.count))) [
                 | inl pending ↦ absurd (none-some pending.entry (sym none ∙ pending.pending))
                 | inr settled ↦ omega (arith, settled.last.within, is, ap length whole)
               ];

@@ -10,14 +10,16 @@ use Rattle.mark_core.specs.declared.actors.View.{View}
 use Rattle.mark_core.specs.State.{State, view_at, with_view}
 use Rattle.mark_core.specs.Mark.{IsPrefix}
 use Rattle.mark_core.specs.View.{split_off, longer, union_of}
+use Rattle.mark_core.specs.Permission.{MayJoin}
 use Rattle.mark_core.specs.Step.{after_split, after_join}
 use Rattle.mark_core.proofs.Prefixes.{prefix_of_nothing}
-use Rattle.mark_core.proofs.Steps.{split_keeps, join_keeps}
-use Rattle.mark_core.specs.Run.{IsCodeless}
+use Rattle.mark_core.specs.declared.events.Event.TheVariants.{Split, Join}
+use Rattle.mark_core.specs.declared.events.Outcome.TheVariants.{Done, Seat}
 use Rattle.mark_words.specs.declared.board.Doing.{Doing}
 use Rattle.mark_words.specs.Doing.{copy_of, shorter_of, union_doing, gather_doing, spent_doing}
 use Rattle.mark_words.specs.Rule.{IsRightSeat, AreSeats, IsKept}
 use Rattle.mark_words.proofs.Boards.{some_within, seat_stays, seat_changes, seat_added, seat_gathers, subject_set, subject_added}
+use Rattle.mark_words.proofs.RunLemmas.{next_run, honest_state}
 use Rattle.mark_words.proofs.SeeSteps.{same_view}
 
 -- the shorter of two prefixes of a list is one, and is no longer than the longer one
@@ -42,9 +44,12 @@ module _ {S E : Type 0} (subject : S) (places : ℕ) (worth : List E → ℕ →
       let again : slice_set t.views id doing ≡ t.views = set_again t.views id doing at in
       let within : id < length t.views = some_within t.views id doing at in
       record {
-        sized = kept.sized;
+        right = kept.right;
         core = after_split core id;
-        honest = split_keeps places worth touches (IsCodeless opening) untouched core kept.honest id live';
+        events = kept.events ++ Split id ∷ [];
+        run =
+            next_run subject places worth touches opening t kept (Split id) (Seat (length core.views)) (after_split core id)
+            (record { allowed = live'; gives = (refl, refl) });
         words = kept.words;
         subjects =
             subject_added subject (slice_set t.views id doing) (copy_of doing)
@@ -72,22 +77,24 @@ module _ {S E : Type 0} (subject : S) (places : ℕ) (worth : List E → ℕ →
       let same' : view_at core other ≡ note.view = same_view subject places worth touches untouched opening t kept other note at' note_live in
       let after : State E = after_join core id other in
       let middle : State E = with_view core id (union_of (view_at core id) (view_at core other)) in
+      let honest = honest_state subject places worth touches opening t kept untouched in
+      let may : MayJoin (view_at core id) (view_at core other) =
+      record {
+        live = ap (λ (v : View (List E)). v.spent) same ∙ live;
+        other_live = ap (λ (v : View (List E)). v.spent) same' ∙ note_live;
+        empty_handed = ap (λ (v : View (List E)). v.holds) same' ∙ empty_handed;
+      } in
       let seat : IsRightSeat core id doing = kept.seats.each id doing at in
       let not_first : other ≢ 0 = λ zero. absurd (let on : note.editor ≡ true = (kept.seats.each other note at').first zero in cc) in
       let own : IsPrefix doing.view.log core.edits.log =
-      subst (λ (v : View (List E)). IsPrefix v.log core.edits.log) same (kept.honest.views id).log.known_prefix in
+      subst (λ (v : View (List E)). IsPrefix v.log core.edits.log) same (honest.views id).log.known_prefix in
       let others : IsPrefix note.view.log core.edits.log =
-      subst (λ (v : View (List E)). IsPrefix v.log core.edits.log) same' (kept.honest.views other).log.known_prefix in
+      subst (λ (v : View (List E)). IsPrefix v.log core.edits.log) same' (honest.views other).log.known_prefix in
       record {
-        sized = kept.sized;
+        right = kept.right;
         core = after;
-        honest =
-            join_keeps places worth touches (IsCodeless opening) untouched core kept.honest id other (λ e. apart (sym e)) not_first
-            (record {
-              live = ap (λ (v : View (List E)). v.spent) same ∙ live;
-              other_live = ap (λ (v : View (List E)). v.spent) same' ∙ note_live;
-              empty_handed = ap (λ (v : View (List E)). v.holds) same' ∙ empty_handed;
-            });
+        events = kept.events ++ Join id other ∷ [];
+        run = next_run subject places worth touches opening t kept (Join id other) Done after (record { allowed = ((λ e. apart (sym e)), not_first, may); gives = (refl, refl) });
         words = kept.words;
         subjects =
             subject_set subject (slice_set t.views id both) other spent_doing
@@ -124,9 +131,10 @@ module _ {S E : Type 0} (subject : S) (places : ℕ) (worth : List E → ℕ →
       let at' : get_elem? t.views other ≡ some note = sym (set_else t.views id other both apart) ∙ there in
       let not_first : other ≢ 0 = λ zero. absurd (apart (zero ∙ sym ((kept.seats.each id doing at).editor on).first)) in
       record {
-        sized = kept.sized;
+        right = kept.right;
         core = core;
-        honest = kept.honest;
+        events = kept.events;
+        run = kept.run;
         words = kept.words;
         subjects =
             subject_set subject (slice_set t.views id both) other spent_doing

@@ -1,4 +1,4 @@
--- Each step on the table keeps its rule, by the lemma of the core on its event.
+-- A see keeps the rule of the table.
 use Rattle.std.proofs.Common.{◌≡◌, ◌<◌, ◌≤◌, ℕ, List, Option, [], ◌∷◌, ◌++◌, length, false, refl, sym, ◌∙◌, ap, subst, arith}
 use Rattle.std.specs.Prelude.{slice_index, slice_set}
 use mathlib.Core.Option.{some}
@@ -13,14 +13,15 @@ use Rattle.mark_core.specs.View.{with_count}
 use Rattle.mark_core.specs.Step.{after_see}
 use Rattle.mark_core.proofs.Prefixes.{prefix_length}
 use Rattle.mark_core.proofs.ViewLemmas.{shorter_prefix}
-use Rattle.mark_core.proofs.Steps.{see_keeps}
-use Rattle.mark_core.specs.Run.{IsCodeless}
+use Rattle.mark_core.specs.declared.events.Event.TheVariants.{See}
+use Rattle.mark_core.specs.declared.events.Outcome.TheVariants.{Count}
 use Rattle.mark_words.specs.declared.board.Doing.{Doing}
 use Rattle.mark_words.specs.Doing.{with_see}
 use Rattle.mark_words.specs.Words.{words_of_places}
 use Rattle.mark_words.specs.Rule.{IsRightSeat, IsKept}
 use Rattle.mark_words.specs.Plays.{Saw}
 use Rattle.mark_words.proofs.Boards.{first_again, seat_stays, seat_changes, subject_set}
+use Rattle.mark_words.proofs.RunLemmas.{next_run, honest_state}
 
 module _ {S E : Type 0} (subject : S) (places : ℕ) (worth : List E → ℕ → ℕ) (touches : List E → E → ℕ → Type 0)
     (untouched : (log : List E) (entry : E) (place : ℕ) → place < places → (touches log entry place → ⊥) → worth (log ++ entry ∷ []) place ≡ worth log place)
@@ -39,16 +40,18 @@ module _ {S E : Type 0} (subject : S) (places : ℕ) (worth : List E → ℕ →
       let same : view_at core id ≡ me.0.view = same_view t kept id me.0 at live in
       let live' : (view_at core id).spent ≡ false = ap (λ (v : View (List E)). v.spent) same ∙ live in
       let seat : IsRightSeat core id me.0 = kept.seats.each id me.0 at in
-      let log = (kept.honest.views id).log in
+      let honest = honest_state subject places worth touches opening t kept untouched in
+      let log = (honest.views id).log in
       let known : IsPrefix me.0.view.log core.edits.log = subst (λ (v : View (List E)). IsPrefix v.log core.edits.log) same log.known_prefix in
       let new : Doing S E = with_see me.0 count in (
         new,
         keeps,
         tt,
         record {
-          sized = kept.sized;
+          right = kept.right;
           core = after_see core id;
-          honest = see_keeps places worth touches (IsCodeless opening) untouched core kept.honest id live';
+          events = kept.events ++ See id ∷ [];
+          run = next_run subject places worth touches opening t kept (See id) (Count (length core.edits.log)) (after_see core id) (record { allowed = live'; gives = (refl, refl) });
           words = first_again t.words (length core.edits.log) (words_of_places core.places) kept.words ∙ kept.words;
           subjects = subject_set subject t.views id new kept.subjects (λ still. kept.subjects id me.0 at live);
           seats =
@@ -72,7 +75,7 @@ module _ {S E : Type 0} (subject : S) (places : ℕ) (worth : List E → ℕ →
           within = omega (arith, prefix_length me.0.view.log core.edits.log known);
           editor = λ e.
               let whole : me.0.view.log ≡ core.edits.log =
-              ap (λ (v : View (List E)). v.log) (sym same) ∙ ap (λ i. (view_at core i).log) (seat.editor e).first ∙ kept.honest.editor_log in
+              ap (λ (v : View (List E)). v.log) (sym same) ∙ ap (λ i. (view_at core i).log) (seat.editor e).first ∙ honest.editor_log in
               (is ∙ ap length (sym whole), whole ∙ ap (λ (x : Edits E). x.log) (sym (seat.editor e).edits));
           shorter = shorter_prefix me.0.shorter me.0.view.log core.edits.log seat.shorter known seat.shorter_length;
         },

@@ -8,11 +8,14 @@ use Rattle.atomic_table.specs.Table.{Me, Step}
 use Rattle.mark_core.specs.declared.words.Clean.{Clean}
 use Rattle.mark_core.specs.declared.words.Half.{Half}
 use Rattle.mark_core.specs.declared.words.Finished.{Finished}
+use Rattle.mark_core.specs.declared.words.Held.{Held}
+use Rattle.mark_core.specs.declared.words.Known.{Known}
+use Rattle.mark_core.specs.declared.words.Lost.{Lost}
 use Rattle.mark_core.specs.declared.events.Outcome.TheVariants.{Done}
 use Rattle.mark_core.specs.declared.actors.Edits.{Edits}
 use Rattle.mark_core.specs.declared.actors.View.{View}
 use Rattle.mark_core.specs.State.{State}
-use Rattle.mark_core.specs.View.{new_half, read_of, with_word}
+use Rattle.mark_core.specs.View.{new_half, read_of, with_word, with_half, with_value, with_read_end, with_hold, with_loss, with_put, without_hold}
 use Rattle.mark_core.specs.Growth.{BeginsRead}
 use Rattle.mark_core.proofs.ReadLaws.{begins_right}
 use Rattle.mark_words.specs.declared.board.Doing.{Doing}
@@ -76,61 +79,53 @@ with_word_fits (Some begun) place word fits half is =
     (λ e same. subst (λ (h : Half). h.clean.upto < 2 ^ 63) (same_Some begun half same) was)
     is
 
+-- a change of the view that leaves its log and its count
+quiet_view : {S E : Type 0} (before : Doing S E) (view : View (List E)) → view.spent ≡ before.view.spent → view.log ≡ before.view.log → view.seen ≡ before.view.seen
+    → (FitsReads before.view → FitsReads view) → IsQuiet before (record before { view = view })
+quiet_view before view spent log seen fits =
+    record { subject = refl; editor = refl; edits = refl; marks = refl; spent = spent; log = log; seen = seen; fits = fits }
+
+-- and one of what it holds and has done
+quiet_work : {S E : Type 0} (before : Doing S E) (holds : List Held) (known done : List Known) (lost : List Lost)
+    → IsQuiet before (record before { view = record before.view { holds = holds; known = known; done = done; lost = lost } })
+quiet_work before holds known done lost =
+    quiet_view before (record before.view { holds = holds; known = known; done = done; lost = lost }) refl refl refl
+    (λ was. record { half = was.half; reads = was.reads })
+
 module _ {S E : Type 0} (before after : Doing S E) (place : ℕ) where
   pub quiet_clean_read : (found : ℕ) → found < 2 ^ 64 → after ≡ with_clean_read before place (clean_at found) → IsQuiet before after
   quiet_clean_read found fits made =
       subst (λ (d : Doing S E). IsQuiet before d) (sym made)
-      (record {
-        subject = refl;
-        editor = refl;
-        edits = refl;
-        marks = refl;
-        spent = refl;
-        log = refl;
-        seen = refl;
-        fits = λ was.
-            record {
-              half = λ half is.
-                  let half_found : found / 2 < 2 ^ 63 = omega arith in
-                  subst (λ (h : Half). h.clean.upto < 2 ^ 63) (same_Some (new_half before.view place (clean_at found)) half is) half_found;
-              reads = was.reads;
-            };
-      })
+      (quiet_view before (with_half before.view place (clean_at found)) refl refl refl
+      (λ was.
+      record {
+        half = λ half is.
+            let half_found : found / 2 < 2 ^ 63 = omega arith in
+            subst (λ (h : Half). h.clean.upto < 2 ^ 63) (same_Some (new_half before.view place (clean_at found)) half is) half_found;
+        reads = was.reads;
+      }))
 
   pub quiet_value_read : (word : ℕ) → after ≡ with_value_read before place word → IsQuiet before after
   quiet_value_read word made =
       subst (λ (d : Doing S E). IsQuiet before d) (sym made)
-      (record {
-        subject = refl;
-        editor = refl;
-        edits = refl;
-        marks = refl;
-        spent = refl;
-        log = refl;
-        seen = refl;
-        fits = λ was. record { half = with_word_fits before.view.half place word was.half; reads = was.reads };
-      })
+      (quiet_view before (with_value before.view place word) refl refl refl
+      (λ was. record { half = with_word_fits before.view.half place word was.half; reads = was.reads }))
 
   pub quiet_mark_read : (mark : ℕ) → after ≡ with_mark_read before place mark → IsQuiet before after
   quiet_mark_read mark made =
       subst (λ (d : Doing S E). IsQuiet before d) (sym made)
-      (record {
-        subject = refl;
-        editor = refl;
-        edits = refl;
-        marks = refl;
-        spent = read_end_cases (λ (v : View (List E)). v.spent ≡ before.view.spent) before.view before.view.half place mark refl (λ half begun of. refl);
-        log = read_end_cases (λ (v : View (List E)). v.log ≡ before.view.log) before.view before.view.half place mark refl (λ half begun of. refl);
-        seen = read_end_cases (λ (v : View (List E)). v.seen ≡ before.view.seen) before.view before.view.half place mark refl (λ half begun of. refl);
-        fits = λ was.
-            read_end_cases FitsReads before.view before.view.half place mark was
-            (λ half begun of.
-            record {
-              half = λ other is. absurd (none-some other is);
-              reads =
-                  All-push (λ (read : Finished). read.clean.upto < 2 ^ 63) before.view.reads (read_of before.view.seen half mark) was.reads (was.half half begun);
-            });
-      })
+      (quiet_view before (with_read_end before.view place mark)
+      (read_end_cases (λ (v : View (List E)). v.spent ≡ before.view.spent) before.view before.view.half place mark refl (λ half begun of. refl))
+      (read_end_cases (λ (v : View (List E)). v.log ≡ before.view.log) before.view before.view.half place mark refl (λ half begun of. refl))
+      (read_end_cases (λ (v : View (List E)). v.seen ≡ before.view.seen) before.view before.view.half place mark refl (λ half begun of. refl))
+      (λ was.
+      read_end_cases FitsReads before.view before.view.half place mark was
+      (λ half begun of.
+      record {
+        half = λ other is. absurd (none-some other is);
+        reads =
+            All-push (λ (read : Finished). read.clean.upto < 2 ^ 63) before.view.reads (read_of before.view.seen half mark) was.reads (was.half half begun);
+      })))
 
   pub quiet_claim : (step : Step E) (me me' : Me E (Doing S E)) (found : ℕ) → before ≡ me.0 → after ≡ me'.0 → TriedClaim step me found me' → step.word ≡ 3 * place + 2 → IsQuiet before after
   quiet_claim step me me' found is is' tried word =
@@ -138,23 +133,23 @@ module _ {S E : Type 0} (before after : Doing S E) (place : ℕ) where
         | inl same ↦
             let made : after ≡ with_claim before place = is' ∙ tried.taken place word same ∙ ap (λ (d : Doing S E). with_claim d place) (sym is) in
             subst (λ (d : Doing S E). IsQuiet before d) (sym made)
-            (record { subject = refl; editor = refl; edits = refl; marks = refl; spent = refl; log = refl; seen = refl; fits = λ was. record { half = was.half; reads = was.reads } })
+            (quiet_work before (with_hold before.view place).holds before.view.known before.view.done before.view.lost)
         | inr differs ↦
             let made : after ≡ with_refusal before place (clean_at found) =
             is' ∙ tried.refused place word differs ∙ ap (λ (d : Doing S E). with_refusal d place (clean_at found)) (sym is) in
             subst (λ (d : Doing S E). IsQuiet before d) (sym made)
-            (record { subject = refl; editor = refl; edits = refl; marks = refl; spent = refl; log = refl; seen = refl; fits = λ was. record { half = was.half; reads = was.reads } })
+            (quiet_work before before.view.holds before.view.known before.view.done (with_loss before.view place (clean_at found)).lost)
       ]
 
   pub quiet_put : (word : ℕ) → after ≡ with_word_put before place word → IsQuiet before after
   quiet_put word made =
       subst (λ (d : Doing S E). IsQuiet before d) (sym made)
-      (record { subject = refl; editor = refl; edits = refl; marks = refl; spent = refl; log = refl; seen = refl; fits = λ was. record { half = was.half; reads = was.reads } })
+      (quiet_work before (with_put before.view place word).holds before.view.known before.view.done before.view.lost)
 
   pub quiet_finish : (mark : ℕ) → after ≡ with_finish before place mark → IsQuiet before after
   quiet_finish mark made =
       subst (λ (d : Doing S E). IsQuiet before d) (sym made)
-      (record { subject = refl; editor = refl; edits = refl; marks = refl; spent = refl; log = refl; seen = refl; fits = λ was. record { half = was.half; reads = was.reads } })
+      (let given : View (List E) = without_hold before.view place mark in quiet_work before given.holds given.known given.done before.view.lost)
 
 -- a read that begins, whatever clean word it found
 pub begins : {E : Type 0} (view : View (List E)) (place : ℕ) (clean : Clean) → BeginsRead view place (new_half view place clean)

@@ -15,13 +15,17 @@ use Rattle.mark_core.specs.Answer.{Shows}
 use Rattle.mark_core.specs.Mark.{IsLastMark}
 use Rattle.mark_core.specs.TwoCells.{last_or}
 use Rattle.mark_core.specs.View.{new_half, read_of, hold_with}
+use Rattle.mark_core.specs.declared.subjects.Subject.{Ghosts}
 use Rattle.mark_core.specs.Permission.{IsWorthKnown, MayClaim, MayPut, MayFinish}
 use Rattle.mark_core.proofs.Prefixes.{last_mark_unique}
 use Rattle.mark_words.specs.declared.board.Doing.{Doing}
-use Rattle.mark_words.specs.Doing.{with_clean_read, with_value_read, with_mark_read, with_claim, with_word_put}
+use Rattle.mark_words.specs.declared.marks.Marks.{Marks}
+use Rattle.mark_words.specs.declared.seats.Seat.{Seat}
+use Rattle.mark_words.specs.Doing.{with_clean_read, with_value_read, with_mark_read, with_claim, with_word_put, with_mark, with_commit}
 use Rattle.mark_words.specs.Read.{IsWorthAfter, TellsOf, GoesOn, Ends, Tells}
 use Rattle.mark_words.specs.EightCells.{last_of, script}
-use Rattle.mark_words.specs.Trial.{HasRead, IsWorthOf, IsStaleAfter}
+use Rattle.mark_words.specs.Token.{IsSeatOf, doing_of}
+use Rattle.mark_words.specs.Trial.{IsReady, HasRead, IsWorthOf, IsStaleAfter}
 use Rattle.mark_words.proofs.ReadSteps.{read_end_cases}
 use Rattle.mark_words.proofs.TokenLemmas.{begins}
 
@@ -198,3 +202,45 @@ pub either_place : (place : ℕ) → place < 2 → Contains (0 ∷ 1 ∷ []) pla
 either_place zero lt = (0, omega arith, refl)
 either_place (suc zero) lt = (1, omega arith, refl)
 either_place (suc (suc place)) lt = absurd (omega arith)
+
+-- the editor's seat is still ready where it knows what it knew
+pub ready_still : {S E : Type 0} {G : Ghosts S E} (marks : Marks S E) (before after : Seat S E G) (count : ℕ)
+    → IsReady marks before count → IsSeatOf marks after → doing_of after ≡ doing_of before → IsReady marks after count
+ready_still {S} {E} marks before after count ready same kept =
+    record {
+      table = same;
+      editor = ap (λ (d : Doing S E). d.editor) kept ∙ ready.editor;
+      two = ready.two;
+      pending = ap (λ (d : Doing S E). d.edits.pending) kept ∙ ready.pending;
+      marked = ap (λ (d : Doing S E). d.edits.marked) kept ∙ ready.marked;
+      entries = ap (λ (d : Doing S E). length d.view.log) kept ∙ ready.entries;
+    }
+
+-- the editor's seat that has marked both cells for an entry
+module _ {S E : Type 0} {G : Ghosts S E} (marks : Marks S E) (before first second : Seat S E G) (entry : E) (count number : ℕ) (ready : IsReady marks before count)
+    (one : doing_of first ≡ with_mark (doing_of before) entry 0 number) (both : doing_of second ≡ with_mark (doing_of first) entry 1 number) where
+  pub both_marked : (place : ℕ) → place < 2 → Contains (doing_of second).edits.marked place
+  both_marked place there =
+      let marked : (doing_of second).edits.marked ≡ 0 ∷ 1 ∷ [] =
+      ap (λ (d : Doing S E). d.edits.marked) both ∙ ap (λ (d : Doing S E). d.edits.marked ++ 1 ∷ []) one
+      ∙ ap (λ l. (l ++ 0 ∷ []) ++ 1 ∷ []) ready.marked in
+      subst (λ (l : List ℕ). Contains l place) (sym marked) (either_place place there)
+
+  pub entry_pending : (doing_of second).edits.pending ≡ Some entry
+  entry_pending = ap (λ (d : Doing S E). d.edits.pending) both
+
+  -- and has committed it
+  pub ready_next : (after : Seat S E G) → IsSeatOf marks after → doing_of after ≡ with_commit (doing_of second) entry → IsReady marks after (count + 1)
+  ready_next after same last =
+      record {
+        table = same;
+        editor =
+            ap (λ (d : Doing S E). d.editor) last ∙ ap (λ (d : Doing S E). d.editor) both ∙ ap (λ (d : Doing S E). d.editor) one ∙ ready.editor;
+        two = ready.two;
+        pending = ap (λ (d : Doing S E). d.edits.pending) last;
+        marked = ap (λ (d : Doing S E). d.edits.marked) last;
+        entries =
+            ap (λ (d : Doing S E). length d.view.log) last ∙ length-append (doing_of second).view.log (entry ∷ [])
+            ∙ ap (λ (d : Doing S E). length d.view.log + 1) both ∙ ap (λ (d : Doing S E). length d.view.log + 1) one
+            ∙ ap (λ n. n + 1) ready.entries;
+      }

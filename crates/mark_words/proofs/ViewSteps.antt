@@ -1,6 +1,6 @@
 -- A step that changes the view of one seat and at most the clean word or the value of one place keeps the rule of the
--- table where the core's event keeps its state honest.
-use Rattle.std.proofs.Common.{◌≡◌, ℕ, List, Option, map, length, false, refl, ap, arith}
+-- table where it is an event of the core.
+use Rattle.std.proofs.Common.{◌≡◌, ℕ, List, [], ◌∷◌, ◌++◌, Option, map, length, false, refl, ap, arith}
 use Rattle.std.specs.Prelude.{slice_set}
 use mathlib.Core.Option.{some}
 use lib.ListN.{get_elem?}
@@ -8,31 +8,34 @@ use Rattle.atomic_table.specs.Table.{State as TableState}
 use Rattle.mark_core.specs.declared.actors.View.{View}
 use Rattle.mark_core.specs.declared.words.Place.{Place}
 use Rattle.mark_core.specs.State.{State}
-use Rattle.mark_core.specs.Honest.{IsHonest}
-use Rattle.mark_core.specs.Run.{IsCodeless}
+use Rattle.mark_core.specs.declared.events.Event.{Event}
+use Rattle.mark_core.specs.declared.events.Outcome.{Outcome}
+use Rattle.mark_core.specs.Step.{Happens}
 use Rattle.mark_words.specs.declared.board.Doing.{Doing}
 use Rattle.mark_words.specs.Words.{words_of_state}
 use Rattle.mark_words.specs.Rule.{IsRightSeat, IsKept}
 use Rattle.mark_words.proofs.Boards.{seat_stays, seat_changes, subject_set}
+use Rattle.mark_words.proofs.RunLemmas.{next_run}
 
 module _ {S E : Type 0} (subject : S) (places : ℕ) (worth : List E → ℕ → ℕ) (touches : List E → E → ℕ → Type 0) (opening : List (Option ℕ))
     (t : TableState E (Doing S E)) (kept : IsKept subject places worth touches opening t)
     (id : ℕ) (doing : Doing S E) (at : get_elem? t.views id ≡ some doing) (live : doing.view.spent ≡ false) where
-  pub view_step : (core' : State E) (view : View (List E)) (words' : List ℕ)
-      → IsHonest places worth touches (IsCodeless opening) core'
+  pub view_step : (event : Event E) (outcome : Outcome) (core' : State E) (view : View (List E)) (words' : List ℕ)
+      → Happens worth touches kept.core event outcome core'
       → words' ≡ words_of_state core'
       → core'.edits ≡ kept.core.edits
       → map (λ (p : Place). p.mark) core'.places ≡ map (λ (p : Place). p.mark) kept.core.places
       → core'.views ≡ slice_set kept.core.views id view
       → view.log ≡ doing.view.log
       → IsKept subject places worth touches opening (record { words = words'; homes = t.homes; views = slice_set t.views id (record doing { view = view }) })
-  view_step core' view words' honest words edits marks views log =
+  view_step event outcome core' view words' happens words edits marks views log =
       let after : Doing S E = record doing { view = view } in
       let right : IsRightSeat core' id doing = seat_stays kept.core core' id doing edits marks (kept.seats.each id doing at) in
       record {
-        sized = kept.sized;
+        right = kept.right;
         core = core';
-        honest = honest;
+        events = kept.events ++ event ∷ [];
+        run = next_run subject places worth touches opening t kept event outcome core' happens;
         words = words;
         subjects = subject_set subject t.views id after kept.subjects (λ still. kept.subjects id doing at live);
         seats =

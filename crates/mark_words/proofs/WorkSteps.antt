@@ -15,16 +15,18 @@ use Rattle.mark_core.specs.Place.{place_at}
 use Rattle.mark_core.specs.State.{State, view_at}
 use Rattle.mark_core.specs.View.{with_hold, with_loss, with_put, without_hold}
 use Rattle.mark_core.specs.Permission.{MayStepAt, MayClaim, MayPut, MayFinish}
+use Rattle.mark_core.specs.declared.events.Event.TheVariants.{Claim, Put, Finish}
+use Rattle.mark_core.specs.declared.events.Outcome.TheVariants.{Done, Claimed}
+use Rattle.mark_core.specs.Honest.{IsHonest}
 use Rattle.mark_core.specs.Run.{IsCodeless}
 use Rattle.mark_core.specs.Step.{after_claim, after_refusal, after_put, after_finish}
-use Rattle.mark_core.proofs.Steps.{refusal_keeps}
-use Rattle.mark_core.proofs.WorkSteps.{claim_keeps, put_keeps, finish_keeps}
 use Rattle.mark_words.specs.declared.board.Doing.{Doing}
 use Rattle.mark_words.specs.Words.{code_of, clean_at, words_of_places}
 use Rattle.mark_words.specs.Doing.{with_claim, with_refusal, with_word_put, with_finish}
 use Rattle.mark_words.specs.Rule.{IsKept}
 use Rattle.mark_words.specs.Plays.{TriedClaim, PutWord, GaveBack}
-use Rattle.mark_words.proofs.Boards.{clean_word, clean_set, value_set, marks_stay, decoded}
+use Rattle.mark_words.proofs.Boards.{clean_word, clean_set, value_set, marks_stay, clean_at-code_of}
+use Rattle.mark_words.proofs.RunLemmas.{honest_state}
 use Rattle.mark_words.proofs.SeeSteps.{same_view}
 use Rattle.mark_words.proofs.ViewSteps.{view_step}
 
@@ -45,8 +47,11 @@ module _ {S E : Type 0} (subject : S) (places : ℕ) (worth : List E → ℕ →
     same : view_at core id ≡ me.0.view
     same = same_view subject places worth touches untouched opening t kept id me.0 at live
 
+    honest : IsHonest places worth touches (IsCodeless opening) core
+    honest = honest_state subject places worth touches opening t kept untouched
+
     lt : place < length core.places
-    lt = omega (arith, there, kept.honest.count, kept.sized)
+    lt = omega (arith, there, honest.count, kept.right.count)
 
     may : MayStepAt (length core.places) (view_at core id) place
     may = record { there = lt; live = ap (λ (v : View (List E)). v.spent) same ∙ live }
@@ -57,35 +62,42 @@ module _ {S E : Type 0} (subject : S) (places : ℕ) (worth : List E → ℕ →
     clean_stored clean =
         ap (λ ws. slice_set ws (3 * place + 2) (code_of clean)) kept.words ∙ clean_set (length core.edits.log) core.places place clean lt
 
-    pub clean_found : clean_at (slice_index t.words (3 * place + 2)) ≡ (place_at core.places place).clean
-    clean_found =
-        ap (λ ws. clean_at (slice_index ws (3 * place + 2))) kept.words
-        ∙ ap clean_at (clean_word (length core.edits.log) core.places place lt) ∙ decoded (place_at core.places place).clean
+    -- the clean word that stands there
+    word_found : slice_index t.words (3 * place + 2) ≡ code_of (place_at core.places place).clean
+    word_found = ap (λ ws. slice_index ws (3 * place + 2)) kept.words ∙ clean_word (length core.edits.log) core.places place lt
+
+    clean_found : clean_at (slice_index t.words (3 * place + 2)) ≡ (place_at core.places place).clean
+    clean_found = ap clean_at word_found ∙ clean_at-code_of (place_at core.places place).clean
 
     took : (seen : Clean) (stored : ℕ) → MayClaim me.0.view place seen → slice_index t.words (3 * place + 2) ≡ code_of seen
         → (let held : Clean = record { upto = seen.upto; held = true } in stored ≡ code_of held)
         → IsKept subject places worth touches opening (record { words = slice_set t.words (3 * place + 2) stored; homes = t.homes; views = slice_set t.views id (with_claim me.0 place) })
     took seen stored ground found is =
         let held : Clean = record { upto = seen.upto; held = true } in
-        view_step subject places worth touches opening t kept id me.0 at live (after_claim core id place seen) (with_hold me.0.view place)
+        view_step subject places worth touches opening t kept id me.0 at live (Claim id place seen) (Claimed true) (after_claim core id place seen) (with_hold me.0.view place)
         (slice_set t.words (3 * place + 2) stored)
-        (claim_keeps places worth touches (IsCodeless opening) untouched core kept.honest id place seen may
-        (subst (λ (v : View (List E)). MayClaim v place seen) (sym same) ground)
-        (sym clean_found ∙ ap clean_at found ∙ decoded seen))
+        (record {
+          allowed = (may, subst (λ (v : View (List E)). MayClaim v place seen) (sym same) ground);
+          gives = inl (record { found = sym clean_found ∙ ap clean_at found ∙ clean_at-code_of seen; answer = refl; effect = refl });
+        })
         (ap (λ n. slice_set t.words (3 * place + 2) n) is ∙ clean_stored held)
         refl
         (marks_stay core.places place (record (place_at core.places place) { clean = held }) refl)
         (ap (λ (v : View (List E)). slice_set core.views id (with_hold v place)) same)
         refl
 
-    lost : (stored : ℕ) → stored ≡ slice_index t.words (3 * place + 2)
+    lost : (seen : Clean) (stored : ℕ) → MayClaim me.0.view place seen → slice_index t.words (3 * place + 2) ≢ code_of seen
+        → stored ≡ slice_index t.words (3 * place + 2)
         → (let found : Clean = clean_at (slice_index t.words (3 * place + 2)) in
         IsKept subject places worth touches opening (record { words = slice_set t.words (3 * place + 2) stored; homes = t.homes; views = slice_set t.views id (with_refusal me.0 place found) }))
-    lost stored is =
+    lost seen stored ground differs is =
         let found : Clean = clean_at (slice_index t.words (3 * place + 2)) in
-        view_step subject places worth touches opening t kept id me.0 at live (after_refusal core id place) (with_loss me.0.view place found)
+        view_step subject places worth touches opening t kept id me.0 at live (Claim id place seen) (Claimed false) (after_refusal core id place) (with_loss me.0.view place found)
         (slice_set t.words (3 * place + 2) stored)
-        (refusal_keeps places worth touches (IsCodeless opening) untouched core kept.honest id place may.live)
+        (record {
+          allowed = (may, subst (λ (v : View (List E)). MayClaim v place seen) (sym same) ground);
+          gives = inr (record { found = λ e. differs (word_found ∙ ap code_of e); answer = refl; effect = refl });
+        })
         (ap (λ n. slice_set t.words (3 * place + 2) n) is ∙ set-get_or t.words (3 * place + 2) 0 ∙ kept.words)
         refl refl
         (ap (λ (v : View (List E)). slice_set core.views id (with_loss v place (place_at core.places place).clean)) same
@@ -115,7 +127,7 @@ module _ {S E : Type 0} (subject : S) (places : ℕ) (worth : List E → ℕ →
           with_refusal me.0 place (clean_at found),
           keeps,
           tt,
-          lost t kept at (either (found == old) new found) (miss found old new differs),
+          lost t kept at seen (either (found == old) new found) ground (λ e. differs (e ∙ sym is)) (miss found old new differs),
           record {
             slots = refl;
             taken = λ place' word' was. absurd (differs (was ∙ first));
@@ -128,21 +140,17 @@ module _ {S E : Type 0} (subject : S) (places : ℕ) (worth : List E → ℕ →
       → Allows (IsKept subject places worth touches opening) slots id me (3 * place + 3) (λ n. word) (λ n after. PutWord step me word after)
   puts word ground index first t kept deep at fits =
       let core : State E = kept.core in
-      let same : view_at core id ≡ me.0.view = same_view subject places worth touches untouched opening t kept id me.0 at live in
-      let lt : place < length core.places = omega (arith, kept.honest.count, kept.sized) in
       let changed : Place = record (place_at core.places place) { value = word } in (
         with_word_put me.0 place word,
         keeps,
         tt,
-        view_step subject places worth touches opening t kept id me.0 at live (after_put core id place word) (with_put me.0.view place word)
+        view_step subject places worth touches opening t kept id me.0 at live (Put id place word) Done (after_put core id place word) (with_put me.0.view place word)
             (slice_set t.words (3 * place + 3) word)
-            (put_keeps places worth touches (IsCodeless opening) untouched core kept.honest id place word
-            (record { there = lt; live = ap (λ (v : View (List E)). v.spent) same ∙ live })
-            (subst (λ (v : View (List E)). MayPut worth v place word) (sym same) ground))
-            (ap (λ ws. slice_set ws (3 * place + 3) word) kept.words ∙ value_set (length core.edits.log) core.places place word lt)
+            (record { allowed = (may t kept at, subst (λ (v : View (List E)). MayPut worth v place word) (sym (same t kept at)) ground); gives = (refl, refl) })
+            (ap (λ ws. slice_set ws (3 * place + 3) word) kept.words ∙ value_set (length core.edits.log) core.places place word (lt t kept at))
             refl
             (marks_stay core.places place changed refl)
-            (ap (λ (v : View (List E)). slice_set core.views id (with_put v place word)) same)
+            (ap (λ (v : View (List E)). slice_set core.views id (with_put v place word)) (same t kept at))
             refl,
         record {
           slots = refl;
@@ -159,22 +167,17 @@ module _ {S E : Type 0} (subject : S) (places : ℕ) (worth : List E → ℕ →
   finishes mark stored ground is index first t kept deep at fits =
       let free : Clean = record { upto = mark + 1; held = false } in
       let core : State E = kept.core in
-      let same : view_at core id ≡ me.0.view = same_view subject places worth touches untouched opening t kept id me.0 at live in
-      let lt : place < length core.places = omega (arith, kept.honest.count, kept.sized) in
       let changed : Place = record (place_at core.places place) { clean = free } in (
         with_finish me.0 place mark,
         keeps,
         tt,
-        view_step subject places worth touches opening t kept id me.0 at live (after_finish core id place mark) (without_hold me.0.view place mark)
+        view_step subject places worth touches opening t kept id me.0 at live (Finish id place mark) Done (after_finish core id place mark) (without_hold me.0.view place mark)
             (slice_set t.words (3 * place + 2) stored)
-            (finish_keeps places worth touches (IsCodeless opening) untouched core kept.honest id place mark
-            (record { there = lt; live = ap (λ (v : View (List E)). v.spent) same ∙ live })
-            (subst (λ (v : View (List E)). MayFinish worth touches v place mark) (sym same) ground))
-            (ap (λ n. slice_set t.words (3 * place + 2) n) is
-            ∙ ap (λ ws. slice_set ws (3 * place + 2) (code_of free)) kept.words ∙ clean_set (length core.edits.log) core.places place free lt)
+            (record { allowed = (may t kept at, subst (λ (v : View (List E)). MayFinish worth touches v place mark) (sym (same t kept at)) ground); gives = (refl, refl) })
+            (ap (λ n. slice_set t.words (3 * place + 2) n) is ∙ clean_stored t kept at free)
             refl
             (marks_stay core.places place changed refl)
-            (ap (λ (v : View (List E)). slice_set core.views id (without_hold v place mark)) same)
+            (ap (λ (v : View (List E)). slice_set core.views id (without_hold v place mark)) (same t kept at))
             refl,
         record {
           slots = refl;

@@ -1,8 +1,8 @@
 -- What a meet gives.
 use Rattle.std.specs.Prelude.{◌≡◌, ◌≤◌, ◌⊎◌, ℕ, List, [], ◌∷◌, ◌++◌, true, length}
 use Rattle.mark_core.specs.Mark.{IsPrefix}
+use Rattle.mark_core.specs.Knows.{KnowsClean}
 use Rattle.mark_words.specs.declared.board.Doing.{Doing}
-use Rattle.mark_words.specs.Read.{KnowsClean}
 
 -- The seat knows the longer of both logs, and both are prefixes of it; it knows the places that both knew; it has
 -- seen the count of commits, which is at least what both had seen. Its own reads and work stay. The editor's log
@@ -31,5 +31,5 @@ pub record HasMet {S E : Type 0} (seat other after : Doing S E) : Type 0 where
 -- Whatever place either seat knew as clean, over whatever log, the seat knows as clean after the meet.
 abbrev pub KeepsClean : {S E : Type 0} → (List E → E → ℕ → Type 0) → Doing S E → Doing S E → Doing S E → Type 0
 KeepsClean {S} {E} touches seat other after =
-    (log : List E) (place mark : ℕ) → KnowsClean touches log seat place mark ⊎ KnowsClean touches log other place mark
-    → KnowsClean touches log after place mark
+    (log : List E) (place mark : ℕ) → KnowsClean touches log seat.view place mark ⊎ KnowsClean touches log other.view place mark
+    → KnowsClean touches log after.view place mark

@@ -1,10 +1,11 @@
 -- What a read of a place tells its seat, over the log that the seat knows.
-use Rattle.std.specs.Prelude.{◌≡◌, ◌≤◌, ◌+◌, ℕ, List, Some, length, Contains}
+use Rattle.std.specs.Prelude.{◌≡◌, ◌≤◌, ◌+◌, ℕ, List, Some, length}
 use Rattle.mark_core.specs.declared.words.Half.{Half}
 use Rattle.mark_core.specs.declared.actors.View.{View}
 use Rattle.mark_core.specs.Mark.{IsPrefix, IsLastMark}
 use Rattle.mark_core.specs.View.{read_of}
 use Rattle.mark_core.specs.Growth.{EndsRead}
+use Rattle.mark_core.specs.Knows.{KnowsClean}
 use Rattle.mark_core.specs.Legal.{MeetsFloor}
 use Rattle.mark_words.specs.declared.board.Doing.{Doing}
 
@@ -35,11 +36,6 @@ pub record TellsOf {E : Type 0} (worth : List E → ℕ → ℕ) (touches : List
       (word : ℕ) → half.word ≡ Some word → half.clean.upto ≡ mark + 1 → mark ≤ length view.log
       → worth view.log half.place ≡ word
 
--- The seat knows the place as clean, with this mark: as computed for it, and it is the place's last mark in the log.
-pub record KnowsClean {S E : Type 0} (touches : List E → E → ℕ → Type 0) (log : List E) (doing : Doing S E) (place mark : ℕ) : Type 0 where
-  pub known : Contains doing.view.known (record { place = place; mark = mark })
-  pub last : IsLastMark touches log place mark
-
 -- what holds of the seat's begun read, where it is one of this place
 abbrev pub OfItsRead : {S E : Type 0} → Doing S E → ℕ → (Half → Type 0) → Type 0
 OfItsRead before place Holds = (half : Half) → before.view.half ≡ Some half → half.place ≡ place → Holds half
@@ -62,4 +58,4 @@ Tells worth touches before place mark = OfItsRead before place (λ half. TellsOf
 abbrev pub LearnsClean : {S E : Type 0} → (List E → E → ℕ → Type 0) → Doing S E → ℕ → ℕ → Doing S E → Type 0
 LearnsClean touches before place mark after =
     OfItsRead before place (λ half. ((word : ℕ) → half.word ≡ Some word → half.clean.upto ≡ mark + 1 → mark ≤ length before.view.log
-    → KnowsClean touches before.view.log after place mark))
+    → KnowsClean touches before.view.log after.view place mark))

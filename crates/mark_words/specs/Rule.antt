@@ -6,9 +6,9 @@ use Rattle.atomic_table.specs.Table.{State as TableState}
 use Rattle.mark_core.specs.declared.actors.View.{View}
 use Rattle.mark_core.specs.declared.words.Place.{Place}
 use Rattle.mark_core.specs.Mark.{IsPrefix}
-use Rattle.mark_core.specs.State.{State, view_at}
-use Rattle.mark_core.specs.Honest.{IsHonest}
-use Rattle.mark_core.specs.Run.{IsCodeless}
+use Rattle.mark_core.specs.declared.events.Event.{Event}
+use Rattle.mark_core.specs.State.{State, view_at, opening_state}
+use Rattle.mark_core.specs.Run.{IsOpening, Runs}
 use Rattle.mark_words.specs.declared.board.Doing.{Doing}
 use Rattle.mark_words.specs.declared.board.Topic.{Topic}
 use Rattle.mark_words.specs.Words.{words_of_state}
@@ -61,11 +61,13 @@ NameSubject {S} {E} subject seats =
     (seat : ℕ) (doing : Doing S E) → get_elem? seats seat ≡ some doing → doing.view.spent ≡ false
     → doing.subject ≡ Some subject
 
--- The table is that of an honest state of the core: its words are those of the state, and its seats the state's.
+-- The table is that of a run of the core: events have happened from the opening state on, each allowed where it happened,
+-- and have led to a state whose words are those of the table and whose views are its seats'. So that state is honest.
 pub record IsKept {S E : Type 0} (subject : S) (places : ℕ) (worth : List E → ℕ → ℕ) (touches : List E → E → ℕ → Type 0) (opening : List (Option ℕ)) (t : TableState E (Doing S E)) : Type 0 where
-  pub sized : length opening ≡ places
+  pub right : IsOpening places worth opening
   pub core : State E
-  pub honest : IsHonest places worth touches (IsCodeless opening) core
+  pub events : List (Event E)
+  pub run : Runs worth touches (opening_state opening) events core
   pub words : t.words ≡ words_of_state core
   pub seats : AreSeats core t.views
   pub subjects : NameSubject subject t.views

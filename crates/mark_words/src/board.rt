@@ -28,7 +28,7 @@ pub struct Topic<S> {
     pub opening: Snapshot<Vec<Option<u64>>>,
 }
 
-/// The rule of the table: words and views are those of an honest state of the core.
+/// The rule of the table: words and views are those of a state of the core to which events lead from the opening one.
 pub struct Keeps<S> {
     subject: PhantomData<S>,
 }

@@ -1,11 +1,11 @@
 #![tactic(auto)]
 
 ghost use Rattle.std.specs.Prelude.{◌≡◌, ◌≢◌, ◌<◌, ℕ, List, IfOk, IfErr};
+ghost use Rattle.mark_core.specs.Knows.{KnowsClean};
 ghost use Rattle.mark_core.specs.Mark.{IsLastMark};
 ghost use Rattle.mark_core.specs.Permission.{MayClaim, MayPut, MayFinish};
 ghost use Rattle.mark_words.specs.Doing.{with_claim, with_refusal, with_word_put, with_finish};
 ghost use Rattle.mark_words.specs.Token.{IsSeatOf, subject_of, places_of, doing_of, view_of};
-ghost use Rattle.mark_words.specs.Read.{KnowsClean};
 
 use crate::codes::{clean_of, word_of};
 use crate::marks::Marks;
@@ -14,8 +14,8 @@ use crate::seats::Seat;
 use mark_core::{Clean, Subject};
 
 impl<S: Subject> Marks<S> {
-    /// Holds the place, where its clean word is the one that was read as stale. Err where it is another one by now, with
-    /// that one, which joins those that refused claims of the seat found. One compare-exchange.
+    /// Holds the place, where its clean word is the one that was read as stale. Err where it is another one by now,
+    /// with that one, which joins those that refused claims of the seat found. One compare-exchange.
     pub fn claim(&self, seat: &mut Seat<S>, place: u32, seen: Clean) -> Result<(), Clean>
         requires table { IsSeatOf self.now seat.old }
         requires there { place < places_of self.now }
@@ -51,9 +51,9 @@ impl<S: Subject> Marks<S> {
         self.table.shared.store::<Puts>(&mut seat.seat, at, word);
     }
 
-    /// Gives a held place back, as computed for the mark: the last one in entries over which the word that was put is the
-    /// place's worth. Over each log in which it is the last one, the seat knows the place as clean from then on. One
-    /// store.
+    /// Gives a held place back, as computed for the mark: the last one in entries over which the word that was put is
+    /// the place's worth. Over each log in which it is the last one, the seat knows the place as clean from then on.
+    /// One store.
     pub fn finish(&self, seat: &mut Seat<S>, place: u32, mark: u64)
         requires table { IsSeatOf self.now seat.old }
         requires there { place < places_of self.now }
@@ -63,7 +63,7 @@ impl<S: Subject> Marks<S> {
         ensures doing { doing_of seat.new ≡ with_finish (doing_of seat.old) place mark }
         ensures clean { (log : List S.Entry)
             → IsLastMark (S.touches (subject_of self.now)) log place mark
-            → KnowsClean (S.touches (subject_of self.now)) log (doing_of seat.new) place mark }
+            → KnowsClean (S.touches (subject_of self.now)) log (view_of seat.new) place mark }
     {
         let at = 3 * place as usize + 2;
         let free = word_of(Clean {

@@ -228,8 +228,8 @@ fn judge(_marks: &Table, done: &mut Vec<Token>, viewers: Vec<Viewer>) -> Result<
     Ok(right)
 }
 
-/// An editor commits two thousand entries over eight places, in rounds. In each, four workers compute what was committed
-/// before and four viewers look, while the editor commits a hundred more.
+/// An editor commits two thousand entries over eight places, in rounds. In each, four workers compute what was
+/// committed before and four viewers look, while the editor commits a hundred more.
 #[test]
 fn workers_and_viewers_keep_up_with_an_editor(rt: HostRuntime) -> Result<(), Fail> {
     let alloc = rt.alloc();

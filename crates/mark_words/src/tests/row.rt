@@ -94,8 +94,8 @@ fn found(loads: Loads) -> (Clean, u64, u64) {
     (loads.clean, loads.word, loads.mark)
 }
 
-/// What a viewer who has seen one commit is shown of a place that is marked for a second edit, and then of its value that
-/// was computed for it; and what a claim of a held place finds.
+/// What a viewer who has seen one commit is shown of a place that is marked for a second edit, and then of its value
+/// that was computed for it; and what a claim of a held place finds.
 #[test]
 fn later_edits_show_as_stale_and_newer(rt: HostRuntime) -> Result<(), Fail> {
     let (marks, mut editor) = opened(rt.alloc())?;

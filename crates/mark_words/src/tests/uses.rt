@@ -2,10 +2,10 @@
 
 ghost use Rattle.std.specs.Prelude.{◌≡◌, ◌<◌, ◌≤◌, ℕ, length, true, IfSome};
 ghost use Rattle.mark_core.specs.declared.answers.Seen.{Seen as Shown};
+ghost use Rattle.mark_core.specs.Knows.{KnowsClean};
 ghost use Rattle.mark_core.specs.Mark.{IsLastMark};
 ghost use Rattle.mark_core.specs.Permission.{MayClaim};
 ghost use Rattle.mark_words.specs.Token.{IsSeatOf, subject_of, places_of, doing_of, view_of, log_of, seen_of};
-ghost use Rattle.mark_words.specs.Read.{KnowsClean};
 ghost use Rattle.mark_words.specs.Trial.{HasRead, IsWorthOf, IsStaleAfter};
 
 use crate::marks::Marks;
@@ -67,7 +67,7 @@ fn works<S: Subject>(
     ensures same { IsSeatOf marks.now seat.new }
     ensures log { log_of seat.new ≡ log_of seat.old }
     ensures clean { result ≡ true → KnowsClean (S.touches (subject_of marks.now))
-        (log_of seat.old) (doing_of seat.new) place mark }
+        (log_of seat.old) (view_of seat.new) place mark }
 {
     let Ok(()) = marks.claim(seat, place, seen) else {
         return false;
@@ -77,8 +77,8 @@ fn works<S: Subject>(
     true
 }
 
-/// Reads the place and, where it is stale and free, computes it: the seat knows so many entries, over which this word is
-/// the place's worth. Where an answer is given, the seat knows the place as clean, with that mark.
+/// Reads the place and, where it is stale and free, computes it: the seat knows so many entries, over which this word
+/// is the place's worth. Where an answer is given, the seat knows the place as clean, with that mark.
 pub(super) fn recomputes<S: Subject>(
     marks: &Marks<S>,
     seat: &mut Seat<S>,
@@ -93,7 +93,7 @@ pub(super) fn recomputes<S: Subject>(
     ensures same { IsSeatOf marks.now seat.new }
     ensures log { log_of seat.new ≡ log_of seat.old }
     ensures clean { IfSome result (λ mark. KnowsClean (S.touches (subject_of marks.now))
-        (log_of seat.old) (doing_of seat.new) place mark) }
+        (log_of seat.old) (view_of seat.new) place mark) }
 {
     let loads = reads(marks, seat, place);
     if loads.mark > known {
@@ -108,8 +108,8 @@ pub(super) fn recomputes<S: Subject>(
     Some(loads.mark)
 }
 
-/// Reads the place twice and answers what it shows at the length of the seat's log. Where the first read showed a value,
-/// the second shows a mark only of an entry that isn't in the log.
+/// Reads the place twice and answers what it shows at the length of the seat's log. Where the first read showed a
+/// value, the second shows a mark only of an entry that isn't in the log.
 pub(super) fn looks_twice<S: Subject>(
     marks: &Marks<S>,
     seat: &mut Seat<S>,

@@ -2,20 +2,11 @@
 use Rattle.std.proofs.Common.{ℕ, length, ◌∙◌, ap, inl, inr, arith}
 use Rattle.mark_core.proofs.Prefixes.{prefix_length}
 use Rattle.mark_words.specs.declared.board.Doing.{Doing}
+use Rattle.mark_words.proofs.TrialLemmas.{ready_still}
 use Rattle.mark_words.proofs.tests.learns.Goals as goal
 
 pub returns-clause-ready : goal.returns-clause-ready
-returns-clause-ready c =
-    let kept = c.meet.ensures.other_kept in
-    let ready = c.requires.ready in
-    record {
-      table = c.meet.ensures.other_same;
-      editor = ap (λ (d : Doing _ ℕ). d.editor) kept ∙ ready.editor;
-      two = ready.two;
-      pending = ap (λ (d : Doing _ ℕ). d.edits.pending) kept ∙ ready.pending;
-      marked = ap (λ (d : Doing _ ℕ). d.edits.marked) kept ∙ ready.marked;
-      entries = ap (λ (d : Doing _ ℕ). length d.view.log) kept ∙ ready.entries;
-    }
+returns-clause-ready c = ready_still c.args.marks.now c.args.editor.now c.meet.new.other _ c.requires.ready c.meet.ensures.other_same c.meet.ensures.other_kept
 
 pub returns-clause-log : goal.returns-clause-log
 returns-clause-log c =

@@ -1,20 +1,11 @@
 -- The editor's seat is as it was, and the new one knows what it knows.
 use Rattle.std.proofs.Common.{length, ◌∙◌, ap, arith}
 use Rattle.mark_words.specs.declared.board.Doing.{Doing}
+use Rattle.mark_words.proofs.TrialLemmas.{ready_still}
 use Rattle.mark_words.proofs.tests.pair.Goals as goal
 
 pub returns-clause-ready : goal.returns-clause-ready
-returns-clause-ready c =
-    let kept = c.split.ensures.kept in
-    let ready = c.requires.ready in
-    record {
-      table = c.split.ensures.same;
-      editor = ap (λ (d : Doing _ _). d.editor) kept ∙ ready.editor;
-      two = ready.two;
-      pending = ap (λ (d : Doing _ _). d.edits.pending) kept ∙ ready.pending;
-      marked = ap (λ (d : Doing _ _). d.edits.marked) kept ∙ ready.marked;
-      entries = ap (λ (d : Doing _ _). length d.view.log) kept ∙ ready.entries;
-    }
+returns-clause-ready c = ready_still c.args.marks.now c.args.editor.now c.split.new.seat _ c.requires.ready c.split.ensures.same c.split.ensures.kept
 
 pub returns-clause-pair : goal.returns-clause-pair
 returns-clause-pair c =

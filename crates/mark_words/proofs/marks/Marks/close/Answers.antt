@@ -44,7 +44,7 @@ returns-clause-closed g c =
     let split = c.split_seat-witness.ensures in
     let none : c.loop-other.others.items ≡ [] = no_items c.loop-other.others.items (omega (arith, c.in_default-pop.ensures.cases.0)) in
     closes g.S.Subject.places g.S.Subject.worth g.S.Subject.touches c.args.self c.args.editor c.args.others.items _ last.0 last.1.0
-    c.loop-other.all.id c.loop-other.all.me.0 last.1.1 inv.live inv.editor last.2
+    c.loop-other.all.id c.loop-other.all.me.0 last.1.1 inv.live inv.editor (g.S.Subject.untouched c.args.self.table.shared.key.subject.value) last.2
     (inv.view ∙ ap (λ m. m.0.view) split.2) (inv.edits ∙ ap (λ m. m.0.edits) split.2)
     (c.args.editor.knows_all.log c.requires.editor)
     (omega (arith, c.args.editor.has_desk.places c.in-Some.desk c.in-Some.is, c.args.self.sized, ap (λ z. z.words) c.requires.table.same_table))

@@ -2,20 +2,11 @@
 use Rattle.std.proofs.Common.{length, ◌∙◌, ap}
 use Rattle.mark_core.specs.TwoCells.{last_or}
 use Rattle.mark_words.specs.declared.board.Doing.{Doing}
+use Rattle.mark_words.proofs.TrialLemmas.{ready_still}
 use Rattle.mark_words.proofs.tests.row.hires.Goals as goal
 
 pub returns-clause-ready : goal.returns-clause-ready
-returns-clause-ready c =
-    let kept = c.split.ensures.kept in
-    let ready = c.requires.ready in
-    record {
-      table = c.split.ensures.same;
-      editor = ap (λ (d : Doing _ _). d.editor) kept ∙ ready.editor;
-      two = ready.two;
-      pending = ap (λ (d : Doing _ _). d.edits.pending) kept ∙ ready.pending;
-      marked = ap (λ (d : Doing _ _). d.edits.marked) kept ∙ ready.marked;
-      entries = ap (λ (d : Doing _ _). length d.view.log) kept ∙ ready.entries;
-    }
+returns-clause-ready c = ready_still c.args.marks.now c.args.editor.now c.split.new.seat _ c.requires.ready c.split.ensures.same c.split.ensures.kept
 
 pub returns-clause-last : goal.returns-clause-last
 returns-clause-last c =
