@@ -12,7 +12,7 @@ use Rattle.range_index.proofs.SlotLemmas.{stands_somewhere}
 
 -- near a query, of any kind
 abbrev pub IsNearAny : Corners → Slot → Type 0
-IsNearAny query slot = IsNearAt query 8 slot ⊎ (IsNearAt query 1024 slot ⊎ IsNearAt query 1048576 slot)
+IsNearAny query slot = IsNearAt query 8 slot ⊎ (IsNearAt query 1024 slot ⊎ (IsNearAt query 32768 slot ⊎ IsNearAt query 1048576 slot))
 
 pub all_found : {items : List (Slot × Entry)} {counts : List (Home × ℕ)} {slots : List (ℕ × Slot)} {tallest widest : ℕ} (query : Corners) (old new : List ℕ) → AreGrid items counts slots tallest widest → AddsFound (λ slot. lookup (same_slot slot) items) (IsNearAny query) query old new → AddsOverlapping (values_of items) query old new
 all_found {items} {counts} {slots} {tallest} {widest} query old new are found = record {

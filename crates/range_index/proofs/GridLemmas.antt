@@ -232,6 +232,16 @@ found_thrice at A B C query old first second new grid ab ac bc one two three =
     apart slot (inl a) c = ac slot a c
     apart slot (inr b) c = bc slot b c
 
+-- at one set of places and at three others, none of which shares one with it
+pub found_once_more : (at : Slot → Option Entry) (A B C D : Slot → Type 0) (query : Corners) (old first new : List ℕ) → HasOnePlace at → ((slot : Slot) → A slot → B slot → ⊥) → ((slot : Slot) → A slot → C slot → ⊥) → ((slot : Slot) → A slot → D slot → ⊥) → AddsFound at A query old first → AddsFound at (λ s. B s ⊎ (C s ⊎ D s)) query first new → AddsFound at (λ s. A s ⊎ (B s ⊎ (C s ⊎ D s))) query old new
+found_once_more at A B C D query old first new grid ab ac ad one others =
+    found_both at A (λ s. B s ⊎ (C s ⊎ D s)) query old first new grid apart one others
+  where
+    apart : (slot : Slot) → A slot → B slot ⊎ (C slot ⊎ D slot) → ⊥
+    apart slot a (inl b) = ab slot a b
+    apart slot a (inr (inl c)) = ac slot a c
+    apart slot a (inr (inr d)) = ad slot a d
+
 -- at homes that are higher or wider than all at which something stands
 pub found_past : (at : Slot → Option Entry) (count : Home → ℕ) (stands : ℕ → Option Slot) (tallest widest : ℕ) (query : Corners) (height width : ℕ) (out : List ℕ) → IsGrid at count stands tallest widest → (tallest < height) ⊎ (widest < width) → AddsFound at (IsNear query height width) query out out
 found_past at count stands tallest widest query height width out grid past =

@@ -12,7 +12,7 @@ use Rattle.range_index.specs.declared.tables.Tables.{Tables}
 
 -- the height and the width of the tiles at which ranges of a height and a width stand
 abbrev pub tile_height : ℕ → ℕ
-tile_height rows = if nat_le rows 8 then 8 else (if nat_le rows 1024 then 1024 else 1048576)
+tile_height rows = if nat_le rows 8 then 8 else (if nat_le rows 1024 then 1024 else (if nat_le rows 32768 then 32768 else 1048576))
 
 abbrev pub tile_width : ℕ → ℕ
 tile_width cols = if nat_le cols 1 then 1 else (if nat_le cols 64 then 64 else 16384)
@@ -101,6 +101,10 @@ pub record AddsFound (at : Slot → Option Entry) (Visited : Slot → Type 0) (q
   pub whole : new ≡ old ++ added
   pub once : AllPairs (λ a b. a ≢ b) added
   pub exact : (id : ℕ) → Contains added id ↔ IsFound at Visited query id
+
+-- the same of what stands in tables
+abbrev pub AddsAt : Tables → (Slot → Type 0) → Corners → List ℕ → List ℕ → Type 0
+AddsAt tables Visited query old new = AddsFound (entry_at tables) Visited query old new
 
 -- a home of one kind and one row, between two columns, or at one of some rows, between two columns
 pub record IsInRow (query : Corners) (height width row : ℕ) (slot : Slot) : Type 0 where

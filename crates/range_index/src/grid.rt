@@ -8,8 +8,8 @@ use std::marker::Model;
 
 /// An index by tiles of the space of names.
 ///
-/// Each range stands at one home: a tile of rows and columns, the one in which its head lies. There are nine kinds of
-/// tile, of three heights and three widths, and a range's kind is the smallest that is as high and as wide as the range
+/// Each range stands at one home: a tile of rows and columns, the one in which its head lies. There are twelve kinds of
+/// tile, of four heights and three widths, and a range's kind is the smallest that is as high and as wide as the range
 /// itself. So the ranges of a kind that overlap a query have their heads in the query, or less than a tile above it or
 /// to its left, and a query looks at the homes there, of each kind that is no higher and no wider than a range has ever
 /// been. Where these are more than there are entries it looks at all entries instead.
@@ -19,7 +19,7 @@ use std::marker::Model;
 ///
 /// Costs, as looks into a table: an insert takes four and a removal six at most, whatever else is there. A query of
 /// one cell takes one for each home near it, which are two where all ranges have one column and up to eight rows, and
-/// never more than twenty, and one for each entry of these.
+/// never more than twenty-eight, and one for each entry of these.
 #[derive(Drop)]
 pub struct GridIndex {
     tables: Tables,

@@ -15,13 +15,13 @@ pub struct ListIndex {
 }
 
 impl Model for ListIndex {
-    ghost use Rattle.std.specs.Prelude.{◌-◌, vec_len, vec_capacity};
+    ghost use Rattle.std.specs.Prelude.{vec_len, vec_capacity};
     ghost use Rattle.range_index.specs.Entries.{HaveOneRange};
-    ghost use Rattle.range_index.specs.Lists.{ListValue};
+    ghost use Rattle.range_index.specs.Lists.{ListValue, list_value};
 
     ghost Value = { ListValue };
 
-    ghost view = { λ i. record { entries = i.slots.items; spare = vec_capacity i.slots - vec_len i.slots } };
+    ghost view = { λ i. list_value i.slots.items (vec_capacity i.slots) (vec_len i.slots) };
 
     ghost invariant = { λ i. HaveOneRange i.slots.items };
 }

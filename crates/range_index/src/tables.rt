@@ -2,7 +2,7 @@
 ghost use Rattle.std.specs.Prelude.{◌≡◌, ◌<◌, [], OnOk};
 ghost use Rattle.range_index.specs.Grids.{count_at, entry_at, entries_of, HoldGrid};
 ghost use Rattle.range_index.specs.Entries.{KeepsIds, AddsOverlapping};
-ghost use Rattle.range_index.specs.Grids.{AddsFound, IsInRow, IsNear, IsNearAt};
+ghost use Rattle.range_index.specs.Grids.{AddsAt, IsInRow, IsNear, IsNearAt};
 
 use crate::item::Item;
 use crate::tiles::{HEIGHTS, Home, Slot, WIDTHS};
@@ -59,7 +59,7 @@ impl Tables {
     // Adds the id that stands at a place, if its range overlaps the query.
     fn visit_slot(&self, q: Range, slot: Slot, out: &mut Vec<usize>) -> Result<(), Memory>
         ensures found { OnOk result
-            (AddsFound (entry_at self.now) (λ s. s ≡ slot) q out.old.items out.new.items) }
+            (AddsAt self.now (λ s. s ≡ slot) q out.old.items out.new.items) }
         ensures kept { KeepsIds out.old.items out.new.items }
     {
         let Some(item) = self.item(slot) else {
@@ -75,7 +75,7 @@ impl Tables {
     fn visit_home(&self, q: Range, home: Home, out: &mut Vec<usize>) -> Result<(), Memory>
         requires { HoldGrid self.now }
         ensures found { OnOk result
-            (AddsFound (entry_at self.now) (λ s. s.home ≡ home) q out.old.items out.new.items) }
+            (AddsAt self.now (λ s. s.home ≡ home) q out.old.items out.new.items) }
         ensures kept { KeepsIds out.old.items out.new.items }
     {
         for place in 0..self.count(home) {
@@ -96,7 +96,7 @@ impl Tables {
         requires grid { HoldGrid self.now }
         requires some { 0 < width }
         ensures found { OnOk result
-            (AddsFound (entry_at self.now) (IsInRow q height width row) q out.old.items out.new.items) }
+            (AddsAt self.now (IsInRow q height width row) q out.old.items out.new.items) }
         ensures kept { KeepsIds out.old.items out.new.items }
     {
         let first = q.head().col().saturating_sub(width) / width;
@@ -124,7 +124,7 @@ impl Tables {
         requires grid { HoldGrid self.now }
         requires some { (0 < height) × (0 < width) }
         ensures found { OnOk result
-            (AddsFound (entry_at self.now) (IsNear q height width) q out.old.items out.new.items) }
+            (AddsAt self.now (IsNear q height width) q out.old.items out.new.items) }
         ensures kept { KeepsIds out.old.items out.new.items }
     {
         if self.tallest < height || self.widest < width {
@@ -143,7 +143,7 @@ impl Tables {
         requires grid { HoldGrid self.now }
         requires some { 0 < height }
         ensures found { OnOk result
-            (AddsFound (entry_at self.now) (IsNearAt q height) q out.old.items out.new.items) }
+            (AddsAt self.now (IsNearAt q height) q out.old.items out.new.items) }
         ensures kept { KeepsIds out.old.items out.new.items }
     {
         self.visit_kind(q, height, WIDTHS[0], out)?;
@@ -160,7 +160,8 @@ impl Tables {
     {
         self.visit_height(q, HEIGHTS[0], out)?;
         self.visit_height(q, HEIGHTS[1], out)?;
-        self.visit_height(q, HEIGHTS[2], out)
+        self.visit_height(q, HEIGHTS[2], out)?;
+        self.visit_height(q, HEIGHTS[3], out)
     }
 
     // Adds the ids whose ranges overlap the query, by all entries.
@@ -181,8 +182,8 @@ impl Tables {
     // Whether a look at all entries takes less than one at the homes near the query.
     fn has_few(&self, q: Range) -> bool {
         let (head, tail) = (q.head(), q.tail());
-        let rows = u64::from((tail.row() - head.row()) / HEIGHTS[0] + 4);
-        let cols = u64::from((tail.col() - head.col()) / WIDTHS[0] + 5);
+        let rows = u64::from((tail.row() - head.row()) / HEIGHTS[0] + 7);
+        let cols = u64::from((tail.col() - head.col()) / WIDTHS[0] + 4);
         (self.items.len() as u64) < rows * cols
     }
 

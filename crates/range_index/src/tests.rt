@@ -89,7 +89,8 @@ A40:B41 39
 // Ranges at the borders of tiles, and so many others that a look at all takes longer than one at tiles.
 const RANGES: &str =
     "A1 A8:A9 A9:A16 A1:A9 A1024:A1025 A1025:A2048 BL1:BM1 BM2:DX2 A3:XFD3 A1:A1048576
-B1:XFD1048576 XFD1048576 BN4:DY4 K9 K9 K9 K9 K9 K9 K9 K9 K9 K9";
+B1:XFD1048576 XFD1048576 BN4:DY4 G32768:G65535 G65536:G98304
+K9 K9 K9 K9 K9 K9 K9 K9 K9 K9 K9 K9 K9 K9 K9 K9";
 
 // What is found of these by each query of a text of lines that begin with one.
 fn shown_borders<I: RangeIndex + Drop>(alloc: Global, wanted: &str) -> Result<String, Fail> {
@@ -99,7 +100,7 @@ fn shown_borders<I: RangeIndex + Drop>(alloc: Global, wanted: &str) -> Result<St
     }
     let mut index = I::empty(alloc);
     let mut text = String::new(alloc);
-    if ranges.len() != 23 {
+    if ranges.len() != 31 {
         return Ok(text);
     }
     fill(&mut index, &ranges)?;
@@ -129,6 +130,12 @@ C3 8 10
 A3 3 8 9
 XFD1048576 10 11
 A1048576 9
+G32767 10
+G32768 10 13
+G65535 10 13
+G65536 10 14
+G98304 10 14
+G98305 10
 A10:B1023 2 9 10
 A1:XFD8 0 1 3 6 7 8 9 10 12
 ";

@@ -6,7 +6,7 @@ ghost use Rattle.range_index.specs.Grids.{home_of as home, FitsNames};
 use sheet_refs::Range;
 
 /// The heights of tiles, from the least to that of all rows.
-pub(crate) const HEIGHTS: [u32; 3] = [8, 1024, 1_048_576];
+pub(crate) const HEIGHTS: [u32; 4] = [8, 1024, 32_768, 1_048_576];
 
 /// The widths of tiles, from the least to that of all columns.
 pub(crate) const WIDTHS: [u32; 3] = [1, 64, 16_384];
@@ -36,8 +36,10 @@ fn tile_height(rows: u32) -> u32
         HEIGHTS[0]
     } else if rows <= HEIGHTS[1] {
         HEIGHTS[1]
-    } else {
+    } else if rows <= HEIGHTS[2] {
         HEIGHTS[2]
+    } else {
+        HEIGHTS[3]
     }
 }
 
