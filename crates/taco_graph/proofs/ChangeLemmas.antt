@@ -1,38 +1,18 @@
 -- What happens to pairs where edges are joined, split and moved.
-use Rattle.std.proofs.Common.{◌≡◌, ◌≢◌, ◌↔◌, ◌⊎◌, inl, inr, ℕ, zero, suc, ◌+◌, ◌*◌, ◌-◌, ◌<◌, ◌≤◌, List, [], ◌∷◌, length, get_or, Option, Some, None, Contains, refl, sym, ◌∙◌, ap, subst, arith}
+use Rattle.std.proofs.Common.{◌≡◌, ◌≢◌, ◌↔◌, ◌⊎◌, inl, inr, ℕ, ◌+◌, ◌-◌, ◌≤◌, List, get_or, Option, Some, None, refl, sym, ◌∙◌, ap, subst, arith}
 use Rattle.std.specs.Prelude.{IfSome, IsSome}
 use Rattle.sheet_refs.specs.Names.{Finds}
-use Rattle.std.proofs.lemmas.Option.{same_Some, none-some}
+use Rattle.std.proofs.lemmas.Option.{same_Some}
 use Rattle.std.proofs.lemmas.List.{get_or_default}
-use Rattle.slab.proofs.SlabLemmas.{Contains-cons}
 use Rattle.sheet_refs.specs.Cells.{Position, Corners, IsIn}
 use Rattle.edge_patterns.specs.Edges.{EdgeValue, IsEdge, IsPair}
 use Rattle.edge_patterns.specs.Joins.{HasPair, LeaveOut, IsJoin, IsPartOrNone, StandsBefore}
 use Rattle.edge_patterns.proofs.UnionLemmas.{run_has_ranges}
-use Rattle.range_index.specs.Entries.{Entry}
-use Rattle.taco_graph.specs.Stores.{edge_at, IsKeptPair, IsApart, AreStored, Puts, Gains, LeavesApart}
-use Rattle.taco_graph.specs.Changes.{LacksCell, LackCell, GainsPairs, MovesPairs, IsJoinedAt, HoldNoMore, HoldElsewhere, KeepsOthers, HasAtMost, HasRoomForParts, KeepsRoomForParts, IsPartApart, GainsPartPairs, PartLacksCell}
+use Rattle.taco_graph.specs.Stores.{edge_at, IsKeptPair, IsApart, Puts, Gains, LeavesApart}
+use Rattle.taco_graph.specs.Changes.{LacksCell, GainsPairs, MovesPairs, IsJoinedAt, HoldNoMore, HoldElsewhere, KeepsOthers, HasAtMost, HasRoomForParts, KeepsRoomForParts, IsPartApart, GainsPartPairs, PartLacksCell}
 use Rattle.std.proofs.lemmas.Bool.{cases_eq}
+use Rattle.taco_graph.proofs.ListLemmas.{without, length_without, still_listed}
 use Rattle.taco_graph.proofs.StoreLemmas.{still_here, here_more, not_free}
-
--- ---- a list without one of its elements
-
-abbrev without : List Corners → ℕ → List Corners
-without [] k = []
-without (range ∷ ranges) zero = ranges
-without (range ∷ ranges) (suc k) = range ∷ without ranges k
-
-length_without : (ranges : List Corners) (k : ℕ) → k < length ranges → length (without ranges k) + 1 ≡ length ranges
-length_without [] k below = absurd (omega (arith, below))
-length_without (range ∷ ranges) zero below = omega arith
-length_without (range ∷ ranges) (suc k) below = omega (arith, length_without ranges k (omega (arith, below)))
-
-still_listed : (ranges : List Corners) (k j : ℕ) (range : Corners) → j < length ranges → get_or ranges j range ≡ range → j ≢ k → Contains (without ranges k) range
-still_listed [] k j range below is differ = absurd (omega (arith, below))
-still_listed (first ∷ ranges) zero zero range below is differ = absurd (differ refl)
-still_listed (first ∷ ranges) zero (suc j) range below is differ = (j, omega (arith, below), is)
-still_listed (first ∷ ranges) (suc k) zero range below is differ = (0, omega arith, is)
-still_listed (first ∷ ranges) (suc k) (suc j) range below is differ = Contains-cons first range (without ranges k) (still_listed ranges k j range (omega (arith, below)) is (λ same. differ (ap suc same)))
 
 -- ---- an edge is taken out
 

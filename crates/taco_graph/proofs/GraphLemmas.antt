@@ -23,11 +23,19 @@ use Rattle.taco_graph.specs.declared.answers.Question.TheVariants.{Dependents, P
 
 -- ---- the pairs that are listed are those of edges that are kept
 
-abbrev pair_of : Corners → Position → Pair
+abbrev pub pair_of : Corners → Position → Pair
 pair_of range cell = record { range = range; cell = cell }
 
 same_pair : {a b : Corners} {x y : Position} → a ≡ b → x ≡ y → pair_of a x ≡ pair_of b y
 same_pair range cell = cc
+
+pub pairs_long : (edge : EdgeValue) → length (pairs_of_edge edge) ≡ run_length edge
+pairs_long edge = length-map (range_with_len 0 (run_length edge)) (pair_at edge) ∙ length-range_with_len 0 (run_length edge)
+
+pub pair_listed : (edge : EdgeValue) (k : ℕ) (d : Pair) → k < run_length edge → get_or (pairs_of_edge edge) k d ≡ pair_at edge k
+pair_listed edge k d below =
+    get_or-map (pair_at edge) (range_with_len 0 (run_length edge)) k 0 d (omega (arith, below, length-range_with_len 0 (run_length edge)))
+    ∙ ap (pair_at edge) (get_or-range_with_len 0 (run_length edge) k 0 below ∙ zero-add k)
 
 pub edge_lists : (edge : EdgeValue) (pair : Pair) → Contains (pairs_of_edge edge) pair ↔ IsPair edge pair.range pair.cell
 edge_lists edge pair = (to, from)
@@ -36,12 +44,10 @@ edge_lists edge pair = (to, from)
     count = run_length edge
 
     long : length (pairs_of_edge edge) ≡ count
-    long = length-map (range_with_len 0 count) (pair_at edge) ∙ length-range_with_len 0 count
+    long = pairs_long edge
 
     at : (k : ℕ) → k < count → get_or (pairs_of_edge edge) k pair ≡ pair_at edge k
-    at k below =
-        get_or-map (pair_at edge) (range_with_len 0 count) k 0 pair (omega (arith, below, length-range_with_len 0 count))
-        ∙ ap (pair_at edge) (get_or-range_with_len 0 count k 0 below ∙ zero-add k)
+    at k below = pair_listed edge k pair below
 
     to : Contains (pairs_of_edge edge) pair → IsPair edge pair.range pair.cell
     to (k, below, is) =
@@ -53,33 +59,33 @@ edge_lists edge pair = (to, from)
     from p = (p.index, omega (arith, p.within, long), at p.index p.within ∙ same_pair (sym p.range_is) (sym p.cell_is))
 
 -- a pair of one of some edges
-record IsOf (edges : List EdgeValue) (pair : Pair) : Type 0 where
-  edge : EdgeValue
-  listed : Contains edges edge
-  has : IsPair edge pair.range pair.cell
+pub record IsOf (edges : List EdgeValue) (pair : Pair) : Type 0 where
+  pub edge : EdgeValue
+  pub listed : Contains edges edge
+  pub has : IsPair edge pair.range pair.cell
 
-all_list : (edges : List EdgeValue) (pair : Pair) → Contains (pairs_of edges) pair → IsOf edges pair
+pub all_list : (edges : List EdgeValue) (pair : Pair) → Contains (pairs_of edges) pair → IsOf edges pair
 all_list [] pair listed = absurd (omega (arith, listed.1))
 all_list (edge ∷ edges) pair listed = elim (Contains-append_cases (pairs_of_edge edge) (pairs_of edges) pair listed) [
   | inl here ↦ record { edge = edge; listed = (0, omega arith, refl); has = (edge_lists edge pair).0 here }
   | inr there ↦ let later = all_list edges pair there in record { edge = later.edge; listed = Contains-cons edge later.edge edges later.listed; has = later.has }
 ]
 
-list_all : (edges : List EdgeValue) (edge : EdgeValue) (pair : Pair) → Contains edges edge → IsPair edge pair.range pair.cell → Contains (pairs_of edges) pair
+pub list_all : (edges : List EdgeValue) (edge : EdgeValue) (pair : Pair) → Contains edges edge → IsPair edge pair.range pair.cell → Contains (pairs_of edges) pair
 list_all [] edge pair listed has = absurd (omega (arith, listed.1))
 list_all (first ∷ edges) edge pair listed has = elim (Contains-cons_cases first edge edges listed) [
   | inl same ↦ Contains-append_left (pairs_of_edge first) (pairs_of edges) pair ((edge_lists first pair).1 (subst (λ (e : EdgeValue). IsPair e pair.range pair.cell) (sym same) has))
   | inr there ↦ Contains-append_right (pairs_of_edge first) (pairs_of edges) pair (list_all edges edge pair there has)
 ]
 
-kept_listed : (slots : List (Option EdgeValue)) (key : ℕ) (edge : EdgeValue) → edge_at slots key ≡ Some edge → Contains (edges_of slots) edge
+pub kept_listed : (slots : List (Option EdgeValue)) (key : ℕ) (edge : EdgeValue) → edge_at slots key ≡ Some edge → Contains (edges_of slots) edge
 kept_listed [] key edge here = absurd (none-some edge here)
 kept_listed (None ∷ slots) zero edge here = absurd (none-some edge here)
 kept_listed (None ∷ slots) (suc key) edge here = kept_listed slots key edge here
 kept_listed (Some first ∷ slots) zero edge here = (0, omega arith, same_Some first edge here)
 kept_listed (Some first ∷ slots) (suc key) edge here = Contains-cons first edge (edges_of slots) (kept_listed slots key edge here)
 
-listed_kept : (slots : List (Option EdgeValue)) (edge : EdgeValue) → Contains (edges_of slots) edge → IsKept slots edge
+pub listed_kept : (slots : List (Option EdgeValue)) (edge : EdgeValue) → Contains (edges_of slots) edge → IsKept slots edge
 listed_kept [] edge listed = absurd (omega (arith, listed.1))
 listed_kept (None ∷ slots) edge listed = let later = listed_kept slots edge listed in record { key = suc later.key; here = later.here }
 listed_kept (Some first ∷ slots) edge listed = elim (Contains-cons_cases first edge (edges_of slots) listed) [

@@ -1,15 +1,19 @@
 -- What a compressed graph keeps: edges under keys, and two indexes of them.
-use Rattle.std.specs.Prelude.{◌≡◌, ◌≢◌, ◌↔◌, ◌⊎◌, ℕ, List, [], ◌∷◌, Option, Some, None, Contains, slice_index_or}
+use Rattle.std.specs.Prelude.{◌≡◌, ◌≢◌, ◌↔◌, ℕ, min, List, [], ◌∷◌, Option, Some, None, Contains, slice_index_or}
 use Rattle.sheet_refs.specs.Cells.{Position, Corners}
 use Rattle.sheet_refs.specs.Rectangles.{Overlap}
 use Rattle.edge_patterns.specs.Edges.{EdgeValue, IsEdge, IsPair}
 use Rattle.range_index.specs.Entries.{Entry}
+use Rattle.std.specs.Prelude.{All, AllPairs}
 use Rattle.taco_graph.specs.Pairs.{AreApart}
 
 -- the edges of a graph, or nothing, at each key from 0 on, and for how many more there is room
 pub record StoreValue : Type 0 where
   pub slots : List (Option EdgeValue)
   pub room : ℕ
+
+abbrev pub store_value : List (Option EdgeValue) → ℕ → ℕ → ℕ → StoreValue
+store_value slots free runs rectangles = record { slots = slots; room = min free (min runs rectangles) }
 
 -- the edge under a key
 abbrev pub edge_at : List (Option EdgeValue) → ℕ → Option EdgeValue
@@ -35,6 +39,11 @@ pub record IsKeptPair (slots : List (Option EdgeValue)) (range : Corners) (cell 
   pub edge : EdgeValue
   pub kept : IsKept slots edge
   pub pair : IsPair edge range cell
+
+-- some edges are edges of the table of patterns, and no two of them share a pair
+pub record AreEdgesApart (edges : List EdgeValue) : Type 0 where
+  pub are_edges : All IsEdge edges
+  pub apart : AllPairs AreApart edges
 
 -- an edge has no pair in common with an edge that is kept
 abbrev pub IsApart : List (Option EdgeValue) → EdgeValue → Type 0

@@ -12,10 +12,12 @@
 
 mod answers;
 mod changes;
+mod counting;
 mod order;
 mod store;
 mod taco;
 #[cfg(test)]
 mod tests;
 
+pub use counting::pair_count;
 pub use taco::Taco;

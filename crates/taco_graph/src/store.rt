@@ -23,16 +23,14 @@ pub(crate) struct EdgeStore<I: RangeIndex> {
 }
 
 impl<I: RangeIndex> Model for EdgeStore<I> {
-    ghost use Rattle.std.specs.Prelude.{◌-◌, min};
+    ghost use Rattle.std.specs.Prelude.{◌-◌};
     ghost use Rattle.slab.specs.Slab.{slab_len};
-    ghost use Rattle.taco_graph.specs.Stores.{StoreValue, AreStored};
+    ghost use Rattle.taco_graph.specs.Stores.{StoreValue, AreStored, store_value};
 
     ghost Value = { StoreValue };
 
-    ghost view = { λ s. record {
-      slots = s.edges.slots;
-      room = min (s.edges.capacity - slab_len s.edges) (min (I.spare s.runs) (I.spare s.rectangles));
-    } };
+    ghost view = { λ s. store_value s.edges.slots
+        (s.edges.capacity - slab_len s.edges) (I.spare s.runs) (I.spare s.rectangles) };
 
     ghost invariant = { λ s. AreStored s.edges.slots (I.entries s.runs) (I.entries s.rectangles) };
 }
@@ -40,7 +38,7 @@ impl<I: RangeIndex> Model for EdgeStore<I> {
 impl<I: RangeIndex> EdgeStore<I> {
     ghost use Rattle.std.specs.Prelude.{[], length};
     ghost use Rattle.edge_patterns.specs.Edges.{IsEdge};
-    ghost use Rattle.taco_graph.specs.Stores.{NamesOverlapping};
+    ghost use Rattle.taco_graph.specs.Stores.{NamesOverlapping, AreEdgesApart};
 
     /// The store of no edges.
     pub(crate) fn new(alloc: Global) -> EdgeStore<I>
@@ -114,7 +112,8 @@ impl<I: RangeIndex> EdgeStore<I> {
 
     /// All edges, by rising key. It looks at each key that has been given out.
     pub(crate) fn edges(&self) -> Result<Vec<Edge>, Memory>
-        ensures { IfOk result (λ edges. edges.items ≡ edges_of self.now.slots) }
+        ensures all { IfOk result (λ edges. edges.items ≡ edges_of self.now.slots) }
+        ensures apart { AreEdgesApart (edges_of self.now.slots) }
     {
         let mut edges = Vec::new(self.alloc);
         for key in 0..self.end() {

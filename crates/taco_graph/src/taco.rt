@@ -1,6 +1,7 @@
 ghost use Rattle.std.specs.Prelude.{◌≡◌, [], IfOk};
 ghost use Rattle.std.specs.List.Sorted.{IsPermutation};
 ghost use Rattle.taco_graph.specs.Order.{AreInOrder};
+ghost use Rattle.taco_graph.specs.Pairs.{HaveFewPairs, StandFor};
 
 use crate::answers::Question;
 use crate::changes::{add, take_out};
@@ -47,6 +48,8 @@ impl<I: RangeIndex> Model for Taco<I> {
 }
 
 impl<I: RangeIndex> Taco<I> {
+    ghost use Rattle.taco_graph.specs.Pairs.{pairs_of};
+
     /// The graph without pairs.
     pub fn new(alloc: Global) -> Taco<I>
         ensures { result.edges ≡ [] }
@@ -58,11 +61,13 @@ impl<I: RangeIndex> Taco<I> {
         }
     }
 
-    /// All edges, each once, in order: by the head and then the tail of the run, by those of the rectangle, and by
+    /// All edges, each once and no pair in two of them, in order: by the head and then the tail of the run, by those of the rectangle, and by
     /// the pattern; cells stand by column and then by row.
     pub fn edges(&self) -> Result<Vec<Edge>, Memory>
         ensures all { IfOk result (λ edges. IsPermutation self.now.edges edges.items) }
         ensures order { IfOk result (λ edges. AreInOrder edges.items) }
+        ensures stand { IfOk result (λ edges. StandFor edges.items (pairs_of self.now.edges)) }
+        ensures few { IfOk result (λ edges. HaveFewPairs edges.items) }
     {
         let mut edges = self.store.edges()?;
         sort_edges(&mut edges)?;
