@@ -1,3 +1,4 @@
+pub mod EdgesLemmas
 pub mod LetterLemmas
 pub mod PieceLemmas
 pub mod QuoteLemmas

@@ -1,9 +1,13 @@
--- What the commands print of a sheet.
-use Rattle.std.specs.Prelude.{ℕ, List, [], ◌∷◌, ◌++◌, map, flat_map, codes, IsTrue}
+-- What the commands print of a sheet, and of its edges.
+use Rattle.std.specs.Prelude.{ℕ, List, [], ◌∷◌, ◌++◌, map, flat_map, length, codes, IsTrue}
 use Rattle.std.specs.List.{join_with_byte}
+use Rattle.std.specs.Fmt.{decimal}
 use Rattle.sheet_refs.specs.Cells.{Position, Corners, IsIn, rows_of, row_cells}
 use Rattle.sheet_refs.specs.Names.{range_text}
 use Rattle.sheet_refs.specs.Sizes.{is_inside}
+use Rattle.edge_patterns.specs.declared.edge.Pattern.{Pattern}
+use Rattle.edge_patterns.specs.declared.edge.Pattern.TheVariants.{Single, Rr, Rf, Fr, Ff, Chain}
+use Rattle.edge_patterns.specs.Edges.{EdgeValue}
 use Rattle.value_core.specs.declared.value.Value.{Value}
 use Rattle.value_core.specs.Values.{value_text}
 use Rattle.sheet_model.specs.Labels.{label_text}
@@ -37,3 +41,28 @@ show_text sheet window = codes "sheet 0 " ++ (range_text window ++ (10 ∷ rows_
 -- what `deps` and `precs` write: a line for each of their ranges
 abbrev pub runs_text : List Corners → List ℕ
 runs_text runs = flat_map (λ run. range_text run ++ 10 ∷ []) runs
+
+-- the name of a pattern, as TACO gives it
+abbrev pub pattern_text : Pattern → List ℕ
+pattern_text Single = codes "Single"
+pattern_text Rr = codes "RR"
+pattern_text Rf = codes "RF"
+pattern_text Fr = codes "FR"
+pattern_text Ff = codes "FF"
+pattern_text Chain = codes "Chain"
+
+-- the line of an edge: its run, the rectangle of its ranges and its pattern, with a space between them
+abbrev pub line_of : Corners → Corners → Pattern → List ℕ
+line_of dep prec pattern = range_text dep ++ (32 ∷ (range_text prec ++ (32 ∷ (pattern_text pattern ++ 10 ∷ []))))
+
+abbrev pub edge_line : EdgeValue → List ℕ
+edge_line edge = line_of edge.dep edge.prec edge.pattern
+
+-- a line of a word and a number
+abbrev pub count_line : List ℕ → ℕ → List ℕ
+count_line word number = word ++ (32 ∷ (decimal number ++ 10 ∷ []))
+
+-- what `check` writes: how many pairs there are, how many edges, and a line for each edge
+abbrev pub check_text : ℕ → List EdgeValue → List ℕ
+check_text pairs edges =
+    count_line (codes "pairs") pairs ++ (count_line (codes "edges") (length edges) ++ flat_map edge_line edges)

@@ -3,9 +3,11 @@ ghost use Rattle.sheet_refs.specs.Sizes.{is_inside};
 ghost use Rattle.sheet_model.specs.Values.{AreValues, value_of};
 ghost use Rattle.window_text.specs.Pieces.{HandsOut};
 ghost use Rattle.window_text.specs.Texts.{IsWithinSheet, row_text, runs_text, show_text};
-ghost use Rattle.window_text.specs.Texts.{shown_cell};
+ghost use Rattle.window_text.specs.Texts.{check_text, shown_cell};
 
+use crate::edges::{send_count, send_edge};
 use crate::pieces::{send, send_range, send_value};
+use edge_patterns::Edge;
 use sheet_model::Sheet;
 use sheet_refs::{Cell, Range};
 use value_core::{Value, decode};
@@ -58,6 +60,28 @@ impl Printer {
                 return false;
             }
             if !send(b"\n", to) {
+                return false;
+            }
+        }
+        true
+    }
+
+    /// What `check` prints of a number of pairs and a list of edges: a line `pairs P`, a line `edges E` with
+    /// the number of edges, and for each edge a line `DEP PREC PATTERN` with its run, the rectangle of its
+    /// ranges and its pattern, which is `Single`, `RR`, `RF`, `FR`, `FF` or `Chain`. It takes time in
+    /// proportion to the edges.
+    pub fn check<F: FnMut(&[u8]) -> bool>(pairs: u64, edges: &[Edge], to: &mut F) -> bool
+        requires callable { F.IsAlwaysCallable to.old }
+        ensures sent { HandsOut F.FnMut to.old (check_text pairs edges.now) result to.new }
+    {
+        if !send_count(b"pairs", pairs, to) {
+            return false;
+        }
+        if !send_count(b"edges", edges.len() as u64, to) {
+            return false;
+        }
+        for edge in edges {
+            if !send_edge(edge, to) {
                 return false;
             }
         }

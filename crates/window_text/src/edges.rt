@@ -1,0 +1,64 @@
+// The lines of edges.
+ghost use Rattle.std.specs.Prelude.{◌≡◌};
+ghost use Rattle.window_text.specs.Pieces.{HandsOut};
+ghost use Rattle.window_text.specs.Texts.{count_line, edge_line, pattern_text};
+
+use crate::pieces::{send, send_range};
+use edge_patterns::{Edge, Pattern};
+use itoa::Buffer;
+
+/// Hands out a line of a word and a number.
+pub(crate) fn send_count<F: FnMut(&[u8]) -> bool>(word: &[u8], number: u64, to: &mut F) -> bool
+    requires callable { F.IsAlwaysCallable to.old }
+    ensures sent { HandsOut F.FnMut to.old (count_line word.now number) result to.new }
+    ensures callable { F.IsAlwaysCallable to.new }
+{
+    if !send(word, to) {
+        return false;
+    }
+    if !send(b" ", to) {
+        return false;
+    }
+    if !send(Buffer::new().format(number).as_bytes(), to) {
+        return false;
+    }
+    send(b"\n", to)
+}
+
+// The name of a pattern.
+fn pattern_name(pattern: Pattern) -> &'static str
+    ensures { result.now ≡ pattern_text pattern }
+{
+    match pattern {
+        Pattern::Single => "Single",
+        Pattern::Rr => "RR",
+        Pattern::Rf => "RF",
+        Pattern::Fr => "FR",
+        Pattern::Ff => "FF",
+        Pattern::Chain => "Chain",
+    }
+}
+
+/// Hands out the line of an edge.
+pub(crate) fn send_edge<F: FnMut(&[u8]) -> bool>(edge: &Edge, to: &mut F) -> bool
+    requires callable { F.IsAlwaysCallable to.old }
+    ensures sent { HandsOut F.FnMut to.old (edge_line edge.now) result to.new }
+    ensures callable { F.IsAlwaysCallable to.new }
+{
+    if !send_range(edge.dep(), to) {
+        return false;
+    }
+    if !send(b" ", to) {
+        return false;
+    }
+    if !send_range(edge.prec(), to) {
+        return false;
+    }
+    if !send(b" ", to) {
+        return false;
+    }
+    if !send(pattern_name(edge.pattern()).as_bytes(), to) {
+        return false;
+    }
+    send(b"\n", to)
+}
