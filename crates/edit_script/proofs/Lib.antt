@@ -1,6 +1,10 @@
 pub mod FindLemmas
 pub mod LineLemmas
 pub mod NameLemmas
+pub mod OneFault
+pub mod OneLine
+pub mod OneResult
+pub mod OneScript
 pub mod OrderLemmas
 pub mod ReadLemmas
 pub mod SpaceLemmas

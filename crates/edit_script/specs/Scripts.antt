@@ -8,7 +8,7 @@ use Rattle.value_core.specs.declared.value.Value.TheVariants.{Empty}
 use Rattle.formula_syntax.specs.Spelling.{HasTooManyRefs}
 use Rattle.sheet_model.specs.declared.change.Edit.{Edit}
 use Rattle.sheet_model.specs.Fields.{IsContent, IsDeepFormula}
-use Rattle.sheet_model.specs.Labels.{with_label}
+use Rattle.sheet_model.specs.Labels.{IsTable, with_label}
 use Rattle.sheet_model.specs.Sheets.{Constant}
 use Rattle.sheet_model.specs.Tables.{AddsLabels}
 use Rattle.edit_script.specs.Lines.{LineValue, Skip, Client, Set, Clear, Look, Firm, Work, Says, script_lines}
@@ -207,6 +207,12 @@ pub record IsFirstFault (mode : Mode) (sizes : Sizes) (old new : List (List ℕ)
 abbrev pub IsResult : Mode → Sizes → List (List ℕ) → List (List ℕ) → List ℕ → Result ScriptValue ScriptRefused → Type 0
 IsResult mode sizes old new text (Ok script) = IsScript mode sizes old new text script
 IsResult mode sizes old new text (Err why) = IsFirstFault mode sizes old new text why
+
+-- over a table of labels a text gives one thing, and leaves one table
+abbrev pub OneResult : Type 0
+OneResult =
+    (mode : Mode) (sizes : Sizes) (old new other : List (List ℕ)) (text : List ℕ) (a b : Result ScriptValue ScriptRefused)
+    → IsTable new → IsResult mode sizes old new text a → IsResult mode sizes old other text b → (a ≡ b) × (new ≡ other)
 
 -- the names of a script are distinct, and each of its steps belongs to one of them
 pub record IsWhole (script : ScriptValue) : Type 0 where

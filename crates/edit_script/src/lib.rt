@@ -8,6 +8,7 @@
 //! Below stand `sheet_refs`, `sheet_model` and the kit's `bstr`; the program stands above.
 #![tactic(auto)]
 
+mod laws;
 mod line;
 mod progress;
 mod reading;
@@ -16,6 +17,7 @@ mod script;
 #[cfg(test)]
 mod tests;
 
+pub use laws::script_laws;
 pub use reading::read_script;
 pub use refused::ScriptRefused;
 pub use script::{Command, Mode, Script, Step};
