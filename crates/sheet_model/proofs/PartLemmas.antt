@@ -1,6 +1,8 @@
 -- What is left to look at after more ranges are put behind.
-use Rattle.std.proofs.Common.{◌≡◌, ℕ, zero, suc, ◌+◌, ◌≤◌, ◌⊎◌, inl, inr, List, [], ◌∷◌, ◌++◌, length, slice_get, Some, IsTrue, IsFalse, ◌↔◌, refl, sym, subst, ◌∙◌, ap, arith, append_assoc}
-use Rattle.std.proofs.lemmas.List.{append-nil}
+use Rattle.std.proofs.Common.{◌≡◌, ℕ, zero, suc, ◌+◌, ◌≤◌, ◌⊎◌, inl, inr, List, [], ◌∷◌, ◌++◌, length, slice_get, Some, IsTrue, IsFalse, ◌↔◌, refl, sym, subst, ◌∙◌, ap, arith, append_assoc, ◌<◌, ◌-◌, take, drop, reverse, get_or}
+use Rattle.std.proofs.lemmas.List.{append-nil, get_or-reverse, length-reverse}
+use Rattle.std.proofs.lemmas.Option.{get_or_from_slice_get, slice_get-get_or, slice_get_within}
+use Rattle.std.proofs.Math.Seq.{drop-append_seam, take-append_seam}
 use Rattle.sheet_refs.specs.Cells.{Position, Corners, IsIn}
 use Rattle.sheet_refs.specs.Ends.{Reference, corners_of}
 use Rattle.sheet_refs.specs.Sizes.{is_inside}
@@ -171,3 +173,38 @@ module _ (sizes : Sizes) where
     added = adds_before sizes (references_of right) has.rest old now new has.added adds;
     smaller = (let h = has.smaller in omega arith);
   }
+
+-- new parts are new parts in any order: also turned round
+pub adds_reversed : (sizes : Sizes) (Named : Position → Type 0) (old new : List Part) (first : ℕ) → first ≡ length old → Adds sizes Named old new → Adds sizes Named old (take first new ++ reverse (drop first new))
+adds_reversed sizes Named old new first here adds = record {
+  added = reverse adds.added;
+  behind = rw (here, adds.behind) (λ i. take-append_seam old adds.added i ++ reverse (drop-append_seam old adds.added i));
+  parts = λ k part at. adds.parts (length adds.added - 1 - k) part (before adds.added k part at);
+  complete = λ cell named inside. (
+      let left = adds.complete cell named inside in
+      let within : left.place < length adds.added = slice_get_within adds.added left.place left.at.part left.at.listed in
+      record {
+        place = length adds.added - 1 - left.place;
+        from = omega arith;
+        at = record { part = left.at.part; listed = behind adds.added left.place left.at.part left.at.listed; inside = left.at.inside };
+      });
+}
+  where
+    at_place : (xs : List Part) (k : ℕ) (part : Part) → k < length xs → get_or xs k part ≡ part → slice_get xs k ≡ Some part
+    at_place xs k part within same = slice_get-get_or xs k part within ∙ ap Some same
+
+    before : (xs : List Part) (k : ℕ) (part : Part) → slice_get (reverse xs) k ≡ Some part → slice_get xs (length xs - 1 - k) ≡ Some part
+    before xs k part at =
+        let long = length-reverse xs in
+        let within : k < length (reverse xs) = slice_get_within (reverse xs) k part at in
+        let small : k < length xs = omega (arith, within, long) in
+        at_place xs (length xs - 1 - k) part (omega (arith, small)) (sym (get_or-reverse xs k part small) ∙ get_or_from_slice_get (reverse xs) k part part at)
+
+    behind : (xs : List Part) (k : ℕ) (part : Part) → slice_get xs k ≡ Some part → slice_get (reverse xs) (length xs - 1 - k) ≡ Some part
+    behind xs k part at =
+        let long = length-reverse xs in
+        let within : k < length xs = slice_get_within xs k part at in
+        let small : length xs - 1 - k < length xs = omega (arith, within) in
+        let back : length xs - 1 - (length xs - 1 - k) ≡ k = omega (arith, within) in
+        at_place (reverse xs) (length xs - 1 - k) part (omega (arith, small, long))
+        (get_or-reverse xs (length xs - 1 - k) part small ∙ ap (λ j. get_or xs j part) back ∙ get_or_from_slice_get xs k part part at)

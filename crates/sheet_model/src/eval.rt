@@ -11,7 +11,7 @@ ghost use Rattle.sheet_model.specs.Words.{state_of, states_of};
 
 use crate::content::Content;
 use crate::known::Known;
-use crate::parts::{Part, add_parts};
+use crate::parts::{Part, add_in_order};
 use crate::words::UNSEEN;
 use formula_eval::{Stack, eval_known};
 use sheet_refs::Sizes;
@@ -56,7 +56,7 @@ pub(crate) fn add_content(
         parts.old.items parts.new.items) }
 {
     match content {
-        Content::Formula(formula) => add_parts(sizes, formula.root(), parts),
+        Content::Formula(formula) => add_in_order(sizes, formula.root(), parts),
         _ => Ok(()),
     }
 }

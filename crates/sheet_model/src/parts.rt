@@ -1,4 +1,4 @@
-ghost use Rattle.std.specs.Prelude.{◌≡◌, OnOk};
+ghost use Rattle.std.specs.Prelude.{◌≡◌, ◌≤◌, ◌++◌, length, take, drop, reverse, OnOk};
 ghost use Rattle.sheet_refs.specs.Cells.{Corners};
 ghost use Rattle.formula_syntax.specs.Tree.{tree_of, trees_of, references_of, all_references};
 ghost use Rattle.sheet_model.specs.Parts.{AddsParts, AddsRange};
@@ -25,10 +25,10 @@ fn add_part(sizes: Sizes, range: Range, parts: &mut Vec<Part>) -> Result<(), All
     Ok(())
 }
 
-/// Puts the parts of a tree's references behind the others. It goes down left operands by a loop;
-/// right operands and parameters nest no deeper than parentheses and the levels of operators do.
+// Puts the parts of a tree's references behind the others. It goes down left operands by a loop;
+// right operands and parameters nest no deeper than parentheses and the levels of operators do.
 #[cycle(add_parts)]
-pub(crate) fn add_parts(sizes: Sizes, root: &Node, parts: &mut Vec<Part>) -> Result<(), AllocError>
+fn add_parts(sizes: Sizes, root: &Node, parts: &mut Vec<Part>) -> Result<(), AllocError>
     ensures { OnOk result
         (AddsParts sizes (references_of (tree_of root.now)) parts.old.items parts.new.items) }
 {
@@ -56,5 +56,31 @@ fn add_all(sizes: Sizes, roots: &[Node], parts: &mut Vec<Part>) -> Result<(), Al
     for root in roots {
         add_parts(sizes, root, parts)?;
     }
+    Ok(())
+}
+
+// Turns round the order of the parts from a place on.
+fn reverse_from(parts: &mut Vec<Part>, first: usize)
+    requires { first ≤ length parts.old.items }
+    ensures { parts.new.items
+        ≡ take first parts.old.items ++ reverse (drop first parts.old.items) }
+{
+    parts[first..].reverse();
+}
+
+/// Puts the parts of a tree's references behind the others, those of a right operand behind those of the left
+/// one. The walk looks at the last part first: where a formula names the cell on its right and then the one
+/// below, it thus goes along rows, as cells lie in memory.
+pub(crate) fn add_in_order(
+    sizes: Sizes,
+    root: &Node,
+    parts: &mut Vec<Part>,
+) -> Result<(), AllocError>
+    ensures { OnOk result
+        (AddsParts sizes (references_of (tree_of root.now)) parts.old.items parts.new.items) }
+{
+    let first = parts.len();
+    add_parts(sizes, root, parts)?;
+    reverse_from(parts, first);
     Ok(())
 }
