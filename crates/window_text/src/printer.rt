@@ -1,13 +1,16 @@
-ghost use Rattle.std.specs.Prelude.{◌≡◌, ◌≤◌, IsTrue};
+ghost use Rattle.std.specs.Prelude.{◌≡◌, ◌≤◌, All, IsTrue};
 ghost use Rattle.sheet_refs.specs.Sizes.{is_inside};
 ghost use Rattle.sheet_model.specs.Values.{AreValues, value_of};
 ghost use Rattle.window_text.specs.Pieces.{HandsOut};
+ghost use Rattle.window_text.specs.Reports.{IsFull, play_text};
 ghost use Rattle.window_text.specs.Texts.{IsWithinSheet, row_text, runs_text, show_text};
 ghost use Rattle.window_text.specs.Texts.{check_text, shown_cell};
 
 use crate::edges::{send_count, send_edge};
 use crate::pieces::{send, send_range, send_value};
 use edge_patterns::Edge;
+use crate::report::Report;
+use crate::reports::send_report;
 use sheet_model::Sheet;
 use sheet_refs::{Cell, Range};
 use value_core::{Value, decode};
@@ -82,6 +85,22 @@ impl Printer {
         }
         for edge in edges {
             if !send_edge(edge, to) {
+                return false;
+            }
+        }
+        true
+    }
+
+    /// What `play` prints of its reports, in order: for each a line `look NUMBER RANGE` or `firm NUMBER RANGE`, and
+    /// a line for each row, with what is shown of its cells between commas. The table of labels is that of the
+    /// sheet. It takes time in proportion to the cells of the windows and to the texts of their labels.
+    pub fn play<F: FnMut(&[u8]) -> bool>(sheet: &Sheet, reports: &[Report], to: &mut F) -> bool
+        requires callable { F.IsAlwaysCallable to.old }
+        requires full { All (λ report. IsFull report.board) reports.now }
+        ensures sent { HandsOut F.FnMut to.old (play_text sheet.now.labels reports.now) result to.new }
+    {
+        for report in reports {
+            if !send_report(report, sheet.labels(), to) {
                 return false;
             }
         }
