@@ -8,9 +8,9 @@ ghost use Rattle.window_text.specs.Texts.{check_text, shown_cell};
 
 use crate::edges::{send_count, send_edge};
 use crate::pieces::{send, send_range, send_value};
-use edge_patterns::Edge;
 use crate::report::Report;
 use crate::reports::send_report;
+use edge_patterns::Edge;
 use sheet_model::Sheet;
 use sheet_refs::{Cell, Range};
 use value_core::{Value, decode};
