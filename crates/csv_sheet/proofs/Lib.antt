@@ -5,4 +5,5 @@ pub mod MarkLemmas
 pub mod RecordLemmas
 pub mod ResultLemmas
 pub mod RowLemmas
+pub mod SomeResult
 pub mod WayLemmas

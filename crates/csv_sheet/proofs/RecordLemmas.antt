@@ -1,5 +1,5 @@
 -- Records and their fields.
-use Rattle.std.proofs.Common.{◌≡◌, ◌≢◌, ℕ, zero, suc, ◌+◌, ◌<◌, ◌≤◌, Bool, true, false, List, [], ◌∷◌, ◌++◌, length, get_or, Some, None, Option, IsSome, Result, Ok, Err, inl, inr, refl, sym, ◌∙◌, ap, subst, arith, if◌then◌else◌, length-append}
+use Rattle.std.proofs.Common.{◌≡◌, ◌≢◌, ℕ, zero, suc, ◌<◌, Bool, true, false, List, [], ◌∷◌, ◌++◌, length, get_or, Some, None, Option, IsSome, Result, Ok, Err, inl, refl, sym, ◌∙◌, ap, subst, arith, if◌then◌else◌, length-append}
 use Rattle.std.specs.Prelude.{IsUtf8, option_map, MatchBool, MatchResult, IfErr}
 use Rattle.std.specs.Result.{IsErrAnd}
 use Rattle.std.proofs.lemmas.List.{append-nil}
@@ -112,7 +112,7 @@ pub err_handed : {A E : Type 0} (r : Result A E) (P Q : E → Type 0) → ((e : 
 err_handed (Ok a) P Q more is = tt
 err_handed (Err e) P Q more is = more e is
 
-told_some : (p q : Read) → Some p ≡ Some q → p ≡ q
+pub told_some : (p q : Read) → Some p ≡ Some q → p ≡ q
 told_some p q e = cc
 
 -- each record has a field

@@ -1,5 +1,5 @@
 -- What the text of a sheet gives: a sheet, or the first cause why there is none.
-use Rattle.std.specs.Prelude.{◌≡◌, ◌⊎◌, ℕ, ◌+◌, ◌-◌, ◌*◌, ◌<◌, List, [], ◌++◌, length, slice_index_or, All, Result, Ok, Err, codes}
+use Rattle.std.specs.Prelude.{◌≡◌, ◌⊎◌, ℕ, ◌+◌, ◌-◌, ◌*◌, ◌<◌, List, [], ◌++◌, length, All, Result, Ok, Err, codes}
 use Rattle.std.specs.Fmt.{decimal}
 use Rattle.csv.specs.Records.{AllText}
 use Rattle.sheet_refs.specs.Cells.{Position}
@@ -95,6 +95,10 @@ pub record IsResult (text : List ℕ) (result : Result SheetValue SheetRefused) 
 -- a text gives one thing
 abbrev pub OneResult : Type 0
 OneResult = (text : List ℕ) (a b : Result SheetValue SheetRefused) → IsResult text a → IsResult text b → a ≡ b
+
+-- and no text is without one: that none of all results is its own is false
+abbrev pub SomeResult : Type 0
+SomeResult = (text : List ℕ) → ¬ ((result : Result SheetValue SheetRefused) → ¬ IsResult text result)
 
 -- a refusal in words
 abbrev pub refusal_text : SheetRefused → List ℕ

@@ -1,6 +1,8 @@
-ghost use Rattle.csv_sheet.specs.Results.{OneResult};
+ghost use Rattle.csv_sheet.specs.Results.{OneResult, SomeResult};
 
-/// What holds of the texts of sheets: a text gives one thing, a sheet or a refusal.
+/// What holds of the texts of sheets, each of any length: a text gives one thing, a sheet or a refusal, and
+/// none gives nothing.
 pub fn load_laws()
-    ensures { OneResult }
+    ensures one { OneResult }
+    ensures some { SomeResult }
 {}
