@@ -52,7 +52,8 @@ impl Subject for OverSheet {
 
     ghost touches = { TouchesPlace };
 
-    ghost untouched = { λ opening log entry place _ spared. place_untouched opening log entry place spared };
+    ghost untouched = { λ opening log entry place _ spared.
+        place_untouched opening log entry place spared };
 }
 
 impl SheetSubject for OverSheet {

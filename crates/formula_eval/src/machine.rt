@@ -64,7 +64,8 @@ fn unwind(pending: &mut Vec<Pending>, first: usize, value: Value) -> Value
 // The value of a range where one value is wanted.
 fn scalar_of<I: Inputs>(inputs: &I, range: Range) -> Value
     requires { IsPlainRange (I.sizes inputs.now) (I.codes inputs.now) range }
-    ensures { result ≡ scalar_of_range (seen_values (I.sizes inputs.now) (I.codes inputs.now)) range }
+    ensures { result
+        ≡ scalar_of_range (seen_values (I.sizes inputs.now) (I.codes inputs.now)) range }
 {
     let head = range.head();
     if head != range.tail() {

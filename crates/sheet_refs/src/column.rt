@@ -126,7 +126,8 @@ fn join(runs: &mut BTreeMap<u32, u32>, first: u32, last: u32) -> Result<(), Memo
     requires spaced { IsColumn runs.old }
     requires rows { (1 ≤ first) × (first ≤ last) × (last ≤ 1048576) }
     ensures spaced { IsColumn runs.new }
-    ensures joined { OnOk result (RowsJoin (get nat_cmp runs.old) (get nat_cmp runs.new) first last) }
+    ensures joined { OnOk result
+        (RowsJoin (get nat_cmp runs.old) (get nat_cmp runs.new) first last) }
     ensures err { OnErr result (IsUnchanged runs.old runs.new) }
     ensures room { OnErr result (¬ HasRoom (get nat_cmp runs.old) first) }
 {

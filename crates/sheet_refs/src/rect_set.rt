@@ -58,7 +58,8 @@ fn join_one(columns: &mut Vec<Column>, place: usize, first: u32, last: u32) -> R
     ensures count { vec_len columns.new ≡ vec_len columns.old }
     ensures filled { OnOk result
         (AreFilled columns.old.items columns.new.items place (place + 1) first last) }
-    ensures same { OnErr result (ranges_from 1 columns.new.items ≡ ranges_from 1 columns.old.items) }
+    ensures same { OnErr result
+        (ranges_from 1 columns.new.items ≡ ranges_from 1 columns.old.items) }
 {
     columns[place].join(first, last)
 }

@@ -97,7 +97,8 @@ impl Printer {
     pub fn play<F: FnMut(&[u8]) -> bool>(sheet: &Sheet, reports: &[Report], to: &mut F) -> bool
         requires callable { F.IsAlwaysCallable to.old }
         requires full { All (λ report. IsFull report.board) reports.now }
-        ensures sent { HandsOut F.FnMut to.old (play_text sheet.now.labels reports.now) result to.new }
+        ensures sent { HandsOut F.FnMut to.old
+            (play_text sheet.now.labels reports.now) result to.new }
     {
         for report in reports {
             if !send_report(report, sheet.labels(), to) {
