@@ -88,7 +88,7 @@ unfolding clap_on_literals
 two_free = refl
 
 -- what is held before any word, after one, and after two
-abbrev start : Walk
+abbrev pub start : Walk
 start = walk_from nothing_held
 
 abbrev one_held : List ℕ → Held
@@ -160,10 +160,10 @@ pub second_found : (u v : List ℕ) → IsPlain u → IsPlain v → first_of (co
 unfolding clap_on_literals
 second_found u v plain plain2 = ap (λ (w : Walk). first_of (codes "second") (finished rules_two w.held)) (walked_two u v plain plain2)
 
-some_fault : {k : ErrorKind} {ks : Kinds} → k ∷ ks ≡ [] → ⊥
+pub some_fault : {k : ErrorKind} {ks : Kinds} → k ∷ ks ≡ [] → ⊥
 some_fault h = cc
 
-plain_at : (words : List (List ℕ)) (k : ℕ) → All (λ w. ¬ IsOption w) words → k < length words → IsPlain (slice_index_or words k [])
+pub plain_at : (words : List (List ℕ)) (k : ℕ) → All (λ w. ¬ IsOption w) words → k < length words → IsPlain (slice_index_or words k [])
 plain_at words k plain within = plain_word _ (plain k [] within)
 
 -- words that are taken are two

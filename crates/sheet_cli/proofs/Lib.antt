@@ -1,4 +1,5 @@
 pub mod ClapLemmas
+pub mod ClapOne
 pub mod GraphLemmas
 pub mod KeepLemmas
 pub mod OneAnswer

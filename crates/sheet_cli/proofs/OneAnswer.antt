@@ -1,5 +1,5 @@
 -- Words and the texts that they name are answered in one way.
-use Rattle.std.proofs.Common.{◌≡◌, ℕ, ◌<◌, All, List, [], length, refl, sym, ◌∙◌, ap, subst, arith, slice_index_or}
+use Rattle.std.proofs.Common.{◌≡◌, ℕ, ◌<◌, ◌≤◌, ◌⊎◌, inl, inr, All, List, [], length, refl, sym, ◌∙◌, ap, subst, arith, slice_index_or}
 use Rattle.std.specs.Prelude.{Option, Some, IfSome, Result, Ok, Err}
 use Rattle.std.proofs.lemmas.Option.{MatchOption-at_some}
 use Rattle.sheet_refs.specs.Cells.{Corners}
@@ -8,18 +8,22 @@ use Rattle.sheet_model.specs.Sheets.{SheetValue}
 use Rattle.csv_sheet.specs.declared.refused.SheetRefused.{SheetRefused}
 use Rattle.csv_sheet.specs.Results.{IsResult}
 use Rattle.csv_sheet.proofs.ResultLemmas.{one_result}
-use Rattle.window_text.specs.Texts.{IsWithinSheet, runs_text}
-use Rattle.sheet_cli.specs.Answers.{Answer, Answers, Gives, HasNoSheet, IsTextOf, Writes, OneAnswer, WordsAskForOne}
+use Rattle.taco_graph.specs.Pairs.{pairs_of}
+use Rattle.taco_graph.proofs.ListLemmas.{no_longer}
+use Rattle.window_text.specs.Texts.{IsWithinSheet, check_text, runs_text}
+use Rattle.sheet_cli.specs.Graphs.{ListsEdges}
+use Rattle.sheet_cli.specs.Answers.{Answer, Answers, AnswersWindow, AnswersCheck, AreOfCheck, Gives, HasNoSheet, IsTextOf, Owes, Tells, Writes, OneAnswer, WordsAskForOne, status_of}
 use Rattle.sheet_cli.specs.Answers.Answer.{output, refusal}
-use Rattle.sheet_cli.specs.Answers.Answers.{written, outside, no_sheet}
+use Rattle.sheet_cli.specs.Answers.AnswersWindow.{written, outside, no_sheet}
+use Rattle.sheet_cli.specs.Answers.AnswersCheck.{listed, unlisted}
 use Rattle.sheet_cli.specs.Answers.Writes.{values, dependents, precedents}
 use Rattle.sheet_cli.specs.Answers.HasNoSheet.{too_long, refused}
 use Rattle.sheet_cli.specs.Answers.Owes.{usage, answers}
 use Rattle.sheet_cli.specs.Lines.{refused_line}
 use Rattle.sheet_cli.specs.Requests.{Request, texts_named}
-use Rattle.sheet_cli.specs.Requests.Request.{of_window}
-use Rattle.sheet_cli.specs.Words.{command_word}
-use Rattle.sheet_cli.specs.Words.Asks.{asks_of_window}
+use Rattle.sheet_cli.specs.Requests.Request.{of_window, of_check}
+use Rattle.sheet_cli.specs.Words.{Asks, command_word}
+use Rattle.sheet_cli.specs.Words.Asks.{asks_of_window, asks_check}
 use Rattle.sheet_cli.specs.declared.words.WindowCommand.{WindowCommand}
 use Rattle.sheet_cli.specs.declared.words.WindowCommand.TheVariants.{Show, Deps, Precs}
 use Rattle.sheet_cli.proofs.GraphLemmas.{one_ahead, one_behind}
@@ -55,6 +59,18 @@ one_request words _ _ (asks_of_window command sheet name window is plain named) 
     let sheets : sheet ≡ other = cc (is, re) in
     let names : name ≡ again = cc (is, re) in
     same_request command given sheet other window range (one_command command given (sym (letter_first command) ∙ (ap (λ w. slice_index_or w 0 0) commands ∙ letter_first given))) sheets (one_range again window range (rw names at named) renamed)
+one_request words _ _ (asks_of_window command sheet name window is plain named) (asks_check other re _) = absurd (omega (arith, ap length (sym is ∙ re)))
+one_request words _ _ (asks_check other re _) (asks_of_window command sheet name window is plain named) = absurd (omega (arith, ap length (sym is ∙ re)))
+one_request words _ _ (asks_check sheet is _) (asks_check other re _) = let sheets : sheet ≡ other = cc (is, re) in ap of_check sheets
+
+-- lists of edges that stand for one sheet's pairs have equally many
+no_more : (sheet : SheetValue) (text said : List ℕ) → (one : ListsEdges sheet text) → (other : ListsEdges sheet said) → length (pairs_of one.edges) ≤ length (pairs_of other.edges)
+no_more sheet text said one other =
+    no_longer (pairs_of one.edges) (pairs_of other.edges) one.stand.once
+    (λ pair there. (other.stand.same pair).1 ((other.of_sheet pair).1 ((one.of_sheet pair).0 ((one.stand.same pair).0 there))))
+
+as_many : (sheet : SheetValue) (text said : List ℕ) → (one : ListsEdges sheet text) → (other : ListsEdges sheet said) → length (pairs_of one.edges) ≡ length (pairs_of other.edges)
+as_many sheet text said one other = omega (arith, no_more sheet text said one other, no_more sheet said text other one)
 
 -- a command writes one text of a window of a sheet
 one_text : (sheet : SheetValue) (window : Corners) (a b : WindowCommand) (text other : List ℕ) → a ≡ b → Writes sheet window a text → Writes sheet window b other → text ≡ other
@@ -118,53 +134,65 @@ module _ (holds : List ℕ → Option (List ℕ)) (name told : List ℕ) (here :
   one_sheet : (sheet other : SheetValue) → Gives holds name (Ok sheet) → Gives holds name (Ok other) → sheet ≡ other
   one_sheet sheet other one again = cc (gives_one (Ok sheet) (Ok other) one again)
 
+  -- so is a command about a window
+  one_window : (command : WindowCommand) (window : Corners) (a b : Answer) → AnswersWindow holds command name window a → AnswersWindow holds command name window b → a ≡ b
+  one_window command window _ _ (written sheet text gives within writes) (written other said regives rewithin rewrites) =
+      ap output (one_text sheet window command command text said refl writes (subst (λ s. Writes s window command said) (one_sheet other sheet regives gives) rewrites))
+  one_window command window _ _ (written sheet text gives within writes) (outside other regives beyond) = absurd (beyond (subst (IsWithinSheet window) (one_sheet sheet other gives regives) within))
+  one_window command window _ _ (written sheet text gives within writes) (no_sheet status line none) = absurd (sheet_or_none sheet status line gives none)
+  one_window command window _ _ (outside sheet gives beyond) (written other said regives within writes) = absurd (beyond (subst (IsWithinSheet window) (one_sheet other sheet regives gives) within))
+  one_window command window _ _ (outside _ _ _) (outside _ _ _) = refl
+  one_window command window _ _ (outside sheet gives beyond) (no_sheet status line none) = absurd (sheet_or_none sheet status line gives none)
+  one_window command window _ _ (no_sheet status line none) (written other said regives within writes) = absurd (sheet_or_none other status line regives none)
+  one_window command window _ _ (no_sheet status line none) (outside other regives beyond) = absurd (sheet_or_none other status line regives none)
+  one_window command window _ _ (no_sheet status line none) (no_sheet other reline renone) = one_cause status other line reline none renone
+
+  -- and `check`, but for the edges that it lists
+  one_check : (words : List (List ℕ)) (a b : Answer) → Asks words (of_check name) → AnswersCheck holds name a → AnswersCheck holds name b → (a ≡ b) ⊎ AreOfCheck words a b
+  one_check words _ _ asked (listed sheet text gives lists) (listed other said regives relists) =
+      let again = subst (λ s. ListsEdges s said) (one_sheet other sheet regives gives) relists in
+      inr (record {
+        name = name;
+        asked = asked;
+        pairs = length (pairs_of lists.edges);
+        edges = lists.edges;
+        others = again.edges;
+        one = ap output lists.text_is;
+        other = ap output (again.text_is ∙ ap (λ n. check_text n again.edges) (as_many sheet said text again lists));
+      })
+  one_check words _ _ asked (listed sheet text gives lists) (unlisted status line none) = absurd (sheet_or_none sheet status line gives none)
+  one_check words _ _ asked (unlisted status line none) (listed sheet text gives lists) = absurd (sheet_or_none sheet status line gives none)
+  one_check words _ _ asked (unlisted status line none) (unlisted other reline renone) = inl (one_cause status other line reline none renone)
+
 -- a request is answered in one way, where the shelf tells the texts that it names
-module _ (holds : List ℕ → Option (List ℕ)) where
-  one_reply : (request other : Request) (a b : Answer) → request ≡ other → All (λ name. (text : List ℕ) × (holds name ≡ Some text)) (texts_named request) → Answers holds request a → Answers holds other b → a ≡ b
-  one_reply _ _ _ _ same tells (written command name window sheet text gives within writes) (written given again range other said regives rewithin rewrites) =
-      let (told, here) = tells 0 [] (omega arith) in
-      let commands : command ≡ given = cc same in
-      let names : again ≡ name = cc same in
-      let windows : range ≡ window = cc same in
-      let sheets = one_sheet holds name told here other sheet (subst (λ n. Gives holds n (Ok other)) names regives) gives in
-      ap output (one_text sheet window command given text said commands writes (subst (λ s. Writes s window given said) sheets (subst (λ w. Writes other w given said) windows rewrites)))
-  one_reply _ _ _ _ same tells (written command name window sheet text gives within writes) (outside given again range other regives beyond) =
-      let (told, here) = tells 0 [] (omega arith) in
-      let names : again ≡ name = cc same in
-      let windows : window ≡ range = cc same in
-      let sheets = one_sheet holds name told here sheet other gives (subst (λ n. Gives holds n (Ok other)) names regives) in
-      absurd (beyond (subst (IsWithinSheet range) sheets (subst (λ w. IsWithinSheet w sheet) windows within)))
-  one_reply _ _ _ _ same tells (written command name window sheet text gives within writes) (no_sheet given again range status line none) =
-      let (told, here) = tells 0 [] (omega arith) in
-      let names : again ≡ name = cc same in
-      absurd (sheet_or_none holds name told here sheet status line gives (subst (λ n. HasNoSheet holds n status line) names none))
-  one_reply _ _ _ _ same tells (outside command name window sheet gives beyond) (written given again range other said regives within writes) =
-      let (told, here) = tells 0 [] (omega arith) in
-      let names : again ≡ name = cc same in
-      let windows : range ≡ window = cc same in
-      let sheets = one_sheet holds name told here other sheet (subst (λ n. Gives holds n (Ok other)) names regives) gives in
-      absurd (beyond (subst (IsWithinSheet window) sheets (subst (λ w. IsWithinSheet w other) windows within)))
-  one_reply _ _ _ _ same tells (outside _ _ _ _ _ _) (outside _ _ _ _ _ _) = refl
-  one_reply _ _ _ _ same tells (outside command name window sheet gives beyond) (no_sheet given again range status line none) =
-      let (told, here) = tells 0 [] (omega arith) in
-      let names : again ≡ name = cc same in
-      absurd (sheet_or_none holds name told here sheet status line gives (subst (λ n. HasNoSheet holds n status line) names none))
-  one_reply _ _ _ _ same tells (no_sheet command name window status line none) (written given again range other said regives within writes) =
-      let (told, here) = tells 0 [] (omega arith) in
-      let names : again ≡ name = cc same in
-      absurd (sheet_or_none holds name told here other status line (subst (λ n. Gives holds n (Ok other)) names regives) none)
-  one_reply _ _ _ _ same tells (no_sheet command name window status line none) (outside given again range other regives beyond) =
-      let (told, here) = tells 0 [] (omega arith) in
-      let names : again ≡ name = cc same in
-      absurd (sheet_or_none holds name told here other status line (subst (λ n. Gives holds n (Ok other)) names regives) none)
-  one_reply _ _ _ _ same tells (no_sheet command name window status line none) (no_sheet given again range other reline renone) =
-      let (told, here) = tells 0 [] (omega arith) in
-      let names : again ≡ name = cc same in
-      one_cause holds name told here status other line reline none (subst (λ n. HasNoSheet holds n other reline) names renone)
+one_reply : (words : List (List ℕ)) (holds : List ℕ → Option (List ℕ)) (request : Request) (a b : Answer) → Asks words request → All (λ name. (text : List ℕ) × (holds name ≡ Some text)) (texts_named request) → Answers holds request a → Answers holds request b → (a ≡ b) ⊎ AreOfCheck words a b
+one_reply words holds (of_window command name window) a b asked tells given regiven =
+    let (told, here) = tells 0 [] (omega arith) in
+    inl (one_window holds name told here command window a b given regiven)
+one_reply words holds (of_check name) a b asked tells given regiven =
+    let (told, here) = tells 0 [] (omega arith) in
+    one_check holds name told here words a b asked given regiven
 
 pub one_answer : OneAnswer
-one_answer words holds _ _ tells (usage none) (usage _) = refl
+one_answer words holds _ _ tells (usage none) (usage _) = inl refl
 one_answer words holds _ _ tells (usage none) (answers request answer asked _) = absurd (none request asked)
 one_answer words holds _ _ tells (answers request answer asked _) (usage none) = absurd (none request asked)
 one_answer words holds _ _ tells (answers request a asked given) (answers other b re regiven) =
-    one_reply holds request other a b (one_request words request other asked re) (tells request asked) given regiven
+    one_reply words holds request a b asked (tells request asked) given (subst (λ r. Answers holds r b) (one_request words other request re asked) regiven)
+
+-- and with one status
+pub one_status : (words : List (List ℕ)) (holds : List ℕ → Option (List ℕ)) (a b : Answer) → Tells words holds → Owes words holds a → Owes words holds b → status_of a ≡ status_of b
+one_status words holds a b tells owed again = elim (one_answer words holds a b tells owed again) [
+  | inl same ↦ ap status_of same
+  | inr checks ↦ ap status_of checks.one ∙ sym (ap status_of checks.other)
+]
+
+-- a text isn't refused
+pub not_refused : (words : List (List ℕ)) (holds : List ℕ → Option (List ℕ)) (text line : List ℕ) (status : ℕ) → Tells words holds → Owes words holds (output text) → Owes words holds (refusal status line) → ⊥
+not_refused words holds text line status tells owed again = elim (one_answer words holds (output text) (refusal status line) tells owed again) [
+  | inl same ↦ no same
+  | inr checks ↦ no (sym checks.other)
+]
+  where
+    no : {t l : List ℕ} {s : ℕ} → output t ≡ refusal s l → ⊥
+    no h = cc

@@ -3,28 +3,25 @@ use Rattle.std.proofs.Common.{◌≡◌, ℕ, ◌⊎◌, inl, inr, List, ◌∙�
 use Rattle.std.specs.Prelude.{Option, String, string_bytes}
 use Rattle.std.specs.declared.alloc.Global.{Global}
 use Rattle.sheet_io.specs.Faults.{Rose}
-use Rattle.sheet_cli.specs.Answers.{Owes, status_of}
+use Rattle.sheet_cli.specs.Answers.{Owes}
 use Rattle.sheet_cli.specs.Answers.Answer.{output, refusal}
 use Rattle.sheet_cli.specs.Replies.{IsOwed}
 use Rattle.sheet_cli.specs.Runs.{IsComplete, RefusesAll, IsUnfetched}
 use Rattle.sheet_cli.specs.declared.reply.Reply.TheVariants.{Refusal}
-use Rattle.sheet_cli.proofs.OneAnswer.{one_answer}
+use Rattle.sheet_cli.proofs.OneAnswer.{one_status, not_refused}
 
 module _ (words : List (List ℕ)) (holds : List ℕ → Option (List ℕ)) where
   -- where a text is owed, its status is that of whatever is owed
   pub output_complete : (text : List ℕ) → Owes words holds (output text) → IsComplete words holds 0
-  output_complete text reply answer tells owed = inl (ap status_of (one_answer words holds (output text) answer tells reply owed))
+  output_complete text reply answer tells owed = inl (one_status words holds (output text) answer tells reply owed)
 
   -- and nothing is refused
   pub output_refuses : (text : List ℕ) (status : ℕ) → Owes words holds (output text) → RefusesAll words holds status
-  output_refuses text status reply given line tells owed = absurd (no (one_answer words holds (output text) (refusal given line) tells reply owed))
-    where
-      no : {s : ℕ} {l : List ℕ} → output text ≡ refusal s l → ⊥
-      no h = cc
+  output_refuses text status reply given line tells owed = absurd (not_refused words holds text line given tells reply owed)
 
   pub refusal_complete : (before after status : ℕ) (line : String Global) → IsOwed words holds before after (Refusal status line) → ¬ Rose before after → IsComplete words holds status
   refusal_complete before after status line (inl unread) calm answer tells owed = absurd (calm unread.rose)
-  refusal_complete before after status line (inr given) calm answer tells owed = inl (ap status_of (one_answer words holds (refusal status (string_bytes line)) answer tells given.owed owed))
+  refusal_complete before after status line (inr given) calm answer tells owed = inl (one_status words holds (refusal status (string_bytes line)) answer tells given.owed owed)
 
   pub refusal_refuses : (before after status : ℕ) (line : String Global) → IsOwed words holds before after (Refusal status line) → ¬ Rose before after → RefusesAll words holds status
   refusal_refuses before after status line reply calm given told tells owed = refusal_complete before after status line reply calm (refusal given told) tells owed

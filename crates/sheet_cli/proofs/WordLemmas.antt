@@ -8,9 +8,8 @@ use Rattle.sheet_refs.specs.Cells.{Position, Corners}
 use Rattle.sheet_refs.specs.Names.{IsRangeName, IsCellName}
 use Rattle.sheet_refs.specs.Names.IsRangeName.{one, two}
 use Rattle.sheet_cli.specs.Requests.{Request}
-use Rattle.sheet_cli.specs.Words.{IsOption, Asks, AsksNothing, bytes_of, command_word}
-use Rattle.sheet_cli.specs.Words.Asks.{asks_of_window}
-use Rattle.sheet_cli.specs.declared.words.WindowCommand.{WindowCommand}
+use Rattle.sheet_cli.specs.Words.{IsOption, Asks, bytes_of}
+use Rattle.sheet_cli.specs.Words.Asks.{asks_of_window, asks_check}
 
 -- a name of a cell, and what follows it, begins with a letter
 letter_first : (letters rest : List ℕ) → 0 < length letters → ((k : ℕ) (d : ℕ) → k < length letters → ((65 ≤ slice_index_or letters k d) × (slice_index_or letters k d ≤ 90)) ⊎ ((97 ≤ slice_index_or letters k d) × (slice_index_or letters k d ≤ 122))) → ¬ IsOption (letters ++ rest)
@@ -43,17 +42,20 @@ two_plain (a ∷ b ∷ []) sheet name is plain named (suc zero) d within = λ op
 two_plain (a ∷ b ∷ []) sheet name is plain named (suc (suc k)) d within = absurd (omega (arith, within))
 two_plain (a ∷ b ∷ x ∷ xs) sheet name is plain named k d within = absurd (omega (arith, ap length is))
 
+one_plain : (rest : List (String Global)) (sheet : List ℕ) → bytes_of rest ≡ sheet ∷ [] → ¬ IsOption sheet → All (λ w. ¬ IsOption (string_bytes w)) rest
+one_plain [] sheet is plain k d within = absurd (omega (arith, within))
+one_plain (a ∷ []) sheet is plain zero d within = λ option. let same : string_bytes a ≡ sheet = cc is in plain (rw same at option)
+one_plain (a ∷ []) sheet is plain (suc k) d within = absurd (omega (arith, within))
+one_plain (a ∷ b ∷ xs) sheet is plain k d within = absurd (omega (arith, ap length is))
+
 -- no word after a command that is asked for is an option
 pub plain_rest : (command : List ℕ) (rest : List (String Global)) (request : Request) → Asks (command ∷ bytes_of rest) request → All (λ w. ¬ IsOption (string_bytes w)) rest
 plain_rest command rest _ (asks_of_window given sheet name window is plain range) =
     let tail : bytes_of rest ≡ sheet ∷ name ∷ [] = cc is in
     two_plain rest sheet name tail plain (range_plain name window range)
-
--- words ask for nothing where the first of them is the word of no command
-pub no_command : (word : List ℕ) (rest : List (List ℕ)) → ((command : WindowCommand) → word ≡ command_word command → ⊥) → AsksNothing (word ∷ rest)
-no_command word rest none _ (asks_of_window command sheet name window is _ _) =
-    let same : word ≡ command_word command = cc is in
-    none command same
+plain_rest command rest _ (asks_check sheet is plain) =
+    let tail : bytes_of rest ≡ sheet ∷ [] = cc is in
+    one_plain rest sheet tail plain
 
 -- what a test that failed has told
 pub refuted : {P : Type 0} (b : Bool) → IsTrue b ↔ P → b ≡ false → ¬ P

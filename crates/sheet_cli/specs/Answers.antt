@@ -1,15 +1,16 @@
 -- What the program owes to its words and to the texts that they name.
-use Rattle.std.specs.Prelude.{◌≡◌, ℕ, ◌<◌, ◌≤◌, List, length, Result, Ok, Err, Some, IfSome, All}
+use Rattle.std.specs.Prelude.{◌≡◌, ℕ, ◌<◌, ◌≤◌, ◌⊎◌, List, length, Result, Ok, Err, Some, IfSome, All}
 use Rattle.std.specs.declared.option.Option.{Option}
 use Rattle.sheet_refs.specs.Cells.{Corners}
 use Rattle.sheet_model.specs.Sheets.{SheetValue}
 use Rattle.csv_sheet.specs.Results.{IsResult}
 use Rattle.csv_sheet.specs.declared.refused.SheetRefused.{SheetRefused}
-use Rattle.window_text.specs.Texts.{IsWithinSheet, show_text, runs_text}
-use Rattle.sheet_cli.specs.Graphs.{AreDependents, ArePrecedents}
+use Rattle.window_text.specs.Texts.{IsWithinSheet, check_text, show_text, runs_text}
+use Rattle.edge_patterns.specs.Edges.{EdgeValue}
+use Rattle.sheet_cli.specs.Graphs.{AreDependents, ArePrecedents, ListsEdges}
 use Rattle.sheet_cli.specs.Lines.{usage_line, outside_line, too_long_line, refused_line}
 use Rattle.sheet_cli.specs.Requests.{Request, texts_named}
-use Rattle.sheet_cli.specs.Requests.Request.{of_window}
+use Rattle.sheet_cli.specs.Requests.Request.{of_window, of_check}
 use Rattle.sheet_cli.specs.Words.{Asks, AsksNothing}
 use Rattle.sheet_cli.specs.declared.words.WindowCommand.{WindowCommand}
 use Rattle.sheet_cli.specs.declared.words.WindowCommand.TheVariants.{Show, Deps, Precs}
@@ -55,19 +56,31 @@ pub data Writes (sheet : SheetValue) (window : Corners) : WindowCommand → List
   -- `precs` lists the window's cells and all on which they depend
   precedents : (runs : List Corners) → ArePrecedents sheet window runs → Writes sheet window Precs (runs_text runs)
 
--- what a request is answered
-pub data Answers (holds : Texts) : Request → Answer → Type 0 where
-  -- a command about a window writes what it writes of the sheet
-  written : (command : WindowCommand) (name : List ℕ) (window : Corners) (sheet : SheetValue) (text : List ℕ)
-      → Gives holds name (Ok sheet) → IsWithinSheet window sheet → Writes sheet window command text
-      → Answers holds (of_window command name window) (output text)
+-- what a command about a window of the sheet under a name is answered
+pub data AnswersWindow (holds : Texts) (command : WindowCommand) (name : List ℕ) (window : Corners) : Answer → Type 0 where
+  -- it writes what it writes of the sheet
+  written : (sheet : SheetValue) (text : List ℕ) → Gives holds name (Ok sheet) → IsWithinSheet window sheet
+      → Writes sheet window command text → AnswersWindow holds command name window (output text)
   -- unless the window is not wholly in the sheet
-  outside : (command : WindowCommand) (name : List ℕ) (window : Corners) (sheet : SheetValue)
-      → Gives holds name (Ok sheet) → ¬ IsWithinSheet window sheet
-      → Answers holds (of_window command name window) (refusal 2 outside_line)
+  outside : (sheet : SheetValue) → Gives holds name (Ok sheet) → ¬ IsWithinSheet window sheet
+      → AnswersWindow holds command name window (refusal 2 outside_line)
   -- or there is no sheet
-  no_sheet : (command : WindowCommand) (name : List ℕ) (window : Corners) (status : ℕ) (line : List ℕ)
-      → HasNoSheet holds name status line → Answers holds (of_window command name window) (refusal status line)
+  no_sheet : (status : ℕ) (line : List ℕ) → HasNoSheet holds name status line
+      → AnswersWindow holds command name window (refusal status line)
+
+-- what `check` is answered
+pub data AnswersCheck (holds : Texts) (name : List ℕ) : Answer → Type 0 where
+  -- it lists edges that stand for the sheet's pairs
+  listed : (sheet : SheetValue) (text : List ℕ) → Gives holds name (Ok sheet) → ListsEdges sheet text
+      → AnswersCheck holds name (output text)
+  -- or there is no sheet
+  unlisted : (status : ℕ) (line : List ℕ) → HasNoSheet holds name status line
+      → AnswersCheck holds name (refusal status line)
+
+-- what a request is answered
+abbrev pub Answers : Texts → Request → Answer → Type 0
+Answers holds (of_window command name window) = AnswersWindow holds command name window
+Answers holds (of_check name) = AnswersCheck holds name
 
 -- what words are answered, over the texts of a shelf
 pub data Owes (words : List (List ℕ)) (holds : Texts) : Answer → Type 0 where
@@ -87,8 +100,18 @@ Tells words holds =
 abbrev pub WordsAskForOne : Type 0
 WordsAskForOne = (words : List (List ℕ)) (a b : Request) → Asks words a → Asks words b → a ≡ b
 
--- words are answered in one way, where the shelf tells the texts that they name
+-- two texts of `check`, with the same number of pairs; which edges stand for them isn't said
+pub record AreOfCheck (words : List (List ℕ)) (a b : Answer) : Type 0 where
+  pub name : List ℕ
+  pub asked : Asks words (of_check name)
+  pub pairs : ℕ
+  pub edges : List EdgeValue
+  pub others : List EdgeValue
+  pub one : a ≡ output (check_text pairs edges)
+  pub other : b ≡ output (check_text pairs others)
+
+-- words are answered in one way, where the shelf tells the texts that they name, but for the edges that `check` lists
 abbrev pub OneAnswer : Type 0
 OneAnswer =
     (words : List (List ℕ)) (holds : Texts) (a b : Answer)
-    → Tells words holds → Owes words holds a → Owes words holds b → a ≡ b
+    → Tells words holds → Owes words holds a → Owes words holds b → (a ≡ b) ⊎ AreOfCheck words a b

@@ -11,6 +11,10 @@ position id = record (new_rule id) { required = true }
 abbrev pub words_alone : App
 words_alone = on_top (λ s. record s { no_binary_name = true; disable_help_flag = true }) (new_app (codes "command"))
 
+-- one position, which has to be given
+abbrev pub one_position : App
+one_position = with_rule words_alone (position (codes "first"))
+
 -- two positions, which have to be given
 abbrev pub two_positions : App
-two_positions = with_rule (with_rule words_alone (position (codes "first"))) (position (codes "second"))
+two_positions = with_rule one_position (position (codes "second"))

@@ -1,9 +1,13 @@
--- The cells that a sheet's formulas lead to or come from, as vertical runs.
-use Rattle.std.specs.Prelude.{List}
+-- The cells that a sheet's formulas lead to or come from, as vertical runs, and the edges of their graph.
+use Rattle.std.specs.Prelude.{◌≡◌, ℕ, List, length}
 use Rattle.sheet_refs.specs.Cells.{Corners}
 use Rattle.sheet_refs.specs.Rectangles.{AreMaximalRuns}
 use Rattle.sheet_model.specs.Sheets.{SheetValue}
 use Rattle.graph_walk.specs.Graphs.{Pair, HoldsReach, HoldsBack}
+use Rattle.edge_patterns.specs.Edges.{EdgeValue}
+use Rattle.taco_graph.specs.Pairs.{StandFor, pairs_of}
+use Rattle.taco_graph.specs.Order.{AreInOrder}
+use Rattle.window_text.specs.Texts.{check_text}
 use Rattle.edit_log.specs.Pairs.{ArePairsOf}
 
 -- the maximal vertical runs of the cells of a window and of all that depend on them in any number of steps, by the
@@ -20,3 +24,13 @@ pub record ArePrecedents (sheet : SheetValue) (window : Corners) (runs : List Co
   pub of_sheet : ArePairsOf sheet pairs
   pub reached : HoldsBack pairs window runs
   pub maximal : AreMaximalRuns runs
+
+-- a text of edges: these stand for the pairs of a sheet, each pair in one of them, and are listed in order, with the number of pairs
+-- in front
+pub record ListsEdges (sheet : SheetValue) (text : List ℕ) : Type 0 where
+  pub pairs : List Pair
+  pub of_sheet : ArePairsOf sheet pairs
+  pub edges : List EdgeValue
+  pub stand : StandFor edges pairs
+  pub order : AreInOrder edges
+  pub text_is : text ≡ check_text (length (pairs_of edges)) edges

@@ -1,15 +1,12 @@
 -- Replies, before a byte is written.
-use Rattle.std.specs.Prelude.{◌≡◌, ◌<◌, ℕ, List, length, ◌⊎◌, Contains, Ok, Err, string_bytes}
+use Rattle.std.specs.Prelude.{◌≡◌, ℕ, List, ◌⊎◌, Contains, Result, Ok, Err, string_bytes}
 use Rattle.std.specs.declared.option.Option.{Option}
 use Rattle.sheet_refs.specs.Cells.{Corners}
-use Rattle.csv_sheet.specs.Results.{IsResult}
-use Rattle.csv_sheet.specs.declared.refused.SheetRefused.{SheetRefused}
 use Rattle.sheet_model.specs.Sheets.{SheetValue}
-use Rattle.window_text.specs.Texts.{IsWithinSheet}
 use Rattle.sheet_io.specs.Faults.{Rose}
-use Rattle.sheet_cli.specs.Answers.{Answer, Answers, Owes, Texts, Writes}
+use Rattle.sheet_cli.specs.Answers.{Answer, Answers, AnswersWindow, Gives, HasNoSheet, IsTextOf, Owes, Texts}
 use Rattle.sheet_cli.specs.Answers.Answer.{output, refusal}
-use Rattle.sheet_cli.specs.Lines.{outside_line, read_failed_line, refused_line, too_long_line}
+use Rattle.sheet_cli.specs.Lines.{read_failed_line}
 use Rattle.sheet_cli.specs.Requests.{Request, texts_named}
 use Rattle.sheet_cli.specs.Words.{Asks}
 use Rattle.sheet_cli.specs.declared.words.WindowCommand.{WindowCommand}
@@ -21,15 +18,27 @@ abbrev pub answer_of : Reply → Answer
 answer_of (Output text) = output text.items
 answer_of (Refusal status line) = refusal status (string_bytes line)
 
--- what a command about a window of a text's sheet is answered
-pub data AnswersWindow (text : List ℕ) (command : WindowCommand) (window : Corners) : Answer → Type 0 where
-  told : (sheet : SheetValue) (said : List ℕ) → IsResult text (Ok sheet) → IsWithinSheet window sheet
-      → Writes sheet window command said → AnswersWindow text command window (output said)
-  beyond : (sheet : SheetValue) → IsResult text (Ok sheet) → ¬ IsWithinSheet window sheet
-      → AnswersWindow text command window (refusal 2 outside_line)
-  long : 16777216 < length text → AnswersWindow text command window (refusal 3 too_long_line)
-  unread : (why : SheetRefused) → IsResult text (Err why)
-      → AnswersWindow text command window (refusal 3 (refused_line why))
+-- why the text under a name gives no sheet
+pub record LacksSheet (holds : Texts) (name : List ℕ) (reply : Reply) : Type 0 where
+  pub status : ℕ
+  pub line : List ℕ
+  pub none : HasNoSheet holds name status line
+  pub reply_is : answer_of reply ≡ refusal status line
+
+-- the sheet that the text under a name gives, or the reply that says why it gives none
+abbrev pub HasFound : Texts → List ℕ → Result SheetValue Reply → Type 0
+HasFound holds name (Ok sheet) = Gives holds name (Ok sheet)
+HasFound holds name (Err reply) = LacksSheet holds name reply
+
+-- the same of a text, under whatever name it stands
+abbrev pub HasSheet : List ℕ → Result SheetValue Reply → Type 0
+HasSheet text found = (holds : Texts) (name : List ℕ) → IsTextOf holds name text → HasFound holds name found
+
+-- a reply to a command about a window of a sheet, under whatever name the sheet's text stands
+abbrev pub RepliesWindow : SheetValue → WindowCommand → Corners → Reply → Type 0
+RepliesWindow sheet command window reply =
+    (holds : Texts) (name : List ℕ) → Gives holds name (Ok sheet)
+    → AnswersWindow holds command name window (answer_of reply)
 
 -- a text that a request names was not fetched
 pub record IsReadFailure (request : Request) (before after : ℕ) (reply : Reply) : Type 0 where
@@ -37,6 +46,16 @@ pub record IsReadFailure (request : Request) (before after : ℕ) (reply : Reply
   pub named : Contains (texts_named request) name
   pub rose : Rose before after
   pub reply_is : answer_of reply ≡ refusal 5 (read_failed_line name)
+
+-- the same of the one text under a name
+pub record IsMissed (name : List ℕ) (before after : ℕ) (reply : Reply) : Type 0 where
+  pub rose : Rose before after
+  pub reply_is : answer_of reply ≡ refusal 5 (read_failed_line name)
+
+-- the sheet under a name on a shelf whose faults went from a number to another, or the reply that says why there is none
+abbrev pub HasFetched : Texts → List ℕ → ℕ → ℕ → Result SheetValue Reply → Type 0
+HasFetched holds name before after (Ok sheet) = Gives holds name (Ok sheet)
+HasFetched holds name before after (Err reply) = IsMissed name before after reply ⊎ LacksSheet holds name reply
 
 -- a reply to a request over a shelf, whose faults went from a number to another
 abbrev pub RepliesTo : Request → Texts → ℕ → ℕ → Reply → Type 0

@@ -7,7 +7,10 @@ use Rattle.sheet_cli.specs.declared.words.WindowCommand.{WindowCommand}
 pub data Request : Type 0 where
   -- a command about a window of a sheet
   of_window : (command : WindowCommand) (sheet : List ℕ) (window : Corners) → Request
+  -- how far a sheet's pairs can be compressed
+  of_check : (sheet : List ℕ) → Request
 
 -- the names of the texts that a request reads, in the order in which they are fetched
 abbrev pub texts_named : Request → List (List ℕ)
 texts_named (of_window command sheet window) = sheet ∷ []
+texts_named (of_check sheet) = sheet ∷ []

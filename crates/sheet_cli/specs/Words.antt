@@ -1,12 +1,12 @@
 -- Which words ask for what.
-use Rattle.std.specs.Prelude.{◌≡◌, ℕ, List, [], ◌∷◌, map, codes, slice_get, Some, String, string_bytes}
+use Rattle.std.specs.Prelude.{◌≡◌, ◌≢◌, ℕ, List, [], ◌∷◌, map, codes, slice_get, Some, String, string_bytes}
 use Rattle.std.specs.declared.alloc.Global.{Global}
 use Rattle.sheet_refs.specs.Cells.{Corners}
 use Rattle.sheet_refs.specs.Names.{IsRangeName}
 use Rattle.sheet_cli.specs.Requests.{Request}
-use Rattle.sheet_cli.specs.Requests.Request.{of_window}
+use Rattle.sheet_cli.specs.Requests.Request.{of_window, of_check}
 use Rattle.sheet_cli.specs.declared.words.Asked.{Asked}
-use Rattle.sheet_cli.specs.declared.words.Asked.TheVariants.{Nothing, OfWindow}
+use Rattle.sheet_cli.specs.declared.words.Asked.TheVariants.{Nothing, OfWindow, OfCheck}
 use Rattle.sheet_cli.specs.declared.words.WindowCommand.{WindowCommand}
 use Rattle.sheet_cli.specs.declared.words.WindowCommand.TheVariants.{Show, Deps, Precs}
 
@@ -24,12 +24,18 @@ command_word Show = codes "show"
 command_word Deps = codes "deps"
 command_word Precs = codes "precs"
 
+-- a word is that of no command about a window
+abbrev pub IsNoWindowWord : List ℕ → Type 0
+IsNoWindowWord word = (command : WindowCommand) → word ≢ command_word command
+
 -- the words after the program's name ask for this
 pub data Asks (words : List (List ℕ)) : Request → Type 0 where
   -- `COMMAND SHEET RANGE`
   asks_of_window : (command : WindowCommand) (sheet name : List ℕ) (window : Corners)
       → words ≡ command_word command ∷ sheet ∷ name ∷ [] → ¬ IsOption sheet → IsRangeName name window
       → Asks words (of_window command sheet window)
+  -- `check SHEET`
+  asks_check : (sheet : List ℕ) → words ≡ codes "check" ∷ sheet ∷ [] → ¬ IsOption sheet → Asks words (of_check sheet)
 
 -- the words are no command
 abbrev pub AsksNothing : List (List ℕ) → Type 0
@@ -39,3 +45,4 @@ AsksNothing words = (request : Request) → ¬ Asks words request
 abbrev pub IsAskedBy : List (List ℕ) → Asked → Type 0
 IsAskedBy words Nothing = AsksNothing words
 IsAskedBy words (OfWindow command sheet window) = Asks words (of_window command (string_bytes sheet) window)
+IsAskedBy words (OfCheck sheet) = Asks words (of_check (string_bytes sheet))

@@ -3,12 +3,13 @@
 //!
 //! `run` is all that it does. Its contract says what each status tells, what was written and what was noted.
 //! Words ask for at most one thing (`specs/Words.antt`, `specs/Requests.antt`), and words and the texts that
-//! they name are answered in one way, by a text or by the status and the line of a refusal
-//! (`specs/Answers.antt`); `run_laws` says both. Each command is a case of each of these definitions.
+//! they name are answered in one way, by a text or by the status and the line of a refusal, but for which
+//! edges `check` lists (`specs/Answers.antt`); `run_laws` says both. Each command is a case of each of these
+//! definitions.
 //!
 //! The words after a command's name are read with the kit's `clap`, once it is known that none of them is
 //! written as an option. Below stand `csv_sheet`, which reads sheets, `sheet_model`, which computes values,
-//! `edit_log`, `plain_graph` and `graph_walk`, by which dependents and precedents are found, `window_text`,
+//! `edit_log`, `taco_graph` and `graph_walk`, by which edges, dependents and precedents are found, `window_text`,
 //! which prints, and `sheet_io`, through which all input and output goes; above stands the program's `main`.
 #![tactic(auto)]
 

@@ -1,16 +1,18 @@
-ghost use Rattle.std.specs.Prelude.{◌≡◌, IfOk};
+ghost use Rattle.std.specs.Prelude.{◌≡◌, length, IfOk};
 ghost use Rattle.sheet_cli.specs.Answers.{Writes};
-ghost use Rattle.sheet_cli.specs.Graphs.{AreDependents, ArePrecedents};
-ghost use Rattle.window_text.specs.Texts.{IsWithinSheet, runs_text, show_text};
+ghost use Rattle.sheet_cli.specs.Graphs.{AreDependents, ArePrecedents, ListsEdges};
+ghost use Rattle.taco_graph.specs.Pairs.{HaveFewPairs, pairs_of};
+ghost use Rattle.window_text.specs.Texts.{IsWithinSheet, check_text, runs_text, show_text};
 
 use crate::words::WindowCommand;
+use edge_patterns::Edge;
 use edit_log::graph_of;
 use graph_walk::{dependents, precedents};
 use range_index::GridIndex;
 use sheet_model::{Sheet, all_values};
 use sheet_refs::{Memory, Range};
 use std::alloc::Global;
-use taco_graph::Taco;
+use taco_graph::{Taco, pair_count};
 use window_text::Printer;
 
 /// The whole text that a command writes of a window of the sheet.
@@ -44,6 +46,30 @@ fn precedents_of(alloc: Global, sheet: &Sheet, range: Range) -> Result<Vec<Range
 {
     let graph = graph_of(alloc, Taco::<GridIndex>::new(alloc), sheet)?;
     precedents(alloc, &graph, range)?.columns()
+}
+
+/// The whole text that `check` writes of a sheet.
+pub(crate) fn check_output(alloc: Global, sheet: &Sheet) -> Result<Vec<u8>, Memory>
+    ensures { IfOk result (λ text. ListsEdges sheet.now text.items) }
+{
+    let graph = graph_of(alloc, Taco::<GridIndex>::new(alloc), sheet)?;
+    edges_output(alloc, &graph.edges()?)
+}
+
+// The text of a list of edges.
+fn edges_output(alloc: Global, edges: &[Edge]) -> Result<Vec<u8>, Memory>
+    requires { HaveFewPairs edges.now }
+    ensures { IfOk result (λ text.
+        text.items ≡ check_text (length (pairs_of edges.now)) edges.now) }
+{
+    let pairs = pair_count(edges);
+    let mut text = Vec::new(alloc);
+    let mut keep = |piece: &[u8]| text.extend_from_slice(piece).is_ok();
+    if Printer::check(pairs, edges, &mut keep) {
+        Ok(text)
+    } else {
+        Err(Memory)
+    }
 }
 
 // The text of a list of ranges.

@@ -3,11 +3,12 @@ ghost use Rattle.csv_sheet.specs.declared.refused.SheetRefused.TheVariants as re
 ghost use Rattle.window_text.specs.Texts.{IsWithinSheet};
 ghost use Rattle.sheet_cli.specs.Answers.Answer.{refusal as refusal_answer};
 ghost use Rattle.sheet_cli.specs.Lines.{refused_line, too_long_line};
-ghost use Rattle.sheet_cli.specs.Requests.Request.{of_window};
-ghost use Rattle.sheet_cli.specs.Replies.{AnswersWindow, IsOwed, RepliesTo, answer_of};
+ghost use Rattle.sheet_cli.specs.Requests.Request.{of_check, of_window};
+ghost use Rattle.sheet_cli.specs.Replies.{HasFetched, HasSheet, IsOwed, RepliesTo};
+ghost use Rattle.sheet_cli.specs.Replies.{RepliesWindow, answer_of};
 ghost use Rattle.sheet_cli.specs.Words.{AsksNothing, bytes_of};
 
-use crate::output::window_output;
+use crate::output::{check_output, window_output};
 use crate::words::{Asked, WindowCommand, read_words};
 use csv_sheet::{SheetRefused, load};
 use sheet_io::{Fetch, Shelf};
@@ -49,6 +50,7 @@ pub(crate) fn reply_to<F: Shelf>(
             sheet,
             range,
         } => reply_of_window(alloc, command, sheet.as_str(), range, shelf),
+        Asked::OfCheck { sheet } => reply_of_check(alloc, sheet.as_str(), shelf),
         Asked::Nothing => refusal(alloc, 2, USAGE),
     }
 }
@@ -67,39 +69,75 @@ fn reply_of_window<F: Shelf>(
     ensures held { F.holds shelf.new ≡ F.holds shelf.old }
     ensures counted { F.faults shelf.old ≤ F.faults shelf.new }
 {
+    match fetch_sheet(alloc, name, shelf)? {
+        Ok(sheet) => window_reply(alloc, command, &sheet, range),
+        Err(reply) => Ok(reply),
+    }
+}
+
+// The reply to a command about a window of a sheet.
+fn window_reply(
+    alloc: Global,
+    command: WindowCommand,
+    sheet: &Sheet,
+    range: Range,
+) -> Result<Reply, Memory>
+    ensures { IfOk result (RepliesWindow sheet.now command range) }
+{
+    if !covers(sheet, range) {
+        return refusal(alloc, 2, "antifreeze: range outside the sheet\n");
+    }
+    Ok(Reply::Output(window_output(alloc, command, sheet, range)?))
+}
+
+// The reply to `check`.
+fn reply_of_check<F: Shelf>(alloc: Global, name: &str, shelf: &mut F) -> Result<Reply, Memory>
+    ensures reply { IfOk result (RepliesTo (of_check name.now)
+        (F.holds shelf.old) (F.faults shelf.old) (F.faults shelf.new)) }
+    ensures held { F.holds shelf.new ≡ F.holds shelf.old }
+    ensures counted { F.faults shelf.old ≤ F.faults shelf.new }
+{
+    match fetch_sheet(alloc, name, shelf)? {
+        Ok(sheet) => Ok(Reply::Output(check_output(alloc, &sheet)?)),
+        Err(reply) => Ok(reply),
+    }
+}
+
+// The sheet under a name, or the reply that says why there is none.
+fn fetch_sheet<F: Shelf>(
+    alloc: Global,
+    name: &str,
+    shelf: &mut F,
+) -> Result<Result<Sheet, Reply>, Memory>
+    ensures found { IfOk result (HasFetched (F.holds shelf.old) name.now
+        (F.faults shelf.old) (F.faults shelf.new)) }
+    ensures held { F.holds shelf.new ≡ F.holds shelf.old }
+    ensures counted { F.faults shelf.old ≤ F.faults shelf.new }
+{
     let mut text = Vec::new(alloc);
     match shelf.fetch(name, MAX_SHEET, &mut text) {
-        Ok(()) => window_reply(alloc, command, &text, range),
-        Err(Fetch::Failed) => Ok(Reply::Refusal {
+        Ok(()) => sheet_of(alloc, &text),
+        Err(Fetch::Failed) => Ok(Err(Reply::Refusal {
             status: 5,
             line: format!(in alloc; "antifreeze: {name}: read failed\n")?,
-        }),
-        Err(Fetch::TooLong) => too_long(alloc),
+        })),
+        Err(Fetch::TooLong) => Ok(Err(too_long(alloc)?)),
         Err(Fetch::Memory) => Err(Memory),
     }
 }
 
-// The reply to a command about a window, given the sheet's text.
-fn window_reply(
-    alloc: Global,
-    command: WindowCommand,
-    text: &[u8],
-    range: Range,
-) -> Result<Reply, Memory>
-    ensures { IfOk result (λ reply. AnswersWindow text.now command range (answer_of reply)) }
+// The sheet of a text, or the reply that says why it has none.
+fn sheet_of(alloc: Global, text: &[u8]) -> Result<Result<Sheet, Reply>, Memory>
+    ensures { IfOk result (HasSheet text.now) }
 {
     // A shelf that doesn't tell its texts may give more than it was asked for.
     if text.len() > MAX_SHEET {
-        return too_long(alloc);
+        return Ok(Err(too_long(alloc)?));
     }
-    let sheet = match load(alloc, text) {
-        Ok(sheet) => sheet,
-        Err(why) => return unread(alloc, why),
-    };
-    if !covers(&sheet, range) {
-        return refusal(alloc, 2, "antifreeze: range outside the sheet\n");
+    match load(alloc, text) {
+        Ok(sheet) => Ok(Ok(sheet)),
+        Err(why) => Ok(Err(unread(alloc, why)?)),
     }
-    Ok(Reply::Output(window_output(alloc, command, &sheet, range)?))
 }
 
 // The refusal of a text that is no sheet.

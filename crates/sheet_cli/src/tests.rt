@@ -162,6 +162,18 @@ fn a_run_ends_by_its_words_and_its_sheet(rt: HostRuntime) -> Result<(), Fail> {
 }
 
 #[test]
+fn check_lists_the_edges_of_a_sheet(rt: HostRuntime) -> Result<(), Fail> {
+    let ended = run_with(rt.alloc(), WORKED.as_bytes(), "check s", FREE)?;
+    assert_eq!(rt; ended.status, 0);
+    let edges = b"pairs 3\nedges 2\nB1:B2 A1:A2 RR\nB2:B2 B1:B1 Single\n";
+    assert_eq!(rt; ended.out.written(), edges.as_slice());
+    let ended = run_with(rt.alloc(), WORKED.as_bytes(), "check s A1:B2", FREE)?;
+    assert_eq!(rt; ended.status, 2);
+    assert_eq!(rt; ended.notes.written(), USAGE.as_bytes());
+    Ok(())
+}
+
+#[test]
 fn a_run_ends_by_its_first_failing_call(rt: HostRuntime) -> Result<(), Fail> {
     let unfetched = Limits {
         fetch_fails: true,

@@ -1,10 +1,11 @@
 ghost use Rattle.std.specs.Prelude.{◌≡◌, ◌≢◌, ◌↔◌, ◌∷◌, [], length, IsTrue, IfOk, MatchOption, All};
-ghost use Rattle.std.specs.Prelude.{string_bytes};
+ghost use Rattle.std.specs.Prelude.{codes, string_bytes};
 ghost use Rattle.clap.specs.Simple.{app_of};
 ghost use Rattle.clap.specs.Values.{kind_of};
 ghost use Rattle.sheet_refs.specs.Names.{Finds};
-ghost use Rattle.sheet_cli.specs.Clap.{two_positions};
-ghost use Rattle.sheet_cli.specs.Words.{IsAskedBy, IsOption, bytes_of, command_word};
+ghost use Rattle.sheet_cli.specs.Clap.{one_position, two_positions};
+ghost use Rattle.sheet_cli.specs.Words.{IsAskedBy, IsNoWindowWord, IsOption, bytes_of};
+ghost use Rattle.sheet_cli.specs.Words.{command_word};
 
 use clap::error::ErrorKind;
 use clap::{Arg, Command, Error};
@@ -33,6 +34,10 @@ pub enum Asked {
         sheet: String,
         range: Range,
     },
+    /// `check SHEET`: the edges that stand for the pairs of the sheet with this name.
+    OfCheck {
+        sheet: String,
+    },
 }
 
 /// What the words after the program's name ask for; nothing exactly where they are no command. The
@@ -47,8 +52,8 @@ pub fn read_words(alloc: Global, words: &[String]) -> Result<Asked, Memory>
         return Ok(Asked::Nothing);
     }
     match window_command(command.as_str()) {
-        Some(command) => read_window(alloc, command, rest),
-        None => Ok(Asked::Nothing),
+        Some(window) => read_window(alloc, window, rest),
+        None => read_other(alloc, command.as_str(), rest),
     }
 }
 
@@ -97,6 +102,48 @@ fn read_window(alloc: Global, command: WindowCommand, words: &[String]) -> Resul
     })
 }
 
+// What a command that isn't about a window and the words after it ask for.
+fn read_other(alloc: Global, command: &str, words: &[String]) -> Result<Asked, Memory>
+    requires plain { All (λ w. ¬ IsOption w) (bytes_of words.now) }
+    requires other { IsNoWindowWord command.now }
+    ensures { IfOk result (IsAskedBy (command.now ∷ bytes_of words.now)) }
+{
+    match command {
+        "check" => read_check(alloc, words),
+        _ => Ok(Asked::Nothing),
+    }
+}
+
+// What `check` and the words after it ask for.
+fn read_check(alloc: Global, words: &[String]) -> Result<Asked, Memory>
+    requires plain { All (λ w. ¬ IsOption w) (bytes_of words.now) }
+    ensures { IfOk result (IsAskedBy (codes "check" ∷ bytes_of words.now)) }
+{
+    let Some(sheet) = one_word(alloc, words)? else {
+        return Ok(Asked::Nothing);
+    };
+    let sheet = String::from_str(alloc, sheet)?;
+    Ok(Asked::OfCheck { sheet })
+}
+
+// The position of a command that has one; None exactly where the words are not one.
+fn one_word<'a>(alloc: Global, words: &'a [String]) -> Result<Option<&'a str>, Memory>
+    requires plain { All (λ w. ¬ IsOption w) (bytes_of words.now) }
+    ensures { IfOk result (λ found. MatchOption found (length (bytes_of words.now) ≢ 1)
+        (λ word. bytes_of words.now ≡ word.now ∷ [])) }
+{
+    match one_position(alloc)?.try_get_matches_from(words) {
+        Ok(matches) => Ok(Some(matches.get_str("first").unwrap())),
+        Err(error) => {
+            if ran_out(&error) {
+                Err(Memory)
+            } else {
+                Ok(None)
+            }
+        }
+    }
+}
+
 // The positions of a command that has two; None exactly where the words are not two.
 fn two_words<'a>(alloc: Global, words: &'a [String]) -> Result<Option<(&'a str, &'a str)>, Memory>
     requires plain { All (λ w. ¬ IsOption w) (bytes_of words.now) }
@@ -124,6 +171,17 @@ fn ran_out(error: &Error) -> bool
     ensures { IsTrue result ↔ kind_of error.now ≡ ErrorKind.OutOfMemory }
 {
     error.kind() == ErrorKind::OutOfMemory
+}
+
+// A command of one position, without options.
+fn one_position<'a>(alloc: Global) -> Result<Command<'a>, AllocError>
+    ensures { IfOk result (λ c. app_of c ≡ one_position) }
+{
+    let first = Arg::new(alloc, "first").required(true);
+    Command::new(alloc, "command")
+        .no_binary_name(true)
+        .disable_help_flag(true)
+        .arg(first)
 }
 
 // A command of two positions, without options.

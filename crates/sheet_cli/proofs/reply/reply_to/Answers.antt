@@ -12,6 +12,15 @@ pub returns-in-OfWindow-clause-nothing_fetched : goal.returns-in-OfWindow-clause
 returns-in-OfWindow-clause-nothing_fetched g c =
     λ none. absurd (none _ (subst (IsAskedBy (bytes_of c.args.words.now)) c.in-OfWindow.is c.in_ok-command.ensures))
 
+pub returns-in-OfCheck-clause-owed : goal.returns-in-OfCheck-clause-owed
+returns-in-OfCheck-clause-owed g c =
+    let asked = subst (IsAskedBy (bytes_of c.args.words.now)) c.in-OfCheck.is c.in_ok-command.ensures in
+    if_reply c.reply_of_check.result _ _ c.reply_of_check.ensures.reply (λ reply is. to_words _ _ _ _ _ reply asked (rw c.as_str-in-OfCheck.ensures.value at is))
+
+pub returns-in-OfCheck-clause-nothing_fetched : goal.returns-in-OfCheck-clause-nothing_fetched
+returns-in-OfCheck-clause-nothing_fetched g c =
+    λ none. absurd (none _ (subst (IsAskedBy (bytes_of c.args.words.now)) c.in-OfCheck.is c.in_ok-command.ensures))
+
 pub returns-in-Nothing-clause-owed : goal.returns-in-Nothing-clause-owed
 returns-in-Nothing-clause-owed g c =
     let nothing = subst (IsAskedBy (bytes_of c.args.words.now)) c.in-Nothing.is c.in_ok-command.ensures in

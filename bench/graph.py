@@ -1,0 +1,108 @@
+#!/usr/bin/env python3
+"""Times `deps` and `check` of the built program beside `show` of one cell of the same sheet, which reads and evaluates it.
+
+Run by hand: bench/graph.py [RUNS] [WORD]. A line for each sheet whose name contains WORD (all by default), with the least of RUNS
+runs each (5 by default), the commands in turn:
+
+    show      seconds of processor time of `show` of one cell
+    deps      the time of `deps A1`, divided by that
+    check     the time of `check`, divided by that
+    edges     how many edges stand for how many pairs
+    B/pair    the most memory that `check` had resident, divided by the pairs
+
+What it starts and how is that of bench/show.py.
+"""
+
+import importlib.machinery
+import importlib.util
+import os
+import pathlib
+import random
+import subprocess
+import sys
+import tempfile
+
+LOADER = importlib.machinery.SourceFileLoader("show", str(pathlib.Path(__file__).resolve().parent / "show.py"))
+SHOW = importlib.util.module_from_spec(importlib.util.spec_from_loader("show", LOADER))
+LOADER.exec_module(SHOW)
+
+
+def books(row):
+    """A booking with five formulas: the rest, the balance, the last seven, a product with the first cell, and a mark."""
+    before = f"D{row - 1}+" if row > 1 else ""
+    return f"{row % 900},{row % 700},=A{row}-B{row},={before}C{row},=SUM(B{max(row - 6, 1)}:B{row}),=A{row}*$A$1,=IF(C{row}<0;1;0)"
+
+
+def at_random(row):
+    """A formula of two references to cells drawn from 100,000 rows and 25 columns beside the first."""
+    draw = random.Random(row)
+    one, other = (f"{draw.choice(SHOW.LETTERS[1:])}{draw.randint(1, 100_000)}" for _ in range(2))
+    return f"={one}+{other}"
+
+
+def fan(count):
+    """Each cell but the first refers to that one."""
+    return SHOW.lines(count, lambda r: "=$A$1*2" if r > 1 else "1")
+
+
+def chain(count):
+    """Each cell refers to the one above it."""
+    return SHOW.lines(count, lambda r: f"=A{r - 1}+1" if r > 1 else "1")
+
+
+# What is measured: the sheet's text, and the cell that is shown.
+MEASURED = {
+    "100,000 formulas =$A$1*2": (lambda: SHOW.lines(100_000, lambda r: f"{r},=$A$1*2"), "B100000"),
+    "a chain of 100,000": (lambda: chain(100_000), "A100000"),
+    "5,000 sums =SUM($A$1:Ar)": (lambda: SHOW.lines(5_000, lambda r: f"{r},=SUM($A$1:A{r})"), "B5000"),
+    "a ledger of 50,000 rows with five formulas": (lambda: SHOW.lines(50_000, books), "G50000"),
+    "a fan of 10,000": (lambda: fan(10_000), "A10000"),
+    "a fan of 1,000,000": (lambda: fan(1_000_000), "A1000000"),
+    "a chain of 10,000": (lambda: chain(10_000), "A10000"),
+    "a chain of 1,000,000": (lambda: chain(1_000_000), "A1000000"),
+    "100,000 formulas with references drawn at random": (lambda: SHOW.lines(100_000, at_random), "A1"),
+}
+
+
+def timed(folder, *words):
+    """The time and the peak of one run."""
+    status, taken, peak = SHOW.told(SHOW.STARTER, folder, SHOW.PROGRAM, *words)
+    if status:
+        sys.exit(f"bench/graph.py: {' '.join(words)} ended with status {status}")
+    return taken, peak
+
+
+def measure(folder, cell, runs):
+    """The least times of the three commands, in as many runs, in turn, and what the last `check` says and takes."""
+    shows, deps, checks = [], [], []
+    for _ in range(runs):
+        shows.append(timed(folder, "show", "sheet.csv", cell)[0])
+        deps.append(timed(folder, "deps", "sheet.csv", "A1")[0])
+        taken, peak = timed(folder, "check", "sheet.csv")
+        checks.append(taken)
+    with open(folder / "output") as output:
+        pairs, edges = (int(output.readline().split()[1]) for _ in range(2))
+    return min(shows), min(deps), min(checks), pairs, edges, peak
+
+
+def main():
+    runs = int(sys.argv[1]) if len(sys.argv) > 1 else 5
+    word = sys.argv[2] if len(sys.argv) > 2 else ""
+    # (the launcher builds what isn't built)
+    built = subprocess.run([SHOW.ROOT / "antifreeze", "show", SHOW.ROOT / "examples" / "first.csv", "A1:B2"], stdout=subprocess.DEVNULL)
+    if built.returncode:
+        sys.exit("bench/graph.py: the program could not be built")
+    print(f"{len(os.sched_getaffinity(0))} processors, load {os.getloadavg()[0]:.1f}, least of {runs} runs each")
+    print(f"{'show':>8} {'deps':>7} {'check':>7} {'B/pair':>8}  edges of pairs")
+    with tempfile.TemporaryDirectory(prefix="antifreeze-bench-") as folder:
+        folder = pathlib.Path(folder)
+        for what, (text, cell) in MEASURED.items():
+            if word not in what:
+                continue
+            (folder / "sheet.csv").write_text(text())
+            show, deps, check, pairs, edges, peak = measure(folder, cell, runs)
+            print(f"{show:8.3f} {deps / show:7.2f} {check / show:7.2f} {peak / pairs:8.0f}  {edges:,} of {pairs:,}: {what}", flush=True)
+
+
+if __name__ == "__main__":
+    main()
