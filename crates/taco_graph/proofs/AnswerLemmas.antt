@@ -1,7 +1,8 @@
 -- Which keys have an answer, and what is added for one key after another.
-use Rattle.std.proofs.Common.{◌≡◌, ◌≢◌, ◌↔◌, ◌⊎◌, inl, inr, ℕ, zero, suc, ◌+◌, ◌<◌, List, [], ◌∷◌, ◌++◌, length, get_or, take, Option, Some, None, Contains, refl, sym, ◌∙◌, ap, subst, arith}
-use Rattle.std.proofs.lemmas.List.{append-nil, append_assoc, take_more}
-use Rattle.std.proofs.lemmas.List.Elements.{Contains-append_cases}
+use Rattle.std.proofs.Common.{◌≡◌, ◌≢◌, ◌↔◌, ◌⊎◌, inl, inr, ℕ, zero, suc, ◌+◌, ◌<◌, List, [], ◌∷◌, ◌++◌, ◌≤◌, map, length, get_or, take, Option, Some, None, Contains, refl, sym, ◌∙◌, ap, subst, arith}
+use Rattle.std.proofs.lemmas.List.{append-nil, append_assoc, get_or-map, length-append, length-map, take_more}
+use Rattle.std.proofs.lemmas.Option.{none-some}
+use Rattle.std.proofs.lemmas.List.Elements.{Contains-append_cases, Contains-append_left, Contains-push}
 use Rattle.sheet_refs.specs.Cells.{Position, Corners, IsIn}
 use Rattle.sheet_refs.specs.Rectangles.{Overlap}
 use Rattle.sheet_refs.proofs.ColumnLemmas.{none_among}
@@ -14,11 +15,14 @@ use Rattle.edge_patterns.specs.Queries.IsLedTo.{at_once as led_at_once, onward a
 use Rattle.edge_patterns.proofs.RectangleLemmas.{rectangle_has, run_asked}
 use Rattle.edge_patterns.specs.declared.edge.Pattern.{Pattern}
 use Rattle.edge_patterns.specs.declared.edge.Pattern.TheVariants.{Single, Rr, Rf, Fr, Ff, Chain}
-use Rattle.range_index.specs.Entries.{Entry, AddsOverlapping}
-use Rattle.taco_graph.specs.Stores.{edge_at, AreStored}
-use Rattle.taco_graph.specs.Answers.{IsMeant, ByPattern, IsMeantAt, NamesAnswering, AddsAnswersOf, AddsAnswers}
+use Rattle.range_index.specs.Entries.{Entry, entry_of, AddsOverlapping}
+use Rattle.taco_graph.specs.Stores.{edge_at, edges_of, AreStored, FilesAll}
+use Rattle.taco_graph.specs.Answers.{IsMeant, ByPattern, IsMeantAt, HasOneFor, NamesAnswering, AddsAnswersOf, AddsAnswers, AddsOneEach}
 use Rattle.taco_graph.specs.declared.answers.Question.{Question}
 use Rattle.taco_graph.specs.declared.answers.Question.TheVariants.{Dependents, Precedents, Ahead, Behind}
+use Rattle.slab.proofs.SlabLemmas.{Contains-cons}
+use Rattle.taco_graph.proofs.GraphLemmas.{listed_kept}
+use Rattle.taco_graph.proofs.ListLemmas.{no_longer}
 use Rattle.taco_graph.proofs.StoreLemmas.{names}
 
 -- ---- an edge with an answer overlaps the query
@@ -67,6 +71,38 @@ module _ (slots : List (Option EdgeValue)) (runs rectangles : List Entry) (query
   pub names_behind : AddsOverlapping runs query old keys → NamesAnswering slots Behind query keys
   names_behind adds key cell at = names slots (λ edge. edge.dep) runs query old keys stored.runs_filed adds key at.edge at.here (behind_overlaps at.edge query cell (edge_is key at.edge at.here) at.meant)
 
+-- ---- and it names no more than there are edges
+
+-- the keys under which edges stand
+abbrev kept_keys : List (Option EdgeValue) → List ℕ
+kept_keys [] = []
+kept_keys (None ∷ slots) = map suc (kept_keys slots)
+kept_keys (Some edge ∷ slots) = 0 ∷ map suc (kept_keys slots)
+
+as_many_keys : (slots : List (Option EdgeValue)) → length (kept_keys slots) ≡ length (edges_of slots)
+as_many_keys [] = refl
+as_many_keys (None ∷ slots) = length-map (kept_keys slots) suc ∙ as_many_keys slots
+as_many_keys (Some edge ∷ slots) = omega (arith, length-map (kept_keys slots) suc, as_many_keys slots)
+
+next_listed : (keys : List ℕ) (key : ℕ) → Contains keys key → Contains (map suc keys) (suc key)
+next_listed keys key (k, below, is) = (k, omega (arith, below, length-map keys suc), get_or-map suc keys k key (suc key) below ∙ ap suc is)
+
+key_listed : (slots : List (Option EdgeValue)) (key : ℕ) (edge : EdgeValue) → edge_at slots key ≡ Some edge → Contains (kept_keys slots) key
+key_listed [] key edge here = absurd (none-some edge here)
+key_listed (None ∷ slots) zero edge here = absurd (none-some edge here)
+key_listed (None ∷ slots) (suc key) edge here = next_listed (kept_keys slots) key (key_listed slots key edge here)
+key_listed (Some first ∷ slots) zero edge here = (0, omega arith, refl)
+key_listed (Some first ∷ slots) (suc key) edge here = Contains-cons 0 (suc key) (map suc (kept_keys slots)) (next_listed (kept_keys slots) key (key_listed slots key edge here))
+
+pub few_named : (slots : List (Option EdgeValue)) (side : EdgeValue → Corners) (entries : List Entry) (query : Corners) (old keys : List ℕ) → FilesAll slots side entries → AddsOverlapping entries query old keys → old ≡ [] → length keys ≤ length (edges_of slots)
+few_named slots side entries query old keys files adds none =
+    let all : keys ≡ adds.added = adds.whole ∙ ap (λ (l : List ℕ). l ++ adds.added) none in
+    let fewer : length adds.added ≤ length (kept_keys slots) = no_longer adds.added (kept_keys slots) adds.once there in
+    omega (arith, ap length all, fewer, as_many_keys slots)
+  where
+    there : (key : ℕ) → Contains adds.added key → Contains (kept_keys slots) key
+    there key listed = let filed = (files (entry_of key ((adds.exact key).0 listed).range)).0 ((adds.exact key).0 listed).listed in key_listed slots key filed.edge filed.here
+
 -- ---- the answer of the edge under a key
 
 pub none_at : (slots : List (Option EdgeValue)) (question : Question) (query : Corners) (key : ℕ) → edge_at slots key ≡ None → (cell : Position) → ¬ IsMeantAt slots question query key cell
@@ -91,6 +127,8 @@ module _ (slots : List (Option EdgeValue)) (question : Question) (query : Corner
     whole = sym (append-nil old);
     all = λ key cell listed at. absurd (omega (arith, listed.1));
     only = λ cell among. absurd (none_among cell among);
+    few = omega arith;
+    each = λ key cell listed at. absurd (omega (arith, listed.1));
   }
 
   only_key : (last key : ℕ) → Contains (last ∷ []) key → key ≡ last
@@ -106,7 +144,15 @@ module _ (slots : List (Option EdgeValue)) (question : Question) (query : Corner
       | inr one ↦ absurd (silent cell (subst (λ (i : ℕ). IsMeantAt slots question query i cell) (only_key key k one) at))
     ];
     only = adds.only;
+    few = omega (arith, adds.few, length-append keys (key ∷ []));
+    each = λ k cell listed at. elim (Contains-append_cases keys (key ∷ []) k listed) [
+      | inl before ↦ adds.each k cell before at
+      | inr one ↦ absurd (silent cell (subst (λ (i : ℕ). IsMeantAt slots question query i cell) (only_key key k one) at))
+    ];
   }
+
+  one_more : (added : List Corners) (range : Corners) (meant : Position → Type 0) → HasOneFor added meant → HasOneFor (added ++ range ∷ []) meant
+  one_more added range meant one = record { range = one.range; listed = Contains-append_left added (range ∷ []) one.range one.listed; exact = one.exact }
 
   pub adds_range : (keys : List ℕ) (key : ℕ) (old new newer : List Corners) (range : Corners) → newer ≡ new ++ range ∷ [] → ((cell : Position) → IsIn cell range ↔ IsMeantAt slots question query key cell) → AddsAnswersOf slots question query keys old new → AddsAnswersOf slots question query (keys ++ key ∷ []) old newer
   adds_range keys key old new newer range pushed exact adds = record {
@@ -120,6 +166,13 @@ module _ (slots : List (Option EdgeValue)) (question : Question) (query : Corner
       | inl before ↦ adds.only cell before
       | inr inside ↦ (key, (exact cell).0 inside)
     ];
+    few = omega (arith, adds.few, length-append keys (key ∷ []), length-append adds.added (range ∷ []));
+    each = λ k cell listed at. elim (Contains-append_cases keys (key ∷ []) k listed) [
+      | inl before ↦ one_more adds.added range (IsMeantAt slots question query k) (adds.each k cell before at)
+      | inr one ↦
+          subst (λ (i : ℕ). HasOneFor (adds.added ++ range ∷ []) (IsMeantAt slots question query i)) (sym (only_key key k one))
+          (record { range = range; listed = Contains-push adds.added range; exact = exact })
+    ];
   }
 
   pub adds_all : (keys : List ℕ) (old new : List Corners) → NamesAnswering slots question query keys → AddsAnswersOf slots question query keys old new → AddsAnswers slots question query old new
@@ -128,6 +181,31 @@ module _ (slots : List (Option EdgeValue)) (question : Question) (query : Corner
     whole = adds.whole;
     all = λ cell (key, at). adds.all key cell (named key cell at) at;
     only = adds.only;
+  }
+
+  -- what an edge answers under its key
+  at_key : (key : ℕ) (edge : EdgeValue) (cell : Position) → edge_at slots key ≡ Some edge → IsMeantAt slots question query key cell ↔ IsMeant question edge query cell
+  at_key key edge cell here = (
+    λ at.
+        let same : at.edge ≡ edge = (let both : Some at.edge ≡ Some edge = sym at.here ∙ here in cc) in
+        subst (λ (e : EdgeValue). IsMeant question e query cell) same at.meant,
+    λ meant. record { edge = edge; here = here; meant = meant },
+  )
+
+  pub adds_one_each : (keys : List ℕ) (old new : List Corners) → NamesAnswering slots question query keys → length keys ≤ length (edges_of slots) → AddsAnswersOf slots question query keys old new → AddsOneEach (edges_of slots) (λ edge. IsMeant question edge query) old new
+  adds_one_each keys old new named few adds = record {
+    added = adds.added;
+    whole = adds.whole;
+    few = omega (arith, few, adds.few);
+    each = λ edge cell listed meant.
+        let kept = listed_kept slots edge listed in
+        let at = (at_key kept.key edge cell kept.here).1 meant in
+        let one = adds.each kept.key cell (named kept.key cell at) at in
+        record {
+          range = one.range;
+          listed = one.listed;
+          exact = λ c. (λ inside. (at_key kept.key edge c kept.here).0 ((one.exact c).0 inside), λ is. (one.exact c).1 ((at_key kept.key edge c kept.here).1 is));
+        };
   }
 
   pub adds_keep : (keys : List ℕ) (old new : List Corners) → AddsAnswersOf slots question query keys old new → Keeps old new

@@ -2,7 +2,7 @@
 ghost use Rattle.std.specs.Prelude.{◌≡◌, ◌+◌, ◌≤◌, None, IsSome, IfSome, IfOk, OnOk};
 ghost use Rattle.taco_graph.specs.Stores.{edge_at, edges_of, AreEdges, IsApart, Puts, Gains, LeavesApart};
 ghost use Rattle.edge_patterns.specs.Queries.{Covers};
-ghost use Rattle.taco_graph.specs.Answers.{NamesAnswering, IsMeantAt, AddsAnswers};
+ghost use Rattle.taco_graph.specs.Answers.{NamesAnswering, IsMeant, IsMeantAt, AddsAnswers, AddsOneEach};
 ghost use Rattle.graph_walk.specs.Graphs.{Keeps};
 
 use crate::answers::{Question, answer};
@@ -126,7 +126,8 @@ impl<I: RangeIndex> EdgeStore<I> {
 
     // The keys of the edges that have an answer.
     fn keys_for(&self, question: Question, q: Range) -> Result<Vec<usize>, Memory>
-        ensures { IfOk result (λ keys. NamesAnswering self.now.slots question q keys.items) }
+        ensures named { IfOk result (λ keys. NamesAnswering self.now.slots question q keys.items) }
+        ensures few { IfOk result (λ keys. length keys.items ≤ length (edges_of self.now.slots)) }
     {
         let mut keys = Vec::new(self.alloc);
         match question {
@@ -157,6 +158,8 @@ impl<I: RangeIndex> EdgeStore<I> {
     ) -> Result<(), Memory>
         ensures found { OnOk result
             (AddsAnswers self.now.slots question q out.old.items out.new.items) }
+        ensures each { OnOk result (AddsOneEach (edges_of self.now.slots)
+            (λ edge. IsMeant question edge q) out.old.items out.new.items) }
         ensures kept { Keeps out.old.items out.new.items }
     {
         let keys = self.keys_for(question, q)?;

@@ -77,25 +77,54 @@ impl<I: RangeIndex> Taco<I> {
 }
 
 impl<I: RangeIndex> Graph for Taco<I> {
+    ghost use Rattle.std.specs.Prelude.{OnOk};
+    ghost use Rattle.edge_patterns.specs.Queries.{IsDirect, IsReferred};
+    ghost use Rattle.graph_walk.specs.Graphs.{AddsDirectDependents, AddsDirectPrecedents};
+    ghost use Rattle.graph_walk.specs.Graphs.{AddsAhead, AddsBehind, Keeps};
+    ghost use Rattle.taco_graph.specs.Answers.{AddsOneEach, ahead_of, behind_of};
     ghost use Rattle.taco_graph.specs.Pairs.{pairs_of};
 
     ghost pairs = { λ t. pairs_of t.edges };
 
     ghost spare = { λ t. t.spare };
 
-    fn direct_dependents(&self, q: Range, out: &mut Vec<Range>) -> Result<(), Memory> {
+    fn direct_dependents(&self, q: Range, out: &mut Vec<Range>) -> Result<(), Memory>
+        ensures found { OnOk result
+            (AddsDirectDependents (pairs_of self.now.edges) q out.old.items out.new.items) }
+        ensures kept { Keeps out.old.items out.new.items }
+        ensures each { OnOk result
+            (AddsOneEach self.now.edges (λ edge. IsDirect edge q) out.old.items out.new.items) }
+    {
         self.store.ask(Question::Dependents, q, out)
     }
 
-    fn direct_precedents(&self, q: Range, out: &mut Vec<Range>) -> Result<(), Memory> {
+    fn direct_precedents(&self, q: Range, out: &mut Vec<Range>) -> Result<(), Memory>
+        ensures found { OnOk result
+            (AddsDirectPrecedents (pairs_of self.now.edges) q out.old.items out.new.items) }
+        ensures kept { Keeps out.old.items out.new.items }
+        ensures each { OnOk result
+            (AddsOneEach self.now.edges (λ edge. IsReferred edge q) out.old.items out.new.items) }
+    {
         self.store.ask(Question::Precedents, q, out)
     }
 
-    fn ahead(&self, q: Range, out: &mut Vec<Range>) -> Result<(), Memory> {
+    fn ahead(&self, q: Range, out: &mut Vec<Range>) -> Result<(), Memory>
+        ensures found { OnOk result
+            (AddsAhead (pairs_of self.now.edges) q out.old.items out.new.items) }
+        ensures kept { Keeps out.old.items out.new.items }
+        ensures each { OnOk result
+            (AddsOneEach self.now.edges (ahead_of q) out.old.items out.new.items) }
+    {
         self.store.ask(Question::Ahead, q, out)
     }
 
-    fn behind(&self, q: Range, out: &mut Vec<Range>) -> Result<(), Memory> {
+    fn behind(&self, q: Range, out: &mut Vec<Range>) -> Result<(), Memory>
+        ensures found { OnOk result
+            (AddsBehind (pairs_of self.now.edges) q out.old.items out.new.items) }
+        ensures kept { Keeps out.old.items out.new.items }
+        ensures each { OnOk result
+            (AddsOneEach self.now.edges (behind_of q) out.old.items out.new.items) }
+    {
         self.store.ask(Question::Behind, q, out)
     }
 

@@ -1,7 +1,9 @@
 use Rattle.std.proofs.Common.{◌≡◌, ◌+◌, ◌++◌, ◌∷◌, [], ℕ, List, get_or, take, sym, subst}
 use Rattle.std.proofs.lemmas.List.{take_all, take_more}
 use Rattle.taco_graph.specs.Answers.{AddsAnswersOf, NamesAnswering}
-use Rattle.taco_graph.proofs.AnswerLemmas.{adds_silent, adds_range, adds_all, adds_none}
+use Rattle.std.specs.Prelude.{◌≤◌, length}
+use Rattle.taco_graph.specs.Stores.{edges_of}
+use Rattle.taco_graph.proofs.AnswerLemmas.{adds_silent, adds_range, adds_all, adds_none, adds_one_each}
 use Rattle.taco_graph.proofs.store.EdgeStore.ask.Goals as goal
 use Rattle.taco_graph.proofs.store.EdgeStore.ask.Goals.{in-Some+in_ok-push, in_default}
 
@@ -32,6 +34,18 @@ returns-clause-found g c =
     let q = c.args.q in
     let keys : List ℕ = c.deref-key-items.result.now in
     let all : take c.loop-key.key-index keys ≡ keys = take_all c.loop-key.key-index keys c.loop-key-test.false in
-    let named : NamesAnswering slots question q keys = subst (λ (ks : List ℕ). NamesAnswering slots question q ks) (sym c.deref-key-items.ensures.value) c.in_ok-keys.ensures in
+    let named : NamesAnswering slots question q keys = subst (λ (ks : List ℕ). NamesAnswering slots question q ks) (sym c.deref-key-items.ensures.value) c.in_ok-keys.ensures.named in
     adds_all slots question q keys c.args.out.now.items c.loop-key.out.items named
+    (subst (λ (ks : List ℕ). AddsAnswersOf slots question q ks c.args.out.now.items c.loop-key.out.items) all c.loop-key.invariant)
+
+pub returns-clause-each : goal.returns-clause-each
+returns-clause-each g c =
+    let slots = c.args.self.now.slots in
+    let question = c.args.question in
+    let q = c.args.q in
+    let keys : List ℕ = c.deref-key-items.result.now in
+    let all : take c.loop-key.key-index keys ≡ keys = take_all c.loop-key.key-index keys c.loop-key-test.false in
+    let named : NamesAnswering slots question q keys = subst (λ (ks : List ℕ). NamesAnswering slots question q ks) (sym c.deref-key-items.ensures.value) c.in_ok-keys.ensures.named in
+    let few : length keys ≤ length (edges_of slots) = subst (λ (ks : List ℕ). length ks ≤ length (edges_of slots)) (sym c.deref-key-items.ensures.value) c.in_ok-keys.ensures.few in
+    adds_one_each slots question q keys c.args.out.now.items c.loop-key.out.items named few
     (subst (λ (ks : List ℕ). AddsAnswersOf slots question q ks c.args.out.now.items c.loop-key.out.items) all c.loop-key.invariant)

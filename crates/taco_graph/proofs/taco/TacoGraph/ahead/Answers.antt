@@ -5,6 +5,8 @@ use Rattle.graph_walk.specs.Graphs.{Adds, IsDirectDependent, IsDependent}
 use Rattle.taco_graph.specs.Pairs.{pairs_of}
 use Rattle.taco_graph.specs.Stores.{edges_of}
 use Rattle.taco_graph.specs.Taco.{TacoValue}
+use Rattle.taco_graph.specs.Answers.{AddsOneEach, IsMeant}
+use Rattle.taco_graph.specs.declared.answers.Question.TheVariants.{Ahead}
 use Rattle.taco_graph.proofs.GraphLemmas.{owes_ahead}
 use Rattle.taco_graph.proofs.taco.TacoGraph.ahead.Goals as goal
 
@@ -17,3 +19,8 @@ returns-clause-found g c =
     let edges : edges_of slots ≡ c.args.self.now.edges = ap (λ (t : TacoValue). t.edges) c.self.view_is in
     subst (λ (es : List EdgeValue). OnOk c.ask.result (Adds old new (IsDirectDependent (pairs_of es) q) (IsDependent (pairs_of es) q))) edges
     (owes_ahead c.ask.result slots q old new c.ask.ensures.found)
+
+pub returns-clause-each : goal.returns-clause-each
+returns-clause-each g c =
+    let edges : edges_of c.self.inside.store.slots ≡ c.args.self.now.edges = ap (λ (t : TacoValue). t.edges) c.self.view_is in
+    subst (λ (es : List EdgeValue). OnOk c.ask.result (AddsOneEach es (λ edge. IsMeant Ahead edge c.args.q) c.args.out.now.items c.ask.new.out.items)) edges c.ask.ensures.each
