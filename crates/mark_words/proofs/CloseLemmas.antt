@@ -86,8 +86,8 @@ number_of {X} {V} f g (n ∷ numbers) (x ∷ xs) y same among =
       | inr old ↦ number_of f g numbers xs y (ap (λ (l : List V). tail_of l) same) old
     ]
 
--- The editor's seat while the others are handed in to it: it knows what it knew at first, and the views of those that are
--- still to be handed in stand before those that were.
+-- The editor's seat while the others are handed in to it: it knows what it knew at first, and the views of those that
+-- are still to be handed in stand before those that were.
 pub record IsHanding {S E : Type 0} {G : Ghosts S E} (table : TableId) (first : Doing S E) (start : List (Seat S E G)) (all : TableSeat E (Doing S E)) (others : List (Seat S E G)) : Type 0 where
   pub same_table : all.table_id ≡ table
   pub bare : all.me.1 ≡ []
@@ -139,6 +139,7 @@ module _ {S E : Type 0} {G : Ghosts S E} (places : S → ℕ) (worth : S → Lis
           events = kept.events;
           run = kept.run;
           honest = honest;
+          sized = omega (arith, about, honest.count, kept.right.count);
           same_places = λ place there.
               ap (λ ws. shown_place ws place) (sym is ∙ kept.words)
               ∙ shown_same (length core.edits.log) core.places place

@@ -1,5 +1,5 @@
 -- What a closed table shows.
-use Rattle.std.specs.Prelude.{◌≡◌, ◌<◌, ℕ, List, ◌∷◌, Some, map, Contains}
+use Rattle.std.specs.Prelude.{◌≡◌, ◌<◌, ℕ, List, ◌∷◌, Some, map, length, Contains}
 use Rattle.mark_core.specs.declared.words.Finished.{Finished}
 use Rattle.mark_core.specs.Place.{place_at}
 use Rattle.mark_core.specs.Mark.{IsPrefix}
@@ -16,9 +16,9 @@ use Rattle.mark_words.specs.declared.closing.Kept.{Kept}
 use Rattle.mark_words.specs.Rule.{AreApart}
 use Rattle.mark_words.specs.Token.{subject_of, topic_of, places_of, view_of, log_of, edits_of, closed_places, closed_place, closed_log}
 
--- Events of the core have led from the opening state to one with these words, with the editor's edits, and with the views
--- of all seats that were handed in, no two of which are one view of it. So it is honest. It may have further views, of
--- seats that were dropped.
+-- Events of the core have led from the opening state to one with these words, with the editor's edits, and with the
+-- views of all seats that were handed in, no two of which are one view of it. So it is honest. It may have further
+-- views, of seats that were dropped.
 pub record HasClosed {S E : Type 0} {G : Ghosts S E} (places : S → ℕ) (worth : S → List E → ℕ → ℕ) (touches : S → List E → E → ℕ → Type 0) (marks : Marks S E) (editor : Seat S E G) (others : List (Seat S E G)) (words : Words S E G) : Type 0 where
   pub same_count : closed_places words ≡ places_of marks
   pub same_log : closed_log words ≡ log_of editor
@@ -26,6 +26,7 @@ pub record HasClosed {S E : Type 0} {G : Ghosts S E} (places : S → ℕ) (worth
   pub events : List (Event E)
   pub run : Runs (worth (subject_of marks)) (touches (subject_of marks)) (opening_state (topic_of marks).opening.value.items) events core
   pub honest : IsHonest (places (subject_of marks)) (worth (subject_of marks)) (touches (subject_of marks)) (IsCodeless (topic_of marks).opening.value.items) core
+  pub sized : length core.places ≡ closed_places words
   pub same_places : (place : ℕ) → place < closed_places words → closed_place words place ≡ place_at core.places place
   pub edits : core.edits ≡ edits_of editor
   pub log : core.edits.log ≡ closed_log words

@@ -20,7 +20,8 @@ pub record KnowsAll {S E : Type 0} (doing : Doing S E) : Type 0 where
   pub seen : doing.editor ≡ true → doing.view.seen ≡ length doing.view.log
   pub number : doing.editor ≡ true → IsSome doing.edits.pending → length doing.view.log < 1048576
 
--- What a seat knows fits in words: its log has at most 1,048,576 entries, and the clean words that it read come from words.
+-- What a seat knows fits in words: its log has at most 1,048,576 entries, and the clean words that it read come from
+-- words.
 pub record FitsWords {S E : Type 0} (doing : Doing S E) : Type 0 where
   pub log : length doing.view.log ≤ 1048576
   pub half : (half : Half) → doing.view.half ≡ Some half → half.clean.upto < 2 ^ 63

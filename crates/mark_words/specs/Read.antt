@@ -54,7 +54,8 @@ Ends before place mark after =
 abbrev pub Tells : {S E : Type 0} → (List E → ℕ → ℕ) → (List E → E → ℕ → Type 0) → Doing S E → ℕ → ℕ → Type 0
 Tells worth touches before place mark = OfItsRead before place (λ half. TellsOf worth touches before.view half mark)
 
--- where it read a word that was computed for the mark, and the mark is within the log, the seat knows the place as clean
+-- where it read a word that was computed for the mark, and the mark is within the log, the seat knows the place as
+-- clean
 abbrev pub LearnsClean : {S E : Type 0} → (List E → E → ℕ → Type 0) → Doing S E → ℕ → ℕ → Doing S E → Type 0
 LearnsClean touches before place mark after =
     OfItsRead before place (λ half. ((word : ℕ) → half.word ≡ Some word → half.clean.upto ≡ mark + 1 → mark ≤ length before.view.log

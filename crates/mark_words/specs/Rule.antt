@@ -61,8 +61,9 @@ NameSubject {S} {E} subject seats =
     (seat : ℕ) (doing : Doing S E) → get_elem? seats seat ≡ some doing → doing.view.spent ≡ false
     → doing.subject ≡ Some subject
 
--- The table is that of a run of the core: events have happened from the opening state on, each allowed where it happened,
--- and have led to a state whose words are those of the table and whose views are its seats'. So that state is honest.
+-- The table is that of a run of the core: events have happened from the opening state on, each allowed where it
+-- happened, and have led to a state whose words are those of the table and whose views are its seats'. So that state
+-- is honest.
 pub record IsKept {S E : Type 0} (subject : S) (places : ℕ) (worth : List E → ℕ → ℕ) (touches : List E → E → ℕ → Type 0) (opening : List (Option ℕ)) (t : TableState E (Doing S E)) : Type 0 where
   pub right : IsOpening places worth opening
   pub core : State E

@@ -37,8 +37,8 @@ pub record IsPair {S E : Type 0} {G : Ghosts S E} (marks : Marks S E) (pair : Se
   pub viewer : IsSeatOf marks pair.0
   pub relay : KnowsMany marks pair.1 count
 
--- The seat has read the place in three loads: the floor was above each mark for which it knew the place as computed, the
--- read tells what it should, and nothing else of what the seat knew has gone.
+-- The seat has read the place in three loads: the floor was above each mark for which it knew the place as computed,
+-- the read tells what it should, and nothing else of what the seat knew has gone.
 pub record HasRead {S E : Type 0} (worth : List E → ℕ → ℕ) (touches : List E → E → ℕ → Type 0) (before : Doing S E) (place : ℕ) (clean : Clean) (word mark : ℕ) (after : Doing S E) : Type 0 where
   pub half : Half
   pub same_place : half.place ≡ place

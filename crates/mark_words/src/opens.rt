@@ -14,8 +14,8 @@ use std::alloc::{AllocError, Global};
 use std::snapshot::Snapshot;
 
 impl<S: Subject> Marks<S> {
-    /// The words of a new table, and the editor's seat. Each place has the code that `opening` gives, or none. One step
-    /// for each place. After `Memory` the subject is dropped.
+    /// The words of a new table, and the editor's seat. Each place has the code that `opening` gives, or none: then its
+    /// value is 0, computed for no mark. One step for each place. After `Memory` the subject is dropped.
     pub fn open(
         alloc: Global,
         subject: S,
@@ -23,7 +23,7 @@ impl<S: Subject> Marks<S> {
     ) -> Result<(Marks<S>, Seat<S>), Memory>
         requires few { length opening.now ≤ 1048576 }
         requires right { IsOpening (S.places subject) (S.worth subject) opening.now }
-        ensures { IfOk result (λ r. HasOpened subject opening.now r.0 r.1) }
+        ensures { IfOk result (λ r. HasOpened S.places subject opening.now r.0 r.1) }
     {
         let codes = Vec::from_slice(alloc, opening)?;
         let words = first_words(alloc, opening)?;
