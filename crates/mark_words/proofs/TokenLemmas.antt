@@ -1,29 +1,27 @@
 -- What a seat's facts ask of a step that leaves the log, the count and what the editor knows.
-use Rattle.std.proofs.Common.{◌≡◌, ◌<◌, ◌+◌, ◌*◌, ◌==◌, ◌/◌, ◌^◌, ℕ, List, [], ◌∷◌, Option, Some, None, length, refl, sym, ◌∙◌, ap, subst, inl, inr, arith}
-use Rattle.std.specs.Prelude.{All, IsSome}
-use Rattle.std.proofs.lemmas.List.Elements.{All-push}
-use Rattle.std.proofs.lemmas.Bool.{cases_eq, cond_both}
+use Rattle.std.proofs.Common.{◌≡◌, ◌<◌, ◌==◌, ◌/◌, ◌^◌, ℕ, List, [], ◌∷◌, Option, Some, None, length, refl, sym, ◌∙◌, ap, subst, arith}
+use Rattle.std.specs.Prelude.{All, Contains, IsSome}
+use Rattle.std.proofs.lemmas.List.Elements.{All-push, Contains-push}
+use Rattle.std.proofs.lemmas.Bool.{cond_both}
 use Rattle.std.proofs.lemmas.Option.{none-some, same_Some}
-use Rattle.atomic_table.specs.Table.{Me, Step}
 use Rattle.mark_core.specs.declared.words.Clean.{Clean}
 use Rattle.mark_core.specs.declared.words.Half.{Half}
 use Rattle.mark_core.specs.declared.words.Finished.{Finished}
-use Rattle.mark_core.specs.declared.words.Held.{Held}
-use Rattle.mark_core.specs.declared.words.Known.{Known}
-use Rattle.mark_core.specs.declared.words.Lost.{Lost}
 use Rattle.mark_core.specs.declared.events.Outcome.TheVariants.{Done}
 use Rattle.mark_core.specs.declared.actors.Edits.{Edits}
 use Rattle.mark_core.specs.declared.actors.View.{View}
 use Rattle.mark_core.specs.State.{State}
-use Rattle.mark_core.specs.View.{new_half, read_of, with_word, with_half, with_value, with_read_end, with_hold, with_loss, with_put, without_hold}
+use Rattle.mark_core.specs.View.{new_half, read_of, with_word, with_half, with_value, with_read_end}
 use Rattle.mark_core.specs.Growth.{BeginsRead}
+use Rattle.mark_core.specs.Knows.{KnowsClean}
+use Rattle.mark_core.specs.Mark.{IsLastMark}
 use Rattle.mark_core.proofs.ReadLaws.{begins_right}
 use Rattle.mark_words.specs.declared.board.Doing.{Doing}
 use Rattle.mark_words.specs.declared.seats.Desk.{Desk}
 use Rattle.mark_words.specs.Words.{clean_at}
-use Rattle.mark_words.specs.Doing.{no_edits, with_clean_read, with_value_read, with_mark_read, with_claim, with_refusal, with_word_put, with_finish}
+use Rattle.mark_words.specs.Doing.{no_edits, with_clean_read, with_value_read, with_mark_read, with_finish}
 use Rattle.mark_words.specs.Desk.{HasDesk, KnowsAll, FitsWords}
-use Rattle.mark_words.specs.Plays.{TriedClaim}
+use Rattle.mark_words.specs.Plays.{KeepsRest}
 use Rattle.mark_words.proofs.ReadSteps.{read_end_cases}
 
 -- the begun read and the finished ones come from words
@@ -85,13 +83,6 @@ quiet_view : {S E : Type 0} (before : Doing S E) (view : View (List E)) → view
 quiet_view before view spent log seen fits =
     record { subject = refl; editor = refl; edits = refl; marks = refl; spent = spent; log = log; seen = seen; fits = fits }
 
--- and one of what it holds and has done
-quiet_work : {S E : Type 0} (before : Doing S E) (holds : List Held) (known done : List Known) (lost : List Lost)
-    → IsQuiet before (record before { view = record before.view { holds = holds; known = known; done = done; lost = lost } })
-quiet_work before holds known done lost =
-    quiet_view before (record before.view { holds = holds; known = known; done = done; lost = lost }) refl refl refl
-    (λ was. record { half = was.half; reads = was.reads })
-
 module _ {S E : Type 0} (before after : Doing S E) (place : ℕ) where
   pub quiet_clean_read : (found : ℕ) → found < 2 ^ 64 → after ≡ with_clean_read before place (clean_at found) → IsQuiet before after
   quiet_clean_read found fits made =
@@ -127,29 +118,44 @@ module _ {S E : Type 0} (before after : Doing S E) (place : ℕ) where
             All-push (λ (read : Finished). read.clean.upto < 2 ^ 63) before.view.reads (read_of before.view.seen half mark) was.reads (was.half half begun);
       })))
 
-  pub quiet_claim : (step : Step E) (me me' : Me E (Doing S E)) (found : ℕ) → before ≡ me.0 → after ≡ me'.0 → TriedClaim step me found me' → step.word ≡ 3 * place + 2 → IsQuiet before after
-  quiet_claim step me me' found is is' tried word =
-      elim (cases_eq found step.first) [
-        | inl same ↦
-            let made : after ≡ with_claim before place = is' ∙ tried.taken place word same ∙ ap (λ (d : Doing S E). with_claim d place) (sym is) in
-            subst (λ (d : Doing S E). IsQuiet before d) (sym made)
-            (quiet_work before (with_hold before.view place).holds before.view.known before.view.done before.view.lost)
-        | inr differs ↦
-            let made : after ≡ with_refusal before place (clean_at found) =
-            is' ∙ tried.refused place word differs ∙ ap (λ (d : Doing S E). with_refusal d place (clean_at found)) (sym is) in
-            subst (λ (d : Doing S E). IsQuiet before d) (sym made)
-            (quiet_work before before.view.holds before.view.known before.view.done (with_loss before.view place (clean_at found)).lost)
-      ]
+-- a step that leaves the rest of what the seat knew
+module _ {S E : Type 0} (before after : Doing S E) (rest : KeepsRest before after) where
+  rest_quiet : IsQuiet before after
+  rest_quiet =
+      record {
+        subject = rest.subject;
+        editor = rest.editor;
+        edits = rest.edits;
+        marks = rest.marks;
+        spent = rest.spent;
+        log = rest.log;
+        seen = rest.seen;
+        fits = λ was.
+            record {
+              half = λ half is. was.half half (sym rest.half ∙ is);
+              reads = subst (λ (l : List Finished). All (λ (read : Finished). read.clean.upto < 2 ^ 63) l) (sym rest.reads) was.reads;
+            };
+      }
 
-  pub quiet_put : (word : ℕ) → after ≡ with_word_put before place word → IsQuiet before after
-  quiet_put word made =
-      subst (λ (d : Doing S E). IsQuiet before d) (sym made)
-      (quiet_work before (with_put before.view place word).holds before.view.known before.view.done before.view.lost)
+  pub rest_desk : (words words' : ℕ) (found : Option Desk) → words' ≡ words → HasDesk words before found → HasDesk words' after found
+  rest_desk = quiet_desk before after rest_quiet
 
-  pub quiet_finish : (mark : ℕ) → after ≡ with_finish before place mark → IsQuiet before after
-  quiet_finish mark made =
-      subst (λ (d : Doing S E). IsQuiet before d) (sym made)
-      (let given : View (List E) = without_hold before.view place mark in quiet_work before given.holds given.known given.done before.view.lost)
+  pub rest_knows : KnowsAll before → KnowsAll after
+  rest_knows = quiet_knows before after rest_quiet
+
+  pub rest_fits : FitsWords before → FitsWords after
+  rest_fits = quiet_fits before after rest_quiet
+
+-- a finished place is known as clean
+pub finish_clean : {S E : Type 0} (touches : List E → E → ℕ → Type 0) (log : List E) (before after : Doing S E) (place mark : ℕ)
+    → after ≡ with_finish before place mark → IsLastMark touches log place mark → KnowsClean touches log after.view place mark
+finish_clean {S} {E} touches log before after place mark made last =
+    record {
+      known =
+          subst (λ (d : Doing S E). Contains d.view.known (record { place = place; mark = mark })) (sym made)
+          (Contains-push before.view.known (record { place = place; mark = mark }));
+      last = last;
+    }
 
 -- a read that begins, whatever clean word it found
 pub begins : {E : Type 0} (view : View (List E)) (place : ℕ) (clean : Clean) → BeginsRead view place (new_half view place clean)

@@ -57,10 +57,23 @@ pub record EndedRead {S E : Type 0} (worth : S → List E → ℕ → ℕ) (touc
       → Tells (worth subject) (touches subject) before.0 place found
   pub editor : before.0.editor ≡ true → before.0.edits.pending ≡ None → found ≤ length before.0.view.log
 
+-- of what the seat knew, all stays but what it holds, what it knows as computed, and what it has done and lost
+pub record KeepsRest {S E : Type 0} (before after : Doing S E) : Type 0 where
+  pub subject : after.subject ≡ before.subject
+  pub editor : after.editor ≡ before.editor
+  pub edits : after.edits ≡ before.edits
+  pub marks : after.marks ≡ before.marks
+  pub spent : after.view.spent ≡ before.view.spent
+  pub log : after.view.log ≡ before.view.log
+  pub seen : after.view.seen ≡ before.view.seen
+  pub half : after.view.half ≡ before.view.half
+  pub reads : after.view.reads ≡ before.view.reads
+
 -- the seat holds the place of the word where it found the word that it expected, and has noted the clean word where it
 -- found another
 pub record TriedClaim {S E : Type 0} (step : Step E) (before : Me E (Doing S E)) (found : ℕ) (after : Me E (Doing S E)) : Type 0 where
   pub slots : after.1 ≡ before.1
+  pub rest : KeepsRest before.0 after.0
   pub taken : (place : ℕ) → step.word ≡ 3 * place + 2 → found ≡ step.first → after.0 ≡ with_claim before.0 place
   pub refused :
       (place : ℕ) → step.word ≡ 3 * place + 2 → found ≢ step.first → after.0 ≡ with_refusal before.0 place (clean_at found)
@@ -68,9 +81,11 @@ pub record TriedClaim {S E : Type 0} (step : Step E) (before : Me E (Doing S E))
 -- the seat has put the word that it stored in the place of the word
 pub record PutWord {S E : Type 0} (step : Step E) (before : Me E (Doing S E)) (found : ℕ) (after : Me E (Doing S E)) : Type 0 where
   pub slots : after.1 ≡ before.1
+  pub rest : KeepsRest before.0 after.0
   pub doing : (place : ℕ) → step.word ≡ 3 * place + 3 → after.0 ≡ with_word_put before.0 place step.first
 
 -- the seat has given the place of the word back, as computed for the mark that it stored
 pub record GaveBack {S E : Type 0} (step : Step E) (before : Me E (Doing S E)) (found : ℕ) (after : Me E (Doing S E)) : Type 0 where
   pub slots : after.1 ≡ before.1
+  pub rest : KeepsRest before.0 after.0
   pub doing : (place mark : ℕ) → step.word ≡ 3 * place + 2 → step.first ≡ 2 * (mark + 1) → after.0 ≡ with_finish before.0 place mark
