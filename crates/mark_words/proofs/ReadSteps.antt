@@ -34,7 +34,7 @@ use Rattle.mark_words.specs.Read.{IsWorthAfter, TellsOf, GoesOn, Ends, LearnsCle
 use Rattle.mark_words.proofs.Boards.{clean_word, value_word, mark_word, clean_at-code_of}
 use Rattle.mark_words.proofs.RunLemmas.{honest_state}
 use Rattle.mark_words.proofs.SeeSteps.{same_view}
-use Rattle.mark_words.proofs.ViewSteps.{view_step}
+use Rattle.mark_words.proofs.ViewSteps.{keeps_rest, view_step}
 
 -- a list that is no longer with more at its end
 no_more : {X : Type 0} (xs ys : List X) → length (xs ++ ys) ≡ length xs → ys ≡ []
@@ -165,7 +165,7 @@ module _ {S E : Type 0} (subject : S) (places : ℕ) (worth : List E → ℕ →
             (ap (λ (v : View (List E)). slice_set core.views id (with_half v place (place_at core.places place).clean)) same
             ∙ ap (λ c. slice_set core.views id (with_half me.0.view place c)) (sym is))
             refl,
-        record { slots = refl; doing = λ place' word'. ap (λ p. with_clean_read me.0 p (clean_at found)) (omega (arith, word, word')) },
+        record { slots = refl; rest = keeps_rest me.0 _ refl refl refl; doing = λ place' word'. ap (λ p. with_clean_read me.0 p (clean_at found)) (omega (arith, word, word')) },
       )
 
   pub reads_value : step.word ≡ 3 * place + 3
@@ -188,7 +188,7 @@ module _ {S E : Type 0} (subject : S) (places : ℕ) (worth : List E → ℕ →
             (ap (λ (v : View (List E)). slice_set core.views id (with_value v place (place_at core.places place).value)) same
             ∙ ap (λ w. slice_set core.views id (with_value me.0.view place w)) (sym is))
             refl,
-        record { slots = refl; doing = λ place' word'. ap (λ p. with_value_read me.0 p found) (omega (arith, word, word')) },
+        record { slots = refl; rest = keeps_rest me.0 _ refl refl refl; doing = λ place' word'. ap (λ p. with_value_read me.0 p found) (omega (arith, word, word')) },
       )
 
 -- the load of the mark speaks of the subject that the seat names
@@ -220,6 +220,11 @@ module _ {S E : Type 0} (subject : S) (places : S → ℕ) (worth : S → List E
             (read_end_cases (λ (v : View (List E)). v.log ≡ me.0.view.log) me.0.view me.0.view.half place found refl (λ half begun at'. refl)),
         record {
           slots = refl;
+          rest =
+              keeps_rest me.0 (with_read_end me.0.view place found)
+              (read_end_cases (λ (v : View (List E)). v.spent ≡ me.0.view.spent) me.0.view me.0.view.half place found refl (λ half begun at'. refl))
+              (read_end_cases (λ (v : View (List E)). v.log ≡ me.0.view.log) me.0.view me.0.view.half place found refl (λ half begun at'. refl))
+              (read_end_cases (λ (v : View (List E)). v.seen ≡ me.0.view.seen) me.0.view me.0.view.half place found refl (λ half begun at'. refl));
           doing = λ place' word'. ap (λ p. with_mark_read me.0 p found) (here place' word');
           within = subst (λ (v : View (List E)). length v.log ≤ v.seen) same seen;
           tells = λ place' subject' word' named half begun of.

@@ -14,8 +14,14 @@ use Rattle.mark_core.specs.Step.{Happens}
 use Rattle.mark_words.specs.declared.board.Doing.{Doing}
 use Rattle.mark_words.specs.Words.{words_of_state}
 use Rattle.mark_words.specs.Rule.{IsRightSeat, IsKept}
+use Rattle.mark_words.specs.Plays.{KeepsRest}
 use Rattle.mark_words.proofs.Boards.{seat_stays, seat_changes, subject_set}
 use Rattle.mark_words.proofs.RunLemmas.{next_run}
+
+-- a change of the view that leaves its log and its count
+pub keeps_rest : {S E : Type 0} (before : Doing S E) (view : View (List E)) → view.spent ≡ before.view.spent → view.log ≡ before.view.log
+    → view.seen ≡ before.view.seen → KeepsRest before (record before { view = view })
+keeps_rest before view spent log seen = record { subject = refl; editor = refl; edits = refl; marks = refl; spent = spent; log = log; seen = seen }
 
 module _ {S E : Type 0} (subject : S) (places : ℕ) (worth : List E → ℕ → ℕ) (touches : List E → E → ℕ → Type 0) (opening : List (Option ℕ))
     (t : TableState E (Doing S E)) (kept : IsKept subject places worth touches opening t)

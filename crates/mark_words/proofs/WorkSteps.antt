@@ -10,9 +10,6 @@ use Rattle.atomic_table.specs.Table.{State as TableState, Me, Step, Allows}
 use Rattle.atomic_table.specs.Table.Act.{keeps}
 use Rattle.mark_core.specs.declared.words.Clean.{Clean}
 use Rattle.mark_core.specs.declared.words.Place.{Place}
-use Rattle.mark_core.specs.declared.words.Held.{Held}
-use Rattle.mark_core.specs.declared.words.Known.{Known}
-use Rattle.mark_core.specs.declared.words.Lost.{Lost}
 use Rattle.mark_core.specs.declared.actors.View.{View}
 use Rattle.mark_core.specs.Place.{place_at}
 use Rattle.mark_core.specs.State.{State, view_at}
@@ -27,11 +24,11 @@ use Rattle.mark_words.specs.declared.board.Doing.{Doing}
 use Rattle.mark_words.specs.Words.{code_of, clean_at, words_of_places}
 use Rattle.mark_words.specs.Doing.{with_claim, with_refusal, with_word_put, with_finish}
 use Rattle.mark_words.specs.Rule.{IsKept}
-use Rattle.mark_words.specs.Plays.{KeepsRest, TriedClaim, PutWord, GaveBack}
+use Rattle.mark_words.specs.Plays.{TriedClaim, PutWord, GaveBack}
 use Rattle.mark_words.proofs.Boards.{clean_word, clean_set, value_set, marks_stay, clean_at-code_of}
 use Rattle.mark_words.proofs.RunLemmas.{honest_state}
 use Rattle.mark_words.proofs.SeeSteps.{same_view}
-use Rattle.mark_words.proofs.ViewSteps.{view_step}
+use Rattle.mark_words.proofs.ViewSteps.{keeps_rest, view_step}
 
 -- a compare-exchange that finds what it expects, and one that doesn't
 hit : (found old new : ℕ) → found ≡ old → either (found == old) new found ≡ new
@@ -39,12 +36,6 @@ hit found old new same = ap (λ b. either b new found) (eq-eqb found old same)
 
 miss : (found old new : ℕ) → found ≢ old → either (found == old) new found ≡ found
 miss found old new differs = ap (λ b. either b new found) (ne_eqb found old differs)
-
--- a change of what a seat holds, knows as computed, and has done and lost
-keeps_rest : {S E : Type 0} (before : Doing S E) (holds : List Held) (known done : List Known) (lost : List Lost)
-    → KeepsRest before (record before { view = record before.view { holds = holds; known = known; done = done; lost = lost } })
-keeps_rest before holds known done lost =
-    record { subject = refl; editor = refl; edits = refl; marks = refl; spent = refl; log = refl; seen = refl; half = refl; reads = refl }
 
 module _ {S E : Type 0} (subject : S) (places : ℕ) (worth : List E → ℕ → ℕ) (touches : List E → E → ℕ → Type 0)
     (untouched : (log : List E) (entry : E) (place : ℕ) → place < places → (touches log entry place → ⊥) → worth (log ++ entry ∷ []) place ≡ worth log place)
@@ -128,7 +119,8 @@ module _ {S E : Type 0} (subject : S) (places : ℕ) (worth : List E → ℕ →
           took t kept at seen (either (found == old) new found) ground (same ∙ is) (hit found old new same ∙ next),
           record {
             slots = refl;
-            rest = keeps_rest me.0 _ _ _ _;
+            rest = keeps_rest me.0 _ refl refl refl;
+            reads = record { half = refl; reads = refl };
             taken = λ place' word' was. ap (λ p. with_claim me.0 p) (here place' word');
             refused = λ place' word' differs. absurd (differs (same ∙ sym first));
           },
@@ -140,7 +132,8 @@ module _ {S E : Type 0} (subject : S) (places : ℕ) (worth : List E → ℕ →
           lost t kept at seen (either (found == old) new found) ground (λ e. differs (e ∙ sym is)) (miss found old new differs),
           record {
             slots = refl;
-            rest = keeps_rest me.0 _ _ _ _;
+            rest = keeps_rest me.0 _ refl refl refl;
+            reads = record { half = refl; reads = refl };
             taken = λ place' word' was. absurd (differs (was ∙ first));
             refused = λ place' word' no. ap (λ p. with_refusal me.0 p (clean_at found)) (here place' word');
           },
@@ -165,7 +158,8 @@ module _ {S E : Type 0} (subject : S) (places : ℕ) (worth : List E → ℕ →
             refl,
         record {
           slots = refl;
-          rest = keeps_rest me.0 _ _ _ _;
+          rest = keeps_rest me.0 _ refl refl refl;
+          reads = record { half = refl; reads = refl };
           doing = λ place' index'.
               let here : place ≡ place' = omega (arith, index, index') in
               ap (λ p. with_word_put me.0 p word) here ∙ ap (λ w. with_word_put me.0 place' w) (sym first);
@@ -193,7 +187,8 @@ module _ {S E : Type 0} (subject : S) (places : ℕ) (worth : List E → ℕ →
             refl,
         record {
           slots = refl;
-          rest = keeps_rest me.0 _ _ _ _;
+          rest = keeps_rest me.0 _ refl refl refl;
+          reads = record { half = refl; reads = refl };
           doing = λ place' mark' index' stored'.
               let here : place ≡ place' = omega (arith, index, index') in
               let of_mark : mark ≡ mark' = omega (arith, is, first, stored') in

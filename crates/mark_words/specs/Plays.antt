@@ -35,29 +35,7 @@ pub record Committed {S E : Type 0} (step : Step E) (before : Me E (Doing S E)) 
   pub pending : before.0.edits.pending ≡ Some entry
   pub doing : after.0 ≡ with_commit before.0 entry
 
--- the seat has begun a read of the place of the word, with the clean word that it found
-pub record BeganRead {S E : Type 0} (step : Step E) (before : Me E (Doing S E)) (found : ℕ) (after : Me E (Doing S E)) : Type 0 where
-  pub slots : after.1 ≡ before.1
-  pub doing : (place : ℕ) → step.word ≡ 3 * place + 2 → after.0 ≡ with_clean_read before.0 place (clean_at found)
-
--- the seat's begun read, if it is one of the place of the word, has the value that it found
-pub record WentOn {S E : Type 0} (step : Step E) (before : Me E (Doing S E)) (found : ℕ) (after : Me E (Doing S E)) : Type 0 where
-  pub slots : after.1 ≡ before.1
-  pub doing : (place : ℕ) → step.word ≡ 3 * place + 3 → after.0 ≡ with_value_read before.0 place found
-
--- The seat's begun read, if it is one of the place of the word, has ended with the mark that it found, and tells what
--- it should of the subject that the seat names. The seat has seen at least as many entries as it knows. The editor's,
--- with nothing pending, finds a mark within its log.
-pub record EndedRead {S E : Type 0} (worth : S → List E → ℕ → ℕ) (touches : S → List E → E → ℕ → Type 0) (step : Step E) (before : Me E (Doing S E)) (found : ℕ) (after : Me E (Doing S E)) : Type 0 where
-  pub slots : after.1 ≡ before.1
-  pub doing : (place : ℕ) → step.word ≡ 3 * place + 1 → after.0 ≡ with_mark_read before.0 place found
-  pub within : length before.0.view.log ≤ before.0.view.seen
-  pub tells :
-      (place : ℕ) (subject : S) → step.word ≡ 3 * place + 1 → before.0.subject ≡ Some subject
-      → Tells (worth subject) (touches subject) before.0 place found
-  pub editor : before.0.editor ≡ true → before.0.edits.pending ≡ None → found ≤ length before.0.view.log
-
--- of what the seat knew, all stays but what it holds, what it knows as computed, and what it has done and lost
+-- of what the seat knew, all stays but its reads, what it holds and knows as computed, and what it has done and lost
 pub record KeepsRest {S E : Type 0} (before after : Doing S E) : Type 0 where
   pub subject : after.subject ≡ before.subject
   pub editor : after.editor ≡ before.editor
@@ -66,14 +44,43 @@ pub record KeepsRest {S E : Type 0} (before after : Doing S E) : Type 0 where
   pub spent : after.view.spent ≡ before.view.spent
   pub log : after.view.log ≡ before.view.log
   pub seen : after.view.seen ≡ before.view.seen
+
+-- its reads stay
+pub record KeepsReads {S E : Type 0} (before after : Doing S E) : Type 0 where
   pub half : after.view.half ≡ before.view.half
   pub reads : after.view.reads ≡ before.view.reads
+
+-- the seat has begun a read of the place of the word, with the clean word that it found
+pub record BeganRead {S E : Type 0} (step : Step E) (before : Me E (Doing S E)) (found : ℕ) (after : Me E (Doing S E)) : Type 0 where
+  pub slots : after.1 ≡ before.1
+  pub rest : KeepsRest before.0 after.0
+  pub doing : (place : ℕ) → step.word ≡ 3 * place + 2 → after.0 ≡ with_clean_read before.0 place (clean_at found)
+
+-- the seat's begun read, if it is one of the place of the word, has the value that it found
+pub record WentOn {S E : Type 0} (step : Step E) (before : Me E (Doing S E)) (found : ℕ) (after : Me E (Doing S E)) : Type 0 where
+  pub slots : after.1 ≡ before.1
+  pub rest : KeepsRest before.0 after.0
+  pub doing : (place : ℕ) → step.word ≡ 3 * place + 3 → after.0 ≡ with_value_read before.0 place found
+
+-- The seat's begun read, if it is one of the place of the word, has ended with the mark that it found, and tells what
+-- it should of the subject that the seat names. The seat has seen at least as many entries as it knows. The editor's,
+-- with nothing pending, finds a mark within its log.
+pub record EndedRead {S E : Type 0} (worth : S → List E → ℕ → ℕ) (touches : S → List E → E → ℕ → Type 0) (step : Step E) (before : Me E (Doing S E)) (found : ℕ) (after : Me E (Doing S E)) : Type 0 where
+  pub slots : after.1 ≡ before.1
+  pub rest : KeepsRest before.0 after.0
+  pub doing : (place : ℕ) → step.word ≡ 3 * place + 1 → after.0 ≡ with_mark_read before.0 place found
+  pub within : length before.0.view.log ≤ before.0.view.seen
+  pub tells :
+      (place : ℕ) (subject : S) → step.word ≡ 3 * place + 1 → before.0.subject ≡ Some subject
+      → Tells (worth subject) (touches subject) before.0 place found
+  pub editor : before.0.editor ≡ true → before.0.edits.pending ≡ None → found ≤ length before.0.view.log
 
 -- the seat holds the place of the word where it found the word that it expected, and has noted the clean word where it
 -- found another
 pub record TriedClaim {S E : Type 0} (step : Step E) (before : Me E (Doing S E)) (found : ℕ) (after : Me E (Doing S E)) : Type 0 where
   pub slots : after.1 ≡ before.1
   pub rest : KeepsRest before.0 after.0
+  pub reads : KeepsReads before.0 after.0
   pub taken : (place : ℕ) → step.word ≡ 3 * place + 2 → found ≡ step.first → after.0 ≡ with_claim before.0 place
   pub refused :
       (place : ℕ) → step.word ≡ 3 * place + 2 → found ≢ step.first → after.0 ≡ with_refusal before.0 place (clean_at found)
@@ -82,10 +89,12 @@ pub record TriedClaim {S E : Type 0} (step : Step E) (before : Me E (Doing S E))
 pub record PutWord {S E : Type 0} (step : Step E) (before : Me E (Doing S E)) (found : ℕ) (after : Me E (Doing S E)) : Type 0 where
   pub slots : after.1 ≡ before.1
   pub rest : KeepsRest before.0 after.0
+  pub reads : KeepsReads before.0 after.0
   pub doing : (place : ℕ) → step.word ≡ 3 * place + 3 → after.0 ≡ with_word_put before.0 place step.first
 
 -- the seat has given the place of the word back, as computed for the mark that it stored
 pub record GaveBack {S E : Type 0} (step : Step E) (before : Me E (Doing S E)) (found : ℕ) (after : Me E (Doing S E)) : Type 0 where
   pub slots : after.1 ≡ before.1
   pub rest : KeepsRest before.0 after.0
+  pub reads : KeepsReads before.0 after.0
   pub doing : (place mark : ℕ) → step.word ≡ 3 * place + 2 → step.first ≡ 2 * (mark + 1) → after.0 ≡ with_finish before.0 place mark

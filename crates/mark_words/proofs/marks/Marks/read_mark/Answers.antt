@@ -1,6 +1,6 @@
-use Rattle.std.proofs.Common.{arith, refl, ◌∙◌, ap}
+use Rattle.std.proofs.Common.{rules, arith, refl}
 use Rattle.mark_words.proofs.ReadSteps.{reads_mark, ends, learns_clean}
-use Rattle.mark_words.proofs.TokenLemmas.{quiet_desk, quiet_knows, quiet_fits, quiet_mark_read}
+use Rattle.mark_words.proofs.TokenLemmas.{rest_desk, rest_knows, mark_read_fits}
 use Rattle.mark_words.proofs.marks.Marks.read_mark.Goals as goal
 
 pub load-requires : goal.load-requires
@@ -13,23 +13,15 @@ load-requires g c = (
       c.args.seat.now.live c.requires.there refl,
 )
 
-pub invariant_of-seat : goal.invariant_of-seat
-invariant_of-seat g c =
-    let before = c.args.seat.now.seat.me.0 in
-    let after = c.load.new.seat.me.0 in
-    let quiet = quiet_mark_read c.args.seat.now.seat.me.0 c.load.new.seat.me.0 c.args.place c.load.result (c.load.ensures.2.doing c.args.place refl) in
-    record {
-      live = quiet.spent ∙ c.args.seat.now.live;
-      bare = c.load.ensures.2.slots ∙ c.args.seat.now.bare;
-      has_desk = quiet_desk before after quiet c.args.seat.now.seat.table_id.words c.load.new.seat.table_id.words _ (ap (λ z. z.words) c.load.ensures.0) c.args.seat.now.has_desk;
-      knows_all = quiet_knows before after quiet c.args.seat.now.knows_all;
-      fits = quiet_fits before after quiet c.args.seat.now.fits;
-    }
+pub invariant_of-seat-clause-has_desk : goal.invariant_of-seat-clause-has_desk
+invariant_of-seat-clause-has_desk g c = search (rules, rest_desk)
 
-pub returns-clause-same : goal.returns-clause-same
-returns-clause-same g c =
-    let quiet = quiet_mark_read c.args.seat.now.seat.me.0 c.load.new.seat.me.0 c.args.place c.load.result (c.load.ensures.2.doing c.args.place refl) in
-    record { same_table = c.load.ensures.0 ∙ c.requires.table.same_table; same_subject = quiet.subject ∙ c.requires.table.same_subject }
+pub invariant_of-seat-clause-knows_all : goal.invariant_of-seat-clause-knows_all
+invariant_of-seat-clause-knows_all g c = search (rules, rest_knows)
+
+pub invariant_of-seat-clause-fits : goal.invariant_of-seat-clause-fits
+invariant_of-seat-clause-fits g c =
+    mark_read_fits c.args.seat.now.seat.me.0 c.load.new.seat.me.0 c.load.ensures.2.rest c.args.place c.load.result (c.load.ensures.2.doing c.args.place refl) c.args.seat.now.fits
 
 pub returns-clause-ends : goal.returns-clause-ends
 returns-clause-ends g c = ends c.args.seat.now.seat.me.0 c.load.new.seat.me.0 c.args.place c.load.result c.load.ensures.2.within (c.load.ensures.2.doing c.args.place refl)
