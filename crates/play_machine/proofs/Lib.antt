@@ -1,0 +1,4 @@
+pub mod MarkLemmas
+pub mod PlayLemmas
+pub mod ReadyLemmas
+pub mod TurnLemmas

@@ -1,0 +1,18 @@
+use Rattle.std.proofs.Common.{◌≡◌, ◌+◌, ◌≤◌, List, ℕ, suc, length, replicate, arith, refl, sym, subst, ◌∙◌}
+use Rattle.play_machine.specs.Machine.{AreTurns}
+use Rattle.play_machine.specs.Machine.AreTurns.{none as no_turns, more as more_turns}
+use Rattle.play_machine.proofs.TurnLemmas.{turn_length, turns_clear}
+use Rattle.play_machine.proofs.turns.work.Goals as goal
+
+pub returns-then-turns-len-clause-turns : goal.returns-then-turns-len-clause-turns
+returns-then-turns-len-clause-turns c =
+    subst (AreTurns c.args.sheet.now c.args.turns c.args.marks.now.items) (sym c.clear_all.ensures)
+    (turns_clear c.args.sheet.now c.args.turns c.args.marks.now.items c.requires.count (omega (arith, c.if-turns-len.true, c.len.ensures, c.args.marks.now.ok)))
+
+pub loop-init : goal.loop-init
+loop-init c = (no_turns c.args.marks.now.items, refl)
+
+pub loop-preserved : goal.loop-preserved
+loop-preserved c =
+    let turn = c.in_ok-turn.ensures.turn in
+    (more_turns c.loop.counter (c.loop.counter + 1) c.args.marks.now.items c.loop.marks.items c.turn.new.marks.items c.loop.invariant.0 turn (omega arith), turn_length c.args.sheet.now c.loop.marks.items c.turn.new.marks.items turn ∙ c.loop.invariant.1)

@@ -1,0 +1,3 @@
+pub mod Machine
+pub mod Marking
+pub mod Playing

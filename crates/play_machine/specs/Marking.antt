@@ -1,0 +1,32 @@
+-- What the code does to marks.
+use Rattle.std.specs.Prelude.{◌≡◌, ◌⊎◌, ℕ, IsTrue, IsFalse, List, length, Contains}
+use Rattle.sheet_refs.specs.Cells.{Position, Corners, IsIn}
+use Rattle.sheet_refs.specs.Sizes.{is_inside}
+use Rattle.sheet_refs.specs.declared.sizes.Sizes.{Sizes}
+use Rattle.play_machine.specs.Machine.{IsFirst, IsMarked, IsNowhere, is_marked, mark_of, without_mark}
+
+-- the listed cells of the rectangle have a number as their mark, and all others the mark that they had
+pub record Marks (sizes : Sizes) (cells : List Position) (number : ℕ) (old new : List ℕ) : Type 0 where
+  pub count : length new ≡ length old
+  pub listed : (cell : Position) → IsTrue (is_inside sizes cell) → Contains cells cell → mark_of sizes new cell ≡ number
+  pub others : (cell : Position) → ¬ Contains cells cell → mark_of sizes new cell ≡ mark_of sizes old cell
+
+-- some cell of a range is marked, or none is
+abbrev pub HasMark : Sizes → List ℕ → Corners → Type 0
+HasMark sizes marks range = (cell : Position) × IsIn cell range × IsTrue (is_marked sizes marks cell)
+
+abbrev pub HasNoMark : Sizes → List ℕ → Corners → Type 0
+HasNoMark sizes marks range = (cell : Position) → IsIn cell range → IsFalse (is_marked sizes marks cell)
+
+-- the same of some ranges
+abbrev pub SomeHasMark : Sizes → List ℕ → List Corners → Type 0
+SomeHasMark sizes marks ranges = (range : Corners) × Contains ranges range × HasMark sizes marks range
+
+abbrev pub NoneHasMark : Sizes → List ℕ → List Corners → Type 0
+NoneHasMark sizes marks ranges = (range : Corners) → Contains ranges range → HasNoMark sizes marks range
+
+-- the first marked cell has lost its mark, or there is none
+abbrev pub ClearsFirst : Sizes → List ℕ → List ℕ → Type 0
+ClearsFirst sizes old new =
+    ((cell : Position) × IsFirst sizes (IsMarked sizes old) cell × (new ≡ without_mark sizes old cell))
+    ⊎ (IsNowhere sizes (IsMarked sizes old) × (new ≡ old))

@@ -1,0 +1,50 @@
+-- Which steps may be played over a sheet, and what is played of a book.
+use Rattle.std.specs.Prelude.{◌≡◌, ℕ, ◌≤◌, IsTrue, Bool, true, false, List, ◌++◌, length, All, count_by}
+use Rattle.sheet_refs.specs.Cells.{Corners, cells_of}
+use Rattle.sheet_refs.specs.Sizes.{is_inside}
+use Rattle.sheet_model.specs.Sheets.{SheetValue, HasLabel}
+use Rattle.sheet_model.specs.declared.change.Edit.{Edit}
+use Rattle.edit_log.specs.Books.{BookValue}
+use Rattle.edit_script.specs.declared.script.Command.{Command}
+use Rattle.edit_script.specs.declared.script.Command.TheVariants.{Put, Look, Firm, Work}
+use Rattle.edit_script.specs.declared.script.Step.{Step}
+use Rattle.window_text.specs.declared.report.Report.{Report}
+use Rattle.window_text.specs.Texts.{IsWithinSheet}
+use Rattle.play_machine.specs.Machine.{Machine, Follows}
+
+-- an edit of a cell of the sheet, to a content whose label is in the table
+pub record FitsSheet (sheet : SheetValue) (edit : Edit) : Type 0 where
+  pub inside : IsTrue (is_inside sheet.sizes edit.change.cell)
+  pub label : HasLabel (length sheet.labels) edit.change.content
+
+-- a window of at most 65536 cells of the sheet
+pub record IsWindow (sheet : SheetValue) (window : Corners) : Type 0 where
+  pub inside : IsWithinSheet window sheet
+  pub few : length (cells_of window) ≤ 65536
+
+-- a command about cells of the sheet
+abbrev pub IsFit : SheetValue → Command → Type 0
+IsFit sheet (Put edit) = FitsSheet sheet edit
+IsFit sheet (Look window) = IsWindow sheet window
+IsFit sheet (Firm window) = IsWindow sheet window
+IsFit sheet (Work turns) = Unit {0}
+
+-- an edit
+abbrev pub is_put : Command → Bool
+is_put (Put edit) = true
+is_put _ = false
+
+-- steps about cells of the sheet, with no more edits than a log may have
+pub record AreFit (sheet : SheetValue) (steps : List Step) : Type 0 where
+  pub each : All (λ step. IsFit sheet step.command) steps
+  pub few : count_by (λ step. is_put step.command) steps ≤ 1048576
+
+-- the machine of a book with marks for its cells
+abbrev pub machine_of : {G : Type 0} → BookValue G → List ℕ → Machine
+machine_of book marks = record { sheet = book.sheet; number = length book.log; marks = marks }
+
+-- a step is followed, and what it reports joins the reports
+pub record Tells (old new : Machine) (step : Step) (before after : List Report) : Type 0 where
+  pub told : List Report
+  pub follows : Follows old step.client step.command new told
+  pub joined : after ≡ before ++ told

@@ -1,0 +1,17 @@
+//! The play machine: the steps of a script over a sheet, one after the other, and what is shown of it.
+//!
+//! An edit marks its cell and all cells that depend on it with its number; a turn of work clears one mark. What a look
+//! shows of a cell is its mark, or its value where it has none. What each command does, and in which order turns clear
+//! marks, `specs/Machine.antt` says; `play` makes the reports of all steps.
+//!
+//! Below stand `edit_log`, whose book finds the cells that an edit touches, `edit_script`, `window_text`, which prints
+//! reports, and `sheet_model`; the program stands above.
+#![tactic(auto)]
+
+mod marks;
+mod player;
+mod playing;
+mod readiness;
+mod turns;
+
+pub use playing::play;

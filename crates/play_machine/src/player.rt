@@ -1,0 +1,142 @@
+ghost use Rattle.std.specs.Prelude.{◌≡◌, ◌+◌, ◌<◌, ◌≤◌, [], length, IfOk, IfSome, IsTrue, OnOk};
+ghost use Rattle.sheet_refs.specs.Sizes.{cell_count, is_inside};
+ghost use Rattle.sheet_model.specs.Values.{AreValues, value_of};
+ghost use Rattle.edit_log.specs.Books.{IsPreparedFor, IsUnchanged, entry_of};
+ghost use Rattle.play_machine.specs.Machine.{MarksTouched, after_put, opening, report_of, shown_of};
+ghost use Rattle.play_machine.specs.Playing.{FitsSheet, IsWindow, machine_of};
+
+use crate::marks::{mark_all, mark_at, no_marks};
+use edit_log::{Book, PrepareRefused, Prepared};
+use graph_walk::Graph;
+use sheet_model::{Board, Edit, Sheet, Shown, all_values};
+use sheet_refs::{Cell, Memory, Range};
+use std::alloc::Global;
+use value_core::{Value, decode};
+use window_text::Report;
+
+/// The play machine of a book: the marks of its cells, and the values of the cells where they were computed since the
+/// last edit.
+#[derive(Drop)]
+pub(crate) struct Player<G: Graph> {
+    pub(crate) book: Book<G>,
+    pub(crate) marks: Vec<u64>,
+    pub(crate) values: Option<Vec<u64>>,
+    pub(crate) alloc: Global,
+}
+
+// An edit that is ready to be made. It can't be refused but for want of memory.
+fn prepare_edit<G: Graph>(book: &mut Book<G>, client: u32, edit: &Edit) -> Result<Prepared, Memory>
+    requires fits { FitsSheet book.old.sheet edit.now }
+    requires few { length book.old.log < 1048576 }
+    ensures prepared { IfOk result (IsPreparedFor book.new.opening book.new.log) }
+    ensures entry { IfOk result (λ prepared. prepared.entry ≡ entry_of client edit.now) }
+    ensures room { OnOk result (1 ≤ book.new.spare) }
+    ensures same { IsUnchanged G.pairs book.old book.new }
+{
+    let edit = edit.copy()?;
+    match book.prepare(client, edit) {
+        Ok(prepared) => Ok(prepared),
+        Err(PrepareRefused::Memory) => Err(Memory),
+        Err(PrepareRefused::OutOfSheet { .. } | PrepareRefused::LogFull { .. }) => unreachable!(),
+    }
+}
+
+// The value of a cell, from the codes of all values.
+fn value_in(sheet: &Sheet, values: &[u64], cell: Cell) -> Value
+    requires values { AreValues sheet.now values.now }
+    requires inside { IsTrue (is_inside sheet.now.sizes cell) }
+    ensures { result ≡ value_of sheet.now cell }
+{
+    decode(values[sheet.place(cell)]).unwrap()
+}
+
+impl<G: Graph> Player<G> {
+    /// A book without entries, no cell of which is marked.
+    pub(crate) fn new(alloc: Global, book: Book<G>) -> Result<Player<G>, Memory>
+    where
+        G: Drop,
+        requires { book.log ≡ [] }
+        ensures machine { IfOk result
+            (λ player. machine_of player.book player.marks.items ≡ opening book.sheet) }
+        ensures values { IfOk result
+            (λ player. IfSome player.values (λ v. AreValues player.book.sheet v.items)) }
+    {
+        let sizes = book.sheet().sizes();
+        let cells = sizes.rows as usize * sizes.cols as usize;
+        let marks = no_marks(alloc, cells)?;
+        Ok(Player {
+            book,
+            marks,
+            values: None,
+            alloc,
+        })
+    }
+
+    /// Makes an edit, and marks all that it touches.
+    pub(crate) fn put(&mut self, client: u32, edit: &Edit) -> Result<(), Memory>
+        requires fits { FitsSheet self.old.book.sheet edit.now }
+        requires few { length self.old.book.log < 1048576 }
+        requires count { length self.old.marks.items ≡ cell_count self.old.book.sheet.sizes }
+        ensures marks { OnOk result (MarksTouched self.old.book.sheet client edit.now
+            (length self.old.book.log + 1) self.old.marks.items self.new.marks.items) }
+        ensures machine { OnOk result (machine_of self.new.book self.new.marks.items
+            ≡ after_put (machine_of self.old.book self.old.marks.items) edit.now self.new.marks.items) }
+        ensures values { OnOk result
+            (IfSome self.new.values (λ v. AreValues self.new.book.sheet v.items)) }
+    {
+        let sizes = self.book.sheet().sizes();
+        let ready = prepare_edit(&mut self.book, client, edit)?;
+        let applied = self.book.apply(ready);
+        mark_all(sizes, &applied.touched, applied.number, &mut self.marks);
+        self.values = None;
+        Ok(())
+    }
+
+    // What is shown of a cell. The values are computed where the first cell since the last edit wants one.
+    fn shown(&mut self, cell: Cell) -> Result<Shown, Memory>
+        requires inside { IsTrue (is_inside self.old.book.sheet.sizes cell) }
+        requires count { length self.old.marks.items ≡ cell_count self.old.book.sheet.sizes }
+        requires values { IfSome self.old.values (λ v. AreValues self.old.book.sheet v.items) }
+        ensures shown { IfOk result
+            (λ shown. shown ≡ shown_of (machine_of self.old.book self.old.marks.items) cell) }
+        ensures same_book { self.new.book ≡ self.old.book }
+        ensures same_marks { self.new.marks ≡ self.old.marks }
+        ensures values { OnOk result
+            (IfSome self.new.values (λ v. AreValues self.new.book.sheet v.items)) }
+    {
+        let sheet = self.book.sheet();
+        let mark = mark_at(sheet.sizes(), &self.marks, cell);
+        if mark != 0 {
+            return Ok(Shown::Stale(mark));
+        }
+        if let Some(values) = &self.values {
+            return Ok(Shown::Value(value_in(sheet, values, cell)));
+        }
+        let values = all_values(self.alloc, sheet)?;
+        let value = value_in(sheet, &values, cell);
+        self.values = Some(values);
+        Ok(Shown::Value(value))
+    }
+
+    /// A look at a window.
+    pub(crate) fn look(&mut self, firm: bool, window: Range) -> Result<Report, Memory>
+        requires window { IsWindow self.old.book.sheet window }
+        requires count { length self.old.marks.items ≡ cell_count self.old.book.sheet.sizes }
+        requires values { IfSome self.old.values (λ v. AreValues self.old.book.sheet v.items) }
+        ensures report { IfOk result (λ report. report
+            ≡ report_of (machine_of self.old.book self.old.marks.items) firm window) }
+        ensures same_book { self.new.book ≡ self.old.book }
+        ensures same_marks { self.new.marks ≡ self.old.marks }
+        ensures values { OnOk result
+            (IfSome self.new.values (λ v. AreValues self.new.book.sheet v.items)) }
+    {
+        let cells = window.cells() as u32;
+        let mut board = Board::new(self.alloc, cells)?;
+        board.begin(self.book.length(), window);
+        for place in 0..window.cells() {
+            let shown = self.shown(window.cell_at(place))?;
+            board.push(shown);
+        }
+        Ok(Report { firm, board })
+    }
+}

@@ -1,0 +1,81 @@
+ghost use Rattle.std.specs.Prelude.{◌≡◌, ◌<◌, [], length, IfOk, IfSome, IsTrue, OnOk};
+ghost use Rattle.sheet_refs.specs.Sizes.{cell_count};
+ghost use Rattle.sheet_model.specs.Values.{AreValues};
+ghost use Rattle.edit_log.specs.Books.{IsBook};
+ghost use Rattle.play_machine.specs.Machine.{ArePlayed};
+ghost use Rattle.play_machine.specs.Playing.{AreFit, IsFit, Tells, is_put, machine_of};
+
+use crate::marks::clear_all;
+use crate::player::Player;
+use crate::turns::work;
+use edit_log::Book;
+use edit_script::{Command, Step};
+use graph_walk::Graph;
+use sheet_refs::Memory;
+use std::alloc::Global;
+use window_text::Report;
+
+impl<G: Graph> Player<G> {
+    // Does what a step asks for, and adds its report, where it makes one.
+    fn follow(&mut self, step: &Step, reports: &mut Vec<Report>) -> Result<(), Memory>
+        requires fit { IsFit self.old.book.sheet step.now.command }
+        requires few { IsTrue (is_put step.now.command) → length self.old.book.log < 1048576 }
+        requires count { length self.old.marks.items ≡ cell_count self.old.book.sheet.sizes }
+        requires values { IfSome self.old.values (λ v. AreValues self.old.book.sheet v.items) }
+        ensures follows { OnOk result (Tells (machine_of self.old.book self.old.marks.items)
+            (machine_of self.new.book self.new.marks.items) step.now
+            reports.old.items reports.new.items) }
+        ensures count { OnOk result
+            (length self.new.marks.items ≡ cell_count self.new.book.sheet.sizes) }
+        ensures values { OnOk result
+            (IfSome self.new.values (λ v. AreValues self.new.book.sheet v.items)) }
+    {
+        match &step.command {
+            Command::Put(edit) => {
+                self.put(step.client, edit)?;
+                Ok(())
+            }
+            Command::Look(window) => {
+                let report = self.look(false, *window)?;
+                reports.push(report)?;
+                Ok(())
+            }
+            Command::Firm(window) => {
+                clear_all(&mut self.marks);
+                let report = self.look(true, *window)?;
+                reports.push(report)?;
+                Ok(())
+            }
+            Command::Work(turns) => {
+                work(self.alloc, self.book.sheet(), *turns, &mut self.marks)?;
+                Ok(())
+            }
+        }
+    }
+}
+
+/// Plays steps over a book without entries: the reports of their looks, in order.
+///
+/// An edit takes the time of the walk of the graph over the dependents of its cell. Values are computed once at most
+/// between two edits, and only where a look shows one. A firm look, and work of as many turns as the sheet has cells,
+/// take all marks away in one pass.
+pub fn play<G: Graph>(
+    alloc: Global,
+    book: Book<G>,
+    steps: &[Step],
+) -> Result<(Book<G>, Vec<Report>), Memory>
+where
+    G: Drop,
+    requires fresh { book.log ≡ [] }
+    requires fit { AreFit book.sheet steps.now }
+    ensures reports { IfOk result (λ played. ArePlayed book.sheet steps.now played.1.items) }
+    ensures labels { IfOk result (λ played. played.0.sheet.labels ≡ book.sheet.labels) }
+{
+    let mut player = Player::new(alloc, book)?;
+    let mut reports = Vec::new(alloc);
+    for step in steps {
+        player.follow(step, &mut reports)?;
+    }
+    let Player { book, .. } = player;
+    Ok((book, reports))
+}
