@@ -1,4 +1,6 @@
+pub mod FitLemmas
 pub mod MarkLemmas
+pub mod OnePlay
 pub mod PlayLemmas
 pub mod ReadyLemmas
 pub mod TurnLemmas

@@ -1,11 +1,12 @@
 -- What steps do to the machine.
-use Rattle.std.proofs.Common.{◌≡◌, ◌↔◌, ℕ, zero, suc, ◌+◌, ◌<◌, ◌≤◌, Bool, true, false, cond, List, [], ◌∷◌, ◌++◌, length, length-append, get_or, take, map, replicate, count_by, IsTrue, Contains, arith, refl, sym, ap, subst, ◌∙◌}
+use Rattle.std.proofs.Common.{◌≡◌, ◌↔◌, ℕ, zero, suc, ◌+◌, ◌<◌, ◌≤◌, Bool, true, false, cond, List, [], ◌∷◌, ◌++◌, length, length-append, get_or, take, map, replicate, count_by, IsTrue, All, Contains, arith, refl, sym, ap, subst, ◌∙◌}
 use Rattle.std.specs.Prelude.{Some, slice_get}
 use Rattle.sheet_refs.specs.Cells.{Position, Corners, IsIn, cells_of}
 use Rattle.sheet_refs.specs.Sizes.{cell_count, is_inside}
 use Rattle.sheet_refs.specs.declared.sizes.Sizes.{Sizes}
 use Rattle.graph_walk.specs.Paths.{IsReached}
-use Rattle.std.proofs.lemmas.List.{append-nil, length-replicate, map-append}
+use Rattle.std.proofs.lemmas.List.{append-nil, length-map, length-replicate, map-append}
+use Rattle.std.proofs.lemmas.List.Elements.{All-append}
 use Rattle.std.proofs.lemmas.List.Sums.{count_by_more_no, count_by_more_yes, sum_by-cons}
 use Rattle.std.proofs.lemmas.Option.{get_or_from_slice_get, slice_get_within}
 use Rattle.sheet_model.specs.Boards.{BoardValue, with_shown}
@@ -22,6 +23,7 @@ use Rattle.edit_log.specs.Touches.{AreTouched, IsChanged, IsStep, Touches}
 use Rattle.edit_script.specs.declared.script.Command.{Command}
 use Rattle.edit_script.specs.declared.script.Command.TheVariants.{Put, Look, Firm, Work}
 use Rattle.edit_script.specs.declared.script.Step.{Step}
+use Rattle.window_text.specs.Reports.{IsFull}
 use Rattle.window_text.specs.declared.report.Report.{Report}
 use Rattle.play_machine.specs.Machine.{AreTurns, Follows, IsMarked, IsNowhere, Machine, MarksTouched, Plays, after_put, opening, report_of, shown_of, with_marks}
 use Rattle.play_machine.specs.Machine.Follows.{puts, looks, settles, works}
@@ -187,3 +189,22 @@ opened machine sheet is = (
 
 pub plays_none : (machine : Machine) (sheet : SheetValue) (reports : List Report) → machine ≡ opening sheet → reports ≡ [] → Plays (opening sheet) [] machine reports
 plays_none machine sheet reports is none_told = subst (λ rs. Plays (opening sheet) [] machine rs) (sym none_told) (subst (λ m. Plays (opening sheet) [] m []) (sym is) no_steps)
+
+abbrev pub AreFull : List Report → Type 0
+AreFull reports = All (λ report. IsFull report.board) reports
+
+one_full : (machine : Machine) (firm : Bool) (window : Corners) → AreFull (report_of machine firm window ∷ [])
+one_full machine firm window zero d below = length-map (cells_of window) (shown_of machine)
+one_full machine firm window (suc k) d below = absurd (omega (arith, below))
+
+-- each report tells of all cells of its window
+pub full_told : (old new : Machine) (client : ℕ) (command : Command) (told : List Report) → Follows old client command new told → All (λ report. IsFull report.board) told
+full_told old new client command told (puts edit marks is touched new_is told_is) = subst AreFull (sym told_is) (λ k d below. absurd (omega (arith, below)))
+full_told old new client command told (looks window is new_is told_is) = subst AreFull (sym told_is) (one_full old false window)
+full_told old new client command told (settles window count marks is made nowhere new_is told_is) = subst AreFull (sym told_is) (one_full new true window)
+full_told old new client command told (works count marks is made new_is told_is) = subst AreFull (sym told_is) (λ k d below. absurd (omega (arith, below)))
+
+pub plays_full : (start now : Machine) (steps : List Step) (told : List Report) → Plays start steps now told → All (λ report. IsFull report.board) told
+plays_full start _ _ _ no_steps = λ k d below. absurd (omega (arith, below))
+plays_full start now steps told (more before all step mid last said news after plays follows is are) =
+    subst AreFull (sym are) (All-append (λ report. IsFull report.board) said news (plays_full start mid before said plays) (full_told mid now step.client step.command news follows))

@@ -26,7 +26,7 @@ use Rattle.play_machine.proofs.ReadyLemmas.{outside_unmarked}
 split_place : (cols count place : ℕ) → place < count * cols → (place / cols < count) × (place % cols < cols) × (place / cols * cols + place % cols ≡ place)
 split_place cols count place below = grind arith
 
-there : (sizes : Sizes) (place : ℕ) → place < cell_count sizes → IsTrue (is_inside sizes (cell_at sizes place)) × (place_of sizes (cell_at sizes place) ≡ place)
+pub there : (sizes : Sizes) (place : ℕ) → place < cell_count sizes → IsTrue (is_inside sizes (cell_at sizes place)) × (place_of sizes (cell_at sizes place) ≡ place)
 there sizes place below =
     let parts = split_place sizes.cols sizes.rows place below in
     let row = parts.0 in
@@ -70,7 +70,7 @@ module _ (sizes : Sizes) (Such : Position → Type 0) (decide : (cell : Position
       go (inr none) = inr (λ cell in_it is. none (place_of sizes cell) (place-lt sizes cell in_it) (subst Such (sym (cell_at-place sizes cell in_it)) is))
 
 -- a test has an answer
-true_or_false : (b : Bool) → IsTrue b ⊎ IsFalse b
+pub true_or_false : (b : Bool) → IsTrue b ⊎ IsFalse b
 true_or_false true = inl refl
 true_or_false false = inr refl
 
@@ -212,7 +212,7 @@ turns_exist sheet (suc count) old filled = more (turns_exist sheet count old fil
             fall from (inr (nowhere, same)) = inr (subst (λ ms. IsNowhere sheet.sizes (IsMarked sheet.sizes ms)) (sym same) nowhere)
 
 -- marks none of which is one
-zero_marks : (sizes : Sizes) (marks : List ℕ) → length marks ≡ cell_count sizes → IsNowhere sizes (IsMarked sizes marks) → marks ≡ replicate (length marks) 0
+pub zero_marks : (sizes : Sizes) (marks : List ℕ) → length marks ≡ cell_count sizes → IsNowhere sizes (IsMarked sizes marks) → marks ≡ replicate (length marks) 0
 zero_marks sizes marks filled nowhere = same_number_lists marks (replicate (length marks) 0) (sym (length-replicate (length marks) 0)) at
   where
     at : (k : ℕ) → k < length marks → get_or marks k 0 ≡ get_or (replicate (length marks) 0) k 0

@@ -121,3 +121,9 @@ pub data Plays (start : Machine) : List Step → Machine → List Report → Typ
 -- the reports of steps over a sheet
 abbrev pub ArePlayed : SheetValue → List Step → List Report → Type 0
 ArePlayed sheet steps reports = (last : Machine) × Plays (opening sheet) steps last reports
+
+-- steps over a sheet give one list of reports
+abbrev pub OneList : Type 0
+OneList =
+    (sheet : SheetValue) (steps : List Step) (reports others : List Report)
+    → ArePlayed sheet steps reports → ArePlayed sheet steps others → reports ≡ others

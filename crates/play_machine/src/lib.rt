@@ -8,10 +8,12 @@
 //! reports, and `sheet_model`; the program stands above.
 #![tactic(auto)]
 
+mod laws;
 mod marks;
 mod player;
 mod playing;
 mod readiness;
 mod turns;
 
+pub use laws::play_laws;
 pub use playing::play;

@@ -1,7 +1,8 @@
-ghost use Rattle.std.specs.Prelude.{◌≡◌, ◌<◌, [], length, IfOk, IfSome, IsTrue, OnOk};
+ghost use Rattle.std.specs.Prelude.{◌≡◌, ◌<◌, [], length, All, IfOk, IfSome, IsTrue, OnOk};
 ghost use Rattle.sheet_refs.specs.Sizes.{cell_count};
 ghost use Rattle.sheet_model.specs.Values.{AreValues};
 ghost use Rattle.edit_log.specs.Books.{IsBook};
+ghost use Rattle.window_text.specs.Reports.{IsFull};
 ghost use Rattle.play_machine.specs.Machine.{ArePlayed};
 ghost use Rattle.play_machine.specs.Playing.{AreFit, IsFit, Tells, is_put, machine_of};
 
@@ -69,6 +70,7 @@ where
     requires fresh { book.log ≡ [] }
     requires fit { AreFit book.sheet steps.now }
     ensures reports { IfOk result (λ played. ArePlayed book.sheet steps.now played.1.items) }
+    ensures full { IfOk result (λ played. All (λ report. IsFull report.board) played.1.items) }
     ensures labels { IfOk result (λ played. played.0.sheet.labels ≡ book.sheet.labels) }
 {
     let mut player = Player::new(alloc, book)?;

@@ -3,7 +3,7 @@ use Rattle.std.proofs.lemmas.List.{take_all}
 use Rattle.edit_script.specs.declared.script.Step.{Step}
 use Rattle.play_machine.specs.Machine.{Plays, opening}
 use Rattle.play_machine.specs.Playing.{IsFit, is_put, machine_of}
-use Rattle.play_machine.proofs.PlayLemmas.{count_more, count_taken, fit_moves, follows_keeps, one_of, opened, plays_more, plays_none}
+use Rattle.play_machine.proofs.PlayLemmas.{count_more, count_taken, fit_moves, follows_keeps, one_of, opened, plays_full, plays_more, plays_none}
 use Rattle.play_machine.proofs.playing.play.Goals as goal
 
 pub loop-step-init : goal.loop-step-init
@@ -44,3 +44,6 @@ returns-clause-reports g c = (
   machine_of c.loop-step.player.book c.loop-step.player.marks.items,
   subst (λ s. Plays (opening c.args.book.sheet) s (machine_of c.loop-step.player.book c.loop-step.player.marks.items) c.loop-step.reports.items) (take_all c.loop-step.step-index c.args.steps.now c.loop-step-test.false) c.loop-step.invariant.0,
 )
+
+pub returns-clause-full : goal.returns-clause-full
+returns-clause-full g c = plays_full _ _ _ _ c.loop-step.invariant.0
