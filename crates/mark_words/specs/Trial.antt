@@ -1,10 +1,15 @@
 -- What the trials with threads keep.
-use Rattle.std.specs.Prelude.{◌≡◌, ◌<◌, ◌≤◌, ◌+◌, ℕ, List, [], ◌∷◌, ◌++◌, Some, None, true, length, Contains}
+use Rattle.std.specs.Prelude.{◌≡◌, ◌<◌, ◌≤◌, ◌+◌, ℕ, List, [], ◌∷◌, ◌++◌, Some, None, true, length, Contains, Option}
 use Rattle.mark_core.specs.declared.words.Clean.{Clean}
 use Rattle.mark_core.specs.declared.words.Half.{Half}
 use Rattle.mark_core.specs.declared.answers.Seen.{Seen}
 use Rattle.mark_core.specs.declared.answers.Seen.TheVariants.{Value, Stale, Newer}
 use Rattle.mark_core.specs.TwoCells.{last_or}
+use Rattle.mark_core.specs.declared.events.Event.{Event}
+use Rattle.mark_core.specs.declared.words.Place.{Place}
+use Rattle.mark_core.specs.Place.{place_at}
+use Rattle.mark_core.specs.State.{State, opening_state}
+use Rattle.mark_core.specs.Run.{Runs}
 use Rattle.mark_core.specs.View.{read_of}
 use Rattle.mark_core.specs.declared.subjects.Subject.{Ghosts}
 use Rattle.mark_words.specs.declared.board.Doing.{Doing}
@@ -69,3 +74,11 @@ pub record KnowsLast {S : Type 0} {G : Ghosts S ℕ} (marks : Marks S ℕ) (seat
   pub two : places_of marks ≡ 2
   pub entries : length (log_of seat) ≡ count
   pub ends : last_or 1 (log_of seat) ≡ last
+
+-- events have led from these codes to a state with these places
+pub record AreLedTo {E : Type 0} (worth : List E → ℕ → ℕ) (touches : List E → E → ℕ → Type 0) (opening : List (Option ℕ)) (places : ℕ) (place_of : ℕ → Place) : Type 0 where
+  pub events : List (Event E)
+  pub core : State E
+  pub run : Runs worth touches (opening_state opening) events core
+  pub count : length core.places ≡ places
+  pub each : (place : ℕ) → place < places → place_of place ≡ place_at core.places place

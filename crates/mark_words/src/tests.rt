@@ -5,6 +5,7 @@ ghost use Rattle.std.specs.Thread.{IsSync};
 ghost use Rattle.mark_words.specs.Token.{IsSeatOf, places_of, is_editor, log_of, closed_places};
 ghost use Rattle.mark_words.specs.Trial.{IsReady, IsBlank, KnowsMany, IsPair};
 
+use crate::tests::uses::opens_and_closes;
 use crate::{Marks, Seat, Words};
 use mark_core::{Clean, Memory, TwoCells};
 use std::alloc::{AllocError, Global};
@@ -257,6 +258,12 @@ fn opened(alloc: Global) -> Result<(Table, Token), Memory>
     Marks::open(alloc, TwoCells, &[Some(TwoCells::code(1)), None])
 }
 
+/// The two cells of a table that is closed as soon as it is opened.
+fn cells_at_first(alloc: Global) -> Option<(Cell, Cell)> {
+    let words = opens_and_closes(alloc, TwoCells, &[Some(TwoCells::code(1)), None])?;
+    Some((cell(&words, 0), cell(&words, 1)))
+}
+
 /// The first cell with this mark and the second, as they were opened.
 fn marked(mark: u64) -> Option<(Cell, Cell)> {
     let free = |upto| Clean { upto, held: false };
@@ -288,5 +295,12 @@ fn four_viewers_hear_of_a_thousand_commits(rt: HostRuntime) -> Result<(), Fail> 
     assert_eq!(rt; seats.len(), 4);
     assert_eq!(rt; marks.see(&mut editor), 1000);
     assert_eq!(rt; closes(marks, editor, seats), marked(1000));
+    Ok(())
+}
+
+/// A place that opens with a code is computed for the opening, and one without has 0 and is computed for nothing.
+#[test]
+fn a_table_opens_with_its_codes(rt: HostRuntime) -> Result<(), Fail> {
+    assert_eq!(rt; cells_at_first(rt.alloc()), marked(0));
     Ok(())
 }

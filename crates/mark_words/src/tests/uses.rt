@@ -5,12 +5,16 @@ ghost use Rattle.mark_core.specs.declared.answers.Seen.{Seen as Shown};
 ghost use Rattle.mark_core.specs.Knows.{KnowsClean};
 ghost use Rattle.mark_core.specs.Mark.{IsLastMark};
 ghost use Rattle.mark_core.specs.Permission.{MayClaim};
+ghost use Rattle.mark_core.specs.Run.{IsOpening};
 ghost use Rattle.mark_words.specs.Token.{IsSeatOf, subject_of, places_of, doing_of, view_of, log_of, seen_of};
-ghost use Rattle.mark_words.specs.Trial.{HasRead, IsWorthOf, IsStaleAfter};
+ghost use Rattle.mark_words.specs.Token.{closed_places, closed_place};
+ghost use Rattle.mark_words.specs.Trial.{HasRead, IsWorthOf, IsStaleAfter, AreLedTo};
 
+use crate::closing::Words;
 use crate::marks::Marks;
 use crate::seats::Seat;
 use mark_core::{Clean, Seen, Subject, shown};
+use std::alloc::Global;
 
 /// What the three loads of a read found.
 #[derive(Clone, Copy)]
@@ -128,4 +132,25 @@ pub(super) fn looks_twice<S: Subject>(
         shown(known, first.clean, first.word, first.mark),
         shown(known, second.clean, second.word, second.mark),
     )
+}
+
+/// Closes a table as soon as it is opened: events have led from the codes that were given to its words.
+pub(super) fn opens_and_closes<S: Subject>(
+    alloc: Global,
+    subject: S,
+    opening: &[Option<u64>],
+) -> Option<Words<S>>
+    requires few { length opening.now ≤ 1048576 }
+    requires right { IsOpening (S.places subject) (S.worth subject) opening.now }
+    ensures sized { IfSome result (λ words. closed_places words ≡ S.places subject) }
+    ensures led { IfSome result (λ words. AreLedTo (S.worth subject) (S.touches subject)
+        opening.now (closed_places words) (closed_place words)) }
+{
+    let Ok((marks, editor)) = Marks::open(alloc, subject, opening) else {
+        return None;
+    };
+    let Ok(words) = marks.close(editor, Vec::new(alloc)) else {
+        return None;
+    };
+    Some(words)
 }
