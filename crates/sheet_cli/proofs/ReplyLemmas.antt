@@ -1,22 +1,31 @@
 -- From what a text gives to the reply to the words, over a shelf.
-use Rattle.std.proofs.Common.{◌≡◌, ◌≢◌, ℕ, ◌<◌, ◌⊎◌, inl, inr, List, [], ◌∷◌, length, refl, sym, subst, ap, arith}
-use Rattle.std.specs.Prelude.{Option, IfSome, Result, Ok, Err, IfOk, Contains, Some, None, string_bytes}
+use Rattle.std.proofs.Common.{◌≡◌, ◌≢◌, ℕ, suc, ◌+◌, ◌*◌, ◌<◌, ◌≤◌, ◌⊎◌, inl, inr, List, [], ◌∷◌, ◌++◌, length, length-append, refl, sym, subst, ap, arith}
+use Rattle.std.specs.Prelude.{max, fold, Option, IfSome, Result, Ok, Err, IfOk, Contains, Some, None, string_bytes}
 use Rattle.sheet_refs.specs.Cells.{Corners}
 use Rattle.csv_sheet.specs.Results.{IsResult}
 use Rattle.csv_sheet.specs.declared.refused.SheetRefused.{SheetRefused}
 use Rattle.csv_sheet.specs.declared.refused.SheetRefused.TheVariants as why
-use Rattle.sheet_model.specs.Sheets.{SheetValue}
-use Rattle.sheet_cli.specs.Answers.{Answer, Answers, AnswersWindow, AnswersCheck, Owes, HasNoSheet, IsTextOf, status_of}
+use Rattle.csv_sheet.specs.Records.{Rows, all_fields, longest}
+use Rattle.sheet_model.specs.Labels.{IsTable}
+use Rattle.sheet_model.specs.Sheets.{SheetValue, with_labels}
+use Rattle.sheet_model.proofs.TableLemmas.{adds_few}
+use Rattle.edit_script.specs.Scripts.{ScriptValue, IsResult as IsScriptResult}
+use Rattle.edit_script.specs.declared.refused.ScriptRefused.{ScriptRefused}
+use Rattle.edit_script.specs.declared.script.Mode.TheVariants.{Play}
+use Rattle.edit_script.specs.declared.refused.ScriptRefused.TheVariants as script_why
+use Rattle.sheet_cli.specs.Answers.{Answer, Answers, AnswersWindow, AnswersCheck, AnswersPlay, Gives, GivesScript, HasNoScript, IsPlayed, Owes, HasNoSheet, IsTextOf, status_of}
 use Rattle.sheet_cli.specs.Answers.Answer.{output, refusal}
 use Rattle.sheet_cli.specs.Answers.AnswersWindow.{written, outside, no_sheet}
 use Rattle.sheet_cli.specs.Answers.AnswersCheck.{listed, unlisted}
+use Rattle.sheet_cli.specs.Answers.AnswersPlay.{reported, unscripted, unplayed}
+use Rattle.sheet_cli.specs.Answers.HasNoScript.{long_script, refused_script}
 use Rattle.sheet_cli.specs.Answers.HasNoSheet.{too_long, refused}
 use Rattle.sheet_cli.specs.Answers.Owes.{answers, usage}
 use Rattle.sheet_io.specs.Faults.{Rose}
-use Rattle.sheet_cli.specs.Lines.{read_failed_line, refused_line, too_long_line, usage_line}
+use Rattle.sheet_cli.specs.Lines.{long_script_line, read_failed_line, refused_line, script_line, too_long_line, usage_line}
 use Rattle.sheet_cli.specs.Requests.{Request, texts_named}
-use Rattle.sheet_cli.specs.Requests.Request.{of_window, of_check}
-use Rattle.sheet_cli.specs.Replies.{HasFetched, HasSheet, IsMissed, IsOwed, RepliesTo, answer_of}
+use Rattle.sheet_cli.specs.Requests.Request.{of_window, of_check, of_play}
+use Rattle.sheet_cli.specs.Replies.{HasFetched, HasSheet, IsMissed, IsOwed, IsRefusedStatus, RepliesPlay, RepliesScript, RepliesTo, answer_of}
 use Rattle.sheet_cli.specs.Words.{Asks, AsksNothing}
 use Rattle.sheet_cli.specs.declared.words.WindowCommand.{WindowCommand}
 use Rattle.sheet_cli.specs.declared.reply.Reply.{Reply}
@@ -42,6 +51,23 @@ is_past (Some t) text whole past = subst (λ x. 16777216 < length x) whole past
 named_first : (name : List ℕ) → Contains (name ∷ []) name
 named_first name = (0, omega arith, refl)
 
+-- the fields of records that are no longer than the longest one
+grows : (rows : Rows) (most : ℕ) → most ≤ fold (λ m r. max m (length r)) most rows
+grows [] most = omega arith
+grows (row ∷ rows) most = let rest = grows rows (max most (length row)) in omega (arith, rest)
+
+fields_within : (rows : Rows) (most : ℕ) → length (all_fields rows) ≤ length rows * fold (λ m r. max m (length r)) most rows
+fields_within [] most = omega arith
+fields_within (row ∷ rows) most =
+    let widest : ℕ = fold (λ m r. max m (length r)) (max most (length row)) rows in
+    let first = grows rows (max most (length row)) in
+    let rest = fields_within rows (max most (length row)) in
+    let joined = length-append row (all_fields rows) in
+    one_more (length row) (length (all_fields rows)) (length (row ++ all_fields rows)) (length rows) widest (omega (arith, first)) rest joined
+  where
+    one_more : (a b c n w : ℕ) → a ≤ w → b ≤ n * w → c ≡ a + b → c ≤ suc n * w
+    one_more a b c n w x y z = let product : suc n * w ≡ w + n * w = grind arith in omega (arith, x, y, z, product)
+
 -- ---- what a text gives
 
 pub long_sheet : (text : List ℕ) (reply : Reply) → 16777216 < length text → answer_of reply ≡ refusal 3 too_long_line → HasSheet text (Err reply)
@@ -59,6 +85,31 @@ unread_sheet text cause reply is known gives holds name stands = record {
   none = refused cause (record { text = text; stands = stands; gives = gives (λ same. known (same_cause same)) });
   reply_is = is;
 }
+
+-- ---- what a script's text gives over a sheet
+
+abbrev pub no_script_for : ScriptRefused → Result ScriptValue ScriptRefused
+no_script_for cause = Err cause
+
+abbrev pub script_for : ScriptValue → Result ScriptValue ScriptRefused
+script_for script = Ok script
+
+pub same_script_cause : {a b : ScriptRefused} → no_script_for a ≡ no_script_for b → a ≡ b
+same_script_cause h = cc
+
+pub a_script : (script : ScriptValue) → script_for script ≢ no_script_for script_why.Memory
+a_script script h = cc
+
+pub long_reply : (sheet : SheetValue) (text : List ℕ) (reply : Reply) → 16777216 < length text → answer_of reply ≡ refusal 4 long_script_line → RepliesPlay sheet text reply
+long_reply sheet text reply past is holds name script gives stands = subst (AnswersPlay holds name script) (sym is) (unscripted sheet 4 long_script_line gives (long_script (is_past (holds script) text stands.told past)))
+
+pub no_script_reply : (sheet : SheetValue) (labels : List (List ℕ)) (text : List ℕ) (cause : ScriptRefused) (reply : Reply) → IsTable labels → IsScriptResult Play sheet.sizes sheet.labels labels text (Err cause) → answer_of reply ≡ refusal 4 (script_line cause) → RepliesPlay sheet text reply
+no_script_reply sheet labels text cause reply table gives is holds name script sheet_gives stands =
+    subst (AnswersPlay holds name script) (sym is) (unscripted sheet 4 (script_line cause) sheet_gives (refused_script cause labels (record { text = text; stands = stands; gives = gives; table = table })))
+
+pub played_reply : (sheet : SheetValue) (labels : List (List ℕ)) (text : List ℕ) (script : ScriptValue) (reply : Reply) (said : List ℕ) → IsTable labels → IsScriptResult Play sheet.sizes sheet.labels labels text (Ok script) → IsPlayed (with_labels sheet labels) script.steps said → answer_of reply ≡ output said → RepliesPlay sheet text reply
+played_reply sheet labels text script reply said table gives plays is holds name script_name sheet_gives stands =
+    subst (AnswersPlay holds name script_name) (sym is) (reported sheet labels script said sheet_gives (record { text = text; stands = stands; gives = gives; table = table }) plays)
 
 -- ---- over a shelf
 
@@ -81,6 +132,36 @@ module _ (holds : List ℕ → Option (List ℕ)) (name : List ℕ) (before afte
   no_check reply (inl miss) = read_failure (of_check name) reply (named_first name) miss
   no_check reply (inr lacks) = inr (subst (AnswersCheck holds name) (sym lacks.reply_is) (unlisted lacks.status lacks.line lacks.none))
 
+  pub no_play : (script : List ℕ) (reply : Reply) → HasFetched holds name before after (Err reply) → RepliesTo (of_play name script) holds before after reply
+  no_play script reply (inl miss) = read_failure (of_play name script) reply (0, omega arith, refl) miss
+  no_play script reply (inr lacks) = inr (subst (AnswersPlay holds name script) (sym lacks.reply_is) (unplayed lacks.status lacks.line lacks.none))
+
+-- a fault that rose later has risen
+rose_from : (before mid after : ℕ) → before ≤ mid → Rose mid after → Rose before after
+rose_from before mid after grown (inl more) = inl (omega (arith, grown, more))
+rose_from before mid after grown (inr most) = inr most
+
+-- the reply over a sheet is one to the words
+pub play_replies : (holds : List ℕ → Option (List ℕ)) (name script : List ℕ) (sheet : SheetValue) (before mid after : ℕ) (reply : Reply) → before ≤ mid → Gives holds name (Ok sheet) → RepliesScript holds sheet script mid after reply → RepliesTo (of_play name script) holds before after reply
+play_replies holds name script sheet before mid after reply grown gives (inl miss) = inl (record { name = script; named = (1, omega arith, refl); rose = rose_from before mid after grown miss.rose; reply_is = miss.reply_is })
+play_replies holds name script sheet before mid after reply grown gives (inr plays) = inr (plays name gives)
+
+-- a sheet that was read has no more labels than cells
+labels_few : (holds : List ℕ → Option (List ℕ)) (name : List ℕ) (sheet : SheetValue) → Gives holds name (Ok sheet) → length sheet.labels ≤ 1048576
+labels_few holds name sheet gives =
+    let is = gives.gives.answer in
+    let added = adds_few (all_fields gives.gives.rows) [] sheet.labels is.labels in
+    let fields = fields_within gives.gives.rows 0 in
+    let fits = is.readable.fits in
+    let most : length gives.gives.rows * longest gives.gives.rows ≤ 1048576 = at_most (length gives.gives.rows * longest gives.gives.rows) (λ large. fits (inl large)) in
+    omega (arith, added, fields, most)
+  where
+    at_most : (n : ℕ) → ((1048576 < n) → ⊥) → n ≤ 1048576
+    at_most n not = omega (arith, not)
+
+pub room_for_labels : (holds : List ℕ → Option (List ℕ)) (name : List ℕ) (sheet : SheetValue) → Gives holds name (Ok sheet) → length sheet.labels ≤ 3000000000
+room_for_labels holds name sheet gives = (let few = labels_few holds name sheet gives in omega (arith, few))
+
 -- ---- of words
 
 same_status : {s t : ℕ} {l m : List ℕ} → refusal s l ≡ refusal t m → s ≡ t
@@ -92,23 +173,33 @@ same_line h = cc
 no_output : {text line : List ℕ} {status : ℕ} → output text ≡ refusal status line → ⊥
 no_output h = cc
 
-cause_status : (holds : List ℕ → Option (List ℕ)) (name : List ℕ) (status : ℕ) (line : List ℕ) → HasNoSheet holds name status line → (status ≡ 2) ⊎ (status ≡ 3)
-cause_status holds name _ _ (too_long _) = inr refl
-cause_status holds name _ _ (refused _ _) = inr refl
+cause_status : (holds : List ℕ → Option (List ℕ)) (name : List ℕ) (status : ℕ) (line : List ℕ) → HasNoSheet holds name status line → IsRefusedStatus status
+cause_status holds name _ _ (too_long _) = inr (inl refl)
+cause_status holds name _ _ (refused _ _) = inr (inl refl)
+
+script_status : (holds : List ℕ → Option (List ℕ)) (name : List ℕ) (sheet : SheetValue) (status : ℕ) (line : List ℕ) → HasNoScript holds name sheet status line → IsRefusedStatus status
+script_status holds name sheet _ _ (long_script _) = inr (inr refl)
+script_status holds name sheet _ _ (refused_script _ _ _) = inr (inr refl)
+
+play_status : (holds : List ℕ → Option (List ℕ)) (name script : List ℕ) (answer : Answer) (status : ℕ) (line : List ℕ) → answer ≡ refusal status line → AnswersPlay holds name script answer → IsRefusedStatus status
+play_status holds name script _ status line is (reported _ _ _ _ _ _ _) = absurd (no_output is)
+play_status holds name script _ status line is (unscripted sheet given said gives none) = subst IsRefusedStatus (same_status is) (script_status holds script sheet given said none)
+play_status holds name script _ status line is (unplayed given said none) = subst IsRefusedStatus (same_status is) (cause_status holds name given said none)
 
 -- the status of a refusal that a request is answered
-window_status : (holds : List ℕ → Option (List ℕ)) (command : WindowCommand) (name : List ℕ) (window : Corners) (answer : Answer) (status : ℕ) (line : List ℕ) → answer ≡ refusal status line → AnswersWindow holds command name window answer → (status ≡ 2) ⊎ (status ≡ 3)
+window_status : (holds : List ℕ → Option (List ℕ)) (command : WindowCommand) (name : List ℕ) (window : Corners) (answer : Answer) (status : ℕ) (line : List ℕ) → answer ≡ refusal status line → AnswersWindow holds command name window answer → IsRefusedStatus status
 window_status holds command name window _ status line is (written _ _ _ _ _) = absurd (no_output is)
 window_status holds command name window _ status line is (outside _ _ _) = inl (sym (same_status is))
-window_status holds command name window _ status line is (no_sheet given said none) = subst (λ s. (s ≡ 2) ⊎ (s ≡ 3)) (same_status is) (cause_status holds name given said none)
+window_status holds command name window _ status line is (no_sheet given said none) = subst IsRefusedStatus (same_status is) (cause_status holds name given said none)
 
-check_status : (holds : List ℕ → Option (List ℕ)) (name : List ℕ) (answer : Answer) (status : ℕ) (line : List ℕ) → answer ≡ refusal status line → AnswersCheck holds name answer → (status ≡ 2) ⊎ (status ≡ 3)
+check_status : (holds : List ℕ → Option (List ℕ)) (name : List ℕ) (answer : Answer) (status : ℕ) (line : List ℕ) → answer ≡ refusal status line → AnswersCheck holds name answer → IsRefusedStatus status
 check_status holds name _ status line is (listed _ _ _ _) = absurd (no_output is)
-check_status holds name _ status line is (unlisted given said none) = subst (λ s. (s ≡ 2) ⊎ (s ≡ 3)) (same_status is) (cause_status holds name given said none)
+check_status holds name _ status line is (unlisted given said none) = subst IsRefusedStatus (same_status is) (cause_status holds name given said none)
 
-refusal_of_request : (holds : List ℕ → Option (List ℕ)) (request : Request) (status : ℕ) (line : List ℕ) → Answers holds request (refusal status line) → (status ≡ 2) ⊎ (status ≡ 3)
+refusal_of_request : (holds : List ℕ → Option (List ℕ)) (request : Request) (status : ℕ) (line : List ℕ) → Answers holds request (refusal status line) → IsRefusedStatus status
 refusal_of_request holds (of_window command name window) status line given = window_status holds command name window (refusal status line) status line refl given
 refusal_of_request holds (of_check name) status line given = check_status holds name (refusal status line) status line refl given
+refusal_of_request holds (of_play name script) status line given = play_status holds name script (refusal status line) status line refl given
 
 -- the reply to what the words ask for
 pub to_words : (words : List (List ℕ)) (holds : List ℕ → Option (List ℕ)) (before after : ℕ) (request : Request) (reply : Reply) → Asks words request → RepliesTo request holds before after reply → IsOwed words holds before after reply

@@ -5,7 +5,7 @@ use Rattle.std.specs.declared.alloc.Global.{Global}
 use Rattle.sheet_io.specs.Faults.{Rose}
 use Rattle.sheet_cli.specs.Answers.{Owes}
 use Rattle.sheet_cli.specs.Answers.Answer.{output, refusal}
-use Rattle.sheet_cli.specs.Replies.{IsOwed}
+use Rattle.sheet_cli.specs.Replies.{IsOwed, IsRefusedStatus}
 use Rattle.sheet_cli.specs.Runs.{IsComplete, RefusesAll, IsUnfetched}
 use Rattle.sheet_cli.specs.declared.reply.Reply.TheVariants.{Refusal}
 use Rattle.sheet_cli.proofs.OneAnswer.{one_status, not_refused}
@@ -38,6 +38,7 @@ module _ (words : List (List ℕ)) (holds : List ℕ → Option (List ℕ)) wher
       }
   unfetched before after status line Noted told (inr refused) same noted five = absurd (no refused.status_is five)
     where
-      no : (status ≡ 2) ⊎ (status ≡ 3) → status ≡ 5 → ⊥
+      no : IsRefusedStatus status → status ≡ 5 → ⊥
       no (inl two) five = omega (arith, two, five)
-      no (inr three) five = omega (arith, three, five)
+      no (inr (inl three)) five = omega (arith, three, five)
+      no (inr (inr four)) five = omega (arith, four, five)

@@ -9,7 +9,7 @@ use Rattle.sheet_refs.specs.Names.{IsRangeName, IsCellName}
 use Rattle.sheet_refs.specs.Names.IsRangeName.{one, two}
 use Rattle.sheet_cli.specs.Requests.{Request}
 use Rattle.sheet_cli.specs.Words.{IsOption, Asks, bytes_of}
-use Rattle.sheet_cli.specs.Words.Asks.{asks_of_window, asks_check}
+use Rattle.sheet_cli.specs.Words.Asks.{asks_of_window, asks_check, asks_play}
 
 -- a name of a cell, and what follows it, begins with a letter
 letter_first : (letters rest : List ℕ) → 0 < length letters → ((k : ℕ) (d : ℕ) → k < length letters → ((65 ≤ slice_index_or letters k d) × (slice_index_or letters k d ≤ 90)) ⊎ ((97 ≤ slice_index_or letters k d) × (slice_index_or letters k d ≤ 122))) → ¬ IsOption (letters ++ rest)
@@ -56,6 +56,9 @@ plain_rest command rest _ (asks_of_window given sheet name window is plain range
 plain_rest command rest _ (asks_check sheet is plain) =
     let tail : bytes_of rest ≡ sheet ∷ [] = cc is in
     one_plain rest sheet tail plain
+plain_rest command rest _ (asks_play sheet script is plain also) =
+    let tail : bytes_of rest ≡ sheet ∷ script ∷ [] = cc is in
+    two_plain rest sheet script tail plain also
 
 -- what a test that failed has told
 pub refuted : {P : Type 0} (b : Bool) → IsTrue b ↔ P → b ≡ false → ¬ P
@@ -65,3 +68,6 @@ refuted b told failed holds =
 
 pub first_plain : (words : List (List ℕ)) (first : List ℕ) (rest : List (List ℕ)) → words ≡ first ∷ rest → All (λ w. ¬ IsOption w) words → ¬ IsOption first
 first_plain words first rest is plain = (rw is at plain) 0 [] (omega arith)
+
+pub second_plain : (words : List (List ℕ)) (first second : List ℕ) (rest : List (List ℕ)) → words ≡ first ∷ second ∷ rest → All (λ w. ¬ IsOption w) words → ¬ IsOption second
+second_plain words first second rest is plain = (rw is at plain) 1 [] (omega arith)

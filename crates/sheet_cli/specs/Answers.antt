@@ -2,15 +2,23 @@
 use Rattle.std.specs.Prelude.{◌≡◌, ℕ, ◌<◌, ◌≤◌, ◌⊎◌, List, length, Result, Ok, Err, Some, IfSome, All}
 use Rattle.std.specs.declared.option.Option.{Option}
 use Rattle.sheet_refs.specs.Cells.{Corners}
-use Rattle.sheet_model.specs.Sheets.{SheetValue}
+use Rattle.sheet_model.specs.Labels.{IsTable}
+use Rattle.sheet_model.specs.Sheets.{SheetValue, with_labels}
 use Rattle.csv_sheet.specs.Results.{IsResult}
 use Rattle.csv_sheet.specs.declared.refused.SheetRefused.{SheetRefused}
+use Rattle.edit_script.specs.Scripts.{ScriptValue, IsResult as IsScriptResult}
+use Rattle.edit_script.specs.declared.refused.ScriptRefused.{ScriptRefused}
+use Rattle.edit_script.specs.declared.script.Mode.TheVariants.{Play}
+use Rattle.edit_script.specs.declared.script.Step.{Step}
+use Rattle.play_machine.specs.Machine.{ArePlayed}
+use Rattle.window_text.specs.Reports.{play_text}
+use Rattle.window_text.specs.declared.report.Report.{Report}
 use Rattle.window_text.specs.Texts.{IsWithinSheet, check_text, show_text, runs_text}
 use Rattle.edge_patterns.specs.Edges.{EdgeValue}
 use Rattle.sheet_cli.specs.Graphs.{AreDependents, ArePrecedents, ListsEdges}
-use Rattle.sheet_cli.specs.Lines.{usage_line, outside_line, too_long_line, refused_line}
+use Rattle.sheet_cli.specs.Lines.{usage_line, outside_line, too_long_line, refused_line, long_script_line, script_line}
 use Rattle.sheet_cli.specs.Requests.{Request, texts_named}
-use Rattle.sheet_cli.specs.Requests.Request.{of_window, of_check}
+use Rattle.sheet_cli.specs.Requests.Request.{of_window, of_check, of_play}
 use Rattle.sheet_cli.specs.Words.{Asks, AsksNothing}
 use Rattle.sheet_cli.specs.declared.words.WindowCommand.{WindowCommand}
 use Rattle.sheet_cli.specs.declared.words.WindowCommand.TheVariants.{Show, Deps, Precs}
@@ -77,10 +85,45 @@ pub data AnswersCheck (holds : Texts) (name : List ℕ) : Answer → Type 0 wher
   unlisted : (status : ℕ) (line : List ℕ) → HasNoSheet holds name status line
       → AnswersCheck holds name (refusal status line)
 
+-- what the text under a name gives as a script over a sheet, and the sheet's labels after it
+pub record GivesScript (holds : Texts) (name : List ℕ) (sheet : SheetValue) (labels : List (List ℕ)) (result : Result ScriptValue ScriptRefused) : Type 0 where
+  pub text : List ℕ
+  pub stands : IsTextOf holds name text
+  pub gives : IsScriptResult Play sheet.sizes sheet.labels labels text result
+  pub table : IsTable labels
+
+-- there is no script under a name, and this says why
+pub data HasNoScript (holds : Texts) (name : List ℕ) (sheet : SheetValue) : ℕ → List ℕ → Type 0 where
+  -- its text is past the limit
+  long_script : IfSome (holds name) (λ t. 16777216 < length t) → HasNoScript holds name sheet 4 long_script_line
+  -- its text is no script over the sheet
+  refused_script : (why : ScriptRefused) (labels : List (List ℕ)) → GivesScript holds name sheet labels (Err why)
+      → HasNoScript holds name sheet 4 (script_line why)
+
+-- what `play` writes of steps over a sheet
+pub record IsPlayed (sheet : SheetValue) (steps : List Step) (text : List ℕ) : Type 0 where
+  pub reports : List Report
+  pub played : ArePlayed sheet steps reports
+  pub text_is : text ≡ play_text sheet.labels reports
+
+-- what `play` is answered
+pub data AnswersPlay (holds : Texts) (name script_name : List ℕ) : Answer → Type 0 where
+  -- it writes the reports of the script
+  reported : (sheet : SheetValue) (labels : List (List ℕ)) (script : ScriptValue) (text : List ℕ)
+      → Gives holds name (Ok sheet) → GivesScript holds script_name sheet labels (Ok script)
+      → IsPlayed (with_labels sheet labels) script.steps text → AnswersPlay holds name script_name (output text)
+  -- or there is no script
+  unscripted : (sheet : SheetValue) (status : ℕ) (line : List ℕ) → Gives holds name (Ok sheet)
+      → HasNoScript holds script_name sheet status line → AnswersPlay holds name script_name (refusal status line)
+  -- or there is no sheet
+  unplayed : (status : ℕ) (line : List ℕ) → HasNoSheet holds name status line
+      → AnswersPlay holds name script_name (refusal status line)
+
 -- what a request is answered
 abbrev pub Answers : Texts → Request → Answer → Type 0
 Answers holds (of_window command name window) = AnswersWindow holds command name window
 Answers holds (of_check name) = AnswersCheck holds name
+Answers holds (of_play name script) = AnswersPlay holds name script
 
 -- what words are answered, over the texts of a shelf
 pub data Owes (words : List (List ℕ)) (holds : Texts) : Answer → Type 0 where

@@ -2,6 +2,8 @@
 use Rattle.std.specs.Prelude.{ℕ, List, [], ◌∷◌, ◌++◌, codes}
 use Rattle.csv_sheet.specs.Results.{refusal_text}
 use Rattle.csv_sheet.specs.declared.refused.SheetRefused.{SheetRefused}
+use Rattle.edit_script.specs.Scripts.{refusal_text as script_refusal_text}
+use Rattle.edit_script.specs.declared.refused.ScriptRefused.{ScriptRefused}
 
 abbrev pub line_end : List ℕ
 line_end = 10 ∷ []
@@ -20,6 +22,13 @@ too_long_line = codes "antifreeze: sheet: text too long" ++ line_end
 -- why the text is no sheet
 abbrev pub refused_line : SheetRefused → List ℕ
 refused_line why = codes "antifreeze: " ++ (refusal_text why ++ line_end)
+
+abbrev pub long_script_line : List ℕ
+long_script_line = codes "antifreeze: script: text too long" ++ line_end
+
+-- why the text is no script
+abbrev pub script_line : ScriptRefused → List ℕ
+script_line why = codes "antifreeze: " ++ (script_refusal_text why ++ line_end)
 
 abbrev pub read_failed_line : List ℕ → List ℕ
 read_failed_line name = codes "antifreeze: " ++ (name ++ (codes ": read failed" ++ line_end))

@@ -4,7 +4,7 @@ use Rattle.std.specs.declared.option.Option.{Option}
 use Rattle.sheet_refs.specs.Cells.{Corners}
 use Rattle.sheet_model.specs.Sheets.{SheetValue}
 use Rattle.sheet_io.specs.Faults.{Rose}
-use Rattle.sheet_cli.specs.Answers.{Answer, Answers, AnswersWindow, Gives, HasNoSheet, IsTextOf, Owes, Texts}
+use Rattle.sheet_cli.specs.Answers.{Answer, Answers, AnswersPlay, AnswersWindow, Gives, HasNoSheet, IsTextOf, Owes, Texts}
 use Rattle.sheet_cli.specs.Answers.Answer.{output, refusal}
 use Rattle.sheet_cli.specs.Lines.{read_failed_line}
 use Rattle.sheet_cli.specs.Requests.{Request, texts_named}
@@ -40,6 +40,12 @@ RepliesWindow sheet command window reply =
     (holds : Texts) (name : List ℕ) → Gives holds name (Ok sheet)
     → AnswersWindow holds command name window (answer_of reply)
 
+-- a reply to `play` over a sheet and a script's text, under whatever names these stand
+abbrev pub RepliesPlay : SheetValue → List ℕ → Reply → Type 0
+RepliesPlay sheet text reply =
+    (holds : Texts) (name script : List ℕ) → Gives holds name (Ok sheet) → IsTextOf holds script text
+    → AnswersPlay holds name script (answer_of reply)
+
 -- a text that a request names was not fetched
 pub record IsReadFailure (request : Request) (before after : ℕ) (reply : Reply) : Type 0 where
   pub name : List ℕ
@@ -51,6 +57,12 @@ pub record IsReadFailure (request : Request) (before after : ℕ) (reply : Reply
 pub record IsMissed (name : List ℕ) (before after : ℕ) (reply : Reply) : Type 0 where
   pub rose : Rose before after
   pub reply_is : answer_of reply ≡ refusal 5 (read_failed_line name)
+
+-- a reply to `play` over a sheet, from a shelf whose faults went from a number to another
+abbrev pub RepliesScript : Texts → SheetValue → List ℕ → ℕ → ℕ → Reply → Type 0
+RepliesScript holds sheet script before after reply =
+    IsMissed script before after reply
+    ⊎ ((name : List ℕ) → Gives holds name (Ok sheet) → AnswersPlay holds name script (answer_of reply))
 
 -- the sheet under a name on a shelf whose faults went from a number to another, or the reply that says why there is none
 abbrev pub HasFetched : Texts → List ℕ → ℕ → ℕ → Result SheetValue Reply → Type 0
@@ -72,9 +84,13 @@ pub record IsUnread (words : List (List ℕ)) (before after status : ℕ) (line 
   pub status_is : status ≡ 5
   pub line_is : line ≡ read_failed_line name
 
+-- a status of words or a range, of a sheet, or of a script that is refused
+abbrev pub IsRefusedStatus : ℕ → Type 0
+IsRefusedStatus status = (status ≡ 2) ⊎ ((status ≡ 3) ⊎ (status ≡ 4))
+
 -- the words, or a text that they name, are refused
 pub record IsRefusal (words : List (List ℕ)) (holds : Texts) (status : ℕ) (line : List ℕ) : Type 0 where
-  pub status_is : (status ≡ 2) ⊎ (status ≡ 3)
+  pub status_is : IsRefusedStatus status
   pub owed : Owes words holds (refusal status line)
 
 -- a reply to words over a shelf, whose faults went from a number to another

@@ -9,8 +9,11 @@ pub data Request : Type 0 where
   of_window : (command : WindowCommand) (sheet : List ℕ) (window : Corners) → Request
   -- how far a sheet's pairs can be compressed
   of_check : (sheet : List ℕ) → Request
+  -- a script, one step after the other
+  of_play : (sheet script : List ℕ) → Request
 
 -- the names of the texts that a request reads, in the order in which they are fetched
 abbrev pub texts_named : Request → List (List ℕ)
 texts_named (of_window command sheet window) = sheet ∷ []
 texts_named (of_check sheet) = sheet ∷ []
+texts_named (of_play sheet script) = sheet ∷ script ∷ []

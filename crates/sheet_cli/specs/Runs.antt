@@ -10,9 +10,9 @@ use Rattle.sheet_cli.specs.Lines.{read_failed_line}
 use Rattle.sheet_cli.specs.Requests.{Request, texts_named}
 use Rattle.sheet_cli.specs.Words.{Asks}
 
--- all done; words or range refused; sheet refused; a fetch failed; a put failed; want of memory
+-- all done; words or range refused; sheet refused; script refused; a fetch failed; a put failed; want of memory
 abbrev pub IsStatus : ℕ → Type 0
-IsStatus status = (status ≡ 0) ⊎ ((status ≡ 2) ⊎ ((status ≡ 3) ⊎ ((status ≡ 5) ⊎ ((status ≡ 6) ⊎ (status ≡ 7)))))
+IsStatus status = (status ≡ 0) ⊎ ((status ≡ 2) ⊎ ((status ≡ 3) ⊎ ((status ≡ 4) ⊎ ((status ≡ 5) ⊎ ((status ≡ 6) ⊎ (status ≡ 7))))))
 
 -- a sink has taken a line whole, or a prefix of it where its faults rose
 abbrev pub TakesLine : {N : Type 0} → (N → Option (List ℕ)) → (N → ℕ) → N → N → List ℕ → Type 0

@@ -4,9 +4,9 @@ use Rattle.std.specs.declared.alloc.Global.{Global}
 use Rattle.sheet_refs.specs.Cells.{Corners}
 use Rattle.sheet_refs.specs.Names.{IsRangeName}
 use Rattle.sheet_cli.specs.Requests.{Request}
-use Rattle.sheet_cli.specs.Requests.Request.{of_window, of_check}
+use Rattle.sheet_cli.specs.Requests.Request.{of_window, of_check, of_play}
 use Rattle.sheet_cli.specs.declared.words.Asked.{Asked}
-use Rattle.sheet_cli.specs.declared.words.Asked.TheVariants.{Nothing, OfWindow, OfCheck}
+use Rattle.sheet_cli.specs.declared.words.Asked.TheVariants.{Nothing, OfWindow, OfCheck, OfPlay}
 use Rattle.sheet_cli.specs.declared.words.WindowCommand.{WindowCommand}
 use Rattle.sheet_cli.specs.declared.words.WindowCommand.TheVariants.{Show, Deps, Precs}
 
@@ -36,6 +36,9 @@ pub data Asks (words : List (List ℕ)) : Request → Type 0 where
       → Asks words (of_window command sheet window)
   -- `check SHEET`
   asks_check : (sheet : List ℕ) → words ≡ codes "check" ∷ sheet ∷ [] → ¬ IsOption sheet → Asks words (of_check sheet)
+  -- `play SHEET SCRIPT`
+  asks_play : (sheet script : List ℕ) → words ≡ codes "play" ∷ sheet ∷ script ∷ [] → ¬ IsOption sheet → ¬ IsOption script
+      → Asks words (of_play sheet script)
 
 -- the words are no command
 abbrev pub AsksNothing : List (List ℕ) → Type 0
@@ -46,3 +49,4 @@ abbrev pub IsAskedBy : List (List ℕ) → Asked → Type 0
 IsAskedBy words Nothing = AsksNothing words
 IsAskedBy words (OfWindow command sheet window) = Asks words (of_window command (string_bytes sheet) window)
 IsAskedBy words (OfCheck sheet) = Asks words (of_check (string_bytes sheet))
+IsAskedBy words (OfPlay sheet script) = Asks words (of_play (string_bytes sheet) (string_bytes script))

@@ -16,6 +16,7 @@
 mod laws;
 mod output;
 mod reply;
+mod script;
 #[cfg(test)]
 mod tests;
 mod top;

@@ -3,12 +3,13 @@ ghost use Rattle.csv_sheet.specs.declared.refused.SheetRefused.TheVariants as re
 ghost use Rattle.window_text.specs.Texts.{IsWithinSheet};
 ghost use Rattle.sheet_cli.specs.Answers.Answer.{refusal as refusal_answer};
 ghost use Rattle.sheet_cli.specs.Lines.{refused_line, too_long_line};
-ghost use Rattle.sheet_cli.specs.Requests.Request.{of_check, of_window};
+ghost use Rattle.sheet_cli.specs.Requests.Request.{of_check, of_play, of_window};
 ghost use Rattle.sheet_cli.specs.Replies.{HasFetched, HasSheet, IsOwed, RepliesTo};
 ghost use Rattle.sheet_cli.specs.Replies.{RepliesWindow, answer_of};
 ghost use Rattle.sheet_cli.specs.Words.{AsksNothing, bytes_of};
 
 use crate::output::{check_output, window_output};
+use crate::script::reply_of_script;
 use crate::words::{Asked, WindowCommand, read_words};
 use csv_sheet::{SheetRefused, load};
 use sheet_io::{Fetch, Shelf};
@@ -51,6 +52,9 @@ pub(crate) fn reply_to<F: Shelf>(
             range,
         } => reply_of_window(alloc, command, sheet.as_str(), range, shelf),
         Asked::OfCheck { sheet } => reply_of_check(alloc, sheet.as_str(), shelf),
+        Asked::OfPlay { sheet, script } => {
+            reply_of_play(alloc, sheet.as_str(), script.as_str(), shelf)
+        }
         Asked::Nothing => refusal(alloc, 2, USAGE),
     }
 }
@@ -99,6 +103,24 @@ fn reply_of_check<F: Shelf>(alloc: Global, name: &str, shelf: &mut F) -> Result<
 {
     match fetch_sheet(alloc, name, shelf)? {
         Ok(sheet) => Ok(Reply::Output(check_output(alloc, &sheet)?)),
+        Err(reply) => Ok(reply),
+    }
+}
+
+// The reply to `play`. The sheet is fetched and read, then the script.
+fn reply_of_play<F: Shelf>(
+    alloc: Global,
+    name: &str,
+    script: &str,
+    shelf: &mut F,
+) -> Result<Reply, Memory>
+    ensures reply { IfOk result (RepliesTo (of_play name.now script.now)
+        (F.holds shelf.old) (F.faults shelf.old) (F.faults shelf.new)) }
+    ensures held { F.holds shelf.new ≡ F.holds shelf.old }
+    ensures counted { F.faults shelf.old ≤ F.faults shelf.new }
+{
+    match fetch_sheet(alloc, name, shelf)? {
+        Ok(sheet) => reply_of_script(alloc, sheet, script, shelf),
         Err(reply) => Ok(reply),
     }
 }
@@ -168,8 +190,8 @@ fn covers(sheet: &Sheet, range: Range) -> bool
     sheet.holds(range.head()) && sheet.holds(range.tail())
 }
 
-// A refusal with this status and this line.
-fn refusal(alloc: Global, status: u8, line: &str) -> Result<Reply, Memory>
+/// A refusal with this status and this line.
+pub(crate) fn refusal(alloc: Global, status: u8, line: &str) -> Result<Reply, Memory>
     ensures { IfOk result (λ reply. answer_of reply ≡ refusal_answer status line.now) }
 {
     Ok(Reply::Refusal {

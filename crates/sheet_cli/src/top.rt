@@ -1,6 +1,7 @@
 ghost use Rattle.std.specs.Prelude.{◌≡◌, ◌≢◌, ◌⊎◌};
 ghost use Rattle.sheet_io.specs.Faults.{Rose};
 ghost use Rattle.sheet_cli.specs.Lines.{write_failed_line, no_memory_line};
+ghost use Rattle.sheet_cli.specs.Replies.{IsRefusedStatus};
 ghost use Rattle.sheet_cli.specs.Runs.{IsStatus, HasWritten, HasBegun, IsRefused, IsUnfetched};
 ghost use Rattle.sheet_cli.specs.Runs.{TakesLine, IsCalm, IsComplete, RefusesAll};
 ghost use Rattle.sheet_cli.specs.Words.{AsksNothing, bytes_of};
@@ -14,7 +15,7 @@ use std::alloc::Global;
 /// them, or on which they depend. The sheet's text is what stands under its name on the shelf.
 ///
 /// The result is the status of the process: 0 for done, 2 for words that are no command or a range that
-/// isn't in the sheet, 3 for a sheet's text that is refused, 5 for a fetch that failed, 6 for a put on
+/// isn't in the sheet, 3 for a sheet's text that is refused, 4 for a script's, 5 for a fetch that failed, 6 for a put on
 /// `out` that failed, and 7 for want of memory. With every status but 0 one line goes to `notes`, and
 /// nothing is written to `out` with any but 0 and 6: all memory is taken before the first byte.
 pub fn run<F: Shelf, K: Sink, N: Sink>(
@@ -30,7 +31,7 @@ pub fn run<F: Shelf, K: Sink, N: Sink>(
     ensures done { result ≡ 0
         → HasWritten (bytes_of words.now) (F.holds shelf.old)
         (K.written out.old) (K.written out.new) }
-    ensures refused { (result ≡ 2) ⊎ (result ≡ 3)
+    ensures refused { IsRefusedStatus result
         → IsRefused (bytes_of words.now) (F.holds shelf.old) result
         (TakesLine N.written N.faults notes.old notes.new) }
     ensures read_failed { result ≡ 5 → Rose (F.faults shelf.old) (F.faults shelf.new) }

@@ -38,6 +38,11 @@ pub enum Asked {
     OfCheck {
         sheet: String,
     },
+    /// `play SHEET SCRIPT`: the reports of the script with this name over the sheet with this name.
+    OfPlay {
+        sheet: String,
+        script: String,
+    },
 }
 
 /// What the words after the program's name ask for; nothing exactly where they are no command. The
@@ -110,6 +115,7 @@ fn read_other(alloc: Global, command: &str, words: &[String]) -> Result<Asked, M
 {
     match command {
         "check" => read_check(alloc, words),
+        "play" => read_play(alloc, words),
         _ => Ok(Asked::Nothing),
     }
 }
@@ -124,6 +130,19 @@ fn read_check(alloc: Global, words: &[String]) -> Result<Asked, Memory>
     };
     let sheet = String::from_str(alloc, sheet)?;
     Ok(Asked::OfCheck { sheet })
+}
+
+// What `play` and the words after it ask for.
+fn read_play(alloc: Global, words: &[String]) -> Result<Asked, Memory>
+    requires plain { All (λ w. ¬ IsOption w) (bytes_of words.now) }
+    ensures { IfOk result (IsAskedBy (codes "play" ∷ bytes_of words.now)) }
+{
+    let Some((sheet, script)) = two_words(alloc, words)? else {
+        return Ok(Asked::Nothing);
+    };
+    let sheet = String::from_str(alloc, sheet)?;
+    let script = String::from_str(alloc, script)?;
+    Ok(Asked::OfPlay { sheet, script })
 }
 
 // The position of a command that has one; None exactly where the words are not one.

@@ -1,0 +1,20 @@
+use Rattle.std.proofs.Common.{subst}
+use Rattle.sheet_cli.specs.Replies.{HasFetched, RepliesScript}
+use Rattle.sheet_cli.proofs.ReplyLemmas.{if_reply, no_play, play_replies, room_for_labels}
+use Rattle.sheet_cli.proofs.reply.reply_of_play.Goals as goal
+
+pub returns-in-Err-clause-reply : goal.returns-in-Err-clause-reply
+returns-in-Err-clause-reply g c =
+    no_play _ c.args.name.now _ _ c.args.script.now c.in-Err.reply (subst (HasFetched (g.F.Shelf.holds c.args.shelf.now) c.args.name.now (g.F.Shelf.faults c.args.shelf.now) (g.F.Shelf.faults c.fetch_sheet.new.shelf)) c.in-Err.is c.in_ok-sheet.ensures.found)
+
+pub reply_of_script-requires : goal.reply_of_script-requires
+reply_of_script-requires g c =
+    let gives = subst (HasFetched (g.F.Shelf.holds c.args.shelf.now) c.args.name.now (g.F.Shelf.faults c.args.shelf.now) (g.F.Shelf.faults c.fetch_sheet.new.shelf)) c.in-Ok.is c.in_ok-sheet.ensures.found in
+    record { few = room_for_labels (g.F.Shelf.holds c.args.shelf.now) c.args.name.now c.in-Ok.sheet gives }
+
+pub returns-in-Ok-clause-reply : goal.returns-in-Ok-clause-reply
+returns-in-Ok-clause-reply g c =
+    let gives = subst (HasFetched (g.F.Shelf.holds c.args.shelf.now) c.args.name.now (g.F.Shelf.faults c.args.shelf.now) (g.F.Shelf.faults c.fetch_sheet.new.shelf)) c.in-Ok.is c.in_ok-sheet.ensures.found in
+    if_reply c.reply_of_script.result _ _ c.reply_of_script.ensures.reply
+    (λ reply is. play_replies (g.F.Shelf.holds c.args.shelf.now) c.args.name.now c.args.script.now c.in-Ok.sheet (g.F.Shelf.faults c.args.shelf.now) (g.F.Shelf.faults c.fetch_sheet.new.shelf) (g.F.Shelf.faults c.reply_of_script.new.shelf) reply c.in_ok-sheet.ensures.counted gives
+    (subst (λ h. RepliesScript h c.in-Ok.sheet c.args.script.now (g.F.Shelf.faults c.fetch_sheet.new.shelf) (g.F.Shelf.faults c.reply_of_script.new.shelf) reply) c.in_ok-sheet.ensures.held is))
