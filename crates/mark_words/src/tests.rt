@@ -176,7 +176,8 @@ fn round<R: Threads + Sync>(
         { sets_often(marks, editor, count, count + 100) },
         move || -> Result<Vec<Token>, AllocError>
             requires { IsSync R.row × All (λ pair. IsPair marks.now pair count) pairs.items }
-            ensures { IfOk result (λ all. All (λ seat. KnowsMany marks.entry.now seat count) all.items) }
+            ensures { IfOk result
+                (λ all. All (λ seat. KnowsMany marks.entry.now seat count) all.items) }
         { listen_all(rt, marks, pairs, count) },
     )
 }

@@ -80,7 +80,8 @@ impl<G: Graph> Player<G> {
         ensures marks { OnOk result (MarksTouched self.old.book.sheet client edit.now
             (length self.old.book.log + 1) self.old.marks.items self.new.marks.items) }
         ensures machine { OnOk result (machine_of self.new.book self.new.marks.items
-            ≡ after_put (machine_of self.old.book self.old.marks.items) edit.now self.new.marks.items) }
+            ≡ after_put (machine_of self.old.book self.old.marks.items)
+            edit.now self.new.marks.items) }
         ensures values { OnOk result
             (IfSome self.new.values (λ v. AreValues self.new.book.sheet v.items)) }
     {

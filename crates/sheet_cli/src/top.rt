@@ -10,13 +10,14 @@ use crate::reply::{Reply, reply_to};
 use sheet_io::{Shelf, Sink};
 use std::alloc::Global;
 
-/// Does what the words ask for, and writes it to `out`: `show SHEET RANGE` the values of the range, and
-/// `deps` and `precs` with the same words the vertical runs of the range's cells and of all that depend on
-/// them, or on which they depend. The sheet's text is what stands under its name on the shelf.
+/// Does what the words ask for, and writes it to `out`: `show SHEET RANGE` the values of the range; `deps`
+/// and `precs` with the same words the vertical runs of the range's cells and of all that depend on them, or
+/// on which they depend; `check SHEET` the number of the sheet's pairs, and the edges that stand for them;
+/// `play SHEET SCRIPT` what the looks of the script show. A text is what stands under its name on the shelf.
 ///
 /// The result is the status of the process: 0 for done, 2 for words that are no command or a range that
-/// isn't in the sheet, 3 for a sheet's text that is refused, 4 for a script's, 5 for a fetch that failed, 6 for a put on
-/// `out` that failed, and 7 for want of memory. With every status but 0 one line goes to `notes`, and
+/// isn't in the sheet, 3 for a sheet's text that is refused, 4 for a script's, 5 for a fetch that failed,
+/// 6 for a put on `out` that failed, and 7 for want of memory. With every status but 0 one line goes to `notes`, and
 /// nothing is written to `out` with any but 0 and 6: all memory is taken before the first byte.
 pub fn run<F: Shelf, K: Sink, N: Sink>(
     alloc: Global,

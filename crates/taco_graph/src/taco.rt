@@ -62,8 +62,7 @@ impl<I: RangeIndex> Taco<I> {
     }
 
     /// All edges, each once and no pair in two of them, in order: by the head and then the tail of the run, by
-    /// those of the rectangle, and by
-    /// the pattern; cells stand by column and then by row.
+    /// those of the rectangle, and by the pattern; cells stand by column and then by row.
     pub fn edges(&self) -> Result<Vec<Edge>, Memory>
         ensures all { IfOk result (λ edges. IsPermutation self.now.edges edges.items) }
         ensures order { IfOk result (λ edges. AreInOrder edges.items) }

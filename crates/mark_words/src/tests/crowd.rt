@@ -66,7 +66,8 @@ fn crowd<R: Threads + Sync>(
     requires workers { All (λ seat. IsScripted marks.now seat number) workers.items }
     requires viewers { All (λ viewer. IsViewing marks.now viewer) viewers.items }
     requires room { number ≤ 1048576 }
-    ensures workers { IfOk result.0 (λ all. All (λ seat. IsScripted marks.now seat number) all.items) }
+    ensures workers { IfOk result.0
+        (λ all. All (λ seat. IsScripted marks.now seat number) all.items) }
     ensures viewers { IfOk result.1 (λ all. All (λ viewer. IsViewing marks.now viewer) all.items) }
 {
     join(
@@ -74,11 +75,13 @@ fn crowd<R: Threads + Sync>(
         move || -> Result<Vec<Token>, AllocError>
             requires { IsSync R.row × (number ≤ 1048576)
                 × All (λ seat. IsScripted marks.now seat number) workers.items }
-            ensures { IfOk result (λ all. All (λ seat. IsScripted marks.entry.now seat number) all.items) }
+            ensures { IfOk result
+                (λ all. All (λ seat. IsScripted marks.entry.now seat number) all.items) }
         { work_all(rt, marks, workers, number) },
         move || -> Result<Vec<Viewer>, AllocError>
             requires { IsSync R.row × All (λ viewer. IsViewing marks.now viewer) viewers.items }
-            ensures { IfOk result (λ all. All (λ viewer. IsViewing marks.entry.now viewer) all.items) }
+            ensures { IfOk result
+                (λ all. All (λ viewer. IsViewing marks.entry.now viewer) all.items) }
         { view_all(rt, marks, viewers) },
     )
 }
@@ -103,8 +106,10 @@ fn round<R: Threads + Sync>(
     requires viewers { All (λ viewer. IsViewing marks.now viewer) viewers.items }
     requires room { number < 10000 }
     ensures ready { IsEditing marks.now result.0 (number + 100) }
-    ensures workers { IfOk result.1.0 (λ all. All (λ seat. IsScripted marks.now seat number) all.items) }
-    ensures viewers { IfOk result.1.1 (λ all. All (λ viewer. IsViewing marks.now viewer) all.items) }
+    ensures workers { IfOk result.1.0
+        (λ all. All (λ seat. IsScripted marks.now seat number) all.items) }
+    ensures viewers { IfOk result.1.1
+        (λ all. All (λ viewer. IsViewing marks.now viewer) all.items) }
 {
     join(
         rt,
@@ -119,8 +124,10 @@ fn round<R: Threads + Sync>(
             requires { IsSync R.row × (number < 10000)
                 × All (λ seat. IsScripted marks.now seat number) workers.items
                 × All (λ viewer. IsViewing marks.now viewer) viewers.items }
-            ensures { IfOk result.0 (λ all. All (λ seat. IsScripted marks.entry.now seat number) all.items)
-                × IfOk result.1 (λ all. All (λ viewer. IsViewing marks.entry.now viewer) all.items) }
+            ensures { IfOk result.0
+                (λ all. All (λ seat. IsScripted marks.entry.now seat number) all.items)
+                × IfOk result.1
+                (λ all. All (λ viewer. IsViewing marks.entry.now viewer) all.items) }
         { crowd(rt, marks, workers, viewers, number) },
     )
 }
