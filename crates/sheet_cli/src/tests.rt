@@ -288,3 +288,52 @@ fn sheets_are_read_to_the_limit(rt: HostRuntime) -> Result<(), Fail> {
     );
     Ok(())
 }
+
+// How `play s t` ends over a sheet and a script.
+fn play_with(alloc: Global, sheet: &[u8], script: &[u8]) -> Result<Ended, AllocError> {
+    let words = split_words(alloc, "play s t")?;
+    let mut texts = one_text(alloc, sheet)?;
+    texts.push((String::from_str(alloc, "t")?, script.to_vec(alloc)?))?;
+    let mut shelf = MemoryShelf::new(texts, failing(alloc, false)?);
+    let Ok(mut out) = MemorySink::new(alloc, 1_000, failing(alloc, false)?) else {
+        return Err(AllocError);
+    };
+    let Ok(mut notes) = MemorySink::new(alloc, 1_000, failing(alloc, false)?) else {
+        return Err(AllocError);
+    };
+    let status = run(alloc, &words, &mut shelf, &mut out, &mut notes);
+    Ok(Ended { status, out, notes })
+}
+
+#[test]
+fn a_script_is_played(rt: HostRuntime) -> Result<(), Fail> {
+    for (sheet, script, status, out, notes) in [
+        (
+            WORKED,
+            "set A1 5\nlook A1:B2\nwork 2\nlook A1:B2\n",
+            0,
+            "look 1 A1:B2\n~1,~1\n2,~1\nlook 1 A1:B2\n5,6\n2,~1\n",
+            "",
+        ),
+        (
+            "1,=A1",
+            "set A1 =B1\nlook A1:B1\nwork 1\nlook A1:B1\nfirm A1:B1",
+            0,
+            "look 1 A1:B1\n~1,~1\nlook 1 A1:B1\n#CIRC!,~1\nfirm 1 A1:B1\n#CIRC!,#CIRC!\n",
+            "",
+        ),
+        (
+            WORKED,
+            "set Z99 1",
+            4,
+            "",
+            "antifreeze: script: line 1: cell outside the sheet\n",
+        ),
+    ] {
+        let ended = play_with(rt.alloc(), sheet.as_bytes(), script.as_bytes())?;
+        assert_eq!(rt; ended.status, status, "{script}");
+        assert_eq!(rt; ended.out.written(), out.as_bytes(), "{script}");
+        assert_eq!(rt; ended.notes.written(), notes.as_bytes(), "{script}");
+    }
+    Ok(())
+}
