@@ -7,7 +7,8 @@ use Rattle.sheet_refs.specs.declared.sizes.Sizes.{Sizes}
 use Rattle.graph_walk.specs.Paths.{IsReached}
 use Rattle.std.proofs.lemmas.List.{append-nil, length-map, length-replicate, map-append}
 use Rattle.std.proofs.lemmas.List.Elements.{All-append}
-use Rattle.std.proofs.lemmas.List.Sums.{count_by_more_no, count_by_more_yes, sum_by-cons}
+use Rattle.std.specs.Prelude.{nat_lt}
+use Rattle.std.proofs.lemmas.List.Sums.{count_by-le-length, count_by_more_no, count_by_more_yes, sum_by-cons}
 use Rattle.std.proofs.lemmas.Option.{get_or_from_slice_get, slice_get_within}
 use Rattle.sheet_model.specs.Boards.{BoardValue, with_shown}
 use Rattle.sheet_model.specs.declared.board.Shown.{Shown}
@@ -103,7 +104,7 @@ module _ (old new : Machine) (step : Step) (reports after : List Report) where
       record {
         told = report ∷ [];
         follows = settles window (length old.marks) cleared is
-            (subst (AreTurns old.sheet (length old.marks) old.marks) (sym cleared_is) (turns_clear old.sheet (length old.marks) old.marks filled (omega arith)))
+            (subst (AreTurns old.sheet (length old.marks) old.marks) (sym cleared_is) (turns_clear old.sheet (length old.marks) old.marks filled (count_by-le-length (nat_lt 0) old.marks)))
             (subst (λ ms. IsNowhere old.sheet.sizes (IsMarked old.sheet.sizes ms)) (sym cleared_is) (none (length old.marks)))
             new_is (ap (λ r. r ∷ []) (report_is ∙ ap (λ m. report_of m true window) (sym new_is)));
         joined = after_is;

@@ -246,8 +246,8 @@ none_marked sizes count cell inside = not_marked (mark_of sizes (replicate count
     not_marked : (mark : ℕ) → mark ≡ 0 → ¬ IsTrue (nat_lt 0 mark)
     not_marked mark none is = not_both (nat_lt 0 mark) is (unmarked_from mark none)
 
--- as many turns as there are cells clear all of them
-pub turns_clear : (sheet : SheetValue) (turns : ℕ) (marks : List ℕ) → length marks ≡ cell_count sheet.sizes → length marks ≤ turns → AreTurns sheet turns marks (replicate (length marks) 0)
+-- as many turns as there are marks clear all of them
+pub turns_clear : (sheet : SheetValue) (turns : ℕ) (marks : List ℕ) → length marks ≡ cell_count sheet.sizes → marked_count marks ≤ turns → AreTurns sheet turns marks (replicate (length marks) 0)
 turns_clear sheet turns marks filled enough =
     let made = turns_exist sheet turns marks filled in
     subst (AreTurns sheet turns marks) (zero_marks sheet.sizes made.new (made.length_is ∙ filled) (nowhere made made.falls) ∙ ap (λ n. replicate n 0) made.length_is) made.turns
@@ -256,8 +256,7 @@ turns_clear sheet turns marks filled enough =
     nowhere made (inr none) = none
     nowhere made (inl less) = λ cell inside marked.
         let one = cleared_count sheet.sizes made.new cell (made.length_is ∙ filled) inside marked in
-        let most = count_by-le-length (nat_lt 0) marks in
-        absurd (omega (arith, less, one, most, enough))
+        absurd (omega (arith, less, one, enough))
 
 -- a first cell that was cleared, as a turn where none is ready
 pub turn_cleared : (sheet : SheetValue) (old new : List ℕ) → IsNowhere sheet.sizes (IsReady sheet old) → ClearsFirst sheet.sizes old new → IsTurn sheet old new

@@ -58,7 +58,7 @@ impl<G: Graph> Player<G> {
 /// Plays steps over a book without entries: the reports of their looks, in order.
 ///
 /// An edit takes the time of the walk of the graph over the dependents of its cell. Values are computed once at most
-/// between two edits, and only where a look shows one. A firm look, and work of as many turns as the sheet has cells,
+/// between two edits, and only where a look shows one. A firm look, and work of as many turns as there are marks,
 /// take all marks away in one pass.
 pub fn play<G: Graph>(
     alloc: Global,

@@ -1,4 +1,4 @@
-ghost use Rattle.std.specs.Prelude.{◌≡◌, ◌≤◌, length, replicate, IfOk, OnOk, MatchOption};
+ghost use Rattle.std.specs.Prelude.{◌≡◌, ◌≤◌, length, replicate, count_by, nat_lt, IfOk, OnOk, MatchOption};
 ghost use Rattle.sheet_refs.specs.Sizes.{cell_count};
 ghost use Rattle.play_machine.specs.Machine.{AreTurns, IsFirst, IsMarked, IsNowhere, IsReady, IsTurn};
 ghost use Rattle.play_machine.specs.Marking.{ClearsFirst};
@@ -65,7 +65,15 @@ fn turn(alloc: Global, sheet: &Sheet, marks: &mut Vec<u64>) -> Result<(), Memory
     Ok(())
 }
 
-/// Makes so many turns.
+// How many cells are marked.
+fn marks_left(marks: &[u64]) -> usize
+    ensures { result ≡ count_by (nat_lt 0) marks.now }
+{
+    marks.iter().filter(|mark| **mark > 0).count()
+}
+
+/// Makes so many turns. As many as there are marks take all of them away in one pass; of fewer each looks at the
+/// cells up to the one that it clears.
 pub(crate) fn work(
     alloc: Global,
     sheet: &Sheet,
@@ -76,7 +84,7 @@ pub(crate) fn work(
     ensures turns { OnOk result (AreTurns sheet.now turns marks.old.items marks.new.items) }
     ensures count { OnOk result (length marks.new.items ≡ length marks.old.items) }
 {
-    if turns as usize >= marks.len() {
+    if turns as usize >= marks_left(marks) {
         clear_all(marks);
         return Ok(());
     }

@@ -4,10 +4,10 @@ use Rattle.play_machine.specs.Machine.AreTurns.{none as no_turns, more as more_t
 use Rattle.play_machine.proofs.TurnLemmas.{turn_length, turns_clear}
 use Rattle.play_machine.proofs.turns.work.Goals as goal
 
-pub returns-then-turns-len-clause-turns : goal.returns-then-turns-len-clause-turns
-returns-then-turns-len-clause-turns c =
+pub returns-then-turns-marks_left-clause-turns : goal.returns-then-turns-marks_left-clause-turns
+returns-then-turns-marks_left-clause-turns c =
     subst (AreTurns c.args.sheet.now c.args.turns c.args.marks.now.items) (sym c.clear_all.ensures)
-    (turns_clear c.args.sheet.now c.args.turns c.args.marks.now.items c.requires.count (omega (arith, c.if-turns-len.true, c.len.ensures, c.args.marks.now.ok)))
+    (turns_clear c.args.sheet.now c.args.turns c.args.marks.now.items c.requires.count (rw (c.marks_left.ensures, c.deref.ensures.value) at c.if-turns-marks_left.true))
 
 pub loop-init : goal.loop-init
 loop-init c = (no_turns c.args.marks.now.items, refl)
