@@ -11,29 +11,6 @@ use edge_patterns::{Edge, join, split};
 use range_index::RangeIndex;
 use sheet_refs::{Cell, Range};
 
-// Adds the keys of the edges that hold the cell with these coordinates, if there is one. Where that wants memory, the
-// list has some keys or none: an edge is then not joined with its neighbour.
-fn note_at<I: RangeIndex>(store: &EdgeStore<I>, row: u32, col: u32, near: &mut Vec<usize>) {
-    if let Some(cell) = Cell::new(row, col) {
-        let _ = store.keys_by_run(Range::of(cell, cell), near);
-    }
-}
-
-// Notes the keys of the edges that hold a cell beside an edge's run in its line, those above and below first.
-fn note_neighbours<I: RangeIndex>(store: &EdgeStore<I>, edge: &Edge, near: &mut Vec<usize>) {
-    let head = edge.dep().head();
-    let tail = edge.dep().tail();
-    near.clear();
-    if head.col() == tail.col() {
-        note_at(store, head.row() - 1, head.col(), near);
-        note_at(store, tail.row() + 1, tail.col(), near);
-    }
-    if head.row() == tail.row() {
-        note_at(store, head.row(), head.col() - 1, near);
-        note_at(store, tail.row(), tail.col() + 1, near);
-    }
-}
-
 // The edge with the pairs of an edge and of the one under a key, if there is one and the other doesn't hold the cell.
 fn joined_at<I: RangeIndex>(
     store: &EdgeStore<I>,
@@ -67,6 +44,52 @@ fn first_joined<I: RangeIndex>(
     None
 }
 
+// The first of the keys of the edges that hold the cell with these coordinates whose edge can be joined with an edge
+// and doesn't hold the cell. Where the keys want memory, the list has some of them or none: the edge may then not
+// be joined.
+fn joined_beside<I: RangeIndex>(
+    store: &EdgeStore<I>,
+    near: &mut Vec<usize>,
+    row: u32,
+    col: u32,
+    edge: &Edge,
+    cell: Cell,
+) -> Option<usize> {
+    let Some(beside) = Cell::new(row, col) else {
+        return None;
+    };
+    near.clear();
+    let _ = store.keys_by_run(Range::of(beside, beside), near);
+    first_joined(store, near, edge, cell)
+}
+
+// The same of the cells above and below an edge's run, where it stands in one column, and then of those to its left and
+// right, where it stands in one row.
+fn joined_neighbour<I: RangeIndex>(
+    store: &EdgeStore<I>,
+    near: &mut Vec<usize>,
+    edge: &Edge,
+    cell: Cell,
+) -> Option<usize> {
+    let head = edge.dep().head();
+    let tail = edge.dep().tail();
+    let (col, row) = (head.col(), head.row());
+    let mut found = None;
+    if col == tail.col() {
+        found = joined_beside(store, near, row - 1, col, edge, cell);
+        if found.is_none() {
+            found = joined_beside(store, near, tail.row() + 1, col, edge, cell);
+        }
+    }
+    if found.is_none() && row == tail.row() {
+        found = joined_beside(store, near, row, col - 1, edge, cell);
+        if found.is_none() {
+            found = joined_beside(store, near, row, tail.col() + 1, edge, cell);
+        }
+    }
+    found
+}
+
 // Joins an edge with a neighbour that can be joined with it and doesn't hold the cell, and takes that one out.
 fn absorb<I: RangeIndex>(
     store: &mut EdgeStore<I>,
@@ -81,8 +104,7 @@ fn absorb<I: RangeIndex>(
     ensures holders { HoldNoMore store.old.slots store.new.slots cell }
     ensures room { store.old.room ≤ store.new.room }
 {
-    note_neighbours(store, &edge, near);
-    let Some(key) = first_joined(store, near, &edge, cell) else {
+    let Some(key) = joined_neighbour(store, near, &edge, cell) else {
         return edge;
     };
     let Some(joined) = joined_at(store, key, &edge, cell) else {
