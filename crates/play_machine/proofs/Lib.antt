@@ -1,4 +1,5 @@
 pub mod FitLemmas
+pub mod LeastLemmas
 pub mod MarkLemmas
 pub mod OnePlay
 pub mod PlayLemmas

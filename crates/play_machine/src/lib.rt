@@ -9,6 +9,7 @@
 #![tactic(auto)]
 
 mod laws;
+mod least;
 mod marks;
 mod player;
 mod playing;

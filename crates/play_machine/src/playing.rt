@@ -48,7 +48,14 @@ impl<G: Graph> Player<G> {
                 Ok(())
             }
             Command::Work(turns) => {
-                work(self.alloc, self.book.sheet(), *turns, &mut self.marks)?;
+                let graph = self.book.graph();
+                work(
+                    self.alloc,
+                    self.book.sheet(),
+                    graph,
+                    *turns,
+                    &mut self.marks,
+                )?;
                 Ok(())
             }
         }

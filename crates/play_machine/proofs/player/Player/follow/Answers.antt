@@ -23,3 +23,6 @@ pub returns-in_ok-work-in-Work-clause-follows : goal.returns-in_ok-work-in-Work-
 returns-in_ok-work-in-Work-clause-follows g c =
     let turns = subst (λ s. AreTurns s c.in-Work.turns c.args.self.now.marks.items c.work.new.marks.items) c.sheet.ensures.sheet c.in_ok-work-in-Work.ensures.turns in
     tells_work _ _ c.args.step.now _ _ c.in-Work.turns c.work.new.marks.items c.in-Work.is turns refl refl
+
+pub work-requires-clause-pairs : goal.work-requires-clause-pairs
+work-requires-clause-pairs g c = rw (c.sheet.ensures.sheet, c.graph-graph.ensures.graph) c.graph-graph.ensures.kept.pairs_are
