@@ -24,7 +24,7 @@ home_cases = cases_by same_home home_same home_self
 pub slot_cases : (a b : Slot) → (a ≡ b) ⊎ (a ≢ b)
 slot_cases = cases_by same_slot slot_same slot_self
 
-some_same : {X : Type 0} (a b : X) → Some a ≡ Some b → a ≡ b
+pub some_same : {X : Type 0} (a b : X) → Some a ≡ Some b → a ≡ b
 some_same a b is = cc
 
 pub some_is : {X : Type 0} (o : Option X) (x : X) → o ≡ Some x → IsSome o

@@ -7,3 +7,4 @@ pub mod NearLemmas
 pub mod SlotLemmas
 pub mod TableLemmas
 pub mod TakeLemmas
+pub mod RangeLemmas

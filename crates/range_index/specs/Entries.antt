@@ -41,6 +41,10 @@ Inserts old new id range = (entry : Entry) → Contains new entry ↔ (Contains 
 abbrev pub Removes : List Entry → List Entry → ℕ → Type 0
 Removes old new id = (entry : Entry) → Contains new entry ↔ ((entry.id ≢ id) × Contains old entry)
 
+-- the entry of one id has another range, and no other has changed
+abbrev pub ChangesRange : List Entry → List Entry → ℕ → Corners → Type 0
+ChangesRange old new id range = (entry : Entry) → Contains new entry ↔ (((entry.id ≢ id) × Contains old entry) ⊎ (entry ≡ entry_of id range))
+
 -- an id whose range overlaps a query
 pub record IsOverlapping (entries : List Entry) (query : Corners) (id : ℕ) : Type 0 where
   pub range : Corners

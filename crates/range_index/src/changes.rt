@@ -3,7 +3,7 @@ ghost use Rattle.std.specs.Prelude.{◌≡◌, ◌+◌, ◌-◌, ◌<◌, ◌≤
 ghost use Rattle.std.specs.HashMap.{ContainsKey, IsUnique, Updates, spare};
 ghost use Rattle.range_index.specs.Grids.{HoldGrid, count_at, entry_at, entries_of, room_of, stands_at};
 ghost use Rattle.range_index.specs.Changes.{PutsAt, SetsCount, TakesLast, last_of};
-ghost use Rattle.range_index.specs.Entries.{HasId, HasNoId, Inserts, Removes, SameEntries};
+ghost use Rattle.range_index.specs.Entries.{HasId, HasNoId, Inserts, Removes, ChangesRange, SameEntries};
 
 use crate::item::Item;
 use crate::tables::Tables;
@@ -96,6 +96,36 @@ impl Tables {
         };
         if last.id != id {
             self.put_at(slot, last);
+        }
+    }
+
+    // Where an id stands.
+    fn stands(&self, id: usize) -> Option<Slot>
+        ensures { result ≡ stands_at self.now id }
+    {
+        match self.slots.get(&id) {
+            Some(slot) => Some(*slot),
+            None => None,
+        }
+    }
+
+    /// Gives an id another range. At the home where the id stands it takes one look-up and one write.
+    pub(crate) fn change(&mut self, id: usize, range: Range)
+        requires grid { HoldGrid self.old }
+        requires there { HasId (entries_of self.old) id }
+        requires room { 1 ≤ room_of self.old }
+        ensures grid { HoldGrid self.new }
+        ensures changed { ChangesRange (entries_of self.old) (entries_of self.new) id range }
+        ensures room { room_of self.old ≤ room_of self.new + 1 }
+    {
+        let Some(slot) = self.stands(id) else {
+            return;
+        };
+        if slot.home == home_of(range) {
+            write(&mut self.items, slot, Item { id, range });
+        } else {
+            self.take_out(id);
+            self.add(id, range);
         }
     }
 

@@ -3,7 +3,6 @@ use crate::index::RangeIndex;
 use crate::tables::Tables;
 use sheet_refs::{Memory, Range};
 use std::alloc::Global;
-use std::collections::HashMap;
 use std::marker::Model;
 
 /// An index by tiles of the space of names.
@@ -56,6 +55,10 @@ impl RangeIndex for GridIndex {
 
     fn remove(&mut self, id: usize, range: Range) {
         self.tables.take_out(id);
+    }
+
+    fn change(&mut self, id: usize, from: Range, to: Range) {
+        self.tables.change(id, to);
     }
 
     fn overlapping(&self, q: Range, out: &mut Vec<usize>) -> Result<(), Memory> {

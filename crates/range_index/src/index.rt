@@ -1,6 +1,6 @@
 ghost use Rattle.std.specs.Prelude.{◌≡◌, ◌+◌, ◌≤◌, ℕ, List, [], Contains, OnOk};
 ghost use Rattle.range_index.specs.Entries.{Entry, entry_of, HaveOneRange, HasNoId, SameEntries};
-ghost use Rattle.range_index.specs.Entries.{Inserts, Removes, AddsOverlapping, KeepsIds};
+ghost use Rattle.range_index.specs.Entries.{Inserts, Removes, ChangesRange, AddsOverlapping, KeepsIds};
 
 use sheet_refs::{Memory, Range};
 use std::alloc::Global;
@@ -35,6 +35,13 @@ pub trait RangeIndex {
         requires there { Contains (entries self.old) (entry_of id range) }
         ensures removed { Removes (entries self.old) (entries self.new) id }
         ensures room { spare self.old ≤ spare self.new };
+
+    /// Gives an id, which has the range `from`, the range `to`. It takes no memory.
+    fn change(&mut self, id: usize, from: Range, to: Range)
+        requires there { Contains (entries self.old) (entry_of id from) }
+        requires room { 1 ≤ spare self.old }
+        ensures changed { ChangesRange (entries self.old) (entries self.new) id to }
+        ensures room { spare self.old ≤ spare self.new + 1 };
 
     /// Adds exactly the ids whose ranges overlap a query to a list, each once. After Memory the list begins
     /// with what it held.

@@ -65,6 +65,11 @@ impl RangeIndex for ListIndex {
         }
     }
 
+    fn change(&mut self, id: usize, from: Range, to: Range) {
+        self.remove(id, from);
+        self.insert(id, to);
+    }
+
     fn overlapping(&self, q: Range, out: &mut Vec<usize>) -> Result<(), Memory> {
         for slot in &self.slots {
             if slot.range.overlaps(&q) {

@@ -69,7 +69,7 @@ moves_none slots edge range cell = (λ p. p, λ p. p)
 
 -- ---- an edge is put in
 
-gains : (old new : List (Option EdgeValue)) (edge : EdgeValue) → Gains old new edge → GainsPairs old new edge
+pub gains : (old new : List (Option EdgeValue)) (edge : EdgeValue) → Gains old new edge → GainsPairs old new edge
 gains old new edge gained range cell = (to, from)
   where
     to : IsKeptPair new range cell → IsPair edge range cell ⊎ IsKeptPair old range cell

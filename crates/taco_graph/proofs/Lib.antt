@@ -2,6 +2,7 @@ pub mod ListLemmas
 mod StoreLemmas
 mod AnswerLemmas
 mod GraphLemmas
+mod GrowthLemmas
 mod ChainLemmas
 mod ChangeLemmas
 mod EdgeListLemmas

@@ -1,15 +1,17 @@
 -- What is stored after an edge has come or gone.
-use Rattle.std.proofs.Common.{◌≡◌, ◌≢◌, ◌⊎◌, inl, inr, ℕ, List, [], Option, Some, None, Contains, refl, sym, ◌∙◌, ap, subst, arith}
-use Rattle.std.proofs.lemmas.Bool.{cases_eq}
+use Rattle.std.proofs.Common.{◌≡◌, ◌≢◌, ◌⊎◌, inl, inr, ℕ, ◌<◌, ◌≤◌, List, [], length, Option, Some, None, Contains, refl, sym, ◌∙◌, ap, subst, arith}
+use Rattle.std.proofs.lemmas.Bool.{cases_eq, cases_lt}
+use Rattle.std.proofs.lemmas.List.{get_or_past, get_or-set_other, get_or-set_same}
+use Rattle.std.specs.Prelude.{slice_set}
 use Rattle.std.proofs.lemmas.Option.{same_Some, none-some}
 use Rattle.std.proofs.lemmas.List.Elements.{Contains-append_right}
 use Rattle.std.specs.Prelude.{Result, Ok, Err, OnOk}
 use Rattle.sheet_refs.specs.Cells.{Position, Corners}
 use Rattle.sheet_refs.specs.Rectangles.{Overlap}
 use Rattle.edge_patterns.specs.Edges.{EdgeValue, IsEdge, IsPair}
-use Rattle.range_index.specs.Entries.{Entry, entry_of, HasNoId, SameEntries, Inserts, Removes, AddsOverlapping}
+use Rattle.range_index.specs.Entries.{Entry, entry_of, HasNoId, SameEntries, Inserts, Removes, ChangesRange, AddsOverlapping}
 use Rattle.taco_graph.specs.Pairs.{AreApart}
-use Rattle.taco_graph.specs.Stores.{edge_at, IsKept, IsKeptPair, IsApart, IsFiled, FilesAll, AreStored, Puts, NamesOverlapping, LeavesApart}
+use Rattle.taco_graph.specs.Stores.{edge_at, IsKept, IsKeptPair, IsApart, IsApartBeside, IsFiled, FilesAll, AreStored, Puts, NamesOverlapping, LeavesApart}
 
 -- an edge that is there after one was taken out was there before, under another key
 pub still_here : (old new : List (Option EdgeValue)) (taken key : ℕ) (edge : EdgeValue) → Puts old new taken None → edge_at new key ≡ Some edge → (key ≢ taken) × (edge_at old key ≡ Some edge)
@@ -126,6 +128,70 @@ stored_more old new runs more_runs rectangles more_rectangles key one free puts 
       ]
       | inr (not_came, was) ↦ elim (here_more old new key other one b puts there) [
         | inl (same_other, is_other) ↦ away range cell (subst (λ (e : EdgeValue). IsPair e range cell) is_other of_b) (kept_pair k a range cell was of_a)
+        | inr (not_other, was_other) ↦ stored.apart k other a b differ was was_other range cell of_a of_b
+      ]
+    ]
+
+-- ---- another edge under a key
+
+filed_changed : (old new : List (Option EdgeValue)) (side : EdgeValue → Corners) (entries changed : List Entry) (key : ℕ) (one : EdgeValue) → Puts old new key (Some one) → ChangesRange entries changed key (side one) → FilesAll old side entries → FilesAll new side changed
+filed_changed old new side entries changed key one puts changes files entry = (to, from)
+  where
+    to : Contains changed entry → IsFiled new side entry
+    to there = elim ((changes entry).0 there) [
+      | inl (differ, was) ↦
+          let filed = (files entry).0 was in
+          record { edge = filed.edge; here = puts.others entry.id differ ∙ filed.here; range_is = filed.range_is }
+      | inr is ↦ subst (IsFiled new side) (sym is) (record { edge = one; here = puts.changed; range_is = refl })
+    ]
+
+    from : IsFiled new side entry → Contains changed entry
+    from filed = (changes entry).1 (elim (here_more old new key entry.id one filed.edge puts filed.here) [
+      | inl (same, is) ↦ inr (same_entry entry key (side one) same (filed.range_is ∙ ap side is))
+      | inr (other, was) ↦ inl (other, (files entry).1 (record { edge = filed.edge; here = was; range_is = filed.range_is }))
+    ])
+
+-- what a write under a key does
+pub puts_by_write : (slots : List (Option EdgeValue)) (key : ℕ) (was one : EdgeValue) → edge_at slots key ≡ Some was → Puts slots (slice_set slots key (Some one)) key (Some one)
+puts_by_write slots key was one here = record {
+  changed = get_or-set_same slots key (Some one) None within;
+  others = λ other differ. get_or-set_other slots key other (Some one) None differ;
+}
+  where
+    within : key < length slots
+    within = elim (cases_lt key (length slots)) [
+      | inl inside ↦ inside
+      | inr past ↦ absurd (none-some was (sym (get_or_past slots key None past) ∙ here))
+    ]
+
+pub stored_changed : (old new : List (Option EdgeValue)) (runs changed_runs rectangles changed_rectangles : List Entry) (key : ℕ) (one : EdgeValue) → Puts old new key (Some one) → IsEdge one → IsApartBeside old key one → ChangesRange runs changed_runs key one.dep → ChangesRange rectangles changed_rectangles key one.prec → AreStored old runs rectangles → AreStored new changed_runs changed_rectangles
+stored_changed old new runs changed_runs rectangles changed_rectangles key one puts is_edge away run_changed rectangle_changed stored = record {
+  edges = edges;
+  apart = apart;
+  runs_filed = filed_changed old new (λ edge. edge.dep) runs changed_runs key one puts run_changed stored.runs_filed;
+  rectangles_filed = filed_changed old new (λ edge. edge.prec) rectangles changed_rectangles key one puts rectangle_changed stored.rectangles_filed;
+}
+  where
+    edges : (edge : EdgeValue) → IsKept new edge → IsEdge edge
+    edges edge kept = elim (here_more old new key kept.key one edge puts kept.here) [
+      | inl (same, is) ↦ subst IsEdge (sym is) is_edge
+      | inr (other, was) ↦ stored.edges edge (record { key = kept.key; here = was })
+    ]
+
+    -- a pair of the new edge is in none that stands under another key
+    none_beside : (k : ℕ) (edge : EdgeValue) (range : Corners) (cell : Position) → k ≢ key → edge_at old k ≡ Some edge → IsPair edge range cell → ¬ IsPair one range cell
+    none_beside k edge range cell other here pair of_one =
+        let was = away range cell of_one (record { edge = edge; kept = record { key = k; here = here }; pair = pair }) in
+        stored.apart k key edge was.edge other here was.here range cell pair was.pair
+
+    apart : (k other : ℕ) (a b : EdgeValue) → k ≢ other → edge_at new k ≡ Some a → edge_at new other ≡ Some b → AreApart a b
+    apart k other a b differ here there range cell of_a of_b = elim (here_more old new key k one a puts here) [
+      | inl (same, is) ↦ elim (here_more old new key other one b puts there) [
+        | inl (same_other, is_other) ↦ differ (same ∙ sym same_other)
+        | inr (not_key, was) ↦ none_beside other b range cell not_key was of_b (subst (λ (e : EdgeValue). IsPair e range cell) is of_a)
+      ]
+      | inr (not_key, was) ↦ elim (here_more old new key other one b puts there) [
+        | inl (same_other, is_other) ↦ none_beside k a range cell not_key was of_a (subst (λ (e : EdgeValue). IsPair e range cell) is_other of_b)
         | inr (not_other, was_other) ↦ stored.apart k other a b differ was was_other range cell of_a of_b
       ]
     ]

@@ -1,5 +1,5 @@
 -- How a change moves edges and their pairs.
-use Rattle.std.specs.Prelude.{◌≡◌, ◌≢◌, ◌↔◌, ◌⊎◌, ℕ, ◌+◌, ◌*◌, ◌≤◌, List, Option, Some, length, Contains}
+use Rattle.std.specs.Prelude.{◌≡◌, ◌≢◌, ◌↔◌, ◌⊎◌, ℕ, ◌+◌, ◌*◌, ◌≤◌, List, Option, Some, IfSome, length, Contains}
 use Rattle.sheet_refs.specs.Cells.{Position, Corners}
 use Rattle.edge_patterns.specs.Edges.{EdgeValue, IsPair}
 use Rattle.edge_patterns.specs.Joins.{HasBothPairs, HasPair}
@@ -29,6 +29,10 @@ pub record IsJoinedAt (slots : List (Option EdgeValue)) (key : ℕ) (edge : Edge
   pub here : edge_at slots key ≡ Some other
   pub lacks : LacksCell other cell
   pub union : HasBothPairs edge other joined
+
+-- if anything is found, it is a key and an edge that has the pairs of the given one and of the one under the key
+abbrev pub FindsJoined : List (Option EdgeValue) → EdgeValue → Position → Option (ℕ × EdgeValue) → Type 0
+FindsJoined slots edge cell found = IfSome found (λ (f : ℕ × EdgeValue). IsJoinedAt slots f.0 edge cell f.1)
 
 -- each edge that has a pair of the cell was there before
 abbrev pub HoldNoMore : List (Option EdgeValue) → List (Option EdgeValue) → Position → Type 0

@@ -67,6 +67,17 @@ pub record AreStored (slots : List (Option EdgeValue)) (runs rectangles : List E
   pub runs_filed : FilesAll slots (λ edge. edge.dep) runs
   pub rectangles_filed : FilesAll slots (λ edge. edge.prec) rectangles
 
+-- a pair of the edge under a key
+pub record IsPairAt (slots : List (Option EdgeValue)) (key : ℕ) (range : Corners) (cell : Position) : Type 0 where
+  pub edge : EdgeValue
+  pub here : edge_at slots key ≡ Some edge
+  pub pair : IsPair edge range cell
+
+-- an edge has no pair in common with an edge that is kept, but for the one under a key
+abbrev pub IsApartBeside : List (Option EdgeValue) → ℕ → EdgeValue → Type 0
+IsApartBeside slots key edge =
+    (range : Corners) (cell : Position) → IsPair edge range cell → IsKeptPair slots range cell → IsPairAt slots key range cell
+
 -- one key has something else, and every other key keeps what it had
 pub record Puts (old new : List (Option EdgeValue)) (key : ℕ) (slot : Option EdgeValue) : Type 0 where
   pub changed : edge_at new key ≡ slot

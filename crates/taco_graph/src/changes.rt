@@ -4,7 +4,7 @@ ghost use Rattle.taco_graph.specs.Stores.{IsApart};
 ghost use Rattle.taco_graph.specs.Changes.{LacksCell, LackCell, GainsPairs, MovesPairs, IsJoinedAt};
 ghost use Rattle.taco_graph.specs.Changes.{HoldNoMore, HoldElsewhere, KeepsOthers, HoldersAreAmong};
 ghost use Rattle.taco_graph.specs.Changes.{HasRoomForParts, KeepsRoomForParts};
-ghost use Rattle.taco_graph.specs.Changes.{IsPartApart, GainsPartPairs, PartLacksCell};
+ghost use Rattle.taco_graph.specs.Changes.{IsPartApart, GainsPartPairs, PartLacksCell, FindsJoined};
 
 use crate::store::EdgeStore;
 use edge_patterns::{Edge, join, split};
@@ -29,24 +29,26 @@ fn joined_at<I: RangeIndex>(
     join(edge, &other)
 }
 
-// The first of these keys whose edge can be joined with an edge and doesn't hold the cell.
+// The first of these keys whose edge can be joined with an edge and doesn't hold the cell, with the edge that has the
+// pairs of both.
 fn first_joined<I: RangeIndex>(
     store: &EdgeStore<I>,
     near: &[usize],
     edge: &Edge,
     cell: Cell,
-) -> Option<usize> {
+) -> Option<(usize, Edge)>
+    ensures { FindsJoined store.now.slots edge.now cell result }
+{
     for key in near {
-        if joined_at(store, *key, edge, cell).is_some() {
-            return Some(*key);
+        if let Some(joined) = joined_at(store, *key, edge, cell) {
+            return Some((*key, joined));
         }
     }
     None
 }
 
-// The first of the keys of the edges that hold the cell with these coordinates whose edge can be joined with an edge
-// and doesn't hold the cell. Where the keys want memory, the list has some of them or none: the edge may then not
-// be joined.
+// The same of the keys of the edges that hold the cell with these coordinates. Where the keys want memory, the list has
+// some of them or none: the edge may then not be joined.
 fn joined_beside<I: RangeIndex>(
     store: &EdgeStore<I>,
     near: &mut Vec<usize>,
@@ -54,7 +56,9 @@ fn joined_beside<I: RangeIndex>(
     col: u32,
     edge: &Edge,
     cell: Cell,
-) -> Option<usize> {
+) -> Option<(usize, Edge)>
+    ensures { FindsJoined store.now.slots edge.now cell result }
+{
     let Some(beside) = Cell::new(row, col) else {
         return None;
     };
@@ -63,31 +67,60 @@ fn joined_beside<I: RangeIndex>(
     first_joined(store, near, edge, cell)
 }
 
-// The same of the cells above and below an edge's run, where it stands in one column, and then of those to its left and
-// right, where it stands in one row.
+// The same of the cells above and below an edge's run, where it stands in one column.
+fn joined_in_column<I: RangeIndex>(
+    store: &EdgeStore<I>,
+    near: &mut Vec<usize>,
+    edge: &Edge,
+    cell: Cell,
+) -> Option<(usize, Edge)>
+    ensures { FindsJoined store.now.slots edge.now cell result }
+{
+    let (head, tail) = (edge.dep().head(), edge.dep().tail());
+    if head.col() != tail.col() {
+        return None;
+    }
+    let above = joined_beside(store, near, head.row() - 1, head.col(), edge, cell);
+    if above.is_some() {
+        return above;
+    }
+    joined_beside(store, near, tail.row() + 1, head.col(), edge, cell)
+}
+
+// The same of the cells to the left and to the right of it, where it stands in one row.
+fn joined_in_row<I: RangeIndex>(
+    store: &EdgeStore<I>,
+    near: &mut Vec<usize>,
+    edge: &Edge,
+    cell: Cell,
+) -> Option<(usize, Edge)>
+    ensures { FindsJoined store.now.slots edge.now cell result }
+{
+    let (head, tail) = (edge.dep().head(), edge.dep().tail());
+    if head.row() != tail.row() {
+        return None;
+    }
+    let left = joined_beside(store, near, head.row(), head.col() - 1, edge, cell);
+    if left.is_some() {
+        return left;
+    }
+    joined_beside(store, near, head.row(), tail.col() + 1, edge, cell)
+}
+
+// The same of all four, those of the column first.
 fn joined_neighbour<I: RangeIndex>(
     store: &EdgeStore<I>,
     near: &mut Vec<usize>,
     edge: &Edge,
     cell: Cell,
-) -> Option<usize> {
-    let head = edge.dep().head();
-    let tail = edge.dep().tail();
-    let (col, row) = (head.col(), head.row());
-    let mut found = None;
-    if col == tail.col() {
-        found = joined_beside(store, near, row - 1, col, edge, cell);
-        if found.is_none() {
-            found = joined_beside(store, near, tail.row() + 1, col, edge, cell);
-        }
+) -> Option<(usize, Edge)>
+    ensures { FindsJoined store.now.slots edge.now cell result }
+{
+    let vertical = joined_in_column(store, near, edge, cell);
+    if vertical.is_some() {
+        return vertical;
     }
-    if found.is_none() && row == tail.row() {
-        found = joined_beside(store, near, row, col - 1, edge, cell);
-        if found.is_none() {
-            found = joined_beside(store, near, row, tail.col() + 1, edge, cell);
-        }
-    }
-    found
+    joined_in_row(store, near, edge, cell)
 }
 
 // Joins an edge with a neighbour that can be joined with it and doesn't hold the cell, and takes that one out.
@@ -104,18 +137,15 @@ fn absorb<I: RangeIndex>(
     ensures holders { HoldNoMore store.old.slots store.new.slots cell }
     ensures room { store.old.room ≤ store.new.room }
 {
-    let Some(key) = joined_neighbour(store, near, &edge, cell) else {
+    let Some(found) = joined_neighbour(store, near, &edge, cell) else {
         return edge;
     };
-    let Some(joined) = joined_at(store, key, &edge, cell) else {
-        return edge;
-    };
-    store.remove(key);
-    joined
+    store.remove(found.0);
+    found.1
 }
 
-/// Adds an edge, joined with up to two of its neighbours that don't hold the cell.
-pub(crate) fn add<I: RangeIndex>(
+// Adds an edge, joined with up to two of its neighbours that don't hold the cell.
+fn add_between<I: RangeIndex>(
     store: &mut EdgeStore<I>,
     near: &mut Vec<usize>,
     edge: Edge,
@@ -130,6 +160,31 @@ pub(crate) fn add<I: RangeIndex>(
     let once = absorb(store, near, edge, cell);
     let twice = absorb(store, near, once, cell);
     store.insert(twice);
+}
+
+/// Adds an edge, joined with up to two of its neighbours that don't hold the cell. Where it is joined with one, as where
+/// a column is built from the top, that one grows in its place.
+pub(crate) fn add<I: RangeIndex>(
+    store: &mut EdgeStore<I>,
+    near: &mut Vec<usize>,
+    edge: Edge,
+    cell: Cell,
+)
+    requires apart { IsApart store.old.slots edge }
+    requires room { 1 ≤ store.old.room }
+    ensures pairs { GainsPairs store.old.slots store.new.slots edge }
+    ensures holders { LacksCell edge cell → HoldNoMore store.old.slots store.new.slots cell }
+    ensures room { store.old.room ≤ store.new.room + 1 }
+{
+    let Some(found) = joined_neighbour(store, near, &edge, cell) else {
+        store.insert(edge);
+        return;
+    };
+    if joined_neighbour(store, near, &found.1, cell).is_some() {
+        add_between(store, near, edge, cell);
+    } else {
+        store.change(found.0, found.1);
+    }
 }
 
 // Adds a part that is left of an edge, if there is one.

@@ -1,6 +1,6 @@
 // The edges of a graph, and the two indexes of them.
-ghost use Rattle.std.specs.Prelude.{◌≡◌, ◌+◌, ◌≤◌, None, IsSome, IfSome, IfOk, OnOk};
-ghost use Rattle.taco_graph.specs.Stores.{edge_at, edges_of, AreEdges, IsApart, Puts, Gains, LeavesApart};
+ghost use Rattle.std.specs.Prelude.{◌≡◌, ◌+◌, ◌≤◌, None, Some, IsSome, IfSome, IfOk, OnOk};
+ghost use Rattle.taco_graph.specs.Stores.{edge_at, edges_of, AreEdges, IsApart, IsApartBeside, Puts, Gains, LeavesApart};
 ghost use Rattle.edge_patterns.specs.Queries.{Covers};
 ghost use Rattle.taco_graph.specs.Answers.{NamesAnswering, IsMeant, IsMeantAt, AddsAnswers, AddsOneEach};
 ghost use Rattle.graph_walk.specs.Graphs.{Keeps};
@@ -93,6 +93,23 @@ impl<I: RangeIndex> EdgeStore<I> {
         let key = self.edges.insert_reserved(edge);
         self.runs.insert(key, edge.dep());
         self.rectangles.insert(key, edge.prec());
+    }
+
+    /// Puts an edge in the place of the one under a key, which takes no memory.
+    pub(crate) fn change(&mut self, key: usize, edge: Edge)
+        requires there { IsSome (edge_at self.old.slots key) }
+        requires apart { IsApartBeside self.old.slots key edge }
+        requires room { 1 ≤ self.old.room }
+        ensures changed { Puts self.old.slots self.new.slots key (Some edge) }
+        ensures room { self.old.room ≤ self.new.room + 1 }
+    {
+        let Some(slot) = self.edges.get_mut(key) else {
+            return;
+        };
+        let old = *slot;
+        *slot = edge;
+        self.runs.change(key, old.dep(), edge.dep());
+        self.rectangles.change(key, old.prec(), edge.prec());
     }
 
     /// A number above every key.
