@@ -37,10 +37,12 @@ pub trait Graph {
         ensures found { OnOk result (AddsBehind (pairs self.now) q out.old.items out.new.items) }
         ensures kept { Keeps out.old.items out.new.items };
 
-    /// Makes room for so many calls of `replace`, at most 1,048,576. The pairs stay, after Memory too.
+    /// Makes room for so many calls of `replace`, at most 1,048,576. The pairs and what room there was stay, after
+    /// Memory too.
     fn reserve(&mut self, changes: u32) -> Result<(), Memory>
         requires { changes ≤ 1048576 }
         ensures room { OnOk result (changes ≤ spare self.new) }
+        ensures keeps_room { spare self.old ≤ spare self.new }
         ensures same { SamePairs (pairs self.old) (pairs self.new) };
 
     /// Makes the pairs of a cell exactly those with these ranges, and changes no other pair. It takes no memory.

@@ -52,9 +52,10 @@ impl<I: RangeIndex> EdgeStore<I> {
         }
     }
 
-    /// Makes room for so many more edges. The edges stay, after Memory too.
+    /// Makes room for so many more edges. The edges and what room there was stay, after Memory too.
     pub(crate) fn reserve(&mut self, edges: u32) -> Result<(), Memory>
         ensures room { OnOk result (edges ≤ self.new.room) }
+        ensures keeps_room { self.old.room ≤ self.new.room }
         ensures same { self.new.slots ≡ self.old.slots }
     {
         self.edges.reserve(edges as usize)?;
