@@ -1,7 +1,8 @@
 -- What is true of the cells that a range reaches, and of those from which it is reached.
-use Rattle.std.specs.Prelude.{Bool, IsTrue, List}
+use Rattle.std.specs.Prelude.{◌≡◌, ℕ, Bool, IsTrue, List, Some}
+use Rattle.std.specs.List.{slice_get}
 use Rattle.sheet_refs.specs.Cells.{Position, Corners, IsIn}
-use Rattle.graph_walk.specs.Graphs.{Pair, Step, Reach, Back, HasRange, IsClosed, IsClosedBack}
+use Rattle.graph_walk.specs.Graphs.{Pair, Step, Reach, Back, HasRange, IsClosed, IsClosedBack, Keeps}
 
 -- they have the cells of the range
 abbrev pub ReachHasTheRange : Type 0
@@ -29,3 +30,8 @@ abbrev pub BackIsLeast : Type 0
 BackIsLeast =
     (pairs : List Pair) (range : Corners) (set : Position → Bool) → HasRange set range → IsClosedBack pairs set
     → (cell : Position) → Back pairs range cell → IsTrue (set cell)
+
+-- in a list that has kept what it held, each range stands where it stood
+abbrev pub KeptRangesStand : Type 0
+KeptRangesStand =
+    (old new : List Corners) (place : ℕ) (range : Corners) → Keeps old new → slice_get old place ≡ Some range → slice_get new place ≡ Some range

@@ -1,5 +1,6 @@
 ghost use Rattle.graph_walk.specs.Laws.{ReachHasTheRange, ReachIsClosed, ReachIsLeast};
 ghost use Rattle.graph_walk.specs.Laws.{BackHasTheRange, BackIsClosed, BackIsLeast};
+ghost use Rattle.graph_walk.specs.Laws.{KeptRangesStand};
 
 /// What is true of the cells that a range reaches: they have the range, they are closed under a step, and
 /// they lie in every set that has the range and is closed under a step.
@@ -14,4 +15,9 @@ pub fn back_laws()
     ensures starts { BackHasTheRange }
     ensures steps { BackIsClosed }
     ensures least { BackIsLeast }
+{}
+
+/// What is true of the lists to which queries add: where a list has kept what it held, each range stands in its place.
+pub fn list_laws()
+    ensures { KeptRangesStand }
 {}

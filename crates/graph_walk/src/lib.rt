@@ -15,5 +15,5 @@ mod laws;
 mod walk;
 
 pub use graph::Graph;
-pub use laws::{back_laws, reach_laws};
+pub use laws::{back_laws, list_laws, reach_laws};
 pub use walk::{dependents, on_cycle, precedents};
