@@ -15,9 +15,10 @@ use Rattle.formula_syntax.specs.Tree.{references_of}
 use Rattle.formula_eval.specs.Inputs.{within}
 use Rattle.formula_eval.specs.Meaning.{is_circular, has_circular, meaning, IsNamedBy}
 use Rattle.sheet_model.specs.Budget.{IsHonest, StandsIn}
-use Rattle.sheet_model.specs.Sheets.{SheetValue, ContentValue, Constant, Computed, content_of}
-use Rattle.sheet_model.specs.Values.{step_content, step, content_references, IsInput, WritesNoCircular, HasNoCircularContent}
+use Rattle.sheet_model.specs.Sheets.{SheetValue, ContentValue, Constant, Computed, IsWritten, IsSheet, content_of}
+use Rattle.sheet_model.specs.Values.{step_content, step, content_references, IsInput}
 use Rattle.formula_eval.proofs.CircularMeaning.{value_plain}
+use Rattle.sheet_model.proofs.SheetLemmas.{written_at}
 use Rattle.sheet_model.proofs.ValueLemmas.{is_circular-true}
 
 -- where a list has an element that passes, one is found
@@ -56,7 +57,7 @@ module _ (sizes : Sizes) (values : Position → Value) where
       by_test true inside = (inside, rw inside at same)
       by_test false outside = absurd (let no : Empty ≡ Error Circ = rw outside at same in cc)
 
-  content_honest : (content : ContentValue) → WritesNoCircular content → step_content sizes values content ≡ Error Circ → (cell : Position) × IsNamedBy (content_references content) cell × IsTrue (is_inside sizes cell) × (values cell ≡ Error Circ)
+  content_honest : (content : ContentValue) → IsWritten content → step_content sizes values content ≡ Error Circ → (cell : Position) × IsNamedBy (content_references content) cell × IsTrue (is_inside sizes cell) × (values cell ≡ Error Circ)
   content_honest (Constant value) differs same = absurd (differs same)
   content_honest (Computed formula) fits same = by_test (has_circular (within sizes values) (references_of formula)) refl
     where
@@ -70,7 +71,7 @@ module _ (sizes : Sizes) (values : Position → Value) where
           absurd (let no : is_circular (Error Circ) ≡ false = ap is_circular (sym here) ∙ value_plain (within sizes values) formula fits none in cc)
 
 module _ (sheet : SheetValue) where
-  pub step_honest : HasNoCircularContent sheet → IsHonest (IsInput sheet) (Error Circ) (step sheet)
-  step_honest plain c values same =
-      let (cell, named, inside, circular) = content_honest sheet.sizes values (content_of sheet c) (plain c) same in
+  pub step_honest : IsSheet sheet → IsHonest (IsInput sheet) (Error Circ) (step sheet)
+  step_honest is c values same =
+      let (cell, named, inside, circular) = content_honest sheet.sizes values (content_of sheet c) (written_at sheet is c) same in
       (cell, record { named = named; inside = inside }, circular)

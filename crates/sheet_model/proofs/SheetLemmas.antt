@@ -12,6 +12,7 @@ use Rattle.sheet_refs.specs.Cells.{Position}
 use Rattle.sheet_refs.specs.declared.sizes.Sizes.{Sizes}
 use Rattle.sheet_refs.specs.Sizes.{is_inside, cell_count, place_of}
 use Rattle.sheet_refs.proofs.Places.{place-lt, place_same}
+use Rattle.formula_syntax.proofs.Measures.{fitting, tokens_written}
 use Rattle.value_core.specs.declared.value.ErrorKind.TheVariants.{Circ}
 use Rattle.value_core.specs.declared.value.Value.TheVariants as value
 use Rattle.sheet_model.specs.Fields.{IsContent, IsTableAfter}
@@ -55,7 +56,8 @@ held_content labels text (Constant (value.Number n)) is = record { label = tt; w
 held_content labels text (Constant (value.Truth b)) is = record { label = tt; written = λ e. cc }
 held_content labels text (Constant (value.Error kind)) is = record { label = tt; written = λ e. elim is [ inl named ↦ named.written cc | inr faulty ↦ let k = faulty.0 in cc ] }
 held_content labels text (Constant (value.Label place)) is = record { label = slice_get_within labels place text is.1; written = λ e. cc }
-held_content labels text (Computed tree) is = record { label = tt; written = λ e. cc }
+held_content labels text (Computed tree) is =
+    record { label = tt; written = fitting 0 is.spelt.tokens tree is.spelt.derived (tokens_written is.spelt.rest is.spelt.tokens is.spelt.has_tokens) }
 
 -- a table after a field has been read
 pub grown_table : (text : List ℕ) (old new : List (List ℕ)) → IsTableAfter text old new → length old ≤ length new
@@ -106,6 +108,18 @@ pub table_read : {A E : Type 0} (result : Result A E) (text : List ℕ) (old new
     → OnOk result (IsTableAfter text old new) → OnErr result (new ≡ old) → IsTable new × (length old ≤ length new)
 table_read (Ok x) text old new room table after refused = (table_after text old new room table after, grown_table text old new after)
 table_read (Err e) text old new room table after refused = rw refused (table, omega arith)
+
+-- in a sheet what stands in a cell writes no #CIRC!, also past the rectangle
+pub written_at : (sheet : SheetValue) → IsSheet sheet → (cell : Position) → IsWritten (content_of sheet cell)
+written_at sheet is cell = go (is_inside sheet.sizes cell) refl
+  where
+    go : (b : Bool) → is_inside sheet.sizes cell ≡ b → IsWritten (content_of sheet cell)
+    go true inside =
+        let lt = place-lt sheet.sizes cell inside in
+        let within : place_of sheet.sizes cell < length sheet.contents = (let e = is.filled in omega arith) in
+        let held = is.held (place_of sheet.sizes cell) (Constant value.Empty) within in
+        rw inside held.written
+    go false outside = rw outside (held_empty 0).written
 
 pub on_ok : {A E : Type 0} (result : Result A E) (P : Type 0) → P → OnOk result P
 on_ok (Ok x) P holds = holds

@@ -3,7 +3,7 @@ use Rattle.std.specs.Prelude.{◌≡◌, ◌≢◌, ℕ, ◌*◌, ◌<◌, ◌�
 use Rattle.sheet_refs.specs.Cells.{Position}
 use Rattle.sheet_refs.specs.declared.sizes.Sizes.{Sizes}
 use Rattle.sheet_refs.specs.Sizes.{is_inside, cell_count, place_of}
-use Rattle.formula_syntax.specs.Tree.{Tree}
+use Rattle.formula_syntax.specs.Tree.{Tree, IsFitting}
 use Rattle.value_core.specs.declared.value.ErrorKind.TheVariants.{Circ}
 use Rattle.value_core.specs.declared.value.Value.{Value}
 use Rattle.value_core.specs.declared.value.Value.TheVariants as value
@@ -43,16 +43,17 @@ abbrev pub HasLabel : ℕ → ContentValue → Type 0
 HasLabel labels (Constant (value.Label place)) = place < labels
 HasLabel labels _ = Unit {0}
 
--- no cell holds the error of a circular reference; it comes of evaluation alone
+-- a constant that isn't #CIRC!, or a fitting formula, which doesn't write it: that error comes of evaluation alone
 abbrev pub IsWritten : ContentValue → Type 0
-IsWritten content = content ≢ Constant (value.Error Circ)
+IsWritten (Constant constant) = constant ≢ value.Error Circ
+IsWritten (Computed formula) = IsFitting formula
 
 -- what a cell may hold beside a table of so many labels
 pub record IsHeld (labels : ℕ) (content : ContentValue) : Type 0 where
   pub label : HasLabel labels content
   pub written : IsWritten content
 
--- a sheet has such a size, something stands in each of its cells, and its labels are in its table
+-- a sheet has such a size, something stands in each of its cells, its labels are in its table, and no content writes #CIRC!
 pub record IsSheet (sheet : SheetValue) : Type 0 where
   pub size : IsSheetSize sheet.sizes
   pub filled : length sheet.contents ≡ cell_count sheet.sizes

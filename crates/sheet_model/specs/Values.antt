@@ -8,10 +8,10 @@ use Rattle.value_core.specs.declared.value.ErrorKind.TheVariants.{Circ}
 use Rattle.value_core.specs.declared.value.Value.{Value}
 use Rattle.value_core.specs.declared.value.Value.TheVariants.{Error}
 use Rattle.value_core.specs.Values.{IsValue, code_of}
-use Rattle.formula_syntax.specs.Tree.{references_of, IsFitting}
+use Rattle.formula_syntax.specs.Tree.{references_of}
 use Rattle.formula_eval.specs.Meaning.{IsNamedBy, formula_value}
 use Rattle.sheet_model.specs.Budget.{ev, StandsIn, IsJustified, LeadsIntoCycle, AgreeOn}
-use Rattle.sheet_model.specs.Sheets.{SheetValue, ContentValue, Constant, Computed, content_of}
+use Rattle.sheet_model.specs.Sheets.{SheetValue, ContentValue, Constant, Computed, IsSheet, content_of}
 
 -- one step: what a content gives over the values of the cells
 abbrev pub step_content : Sizes → (Position → Value) → ContentValue → Value
@@ -58,18 +58,9 @@ pub record AreValues (sheet : SheetValue) (codes : List ℕ) : Type 0 where
   pub each : (cell : Position) → IsTrue (is_inside sheet.sizes cell) → slice_get codes (place_of sheet.sizes cell) ≡ Some (code_of (value_of sheet cell))
   pub values : (cell : Position) → IsTrue (is_inside sheet.sizes cell) → IsValue (value_of sheet cell)
 
--- a content that doesn't write #CIRC! itself, as a constant or in a formula
-abbrev pub WritesNoCircular : ContentValue → Type 0
-WritesNoCircular (Constant value) = value ≢ circular_value
-WritesNoCircular (Computed formula) = IsFitting formula
-
--- no cell of the sheet writes it
-abbrev pub HasNoCircularContent : SheetValue → Type 0
-HasNoCircularContent sheet = (cell : Position) → WritesNoCircular (content_of sheet cell)
-
--- a cell's value is #CIRC! exactly where its references lead into a cycle
+-- in a sheet a cell's value is #CIRC! exactly where its references lead into a cycle
 abbrev pub CyclesTellCircularCells : Type 0
-CyclesTellCircularCells = (sheet : SheetValue) (cell : Position) → HasNoCircularContent sheet → (value_of sheet cell ≡ circular_value) ↔ LeadsIntoCycle (IsInput sheet) cell
+CyclesTellCircularCells = (sheet : SheetValue) (cell : Position) → IsSheet sheet → (value_of sheet cell ≡ circular_value) ↔ LeadsIntoCycle (IsInput sheet) cell
 
 -- the cells that a map gives a cell as its inputs
 abbrev pub IsMapped : (Position → List Position) → Position → Position → Type 0

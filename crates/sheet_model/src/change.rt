@@ -2,7 +2,7 @@ use crate::content::Content;
 use sheet_refs::{Cell, Memory};
 use std::marker::Model;
 
-/// A cell, and what it is to hold: anything but `#CIRC!`.
+/// A cell, and what it is to hold: anything that doesn't write `#CIRC!`, as a constant or in a formula.
 #[derive(Drop)]
 pub struct Change {
     /// The cell.

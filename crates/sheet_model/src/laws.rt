@@ -16,8 +16,9 @@ ghost use Rattle.sheet_model.specs.Values.{AgreeingStepsGiveOneValue};
 ///
 /// With no order given, a cell's value is `#CIRC!` exactly where its references lead into a cycle:
 /// in one or more steps, to a cell from which steps come back, whatever IF selects and IFERROR or
-/// ISERROR make of errors. Over any map from cells to inputs, steps that agree on a set of cells
-/// that has their inputs give these the same values with every budget.
+/// ISERROR make of errors. This is so of every sheet, since none of its contents writes `#CIRC!`
+/// (`IsSheet`, which each `Sheet` keeps). Over any map from cells to inputs, steps that agree on a
+/// set of cells that has their inputs give these the same values with every budget.
 pub fn value_laws()
     ensures stability { (sheet : SheetValue) (cell : Position) (n m : ℕ)
         → budget_value sheet n cell ≢ circular_value → n ≤ m

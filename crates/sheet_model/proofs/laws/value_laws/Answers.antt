@@ -27,8 +27,8 @@ returns-clause-unique c = λ sheet ordered circular values order settled.
 
 pub returns-clause-cycles : goal.returns-clause-cycles
 unfolding value_of
-returns-clause-cycles c = λ sheet cell plain. (
-  leads_into_cycle (IsInput sheet) circular_value (step sheet) (step_honest sheet plain) (place_of sheet.sizes) (cell_count sheet.sizes) (λ from to input. place-lt sheet.sizes to input.inside) (λ a b d e input other same. place_same sheet.sizes b e input.inside other.inside same) cell,
+returns-clause-cycles c = λ sheet cell is. (
+  leads_into_cycle (IsInput sheet) circular_value (step sheet) (step_honest sheet is) (place_of sheet.sizes) (cell_count sheet.sizes) (λ from to input. place-lt sheet.sizes to input.inside) (λ a b d e input other same. place_same sheet.sizes b e input.inside other.inside same) cell,
   λ leads. cycle_circular (IsInput sheet) circular_value (step sheet) (step_local sheet) (step_strict sheet) cell leads (suc (cell_count sheet.sizes)),
 )
 
