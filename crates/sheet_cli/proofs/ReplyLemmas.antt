@@ -1,6 +1,6 @@
 -- From what a text gives to the reply to the words, over a shelf.
 use Rattle.std.proofs.Common.{◌≡◌, ◌≢◌, ℕ, suc, ◌+◌, ◌*◌, ◌<◌, ◌≤◌, ◌⊎◌, inl, inr, List, [], ◌∷◌, ◌++◌, length, length-append, refl, sym, subst, ap, arith}
-use Rattle.std.specs.Prelude.{max, fold, Option, IfSome, Result, Ok, Err, IfOk, Contains, Some, None, string_bytes}
+use Rattle.std.specs.Prelude.{max, fold, Option, IfSome, Result, Ok, Err, IfOk, Some, None, string_bytes}
 use Rattle.sheet_refs.specs.Cells.{Corners}
 use Rattle.csv_sheet.specs.Results.{IsResult}
 use Rattle.csv_sheet.specs.declared.refused.SheetRefused.{SheetRefused}
@@ -13,7 +13,7 @@ use Rattle.edit_script.specs.Scripts.{ScriptValue, IsResult as IsScriptResult}
 use Rattle.edit_script.specs.declared.refused.ScriptRefused.{ScriptRefused}
 use Rattle.edit_script.specs.declared.script.Mode.TheVariants.{Play}
 use Rattle.edit_script.specs.declared.refused.ScriptRefused.TheVariants as script_why
-use Rattle.sheet_cli.specs.Answers.{Answer, Answers, AnswersWindow, AnswersCheck, AnswersPlay, Gives, GivesScript, HasNoScript, IsPlayed, Owes, HasNoSheet, IsTextOf, status_of}
+use Rattle.sheet_cli.specs.Answers.{Answer, Answers, AnswersWindow, AnswersCheck, AnswersPlay, Gives, GivesScript, HasNoScript, IsDue, IsPlayed, Owes, HasNoSheet, IsTextOf, status_of}
 use Rattle.sheet_cli.specs.Answers.Answer.{output, refusal}
 use Rattle.sheet_cli.specs.Answers.AnswersWindow.{written, outside, no_sheet}
 use Rattle.sheet_cli.specs.Answers.AnswersCheck.{listed, unlisted}
@@ -23,7 +23,7 @@ use Rattle.sheet_cli.specs.Answers.HasNoSheet.{too_long, refused}
 use Rattle.sheet_cli.specs.Answers.Owes.{answers, usage}
 use Rattle.sheet_io.specs.Faults.{Rose}
 use Rattle.sheet_cli.specs.Lines.{long_script_line, read_failed_line, refused_line, script_line, too_long_line, usage_line}
-use Rattle.sheet_cli.specs.Requests.{Request, texts_named}
+use Rattle.sheet_cli.specs.Requests.{Request}
 use Rattle.sheet_cli.specs.Requests.Request.{of_window, of_check, of_play}
 use Rattle.sheet_cli.specs.Replies.{HasFetched, HasSheet, IsMissed, IsOwed, IsRefusedStatus, RepliesPlay, RepliesScript, RepliesTo, answer_of}
 use Rattle.sheet_cli.specs.Words.{Asks, AsksNothing}
@@ -46,10 +46,6 @@ same_cause h = cc
 pub is_past : (told : Option (List ℕ)) (text : List ℕ) → IfSome told (λ t. text ≡ t) → 16777216 < length text → IfSome told (λ t. 16777216 < length t)
 is_past None text whole past = tt
 is_past (Some t) text whole past = subst (λ x. 16777216 < length x) whole past
-
--- the name of the one text that is named
-named_first : (name : List ℕ) → Contains (name ∷ []) name
-named_first name = (0, omega arith, refl)
 
 -- the fields of records that are no longer than the longest one
 grows : (rows : Rows) (most : ℕ) → most ≤ fold (λ m r. max m (length r)) most rows
@@ -120,20 +116,20 @@ module _ (holds : List ℕ → Option (List ℕ)) (name : List ℕ) (before afte
   pub past_limit : (reply : Reply) → IfSome (holds name) (λ t. 16777216 < length t) → answer_of reply ≡ refusal 3 too_long_line → HasFetched holds name before after (Err reply)
   past_limit reply far is = inr (record { status = 3; line = too_long_line; none = too_long far; reply_is = is })
 
-  read_failure : (request : Request) (reply : Reply) → Contains (texts_named request) name → IsMissed name before after reply → RepliesTo request holds before after reply
-  read_failure request reply named miss = inl (record { name = name; named = named; rose = miss.rose; reply_is = miss.reply_is })
+  read_failure : (request : Request) (reply : Reply) → IsDue holds request name → IsMissed name before after reply → RepliesTo request holds before after reply
+  read_failure request reply due miss = inl (record { name = name; due = due; rose = miss.rose; reply_is = miss.reply_is })
 
   -- where there is no sheet, each command says so
   pub no_window : (command : WindowCommand) (window : Corners) (reply : Reply) → HasFetched holds name before after (Err reply) → RepliesTo (of_window command name window) holds before after reply
-  no_window command window reply (inl miss) = read_failure (of_window command name window) reply (named_first name) miss
+  no_window command window reply (inl miss) = read_failure (of_window command name window) reply refl miss
   no_window command window reply (inr lacks) = inr (subst (AnswersWindow holds command name window) (sym lacks.reply_is) (no_sheet lacks.status lacks.line lacks.none))
 
   pub no_check : (reply : Reply) → HasFetched holds name before after (Err reply) → RepliesTo (of_check name) holds before after reply
-  no_check reply (inl miss) = read_failure (of_check name) reply (named_first name) miss
+  no_check reply (inl miss) = read_failure (of_check name) reply refl miss
   no_check reply (inr lacks) = inr (subst (AnswersCheck holds name) (sym lacks.reply_is) (unlisted lacks.status lacks.line lacks.none))
 
   pub no_play : (script : List ℕ) (reply : Reply) → HasFetched holds name before after (Err reply) → RepliesTo (of_play name script) holds before after reply
-  no_play script reply (inl miss) = read_failure (of_play name script) reply (0, omega arith, refl) miss
+  no_play script reply (inl miss) = read_failure (of_play name script) reply (inl refl) miss
   no_play script reply (inr lacks) = inr (subst (AnswersPlay holds name script) (sym lacks.reply_is) (unplayed lacks.status lacks.line lacks.none))
 
 -- a fault that rose later has risen
@@ -143,7 +139,7 @@ rose_from before mid after grown (inr most) = inr most
 
 -- the reply over a sheet is one to the words
 pub play_replies : (holds : List ℕ → Option (List ℕ)) (name script : List ℕ) (sheet : SheetValue) (before mid after : ℕ) (reply : Reply) → before ≤ mid → Gives holds name (Ok sheet) → RepliesScript holds sheet script mid after reply → RepliesTo (of_play name script) holds before after reply
-play_replies holds name script sheet before mid after reply grown gives (inl miss) = inl (record { name = script; named = (1, omega arith, refl); rose = rose_from before mid after grown miss.rose; reply_is = miss.reply_is })
+play_replies holds name script sheet before mid after reply grown gives (inl miss) = inl (record { name = script; due = inr (refl, record { sheet = sheet; gives = gives }); rose = rose_from before mid after grown miss.rose; reply_is = miss.reply_is })
 play_replies holds name script sheet before mid after reply grown gives (inr plays) = inr (plays name gives)
 
 -- a sheet that was read has no more labels than cells
@@ -210,7 +206,7 @@ to_words words holds before after request (Refusal status line) asked (inl failu
       request = request;
       name = failure.name;
       asked = asked;
-      named = failure.named;
+      due = failure.due;
       rose = failure.rose;
       status_is = same_status failure.reply_is;
       line_is = same_line failure.reply_is;

@@ -27,13 +27,13 @@ module _ (words : List (List ℕ)) (holds : List ℕ → Option (List ℕ)) wher
   refusal_refuses before after status line reply calm given told tells owed = refusal_complete before after status line reply calm (refusal given told) tells owed
 
   -- a refusal with the status of a failed fetch names what was not fetched
-  pub unfetched : (before after status : ℕ) (line : String Global) (Noted : List ℕ → Type 0) (told : List ℕ) → IsOwed words holds before after (Refusal status line) → told ≡ string_bytes line → Noted told → status ≡ 5 → IsUnfetched words Noted
+  pub unfetched : (before after status : ℕ) (line : String Global) (Noted : List ℕ → Type 0) (told : List ℕ) → IsOwed words holds before after (Refusal status line) → told ≡ string_bytes line → Noted told → status ≡ 5 → IsUnfetched words holds Noted
   unfetched before after status line Noted told (inl unread) same noted five =
       record {
         request = unread.request;
         name = unread.name;
         asked = unread.asked;
-        named = unread.named;
+        due = unread.due;
         noted = subst Noted (same ∙ unread.line_is) noted;
       }
   unfetched before after status line Noted told (inr refused) same noted five = absurd (no refused.status_is five)

@@ -133,6 +133,17 @@ pub data Owes (words : List (List ℕ)) (holds : Texts) : Answer → Type 0 wher
   answers : (request : Request) (answer : Answer) → Asks words request → Answers holds request answer
       → Owes words holds answer
 
+-- the text under a name is a sheet
+pub record HasGivenSheet (holds : Texts) (name : List ℕ) : Type 0 where
+  pub sheet : SheetValue
+  pub gives : Gives holds name (Ok sheet)
+
+-- the text under a name is due for a request: that of its sheet, or that of its script once the sheet is there
+abbrev pub IsDue : Texts → Request → List ℕ → Type 0
+IsDue holds (of_window command sheet window) name = name ≡ sheet
+IsDue holds (of_check sheet) name = name ≡ sheet
+IsDue holds (of_play sheet script) name = (name ≡ sheet) ⊎ ((name ≡ script) × HasGivenSheet holds sheet)
+
 -- the shelf tells each text that the words name
 abbrev pub Tells : List (List ℕ) → Texts → Type 0
 Tells words holds =

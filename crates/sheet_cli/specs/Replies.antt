@@ -1,13 +1,13 @@
 -- Replies, before a byte is written.
-use Rattle.std.specs.Prelude.{◌≡◌, ℕ, List, ◌⊎◌, Contains, Result, Ok, Err, string_bytes}
+use Rattle.std.specs.Prelude.{◌≡◌, ℕ, List, ◌⊎◌, Result, Ok, Err, string_bytes}
 use Rattle.std.specs.declared.option.Option.{Option}
 use Rattle.sheet_refs.specs.Cells.{Corners}
 use Rattle.sheet_model.specs.Sheets.{SheetValue}
 use Rattle.sheet_io.specs.Faults.{Rose}
-use Rattle.sheet_cli.specs.Answers.{Answer, Answers, AnswersPlay, AnswersWindow, Gives, HasNoSheet, IsTextOf, Owes, Texts}
+use Rattle.sheet_cli.specs.Answers.{Answer, Answers, AnswersPlay, AnswersWindow, Gives, HasNoSheet, IsDue, IsTextOf, Owes, Texts}
 use Rattle.sheet_cli.specs.Answers.Answer.{output, refusal}
 use Rattle.sheet_cli.specs.Lines.{read_failed_line}
-use Rattle.sheet_cli.specs.Requests.{Request, texts_named}
+use Rattle.sheet_cli.specs.Requests.{Request}
 use Rattle.sheet_cli.specs.Words.{Asks}
 use Rattle.sheet_cli.specs.declared.words.WindowCommand.{WindowCommand}
 use Rattle.sheet_cli.specs.declared.reply.Reply.{Reply}
@@ -46,10 +46,10 @@ RepliesPlay sheet text reply =
     (holds : Texts) (name script : List ℕ) → Gives holds name (Ok sheet) → IsTextOf holds script text
     → AnswersPlay holds name script (answer_of reply)
 
--- a text that a request names was not fetched
-pub record IsReadFailure (request : Request) (before after : ℕ) (reply : Reply) : Type 0 where
+-- a text that is due for a request was not fetched
+pub record IsReadFailure (request : Request) (holds : Texts) (before after : ℕ) (reply : Reply) : Type 0 where
   pub name : List ℕ
-  pub named : Contains (texts_named request) name
+  pub due : IsDue holds request name
   pub rose : Rose before after
   pub reply_is : answer_of reply ≡ refusal 5 (read_failed_line name)
 
@@ -72,14 +72,14 @@ HasFetched holds name before after (Err reply) = IsMissed name before after repl
 -- a reply to a request over a shelf, whose faults went from a number to another
 abbrev pub RepliesTo : Request → Texts → ℕ → ℕ → Reply → Type 0
 RepliesTo request holds before after reply =
-    IsReadFailure request before after reply ⊎ Answers holds request (answer_of reply)
+    IsReadFailure request holds before after reply ⊎ Answers holds request (answer_of reply)
 
 -- the words ask for something of which a text was not fetched
-pub record IsUnread (words : List (List ℕ)) (before after status : ℕ) (line : List ℕ) : Type 0 where
+pub record IsUnread (words : List (List ℕ)) (holds : Texts) (before after status : ℕ) (line : List ℕ) : Type 0 where
   pub request : Request
   pub name : List ℕ
   pub asked : Asks words request
-  pub named : Contains (texts_named request) name
+  pub due : IsDue holds request name
   pub rose : Rose before after
   pub status_is : status ≡ 5
   pub line_is : line ≡ read_failed_line name
@@ -97,4 +97,4 @@ pub record IsRefusal (words : List (List ℕ)) (holds : Texts) (status : ℕ) (l
 abbrev pub IsOwed : List (List ℕ) → Texts → ℕ → ℕ → Reply → Type 0
 IsOwed words holds before after (Output text) = Owes words holds (output text.items)
 IsOwed words holds before after (Refusal status line) =
-    IsUnread words before after status (string_bytes line) ⊎ IsRefusal words holds status (string_bytes line)
+    IsUnread words holds before after status (string_bytes line) ⊎ IsRefusal words holds status (string_bytes line)

@@ -1,13 +1,13 @@
 -- How a run ends: its status, what it wrote and what it noted.
-use Rattle.std.specs.Prelude.{◌≡◌, ℕ, List, ◌⊎◌, Contains}
+use Rattle.std.specs.Prelude.{◌≡◌, ℕ, List, ◌⊎◌}
 use Rattle.std.specs.declared.option.Option.{Option}
 use Rattle.std.specs.Io.KnownBytes.{Appends}
 use Rattle.sheet_io.specs.Faults.{Rose}
 use Rattle.sheet_io.specs.Sink.{AppendsPrefix}
-use Rattle.sheet_cli.specs.Answers.{Answer, Owes, Tells, Texts, status_of}
+use Rattle.sheet_cli.specs.Answers.{Answer, IsDue, Owes, Tells, Texts, status_of}
 use Rattle.sheet_cli.specs.Answers.Answer.{output, refusal}
 use Rattle.sheet_cli.specs.Lines.{read_failed_line}
-use Rattle.sheet_cli.specs.Requests.{Request, texts_named}
+use Rattle.sheet_cli.specs.Requests.{Request}
 use Rattle.sheet_cli.specs.Words.{Asks}
 
 -- all done; words or range refused; sheet refused; script refused; a fetch failed; a put failed; want of memory
@@ -42,12 +42,12 @@ pub record IsRefused (words : List (List ℕ)) (holds : Texts) (status : ℕ) (N
   pub owed : Owes words holds (refusal status line)
   pub noted : Noted line
 
--- the words name a text, and a line of which Noted holds says that it was not fetched
-pub record IsUnfetched (words : List (List ℕ)) (Noted : List ℕ → Type 0) : Type 0 where
+-- a text is due for what the words ask for, and a line of which Noted holds says that it was not fetched
+pub record IsUnfetched (words : List (List ℕ)) (holds : Texts) (Noted : List ℕ → Type 0) : Type 0 where
   pub request : Request
   pub name : List ℕ
   pub asked : Asks words request
-  pub named : Contains (texts_named request) name
+  pub due : IsDue holds request name
   pub noted : Noted (read_failed_line name)
 
 -- where the shelf tells the texts that the words name, the status is that of what is owed, or memory ran out

@@ -37,7 +37,8 @@ pub fn run<F: Shelf, K: Sink, N: Sink>(
         (TakesLine N.written N.faults notes.old notes.new) }
     ensures read_failed { result ≡ 5 → Rose (F.faults shelf.old) (F.faults shelf.new) }
     ensures unfetched { result ≡ 5
-        → IsUnfetched (bytes_of words.now) (TakesLine N.written N.faults notes.old notes.new) }
+        → IsUnfetched (bytes_of words.now) (F.holds shelf.old)
+        (TakesLine N.written N.faults notes.old notes.new) }
     ensures write_failed { result ≡ 6 → Rose (K.faults out.old) (K.faults out.new) }
     ensures cut { result ≡ 6
         → HasBegun (bytes_of words.now) (F.holds shelf.old)
