@@ -91,7 +91,7 @@ MEASURED = {
         "show A1",
         3_928_320,
     ),
-    "deps: a chain of 10,000 over the plain graph": (lambda: lines(10_000, lambda r: f"=A{r - 1}+1" if r > 1 else "1"), "deps A1", 0),
+    "deps: a chain of 10,000": (lambda: lines(10_000, lambda r: f"=A{r - 1}+1" if r > 1 else "1"), "deps A1", 0),
     "precs: a sum over all names": (lambda: "1,=SUM(A1:XFD1048576)\n", "precs B1", 0),
 }
 
