@@ -1,1 +1,1 @@
-print("set A1 a\0b\1\tc\nlook A1")
+print("set A1 a\0b\1\tc\nfirm A1")
