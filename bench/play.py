@@ -1,0 +1,96 @@
+#!/usr/bin/env python3
+"""Times `play` of the built program on large sheets and scripts, beside `show` of one cell of the same sheet.
+
+Run by hand: bench/play.py [RUNS] [WORD]. A line for each sheet and script whose name contains WORD (all by default), with the least
+of RUNS runs each (3 by default), the two commands in turn:
+
+    show      seconds of processor time of `show` of one cell, which reads and evaluates the sheet
+    play      seconds of processor time of `play`
+    ratio     the one divided by the other
+
+What it starts and how is that of bench/show.py.
+"""
+
+import importlib.machinery
+import importlib.util
+import os
+import pathlib
+import subprocess
+import sys
+import tempfile
+
+LOADER = importlib.machinery.SourceFileLoader("show", str(pathlib.Path(__file__).resolve().parent / "show.py"))
+SHOW = importlib.util.module_from_spec(importlib.util.spec_from_loader("show", LOADER))
+LOADER.exec_module(SHOW)
+
+
+def chain(count):
+    """Each cell refers to the one above it."""
+    return SHOW.lines(count, lambda r: f"=A{r - 1}+1" if r > 1 else "1")
+
+
+def total_on_top(count):
+    """The total of a column above it, an input, and formulas of that input."""
+    return f"=SUM(A3:A{count})\n1\n" + SHOW.lines(count - 2, lambda r: "=$A$2*2")
+
+
+def circles(count):
+    """An input, and so many circles of two cells each, all of which lead to it."""
+    return "1,\n" + SHOW.lines(count, lambda r: f"=B{r + 1}+$A$1,=A{r + 1}")
+
+
+# What is measured: the sheet's text, the cell that is shown, and the script's text.
+MEASURED = {
+    "a chain of 100,000, all its turns": (lambda: chain(100_000), "A100000", lambda: "set A1 2\nlook A1\nwork 100000\nlook A100000\n"),
+    "a chain of 100,000, half of its turns": (lambda: chain(100_000), "A100000", lambda: "set A1 2\nlook A1\nwork 50000\nlook A100000\n"),
+    "a chain of 100,000, a firm look": (lambda: chain(100_000), "A100000", lambda: "set A1 2\nfirm A100000\n"),
+    "a total above 100,000 cells, half of their turns": (
+        lambda: total_on_top(100_000), "A1", lambda: "set A2 2\nwork 50000\nlook A1\n"),
+    "50,000 circles of two, half of their turns": (lambda: circles(50_000), "A1", lambda: "set A1 2\nwork 50000\nlook A2\n"),
+    "100,000 lines of one turn over a chain of 100,000": (
+        lambda: chain(100_000), "A100000", lambda: "set A1 2\n" + "work 1\n" * 100_000 + "look A100000\n"),
+    "1,048,576 lines that say nothing": (lambda: "1\n", "A1", lambda: "#\n" * 1_048_576),
+    "1,048,576 edits of 1,000 cells": (
+        lambda: "1\n" * 1_000, "A1", lambda: SHOW.lines(1_048_576, lambda r: f"set A{r % 1_000 + 1} {r % 10}")),
+}
+
+
+def timed(folder, *words):
+    """The time of one run."""
+    status, taken, _ = SHOW.told(SHOW.STARTER, folder, SHOW.PROGRAM, *words)
+    if status:
+        sys.exit(f"bench/play.py: {' '.join(words)} ended with status {status}")
+    return taken
+
+
+def measure(folder, cell, runs):
+    """The least times of the two commands, in as many runs, in turn."""
+    shows, plays = [], []
+    for _ in range(runs):
+        shows.append(timed(folder, "show", "sheet.csv", cell))
+        plays.append(timed(folder, "play", "sheet.csv", "script.txt"))
+    return min(shows), min(plays)
+
+
+def main():
+    runs = int(sys.argv[1]) if len(sys.argv) > 1 else 3
+    word = sys.argv[2] if len(sys.argv) > 2 else ""
+    # (the launcher builds what isn't built)
+    built = subprocess.run([SHOW.ROOT / "antifreeze", "show", SHOW.ROOT / "examples" / "first.csv", "A1:B2"], stdout=subprocess.DEVNULL)
+    if built.returncode:
+        sys.exit("bench/play.py: the program could not be built")
+    print(f"{len(os.sched_getaffinity(0))} processors, load {os.getloadavg()[0]:.1f}, least of {runs} runs each")
+    print(f"{'show':>8} {'play':>8} {'ratio':>7}")
+    with tempfile.TemporaryDirectory(prefix="antifreeze-bench-") as folder:
+        folder = pathlib.Path(folder)
+        for what, (text, cell, script) in MEASURED.items():
+            if word not in what:
+                continue
+            (folder / "sheet.csv").write_text(text())
+            (folder / "script.txt").write_text(script())
+            show, play = measure(folder, cell, runs)
+            print(f"{show:8.3f} {play:8.3f} {play / show:7.2f}  {what}", flush=True)
+
+
+if __name__ == "__main__":
+    main()
