@@ -5,7 +5,8 @@
 //! here again. A text has one answer, a sheet or the first cause why it has none (`specs/Results.antt`), and
 //! `load` gives it. What a field holds, and which texts of labels a sheet has, `sheet_model` says.
 //!
-//! Below stand `sheet_refs`, `sheet_model` and the kit's `csv`; the program stands above.
+//! Below stand `sheet_refs`, `sheet_model`, the kit's `csv`, and, in definitions and proofs alone,
+//! `value_core` and `formula_syntax`; above stands `sheet_cli`.
 #![tactic(auto)]
 
 mod extent;

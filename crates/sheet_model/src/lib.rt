@@ -1,18 +1,17 @@
-//! Sheets, and the values of their cells by one thread.
+//! Sheets, the values of their cells by one thread, and what logs of edits do to them.
 //!
-//! A sheet is a rectangle of cells with a content in each, and a table of labels. What a field
-//! holds, `specs/Fields.antt` says, one line a kind of content; `read_content` reads it. A label is
-//! a place in the table of labels, in which each text stands once.
+//! A sheet is a rectangle of cells with a content in each, and a table of labels, in which each text
+//! stands once. What a field holds, `specs/Fields.antt` says, one line a kind of content; `read_content`
+//! reads it. `Sheet::apply` makes an edit; what a log of edits makes of a sheet, and what a subject of
+//! marks over it is (`SheetSubject`), `specs/Logs.antt` says. A `Board` shows the cells of a window.
 //!
 //! What the value of a cell is, `specs/Values.antt` says by a budget of steps of evaluation: with
-//! no budget every cell is circular, and with one more a formula has its value over the values with
-//! the rest. `all_values` gives the code of each of these values; it doesn't count budgets, but
-//! walks the cells that formulas name, with a list of open cells. What is true of values in general
-//! stands over any cells and any step in `specs/Budget.antt` and `proofs/BudgetLemmas.antt`, and
-//! `value_laws` states it of sheets.
+//! none every cell is circular, and with one more a formula has its value over the values with the
+//! rest. `all_values` gives the codes of these values by a walk over the cells that formulas name,
+//! with a list of open cells. `value_laws` says what is true of values, however they are computed.
 //!
-//! Below stand `sheet_refs`, `value_core`, `formula_syntax` and `formula_eval`, and the kit's
-//! `indexmap`.
+//! Below stand `sheet_refs`, `value_core`, `formula_syntax`, `formula_eval`, `mark_core` and the kit's
+//! `indexmap`; above, `csv_sheet`, `window_text`, `edit_log`, `edit_script`, `play_machine`, `sheet_cli`.
 #![tactic(auto)]
 
 mod board;
