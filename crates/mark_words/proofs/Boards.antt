@@ -7,16 +7,19 @@ use Rattle.std.proofs.lemmas.List.{get_or_append_left, get_or_push}
 use mathlib.Core.Option.{some, some-injective, some-ne-none}
 use lib.ListN.{get_elem?}
 use Rattle.atomic_table.proofs.Lists.{at_set, set_else, set_here, at_longer}
-use Rattle.mark_core.specs.declared.actors.View.{View}
 use Rattle.mark_core.specs.declared.actors.Edits.{Edits}
 use Rattle.mark_core.specs.declared.words.Clean.{Clean}
 use Rattle.mark_core.specs.declared.words.Place.{Place}
 use Rattle.mark_core.specs.Place.{place_at}
 use Rattle.mark_core.specs.Mark.{IsPrefix}
 use Rattle.mark_core.specs.State.{State, view_at, spent_view}
+use Rattle.mark_core.specs.declared.events.Event.{Event}
 use Rattle.mark_words.specs.declared.board.Doing.{Doing}
+use Rattle.mark_words.specs.declared.board.OwnStep.{OwnStep}
+use Rattle.mark_words.specs.declared.board.Past.{Past}
 use Rattle.mark_words.specs.Words.{code_of, clean_at, shown_place, words_of_places}
-use Rattle.mark_words.specs.Rule.{IsRightSeat, IsSpent, AreGathered, AreSeats, NameSubject}
+use Rattle.mark_words.specs.Rule.{IsRightSeat, IsSpent, past_at, AreGathered, AreSeats, NameSubject}
+use Rattle.mark_words.specs.Steps.{steps_of}
 
 -- an element that is there is what a look with any default gives
 pub there_or : {X : Type 0} (xs : List X) (i : ℕ) (x d : X) → get_elem? xs i ≡ some x → get_or xs i d ≡ x
@@ -168,26 +171,35 @@ spent_apart seats id n doing at live was e = not_spent seats id doing at live (s
 spent_else : {S E : Type 0} (seats : List (Doing S E)) (id n : ℕ) (after : Doing S E) → n ≢ id → IsSpent seats n → IsSpent (slice_set seats id after) n
 spent_else seats id n after apart was = record { doing = was.doing; there = set_else seats id n after apart ∙ was.there; spent = was.spent }
 
--- views that were handed in, where their seats stay spent and the state's views of them stay
-gathered_moves : {S E : Type 0} (core core' : State E) (seats seats' : List (Doing S E)) (views : List (View (List E)))
-    → ((n : ℕ) → IsSpent seats n → IsSpent seats' n × (view_at core' n ≡ view_at core n)) → AreGathered core seats views → AreGathered core' seats' views
-gathered_moves core core' seats seats' views moves g =
+-- the same of a seat where state and events have the same of it
+past_same : {E : Type 0} (core core' : State E) (events events' : List (Event E)) (n : ℕ) → view_at core' n ≡ view_at core n
+    → steps_of events' n ≡ steps_of events n → past_at core' events' n ≡ past_at core events n
+past_same {E} core core' events events' n view steps =
+    ap (λ v. (let p : Past E = record { view = v; steps = steps_of events' n } in p)) view
+    ∙ ap (λ l. (let p : Past E = record { view = view_at core n; steps = l } in p)) steps
+
+-- what was handed in, where the seats stay spent and what state and events have of them stays
+gathered_moves : {S E : Type 0} (core core' : State E) (events events' : List (Event E)) (seats seats' : List (Doing S E)) (pasts : List (Past E))
+    → ((n : ℕ) → IsSpent seats n → IsSpent seats' n × (past_at core' events' n ≡ past_at core events n)) → AreGathered core events seats pasts
+    → AreGathered core' events' seats' pasts
+gathered_moves core core' events events' seats seats' pasts moves g =
     record {
       numbers = g.numbers;
-      same = map_same (view_at core') (view_at core) g.numbers (λ n among. (moves n (g.spent n among)).1) ∙ g.same;
+      same = map_same (past_at core' events') (past_at core events) g.numbers (λ n among. (moves n (g.spent n among)).1) ∙ g.same;
       spent = λ n among. (moves n (g.spent n among)).0;
       apart = g.apart;
     }
 
-pub none_gathered : {S E : Type 0} (core : State E) (seats : List (Doing S E)) → AreGathered core seats []
-none_gathered core seats = record { numbers = []; same = refl; spent = λ n among. absurd (let lt : among.0 < 0 = among.1 in omega arith); apart = tt }
+pub none_gathered : {S E : Type 0} (core : State E) (events : List (Event E)) (seats : List (Doing S E)) → AreGathered core events seats []
+none_gathered core events seats = record { numbers = []; same = refl; spent = λ n among. absurd (let lt : among.0 < 0 = among.1 in omega arith); apart = tt }
 
-more_gathered : {S E : Type 0} (core : State E) (seats : List (Doing S E)) (n : ℕ) (view : View (List E)) (views : List (View (List E)))
-    → IsSpent seats n → view_at core n ≡ view → (g : AreGathered core seats views) → (Contains g.numbers n → ⊥) → AreGathered core seats (view ∷ views)
-more_gathered {S} {E} core seats n view views spent same g fresh =
+more_gathered : {S E : Type 0} (core : State E) (events : List (Event E)) (seats : List (Doing S E)) (n : ℕ) (past : Past E) (pasts : List (Past E))
+    → IsSpent seats n → past_at core events n ≡ past → (g : AreGathered core events seats pasts) → (Contains g.numbers n → ⊥)
+    → AreGathered core events seats (past ∷ pasts)
+more_gathered {S} {E} core events seats n past pasts spent same g fresh =
     record {
       numbers = n ∷ g.numbers;
-      same = ap (λ v. v ∷ map (view_at core) g.numbers) same ∙ ap (λ l. view ∷ l) g.same;
+      same = ap (λ p. p ∷ map (past_at core events) g.numbers) same ∙ ap (λ l. past ∷ l) g.same;
       spent = λ m among.
           elim (Contains-cons_cases n g.numbers m among) [
             | inl this ↦ subst (λ (i : ℕ). IsSpent seats i) this spent
@@ -196,7 +208,7 @@ more_gathered {S} {E} core seats n view views spent same g fresh =
       apart = (fresh, g.apart);
     }
 
-module _ {S E : Type 0} (core core' : State E) (seats : List (Doing S E)) (are : AreSeats core seats)
+module _ {S E : Type 0} (core core' : State E) (events events' : List (Event E)) (seats : List (Doing S E)) (are : AreSeats core events seats)
     (id : ℕ) (doing after : Doing S E) (at : get_elem? seats id ≡ some doing) (live : doing.view.spent ≡ false) where
   pub id_within : id < length core.views
   id_within = omega (arith, are.count, some_within seats id doing at)
@@ -205,17 +217,21 @@ module _ {S E : Type 0} (core core' : State E) (seats : List (Doing S E)) (are :
   others_stay : core'.views ≡ slice_set core.views id after.view → (j : ℕ) → j ≢ id → view_at core' j ≡ view_at core j
   others_stay views j apart = ap (λ vs. get_or vs j spent_view) views ∙ get_or-set_other core.views id j after.view spent_view apart
 
-  -- the views that were handed in stay, since their seats are spent and this one isn't
-  gathered_stays : core'.views ≡ slice_set core.views id after.view → (views : List (View (List E))) → AreGathered core seats views → AreGathered core' (slice_set seats id after) views
-  gathered_stays changed views g =
-      gathered_moves core core' seats (slice_set seats id after) views
-      (λ n spent. (spent_else seats id n after (spent_apart seats id n doing at live spent) spent, others_stay changed n (spent_apart seats id n doing at live spent))) g
+  -- what was handed in stays, since those seats are spent and this one isn't
+  gathered_stays : core'.views ≡ slice_set core.views id after.view → ((j : ℕ) → j ≢ id → steps_of events' j ≡ steps_of events j)
+      → (pasts : List (Past E)) → AreGathered core events seats pasts → AreGathered core' events' (slice_set seats id after) pasts
+  gathered_stays changed steps pasts g =
+      gathered_moves core core' events events' seats (slice_set seats id after) pasts
+      (λ n spent.
+      let apart : n ≢ id = spent_apart seats id n doing at live spent in
+      (spent_else seats id n after apart spent, past_same core core' events events' n (others_stay changed n apart) (steps n apart))) g
 
-  -- the seats after a change of one
-  pub seat_changes : core'.views ≡ slice_set core.views id after.view → after.gathered ≡ doing.gathered
+  -- the seats after a change of one, whose view alone has made steps
+  pub seat_changes : core'.views ≡ slice_set core.views id after.view → ((j : ℕ) → j ≢ id → steps_of events' j ≡ steps_of events j)
+      → after.gathered ≡ doing.gathered
       → ((j : ℕ) (u : Doing S E) → j ≢ id → IsRightSeat core j u → IsRightSeat core' j u) → IsRightSeat core' id after
-      → AreSeats core' (slice_set seats id after)
-  seat_changes views gathered others here =
+      → AreSeats core' events' (slice_set seats id after)
+  seat_changes views steps gathered others here =
       record {
         count = ap length views ∙ length-set core.views id after.view ∙ are.count ∙ sym (length-set seats id after);
         views =
@@ -224,17 +240,17 @@ module _ {S E : Type 0} (core core' : State E) (seats : List (Doing S E)) (are :
             (λ live'. ap (λ vs. get_or vs id spent_view) views ∙ get_or-set_same core.views id after.view spent_view id_within);
         each = each_set (IsRightSeat core') seats id after (λ j u apart e. others j u apart (are.each j u e)) here;
         gathered =
-            each_set (λ j u. AreGathered core' (slice_set seats id after) u.gathered) seats id after
-            (λ j u apart e. gathered_stays views u.gathered (are.gathered j u e))
-            (subst (λ l. AreGathered core' (slice_set seats id after) l) (sym gathered) (gathered_stays views doing.gathered (are.gathered id doing at)));
+            each_set (λ j u. AreGathered core' events' (slice_set seats id after) u.gathered) seats id after
+            (λ j u apart e. gathered_stays views steps u.gathered (are.gathered j u e))
+            (subst (λ l. AreGathered core' events' (slice_set seats id after) l) (sym gathered) (gathered_stays views steps doing.gathered (are.gathered id doing at)));
       }
 
 -- the seats with one more
-pub seat_added : {S E : Type 0} (core core' : State E) (seats : List (Doing S E)) (new : Doing S E) → AreSeats core seats
-    → core'.views ≡ core.views ++ new.view ∷ [] → new.gathered ≡ []
+pub seat_added : {S E : Type 0} (core core' : State E) (events events' : List (Event E)) (seats : List (Doing S E)) (new : Doing S E) → AreSeats core events seats
+    → core'.views ≡ core.views ++ new.view ∷ [] → ((j : ℕ) → steps_of events' j ≡ steps_of events j) → new.gathered ≡ []
     → ((j : ℕ) (u : Doing S E) → IsRightSeat core j u → IsRightSeat core' j u) → IsRightSeat core' (length seats) new
-    → AreSeats core' (seats ++ new ∷ [])
-seat_added {S} {E} core core' seats new are views none others here =
+    → AreSeats core' events' (seats ++ new ∷ [])
+seat_added {S} {E} core core' events events' seats new are views steps none others here =
     record {
       count = ap length views ∙ length-append core.views (new.view ∷ []) ∙ ap (λ n. n + 1) are.count ∙ sym (length-append seats (new ∷ []));
       views = λ j u e live.
@@ -253,13 +269,13 @@ seat_added {S} {E} core core' seats new are views none others here =
       gathered = λ j u e.
           ⊎_elim
           (λ (n : (j ≡ length seats) × (new ≡ u)).
-          subst (λ (d : Doing S E). AreGathered core' (seats ++ new ∷ []) d.gathered) n.1
-          (subst (λ l. AreGathered core' (seats ++ new ∷ []) l) (sym none) (none_gathered core' (seats ++ new ∷ []))))
+          subst (λ (d : Doing S E). AreGathered core' events' (seats ++ new ∷ []) d.gathered) n.1
+          (subst (λ l. AreGathered core' events' (seats ++ new ∷ []) l) (sym none) (none_gathered core' events' (seats ++ new ∷ []))))
           (λ (old : get_elem? seats j ≡ some u).
-          gathered_moves core core' seats (seats ++ new ∷ []) u.gathered
+          gathered_moves core core' events events' seats (seats ++ new ∷ []) u.gathered
           (λ n spent. (
             record { doing = spent.doing; there = at_longer seats (new ∷ []) n spent.doing spent.there; spent = spent.spent },
-            front n (some_within seats n spent.doing spent.there),
+            past_same core core' events events' n (front n (some_within seats n spent.doing spent.there)) (steps n),
           ))
           (are.gathered j u old))
           (at_push seats new u j e);
@@ -269,11 +285,11 @@ seat_added {S} {E} core core' seats new are views none others here =
     front j lt = ap (λ vs. get_or vs j spent_view) views ∙ get_or_append_left core.views (new.view ∷ []) spent_view j (omega (arith, are.count))
 
 -- the seats after one was handed in to another, which has its view from then on: the state keeps its view
-module _ {S E : Type 0} (core : State E) (seats : List (Doing S E)) (are : AreSeats core seats)
-    (id other : ℕ) (doing note spent : Doing S E) (at : get_elem? seats id ≡ some doing) (live : doing.view.spent ≡ false)
+module _ {S E : Type 0} (core : State E) (events : List (Event E)) (seats : List (Doing S E)) (are : AreSeats core events seats)
+    (id other : ℕ) (doing note spent : Doing S E) (steps : List (OwnStep E)) (made : steps ≡ steps_of events other) (at : get_elem? seats id ≡ some doing) (live : doing.view.spent ≡ false)
     (there : get_elem? seats other ≡ some note) (live' : note.view.spent ≡ false) (apart : other ≢ id) where
   abbrev after : Doing S E
-  after = record doing { gathered = note.view ∷ doing.gathered }
+  after = record doing { gathered = record { view = note.view; steps = steps } ∷ doing.gathered }
 
   abbrev seats' : List (Doing S E)
   seats' = slice_set (slice_set seats id after) other spent
@@ -286,16 +302,16 @@ module _ {S E : Type 0} (core : State E) (seats : List (Doing S E)) (are : AreSe
       (λ j u differs e. each_set P seats id after (λ j' u' differs' e'. old j' u' e') here j u e)
       gone
 
-  still_gathered : (views : List (View (List E))) → AreGathered core seats views → AreGathered core seats' views
-  still_gathered views g =
-      gathered_moves core core seats seats' views
+  still_gathered : (pasts : List (Past E)) → AreGathered core events seats pasts → AreGathered core events seats' pasts
+  still_gathered pasts g =
+      gathered_moves core core events events seats seats' pasts
       (λ n was. (
         spent_else (slice_set seats id after) other n spent (spent_apart seats other n note there live' was)
             (spent_else seats id n after (spent_apart seats id n doing at live was) was),
         refl,
       )) g
 
-  pub seat_gathers : spent.view.spent ≡ true → spent.gathered ≡ [] → IsRightSeat core other spent → AreSeats core (slice_set (slice_set seats id (record doing { gathered = note.view ∷ doing.gathered })) other spent)
+  pub seat_gathers : spent.view.spent ≡ true → spent.gathered ≡ [] → IsRightSeat core other spent → AreSeats core events (slice_set (slice_set seats id (record doing { gathered = record { view = note.view; steps = steps } ∷ doing.gathered })) other spent)
   unfolding still_gathered gathered_moves
   seat_gathers off none gone =
       let right : IsRightSeat core id doing = are.each id doing at in
@@ -313,13 +329,14 @@ module _ {S E : Type 0} (core : State E) (seats : List (Doing S E)) (are : AreSe
             })
             gone;
         gathered =
-            each_gathers (λ j u. AreGathered core seats' u.gathered) (λ j u e. still_gathered u.gathered (are.gathered j u e))
-            (more_gathered core seats' other note.view doing.gathered
+            each_gathers (λ j u. AreGathered core events seats' u.gathered) (λ j u e. still_gathered u.gathered (are.gathered j u e))
+            (more_gathered core events seats' other (record { view = note.view; steps = steps }) doing.gathered
             (record { doing = spent; there = set_here (slice_set seats id after) other spent (some_within (slice_set seats id after) other note (set_else seats id other after apart ∙ there)); spent = off })
-            (are.views other note there live')
+            (ap (λ v. (let p : Past E = record { view = v; steps = steps_of events other } in p)) (are.views other note there live')
+            ∙ ap (λ l. (let p : Past E = record { view = note.view; steps = l } in p)) (sym made))
             (still_gathered doing.gathered before)
             (λ among. not_spent seats other note there live' (before.spent other among)))
-            (subst (λ l. AreGathered core seats' l) (sym none) (none_gathered core seats'));
+            (subst (λ l. AreGathered core events seats' l) (sym none) (none_gathered core events seats'));
       }
 
 -- each seat still names the subject where one was exchanged

@@ -18,17 +18,21 @@ use Rattle.mark_core.specs.Run.{IsCodeless}
 use Rattle.mark_core.specs.Legal.{IsLegalRead}
 use Rattle.mark_core.specs.Honest.{IsRightRead}
 use Rattle.mark_core.specs.declared.subjects.Subject.{Ghosts}
-use Rattle.mark_words.specs.declared.board.Doing.{Doing}
+use Rattle.mark_words.specs.declared.board.History.{History}
+use Rattle.mark_words.specs.declared.board.Past.{Past}
 use Rattle.mark_words.specs.declared.marks.Marks.{Marks}
 use Rattle.mark_words.specs.declared.seats.Seat.{Seat}
 use Rattle.mark_words.specs.declared.closing.Words.{Words}
 use Rattle.mark_words.specs.Words.{shown_place}
-use Rattle.mark_words.specs.Doing.{gather_doing}
-use Rattle.mark_words.specs.Token.{subject_of, topic_of, places_of, seat_table, doing_of, view_of, log_of, edits_of, closed_places, closed_log}
-use Rattle.mark_words.specs.Rule.{AreApart, IsKept, IsEditor, IsSpent, AreGathered}
+use Rattle.mark_words.specs.Doing.{gather_history}
+use Rattle.mark_words.specs.Token.{subject_of, topic_of, places_of, seat_table, own_steps, view_of, log_of, edits_of, closed_places, closed_log}
+use Rattle.mark_words.specs.Rule.{AreApart, past_at, IsKept, IsEditor, IsSpent, AreGathered, doings_of}
+use Rattle.mark_words.specs.Steps.{steps_of}
 use Rattle.mark_words.specs.Closed.{HasClosed, ArePrefixes, AreLegal}
 use Rattle.mark_words.proofs.Boards.{Contains-cons_cases, not_spent, shown_same}
-use Rattle.mark_words.proofs.RunLemmas.{honest_state}
+use Rattle.mark_words.proofs.StepLemmas.{doing_at}
+use Rattle.mark_words.proofs.OrderLemmas.{tail_of, head_or}
+use Rattle.mark_words.proofs.RunLemmas.{honest_state, same_view, same_steps, seat_right}
 
 pub all_front : {X : Type 0} (P : X → Type 0) (xs ys : List X) (x : X) → ys ≡ xs ++ x ∷ [] → All P ys → All P xs
 all_front {X} P xs ys x is all =
@@ -51,13 +55,9 @@ views_handed f xs ys x gathered is =
     ∙ ap (λ l. l ++ gathered) (sym (map-append f xs (x ∷ [])))
     ∙ ap (λ l. map f l ++ gathered) (sym is)
 
-abbrev tail_of : {X : Type 0} → List X → List X
-tail_of [] = []
-tail_of (x ∷ xs) = xs
-
-abbrev head_or : {X : Type 0} → X → List X → X
-head_or d [] = d
-head_or d (x ∷ xs) = x
+map_of : {X V W : Type 0} (f : X → V) (h : V → W) (xs : List X) → map h (map f xs) ≡ map (λ x. h (f x)) xs
+map_of f h [] = refl
+map_of f h (x ∷ xs) = ap (λ l. h (f x) ∷ l) (map_of f h xs)
 
 -- the numbers of the first views of a list
 numbers_front : {V : Type 0} (f : ℕ → V) (numbers : List ℕ) (vs ws : List V) → map f numbers ≡ vs ++ ws → AreApart numbers
@@ -76,6 +76,10 @@ numbers_front {V} f (m ∷ numbers) (v ∷ vs) ws same apart =
           ],
     )
 
+-- parts of two lists that are one
+parts : {X Y V W : Type 0} (f : X → V) (g : Y → V) (h : V → W) (xs : List X) (ys : List Y) → map f xs ≡ map g ys → map (λ x. h (f x)) xs ≡ map (λ y. h (g y)) ys
+parts f g h xs ys same = sym (map_of f h xs) ∙ ap (map h) same ∙ map_of g h ys
+
 -- which view of the state a seat has that was handed in
 pub number_of : {X V : Type 0} (f : ℕ → V) (g : X → V) (numbers : List ℕ) (xs : List X) (y : X) → map f numbers ≡ map g xs → Contains xs y → (n : ℕ) × (f n ≡ g y)
 number_of f g numbers [] y same among = absurd (let lt : among.0 < 0 = among.1 in omega arith)
@@ -86,52 +90,63 @@ number_of {X} {V} f g (n ∷ numbers) (x ∷ xs) y same among =
       | inr old ↦ number_of f g numbers xs y (ap (λ (l : List V). tail_of l) same) old
     ]
 
--- The editor's seat while the others are handed in to it: it knows what it knew at first, and the views of those that
--- are still to be handed in stand before those that were.
-pub record IsHanding {S E : Type 0} {G : Ghosts S E} (table : TableId) (first : Doing S E) (start : List (Seat S E G)) (all : TableSeat E (Doing S E)) (others : List (Seat S E G)) : Type 0 where
+-- what a seat knows and did when it is handed in
+abbrev pub past_of : {S E : Type 0} {G : Ghosts S E} → Seat S E G → Past E
+past_of seat = record { view = view_of seat; steps = own_steps seat }
+
+-- The editor's seat while the others are handed in to it: it knows what it knew at first, and what those knew and did
+-- that are still to be handed in stands before that of those that were.
+pub record IsHanding {S E : Type 0} {G : Ghosts S E} (table : TableId) (first : History S E) (start : List (Seat S E G)) (all : TableSeat E (History S E)) (others : List (Seat S E G)) : Type 0 where
   pub same_table : all.table_id ≡ table
   pub bare : all.me.1 ≡ []
-  pub live : all.me.0.view.spent ≡ false
-  pub editor : all.me.0.editor ≡ true
-  pub view : all.me.0.view ≡ first.view
-  pub edits : all.me.0.edits ≡ first.edits
+  pub live : all.me.0.doing.view.spent ≡ false
+  pub editor : all.me.0.doing.editor ≡ true
+  pub view : all.me.0.doing.view ≡ first.doing.view
+  pub edits : all.me.0.doing.edits ≡ first.doing.edits
+  pub steps : all.me.0.steps ≡ first.steps
   pub tables : All (λ other. seat_table other ≡ table) others
-  pub views : map view_of others ++ all.me.0.gathered ≡ map view_of start ++ first.gathered
+  pub pasts : map past_of others ++ all.me.0.doing.gathered ≡ map past_of start ++ first.doing.gathered
 
 -- and so it is after one more
-pub handed : {S E : Type 0} {G : Ghosts S E} (table : TableId) (first : Doing S E) (start : List (Seat S E G)) (all all' : TableSeat E (Doing S E)) (others others' : List (Seat S E G)) (last : Seat S E G)
+pub handed : {S E : Type 0} {G : Ghosts S E} (table : TableId) (first : History S E) (start : List (Seat S E G)) (all all' : TableSeat E (History S E)) (others others' : List (Seat S E G)) (last : Seat S E G)
     → IsHanding table first start all others → others ≡ others' ++ last ∷ [] → all'.table_id ≡ all.table_id
-    → all'.me ≡ (gather_doing all.me.0 (doing_of last), all.me.1) → IsHanding table first start all' others'
+    → all'.me ≡ (gather_history all.me.0 last.seat.me.0, all.me.1) → IsHanding table first start all' others'
 handed {S} {E} {G} table first start all all' others others' last inv is same made =
     record {
       same_table = same ∙ inv.same_table;
-      bare = ap (λ (m : Me E (Doing S E)). m.1) made ∙ inv.bare;
-      live = ap (λ (m : Me E (Doing S E)). m.0.view.spent) made ∙ inv.live;
-      editor = ap (λ (m : Me E (Doing S E)). m.0.editor) made ∙ inv.editor;
-      view = ap (λ (m : Me E (Doing S E)). m.0.view) made ∙ inv.view;
-      edits = ap (λ (m : Me E (Doing S E)). m.0.edits) made ∙ inv.edits;
+      bare = ap (λ (m : Me E (History S E)). m.1) made ∙ inv.bare;
+      live = ap (λ (m : Me E (History S E)). m.0.doing.view.spent) made ∙ inv.live;
+      editor = ap (λ (m : Me E (History S E)). m.0.doing.editor) made ∙ inv.editor;
+      view = ap (λ (m : Me E (History S E)). m.0.doing.view) made ∙ inv.view;
+      edits = ap (λ (m : Me E (History S E)). m.0.doing.edits) made ∙ inv.edits;
+      steps = ap (λ (m : Me E (History S E)). m.0.steps) made ∙ inv.steps;
       tables = all_front (λ (other : Seat S E G). seat_table other ≡ table) others' others last is inv.tables;
-      views =
-          ap (λ l. map view_of others' ++ l) (ap (λ (m : Me E (Doing S E)). m.0.gathered) made)
-          ∙ views_handed view_of others' others last all.me.0.gathered is ∙ inv.views;
+      pasts =
+          ap (λ l. map past_of others' ++ l) (ap (λ (m : Me E (History S E)). m.0.doing.gathered) made)
+          ∙ views_handed past_of others' others last all.me.0.doing.gathered is ∙ inv.pasts;
     }
 
 module _ {S E : Type 0} {G : Ghosts S E} (places : S → ℕ) (worth : S → List E → ℕ → ℕ) (touches : S → List E → E → ℕ → Type 0)
     (marks : Marks S E) (editor : Seat S E G) (others : List (Seat S E G)) (words : Words S E G) where
-  module _ (t : TableState E (Doing S E)) (kept : IsKept (subject_of marks) (places (subject_of marks)) (worth (subject_of marks)) (touches (subject_of marks)) (topic_of marks).opening.value.items t)
-      (id : ℕ) (all : Doing S E) (at : get_elem? t.views id ≡ some all) (live : all.view.spent ≡ false) (on : all.editor ≡ true) where
+  module _ (t : TableState E (History S E)) (kept : IsKept (subject_of marks) (places (subject_of marks)) (worth (subject_of marks)) (touches (subject_of marks)) (topic_of marks).opening.value.items t)
+      (id : ℕ) (seat : History S E) (at : get_elem? t.views id ≡ some seat) (live : seat.doing.view.spent ≡ false) (on : seat.doing.editor ≡ true) where
     pub closes : ((log : List E) (entry : E) (place : ℕ) → place < places (subject_of marks) → (touches (subject_of marks) log entry place → ⊥)
         → worth (subject_of marks) (log ++ entry ∷ []) place ≡ worth (subject_of marks) log place)
-        → t.words ≡ slots_items words.closed.words → all.view ≡ view_of editor → all.edits ≡ edits_of editor
+        → t.words ≡ slots_items words.closed.words → seat.doing.view ≡ view_of editor → seat.doing.edits ≡ edits_of editor → seat.steps ≡ own_steps editor
         → log_of editor ≡ (edits_of editor).log → closed_places words ≡ places_of marks → closed_log words ≡ log_of editor
-        → (before : List (View (List E))) → all.gathered ≡ map view_of others ++ before
+        → (before : List (Past E)) → seat.doing.gathered ≡ map past_of others ++ before
         → HasClosed places worth touches marks editor others words
-    closes untouched is view edits knows about log before handed =
+    closes untouched is view edits steps knows about log before handed =
         let core : State E = kept.core in
         let honest = honest_state (subject_of marks) (places (subject_of marks)) (worth (subject_of marks)) (touches (subject_of marks)) (topic_of marks).opening.value.items t kept untouched in
-        let ed : IsEditor core id all = (kept.seats.each id all at).editor on in
-        let gathered : AreGathered core t.views all.gathered = kept.seats.gathered id all at in
-        let front = numbers_front (view_at core) gathered.numbers (map view_of others) before (gathered.same ∙ handed) gathered.apart in
+        let places' : ℕ = places (subject_of marks) in
+        let worth' = worth (subject_of marks) in
+        let touches' = touches (subject_of marks) in
+        let opening = (topic_of marks).opening.value.items in
+        let ed : IsEditor core id seat.doing = (seat_right (subject_of marks) places' worth' touches' opening t kept id seat at).editor on in
+        let there = doing_at t.views id seat at in
+        let gathered : AreGathered core kept.events (doings_of t.views) seat.doing.gathered = kept.seats.gathered id seat.doing there in
+        let front = numbers_front (past_at core kept.events) gathered.numbers (map past_of others) before (gathered.same ∙ handed) gathered.apart in
         record {
           same_count = about;
           same_log = log;
@@ -146,11 +161,13 @@ module _ {S E : Type 0} {G : Ghosts S E} (places : S → ℕ) (worth : S → Lis
               (omega (arith, there, about, honest.count, kept.right.count));
           edits = sym ed.edits ∙ edits;
           log = ap (λ (x : Edits E). x.log) (sym ed.edits ∙ edits) ∙ sym knows ∙ sym log;
-          editor_view = ap (λ i. view_at core i) (sym ed.first) ∙ kept.seats.views id all at live ∙ view;
+          editor_view = ap (λ i. view_at core i) (sym ed.first) ∙ same_view (subject_of marks) places' worth' touches' opening t kept id seat at live ∙ view;
+          editor_steps = ap (λ i. steps_of kept.events i) (sym ed.first) ∙ sym (same_steps (subject_of marks) places' worth' touches' opening t kept id seat at live) ∙ steps;
           numbers = front.0;
-          other_views = front.1;
+          other_views = parts (past_at core kept.events) past_of (λ (p : Past E). p.view) front.0 others front.1;
+          other_steps = parts (past_at core kept.events) past_of (λ (p : Past E). p.steps) front.0 others front.1;
           apart = (
-            λ zero. not_spent t.views id all at live (subst (λ (i : ℕ). IsSpent t.views i) (sym ed.first) (gathered.spent 0 (front.3 0 zero))),
+            λ zero. not_spent (doings_of t.views) id seat.doing there live (subst (λ (i : ℕ). IsSpent (doings_of t.views) i) (sym ed.first) (gathered.spent 0 (front.3 0 zero))),
             front.2,
           );
         }

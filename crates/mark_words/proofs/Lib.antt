@@ -1,4 +1,6 @@
 pub mod Boards
+pub mod StepLemmas
+pub mod OrderLemmas
 pub mod RunLemmas
 pub mod SeeSteps
 pub mod ViewSteps

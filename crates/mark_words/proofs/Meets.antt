@@ -9,6 +9,7 @@ use Rattle.mark_core.specs.declared.words.Finished.{Finished}
 use Rattle.mark_core.specs.Mark.{IsPrefix}
 use Rattle.mark_core.proofs.Prefixes.{prefix_itself}
 use Rattle.mark_words.specs.declared.board.Doing.{Doing}
+use Rattle.mark_words.specs.declared.board.History.{History}
 use Rattle.mark_words.specs.declared.seats.Desk.{Desk}
 use Rattle.mark_words.specs.Doing.{copy_of, union_doing, with_see}
 use Rattle.mark_words.specs.Desk.{HasDesk, KnowsAll, FitsWords}
@@ -21,9 +22,9 @@ both_prefix : {X : Type 0} (b : Bool) (xs ys : List X) → IsPrefix (if b then x
 both_prefix true xs ys p = (p, prefix_itself ys, inr refl)
 both_prefix false xs ys p = (prefix_itself xs, p, inl refl)
 
-module _ {S E : Type 0} (step : Step E) (seat other : Doing S E) (joined after : Me E (Doing S E)) (found : ℕ)
-    (is : joined.0 ≡ union_doing seat (copy_of other)) (saw : Saw step joined found after) (knows : KnowsAll seat) where
-  made : after.0 ≡ with_see (union_doing seat (copy_of other)) found
+module _ {S E : Type 0} (step : Step E) (seat other : Doing S E) (joined after : Me E (History S E)) (found : ℕ)
+    (is : joined.0.doing ≡ union_doing seat (copy_of other)) (saw : Saw step joined found after) (knows : KnowsAll seat) where
+  made : after.0.doing ≡ with_see (union_doing seat (copy_of other)) found
   made = saw.doing ∙ ap (λ (d : Doing S E). with_see d found) is
 
   logs : IsPrefix seat.view.log (union_doing seat (copy_of other)).view.log × IsPrefix other.view.log (union_doing seat (copy_of other)).view.log
@@ -39,7 +40,7 @@ module _ {S E : Type 0} (step : Step E) (seat other : Doing S E) (joined after :
       ap (λ (d : Doing S E). d.view.log) (sym is) ∙ told.1 ∙ ap (λ (d : Doing S E). d.edits.log) is ∙ sym (knows.log e) in
       (told.0 ∙ ap (λ (d : Doing S E). length d.view.log) is ∙ ap length stays, stays)
 
-  pub met : HasMet seat other after.0
+  pub met : HasMet seat other after.0.doing
   met =
       let both = logs in
       let known : length (union_doing seat (copy_of other)).view.log ≤ found = subst (λ (d : Doing S E). length d.view.log ≤ found) is saw.within in
@@ -67,7 +68,7 @@ module _ {S E : Type 0} (step : Step E) (seat other : Doing S E) (joined after :
         seen_stays = λ e. (whole e).0 ∙ sym (knows.seen e);
       })
 
-  pub met_knows : KnowsAll after.0
+  pub met_knows : KnowsAll after.0.doing
   met_knows =
       subst (λ (d : Doing S E). KnowsAll d) (sym made)
       (record {
@@ -76,10 +77,10 @@ module _ {S E : Type 0} (step : Step E) (seat other : Doing S E) (joined after :
         number = λ e there. subst (λ (l : List E). length l < 1048576) (sym (whole e).1) (knows.number e there);
       })
 
-  pub met_live : after.0.view.spent ≡ seat.view.spent
+  pub met_live : after.0.doing.view.spent ≡ seat.view.spent
   met_live = ap (λ (d : Doing S E). d.view.spent) made
 
-  pub met_desk : (words words' : ℕ) (desk : Option Desk) → words' ≡ words → HasDesk words seat desk → HasDesk words' after.0 desk
+  pub met_desk : (words words' : ℕ) (desk : Option Desk) → words' ≡ words → HasDesk words seat desk → HasDesk words' after.0.doing desk
   met_desk words words' desk same has =
       subst (λ (d : Doing S E). HasDesk words' d desk) (sym made)
       (record {
@@ -90,7 +91,7 @@ module _ {S E : Type 0} (step : Step E) (seat other : Doing S E) (joined after :
       })
 
   -- what a seat of the table that has met another one knows fits in words
-  pub met_fits : FitsWords seat → FitsWords other → FitsWords after.0
+  pub met_fits : FitsWords seat → FitsWords other → FitsWords after.0.doing
   met_fits own others =
       subst (λ (d : Doing S E). FitsWords d) (sym made)
       (record {
@@ -103,9 +104,9 @@ module _ {S E : Type 0} (step : Step E) (seat other : Doing S E) (joined after :
         reads = subst (λ (l : List Finished). All (λ (read : Finished). read.clean.upto < 2 ^ 63) l) (sym (append-nil seat.view.reads)) own.reads;
       })
 
-  pub met_clean : (touches : List E → E → ℕ → Type 0) → KeepsClean touches seat other after.0
+  pub met_clean : (touches : List E → E → ℕ → Type 0) → KeepsClean touches seat other after.0.doing
   met_clean touches log place mark either =
-      let known : after.0.view.known ≡ seat.view.known ++ other.view.known = ap (λ (d : Doing S E). d.view.known) made in
+      let known : after.0.doing.view.known ≡ seat.view.known ++ other.view.known = ap (λ (d : Doing S E). d.view.known) made in
       elim either [
         | inl own ↦
             record {
@@ -123,5 +124,5 @@ module _ {S E : Type 0} (step : Step E) (seat other : Doing S E) (joined after :
             }
       ]
 
-  pub met_subject : after.0.subject ≡ seat.subject
+  pub met_subject : after.0.doing.subject ≡ seat.subject
   met_subject = ap (λ (d : Doing S E). d.subject) made

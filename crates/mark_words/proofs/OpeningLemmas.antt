@@ -10,9 +10,10 @@ use Rattle.mark_core.specs.State.{view_at, opening_state}
 use Rattle.mark_core.specs.Run.{IsOpening}
 use Rattle.mark_core.proofs.Prefixes.{prefix_itself}
 use Rattle.mark_words.specs.declared.board.Doing.{Doing}
+use Rattle.mark_words.specs.declared.board.History.{History}
 use Rattle.mark_words.specs.declared.board.Topic.{Topic}
 use Rattle.mark_words.specs.Words.{words_of_places, opening_words}
-use Rattle.mark_words.specs.Doing.{first_doing}
+use Rattle.mark_words.specs.Doing.{first_doing, first_history}
 use Rattle.mark_words.specs.Rule.{IsRightSeat, AreGathered, IsKept, NameSubject}
 use Rattle.mark_words.proofs.Boards.{none_gathered}
 
@@ -47,18 +48,22 @@ module _ {S E : Type 0} (places : ℕ) (worth : List E → ℕ → ℕ) (touches
   views_open (suc seat) doing e = λ live. absurd (some-ne-none doing (sym e))
 
   gathered_open : (seat : ℕ) (doing : Doing S E) → get_elem? (first_doing topic ∷ []) seat ≡ some doing
-      → AreGathered (opening_state topic.opening.value.items) (first_doing {E = E} topic ∷ []) doing.gathered
+      → AreGathered (opening_state topic.opening.value.items) [] (first_doing {E = E} topic ∷ []) doing.gathered
   gathered_open zero doing e =
-      subst (λ (d : Doing S E). AreGathered (opening_state topic.opening.value.items) (first_doing {E = E} topic ∷ []) d.gathered) (some-injective (first_doing topic) doing e)
-      (none_gathered (opening_state topic.opening.value.items) (first_doing {E = E} topic ∷ []))
+      subst (λ (d : Doing S E). AreGathered (opening_state topic.opening.value.items) [] (first_doing {E = E} topic ∷ []) d.gathered) (some-injective (first_doing topic) doing e)
+      (none_gathered (opening_state topic.opening.value.items) [] (first_doing {E = E} topic ∷ []))
   gathered_open (suc seat) doing e = absurd (some-ne-none doing (sym e))
 
   subjects_open : NameSubject topic.subject.value (first_doing {E = E} topic ∷ [])
   subjects_open zero doing e live = ap (λ (d : Doing S E). d.subject) (sym (some-injective (first_doing topic) doing e))
   subjects_open (suc seat) doing e live = absurd (some-ne-none doing (sym e))
 
+  steps_open : (seat : ℕ) (history : History S E) → get_elem? (first_history {E = E} topic ∷ []) seat ≡ some history → history.steps ≡ []
+  steps_open zero history e = ap (λ (h : History S E). h.steps) (sym (some-injective (first_history topic) history e))
+  steps_open (suc seat) history e = absurd (some-ne-none history (sym e))
+
   pub opens : (words : List ℕ) → words ≡ 0 ∷ opening_words topic.opening.value.items
-      → IsKept topic.subject.value places worth touches topic.opening.value.items (opening_table words [] (first_doing topic))
+      → IsKept topic.subject.value places worth touches topic.opening.value.items (opening_table words [] (first_history topic))
   opens words is =
       record {
         right = right;
@@ -67,6 +72,7 @@ module _ {S E : Type 0} (places : ℕ) (worth : List E → ℕ → ℕ) (touches
         run = refl;
         words = is ∙ ap (λ l. 0 ∷ l) (words_open topic.opening.value.items);
         subjects = subjects_open;
+        steps = record { each = λ seat history e known. steps_open seat history e; none = λ seat past. refl };
         seats =
             record {
               count = refl;

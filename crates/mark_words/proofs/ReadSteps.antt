@@ -26,14 +26,15 @@ use Rattle.mark_core.proofs.ReadLaws.{ends_right}
 use Rattle.mark_core.specs.declared.events.Event.TheVariants.{ReadClean, ReadValue, ReadMark}
 use Rattle.mark_core.specs.declared.events.Outcome.TheVariants.{Word, Clean as AnswersClean, Mark as AnswersMark}
 use Rattle.mark_words.specs.declared.board.Doing.{Doing}
+use Rattle.mark_words.specs.declared.board.History.{History}
 use Rattle.mark_words.specs.Words.{clean_at}
 use Rattle.mark_words.specs.Doing.{with_clean_read, with_value_read, with_mark_read}
 use Rattle.mark_words.specs.Rule.{IsEditor, IsKept}
 use Rattle.mark_words.specs.Plays.{BeganRead, WentOn, EndedRead}
 use Rattle.mark_words.specs.Read.{IsWorthAfter, TellsOf, GoesOn, Ends, LearnsClean}
 use Rattle.mark_words.proofs.Boards.{clean_word, value_word, mark_word, clean_at-code_of}
-use Rattle.mark_words.proofs.RunLemmas.{honest_state}
-use Rattle.mark_words.proofs.SeeSteps.{same_view}
+use Rattle.mark_words.proofs.StepLemmas.{with_step, next_number, one_more}
+use Rattle.mark_words.proofs.RunLemmas.{honest_state, same_view, same_subject, seat_right}
 use Rattle.mark_words.proofs.ViewSteps.{keeps_rest, view_step}
 
 -- a list that is no longer with more at its end
@@ -144,28 +145,33 @@ module _ {E : Type 0} (places : ℕ) (worth : List E → ℕ → ℕ) (touches :
 
 module _ {S E : Type 0} (subject : S) (places : ℕ) (worth : List E → ℕ → ℕ) (touches : List E → E → ℕ → Type 0)
     (untouched : (log : List E) (entry : E) (place : ℕ) → place < places → (touches log entry place → ⊥) → worth (log ++ entry ∷ []) place ≡ worth log place)
-    (opening : List (Option ℕ)) (slots id : ℕ) (me : Me E (Doing S E)) (step : Step E) (place : ℕ) (live : me.0.view.spent ≡ false) (there : place < length opening) where
+    (opening : List (Option ℕ)) (slots id : ℕ) (me : Me E (History S E)) (step : Step E) (place : ℕ) (live : me.0.doing.view.spent ≡ false) (there : place < length opening) where
   pub reads_clean : step.word ≡ 3 * place + 2
       → Allows (IsKept subject places worth touches opening) slots id me (3 * place + 2) (λ n. n) (λ n after. BeganRead step me n after)
   reads_clean word t kept deep at fits =
       let core : State E = kept.core in
       let honest = honest_state subject places worth touches opening t kept untouched in
-      let same : view_at core id ≡ me.0.view = same_view subject places worth touches untouched opening t kept id me.0 at live in
+      let same : view_at core id ≡ me.0.doing.view = same_view subject places worth touches opening t kept id me.0 at live in
       let lt : place < length core.places = omega (arith, honest.count, kept.right.count) in
       let found : ℕ = slice_index t.words (3 * place + 2) in
       let is : clean_at found ≡ (place_at core.places place).clean =
       ap (λ ws. clean_at (slice_index ws (3 * place + 2))) kept.words ∙ ap clean_at (clean_word (length core.edits.log) core.places place lt) ∙ clean_at-code_of (place_at core.places place).clean in (
-        with_clean_read me.0 place (clean_at found),
+        with_step me.0 (with_clean_read me.0.doing place (clean_at found)) (next_number kept.events) (ReadClean id place),
         keeps,
         tt,
-        view_step subject places worth touches opening t kept id me.0 at live (ReadClean id place) (AnswersClean (place_at core.places place).clean) (after_read_clean core id place) (with_half me.0.view place (clean_at found))
-            (slice_set t.words (3 * place + 2) found)
+        view_step subject places worth touches opening t kept id me.0 at live (ReadClean id place) (AnswersClean (place_at core.places place).clean) (after_read_clean core id place) (with_half me.0.doing.view place (clean_at found))
+            (slice_set t.words (3 * place + 2) found) refl refl
             (record { allowed = record { there = lt; live = ap (λ (v : View (List E)). v.spent) same ∙ live }; gives = (refl, refl) })
             (set-get_or t.words (3 * place + 2) 0 ∙ kept.words) refl refl
             (ap (λ (v : View (List E)). slice_set core.views id (with_half v place (place_at core.places place).clean)) same
-            ∙ ap (λ c. slice_set core.views id (with_half me.0.view place c)) (sym is))
+            ∙ ap (λ c. slice_set core.views id (with_half me.0.doing.view place c)) (sym is))
             refl,
-        record { slots = refl; rest = keeps_rest me.0 _ refl refl refl; doing = λ place' word'. ap (λ p. with_clean_read me.0 p (clean_at found)) (omega (arith, word, word')) },
+        record {
+          slots = refl;
+          rest = keeps_rest me.0.doing _ refl refl refl;
+          doing = λ place' word'. ap (λ p. with_clean_read me.0.doing p (clean_at found)) (omega (arith, word, word'));
+          one = λ place' word'. one_more me.0.steps id (next_number kept.events) (λ v. ReadClean v place') (ReadClean id place) (ap (λ p. ReadClean id p) (omega (arith, word, word')));
+        },
       )
 
   pub reads_value : step.word ≡ 3 * place + 3
@@ -173,73 +179,79 @@ module _ {S E : Type 0} (subject : S) (places : ℕ) (worth : List E → ℕ →
   reads_value word t kept deep at fits =
       let core : State E = kept.core in
       let honest = honest_state subject places worth touches opening t kept untouched in
-      let same : view_at core id ≡ me.0.view = same_view subject places worth touches untouched opening t kept id me.0 at live in
+      let same : view_at core id ≡ me.0.doing.view = same_view subject places worth touches opening t kept id me.0 at live in
       let lt : place < length core.places = omega (arith, honest.count, kept.right.count) in
       let found : ℕ = slice_index t.words (3 * place + 3) in
       let is : found ≡ (place_at core.places place).value =
       ap (λ ws. slice_index ws (3 * place + 3)) kept.words ∙ value_word (length core.edits.log) core.places place lt in (
-        with_value_read me.0 place found,
+        with_step me.0 (with_value_read me.0.doing place found) (next_number kept.events) (ReadValue id place),
         keeps,
         tt,
-        view_step subject places worth touches opening t kept id me.0 at live (ReadValue id place) (Word (place_at core.places place).value) (after_read_value core id place) (with_value me.0.view place found)
-            (slice_set t.words (3 * place + 3) found)
+        view_step subject places worth touches opening t kept id me.0 at live (ReadValue id place) (Word (place_at core.places place).value) (after_read_value core id place) (with_value me.0.doing.view place found)
+            (slice_set t.words (3 * place + 3) found) refl refl
             (record { allowed = record { there = lt; live = ap (λ (v : View (List E)). v.spent) same ∙ live }; gives = (refl, refl) })
             (set-get_or t.words (3 * place + 3) 0 ∙ kept.words) refl refl
             (ap (λ (v : View (List E)). slice_set core.views id (with_value v place (place_at core.places place).value)) same
-            ∙ ap (λ w. slice_set core.views id (with_value me.0.view place w)) (sym is))
+            ∙ ap (λ w. slice_set core.views id (with_value me.0.doing.view place w)) (sym is))
             refl,
-        record { slots = refl; rest = keeps_rest me.0 _ refl refl refl; doing = λ place' word'. ap (λ p. with_value_read me.0 p found) (omega (arith, word, word')) },
+        record {
+          slots = refl;
+          rest = keeps_rest me.0.doing _ refl refl refl;
+          doing = λ place' word'. ap (λ p. with_value_read me.0.doing p found) (omega (arith, word, word'));
+          one = λ place' word'. one_more me.0.steps id (next_number kept.events) (λ v. ReadValue v place') (ReadValue id place) (ap (λ p. ReadValue id p) (omega (arith, word, word')));
+        },
       )
 
 -- the load of the mark speaks of the subject that the seat names
 module _ {S E : Type 0} (subject : S) (places : S → ℕ) (worth : S → List E → ℕ → ℕ) (touches : S → List E → E → ℕ → Type 0)
     (untouched : (log : List E) (entry : E) (place : ℕ) → place < places subject → (touches subject log entry place → ⊥) → worth subject (log ++ entry ∷ []) place ≡ worth subject log place)
-    (opening : List (Option ℕ)) (slots id : ℕ) (me : Me E (Doing S E)) (step : Step E) (place : ℕ) (live : me.0.view.spent ≡ false) (there : place < length opening) where
+    (opening : List (Option ℕ)) (slots id : ℕ) (me : Me E (History S E)) (step : Step E) (place : ℕ) (live : me.0.doing.view.spent ≡ false) (there : place < length opening) where
   pub reads_mark : step.word ≡ 3 * place + 1
       → Allows (IsKept subject (places subject) (worth subject) (touches subject) opening) slots id me (3 * place + 1) (λ n. n) (λ n after. EndedRead worth touches step me n after)
   reads_mark word t kept deep at fits =
       let core : State E = kept.core in
       let honest = honest_state subject (places subject) (worth subject) (touches subject) opening t kept untouched in
-      let same : view_at core id ≡ me.0.view = same_view subject (places subject) (worth subject) (touches subject) untouched opening t kept id me.0 at live in
+      let same : view_at core id ≡ me.0.doing.view = same_view subject (places subject) (worth subject) (touches subject) opening t kept id me.0 at live in
       let lt : place < length core.places = omega (arith, honest.count, kept.right.count) in
       let found : ℕ = slice_index t.words (3 * place + 1) in
       let is : found ≡ (place_at core.places place).mark =
       ap (λ ws. slice_index ws (3 * place + 1)) kept.words ∙ mark_word (length core.edits.log) core.places place lt in
-      let seat = kept.seats.each id me.0 at in
+      let seat = seat_right subject (places subject) (worth subject) (touches subject) opening t kept id me.0 at in
       let here : (place' : ℕ) → step.word ≡ 3 * place' + 1 → place ≡ place' = λ place' word'. omega (arith, word, word') in
       let seen : length (view_at core id).log ≤ (view_at core id).seen = (honest.views id).log.below_seen in (
-        with_mark_read me.0 place found,
+        with_step me.0 (with_mark_read me.0.doing place found) (next_number kept.events) (ReadMark id place),
         keeps,
         tt,
-        view_step subject (places subject) (worth subject) (touches subject) opening t kept id me.0 at live (ReadMark id place) (AnswersMark (place_at core.places place).mark) (after_read_mark core id place) (with_read_end me.0.view place found)
-            (slice_set t.words (3 * place + 1) found)
+        view_step subject (places subject) (worth subject) (touches subject) opening t kept id me.0 at live (ReadMark id place) (AnswersMark (place_at core.places place).mark) (after_read_mark core id place) (with_read_end me.0.doing.view place found)
+            (slice_set t.words (3 * place + 1) found) refl refl
             (record { allowed = record { there = lt; live = ap (λ (v : View (List E)). v.spent) same ∙ live }; gives = (refl, refl) })
             (set-get_or t.words (3 * place + 1) 0 ∙ kept.words) refl refl
             (ap (λ (v : View (List E)). slice_set core.views id (with_read_end v place (place_at core.places place).mark)) same
-            ∙ ap (λ m. slice_set core.views id (with_read_end me.0.view place m)) (sym is))
-            (read_end_cases (λ (v : View (List E)). v.log ≡ me.0.view.log) me.0.view me.0.view.half place found refl (λ half begun at'. refl)),
+            ∙ ap (λ m. slice_set core.views id (with_read_end me.0.doing.view place m)) (sym is))
+            (read_end_cases (λ (v : View (List E)). v.log ≡ me.0.doing.view.log) me.0.doing.view me.0.doing.view.half place found refl (λ half begun at'. refl)),
         record {
           slots = refl;
           rest =
-              keeps_rest me.0 (with_read_end me.0.view place found)
-              (read_end_cases (λ (v : View (List E)). v.spent ≡ me.0.view.spent) me.0.view me.0.view.half place found refl (λ half begun at'. refl))
-              (read_end_cases (λ (v : View (List E)). v.log ≡ me.0.view.log) me.0.view me.0.view.half place found refl (λ half begun at'. refl))
-              (read_end_cases (λ (v : View (List E)). v.seen ≡ me.0.view.seen) me.0.view me.0.view.half place found refl (λ half begun at'. refl));
-          doing = λ place' word'. ap (λ p. with_mark_read me.0 p found) (here place' word');
+              keeps_rest me.0.doing (with_read_end me.0.doing.view place found)
+              (read_end_cases (λ (v : View (List E)). v.spent ≡ me.0.doing.view.spent) me.0.doing.view me.0.doing.view.half place found refl (λ half begun at'. refl))
+              (read_end_cases (λ (v : View (List E)). v.log ≡ me.0.doing.view.log) me.0.doing.view me.0.doing.view.half place found refl (λ half begun at'. refl))
+              (read_end_cases (λ (v : View (List E)). v.seen ≡ me.0.doing.view.seen) me.0.doing.view me.0.doing.view.half place found refl (λ half begun at'. refl));
+          doing = λ place' word'. ap (λ p. with_mark_read me.0.doing p found) (here place' word');
+          one = λ place' word'. one_more me.0.steps id (next_number kept.events) (λ v. ReadMark v place') (ReadMark id place) (ap (λ p. ReadMark id p) (here place' word'));
           within = subst (λ (v : View (List E)). length v.log ≤ v.seen) same seen;
           tells = λ place' subject' word' named half begun of.
               let of_place : half.place ≡ place = of ∙ sym (here place' word') in
               let told : TellsOf (worth subject) (touches subject) (view_at core id) half (place_at core.places half.place).mark =
               tells_of (places subject) (worth subject) (touches subject) (IsCodeless opening) untouched core honest id half
               (ap (λ (v : View (List E)). v.half) same ∙ begun) (omega (arith, of_place, there, kept.right.count)) in
-              subst (λ (x : S). TellsOf (worth x) (touches x) me.0.view half found) (same_Some subject subject' (sym (kept.subjects id me.0 at live) ∙ named))
+              subst (λ (x : S). TellsOf (worth x) (touches x) me.0.doing.view half found) (same_Some subject subject' (sym (same_subject subject (places subject) (worth subject) (touches subject) opening t kept id me.0 at live) ∙ named))
               (subst (λ (v : View (List E)). TellsOf (worth subject) (touches subject) v half found) same
               (subst (λ (m : ℕ). TellsOf (worth subject) (touches subject) (view_at core id) half m)
               (ap (λ p. (place_at core.places p).mark) of_place ∙ sym is) told));
           editor = λ on idle.
-              let ed : IsEditor core id me.0 = seat.editor on in
+              let ed : IsEditor core id me.0.doing = seat.editor on in
               let none : core.edits.pending ≡ None = ap (λ (x : Edits E). x.pending) (sym ed.edits) ∙ idle in
-              let whole : me.0.view.log ≡ core.edits.log =
+              let whole : me.0.doing.view.log ≡ core.edits.log =
               ap (λ (v : View (List E)). v.log) (sym same) ∙ ap (λ i. (view_at core i).log) ed.first ∙ honest.editor_log in
               elim (honest.marks place (omega (arith, there, kept.right.count))) [
                 | inl pending ↦ absurd (none-some pending.entry (sym none ∙ pending.pending))

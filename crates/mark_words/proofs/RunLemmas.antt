@@ -1,15 +1,21 @@
 -- A run with one event more, and the state that a table's run leads to.
-use Rattle.std.proofs.Common.{◌≡◌, ◌<◌, ℕ, List, [], ◌∷◌, ◌++◌, Option, refl, subst}
+use Rattle.std.proofs.Common.{◌≡◌, ◌≢◌, ◌<◌, ℕ, List, [], ◌∷◌, ◌++◌, Option, Some, true, false, refl, sym, ◌∙◌, ap, subst}
+use Rattle.std.specs.Prelude.{slice_set}
+use mathlib.Core.Option.{some}
+use lib.ListN.{get_elem?}
 use Rattle.atomic_table.specs.Table.{State as TableState}
 use Rattle.mark_core.specs.declared.events.Event.{Event}
 use Rattle.mark_core.specs.declared.events.Outcome.{Outcome}
-use Rattle.mark_core.specs.State.{State, opening_state}
+use Rattle.mark_core.specs.State.{State, view_at, opening_state}
 use Rattle.mark_core.specs.Step.{Happens}
 use Rattle.mark_core.specs.Honest.{IsHonest}
 use Rattle.mark_core.specs.Run.{IsCodeless, Runs}
 use Rattle.mark_core.proofs.Runs.{honest_from_opening}
 use Rattle.mark_words.specs.declared.board.Doing.{Doing}
-use Rattle.mark_words.specs.Rule.{IsKept}
+use Rattle.mark_words.specs.declared.board.History.{History}
+use Rattle.mark_words.specs.Rule.{IsRightSeat, IsKept}
+use Rattle.mark_words.specs.Steps.{actor_of, is_single, steps_of, AreStepsOf}
+use Rattle.mark_words.proofs.StepLemmas.{doing_at, steps_more, others_same, steps_set, next_number, with_step}
 
 -- an event after those of a run
 run_more : {E : Type 0} (worth : List E → ℕ → ℕ) (touches : List E → E → ℕ → Type 0) (events : List (Event E)) (s before : State E) (event : Event E) (outcome : Outcome) (after : State E)
@@ -20,7 +26,7 @@ run_more worth touches (first ∷ events) s before event outcome after (next, an
     (next, answer, first_happens, run_more worth touches events next before event outcome after rest happens)
 
 module _ {S E : Type 0} (subject : S) (places : ℕ) (worth : List E → ℕ → ℕ) (touches : List E → E → ℕ → Type 0) (opening : List (Option ℕ))
-    (t : TableState E (Doing S E)) (kept : IsKept subject places worth touches opening t) where
+    (t : TableState E (History S E)) (kept : IsKept subject places worth touches opening t) where
   -- the run of the table with the event that happens next
   pub next_run : (event : Event E) (outcome : Outcome) (after : State E) → Happens worth touches kept.core event outcome after
       → Runs worth touches (opening_state opening) (kept.events ++ event ∷ []) after
@@ -30,3 +36,34 @@ module _ {S E : Type 0} (subject : S) (places : ℕ) (worth : List E → ℕ →
   pub honest_state : ((log : List E) (entry : E) (place : ℕ) → place < places → (touches log entry place → ⊥) → worth (log ++ entry ∷ []) place ≡ worth log place)
       → IsHonest places worth touches (IsCodeless opening) kept.core
   honest_state untouched = honest_from_opening places worth touches untouched opening kept.right kept.events kept.core kept.run
+
+  module _ (id : ℕ) (history : History S E) (at : get_elem? t.views id ≡ some history) where
+    -- the seat is right, as far as the state goes,
+    pub seat_right : IsRightSeat kept.core id history.doing
+    seat_right = kept.seats.each id history.doing (doing_at t.views id history at)
+
+    module _ (live : history.doing.view.spent ≡ false) where
+      -- the state's view of it is its own,
+      pub same_view : view_at kept.core id ≡ history.doing.view
+      same_view = kept.seats.views id history.doing (doing_at t.views id history at) live
+
+      -- it names the subject,
+      pub same_subject : history.doing.subject ≡ Some subject
+      same_subject = kept.subjects id history.doing (doing_at t.views id history at) live
+
+      -- and its steps are its view's
+      pub same_steps : history.steps ≡ steps_of kept.events id
+      same_steps = kept.steps.each id history at (λ spent. absurd (cc))
+
+      -- the other views make no step by it
+      pub others_stay : (event : Event E) → is_single event ≡ true → actor_of event ≡ id → (view : ℕ) → view ≢ id
+          → steps_of (kept.events ++ event ∷ []) view ≡ steps_of kept.events view
+      others_stay event single own view apart = others_same kept.events event view single (λ e. apart (sym e ∙ own))
+
+      -- the steps of the seats after one step more
+      pub next_steps : (event : Event E) (doing : Doing S E) → is_single event ≡ true → actor_of event ≡ id → doing.gathered ≡ history.doing.gathered
+          → AreStepsOf (kept.events ++ event ∷ []) (slice_set t.views id (with_step history doing (next_number kept.events) event))
+      next_steps event doing single own gathered =
+          steps_set kept.events (kept.events ++ event ∷ []) t.views kept.steps id history (with_step history doing (next_number kept.events) event) at
+          (others_stay event single own) gathered
+          (ap (λ l. l ++ record { number = next_number kept.events; event = event } ∷ []) same_steps ∙ sym (steps_more kept.events event id single own))

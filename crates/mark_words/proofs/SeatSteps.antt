@@ -13,14 +13,17 @@ use Rattle.mark_core.specs.View.{split_off, longer, union_of}
 use Rattle.mark_core.specs.Permission.{MayJoin}
 use Rattle.mark_core.specs.Step.{after_split, after_join}
 use Rattle.mark_core.proofs.Prefixes.{prefix_of_nothing}
+use Rattle.mark_core.specs.declared.events.Event.{Event}
 use Rattle.mark_core.specs.declared.events.Event.TheVariants.{Split, Join}
 use Rattle.mark_core.specs.declared.events.Outcome.TheVariants.{Done, Seat}
 use Rattle.mark_words.specs.declared.board.Doing.{Doing}
-use Rattle.mark_words.specs.Doing.{copy_of, shorter_of, union_doing, gather_doing, spent_doing}
-use Rattle.mark_words.specs.Rule.{IsRightSeat, AreSeats, IsKept}
+use Rattle.mark_words.specs.declared.board.History.{History}
+use Rattle.mark_words.specs.Doing.{copy_of, shorter_of, spent_doing, copy_history, union_history, gather_history, spent_history}
+use Rattle.mark_words.specs.Rule.{IsRightSeat, AreSeats, NameSubject, IsKept, doings_of}
+use Rattle.mark_words.specs.Steps.{steps_of, AreStepsOf}
 use Rattle.mark_words.proofs.Boards.{some_within, seat_stays, seat_changes, seat_added, seat_gathers, subject_set, subject_added}
-use Rattle.mark_words.proofs.RunLemmas.{next_run, honest_state}
-use Rattle.mark_words.proofs.SeeSteps.{same_view}
+use Rattle.mark_words.proofs.StepLemmas.{doing_at, doings_push, doings_set_both, seats_same, steps_set, steps_added, steps_gathered}
+use Rattle.mark_words.proofs.RunLemmas.{next_run, honest_state, same_view, same_subject, same_steps, seat_right}
 
 -- the shorter of two prefixes of a list is one, and is no longer than the longer one
 shorter_prefix_of : {X : Type 0} (xs ys zs : List X) → IsPrefix xs zs → IsPrefix ys zs → IsPrefix (shorter_of xs ys) zs
@@ -36,45 +39,57 @@ shorter_below xs ys =
 module _ {S E : Type 0} (subject : S) (places : ℕ) (worth : List E → ℕ → ℕ) (touches : List E → E → ℕ → Type 0)
     (untouched : (log : List E) (entry : E) (place : ℕ) → place < places → (touches log entry place → ⊥) → worth (log ++ entry ∷ []) place ≡ worth log place)
     (opening : List (Option ℕ)) where
-  pub splits : (id : ℕ) (doing : Doing S E) → doing.view.spent ≡ false → Splits (IsKept subject places worth touches opening) id doing doing (copy_of doing)
-  splits id doing live t kept at =
+  pub splits : (id : ℕ) (history : History S E) → history.doing.view.spent ≡ false
+      → Splits (IsKept subject places worth touches opening) id history history (copy_history history)
+  splits id history live t kept at =
       let core : State E = kept.core in
-      let same : view_at core id ≡ doing.view = same_view subject places worth touches untouched opening t kept id doing at live in
+      let doing : Doing S E = history.doing in
+      let events' : List (Event E) = kept.events ++ Split id ∷ [] in
+      let new : History S E = copy_history history in
+      let same : view_at core id ≡ doing.view = same_view subject places worth touches opening t kept id history at live in
       let live' : (view_at core id).spent ≡ false = ap (λ (v : View (List E)). v.spent) same ∙ live in
-      let again : slice_set t.views id doing ≡ t.views = set_again t.views id doing at in
-      let within : id < length t.views = some_within t.views id doing at in
+      let again : slice_set t.views id history ≡ t.views = set_again t.views id history at in
+      let within : id < length (doings_of t.views) = some_within (doings_of t.views) id doing (doing_at t.views id history at) in
       record {
         right = kept.right;
         core = after_split core id;
-        events = kept.events ++ Split id ∷ [];
+        events = events';
         run =
             next_run subject places worth touches opening t kept (Split id) (Seat (length core.views)) (after_split core id)
             (record { allowed = live'; gives = (refl, refl) });
         words = kept.words;
         subjects =
-            subject_added subject (slice_set t.views id doing) (copy_of doing)
-            (subject_set subject t.views id doing kept.subjects (λ still. kept.subjects id doing at live)) (kept.subjects id doing at live);
+            subst (λ l. NameSubject subject (doings_of (l ++ new ∷ []))) (sym again)
+            (doings_push (NameSubject subject) t.views new
+            (subject_added subject (doings_of t.views) (copy_of doing) kept.subjects (same_subject subject places worth touches opening t kept id history at live)));
+        steps =
+            subst (λ l. AreStepsOf events' (l ++ new ∷ [])) (sym again)
+            (steps_added kept.events events' t.views kept.steps new (seats_same kept.events (Split id) refl) refl);
         seats =
-            subst (λ l. AreSeats (after_split core id) (l ++ copy_of doing ∷ [])) (sym again)
-            (seat_added core (after_split core id) t.views (copy_of doing) kept.seats
-            (ap (λ v. core.views ++ split_off v ∷ []) same) refl
+            subst (λ l. AreSeats (after_split core id) events' (doings_of (l ++ new ∷ []))) (sym again)
+            (doings_push (AreSeats (after_split core id) events') t.views new
+            (seat_added core (after_split core id) kept.events events' (doings_of t.views) (copy_of doing) kept.seats
+            (ap (λ v. core.views ++ split_off v ∷ []) same) (seats_same kept.events (Split id) refl) refl
             (λ j u right. seat_stays core (after_split core id) j u refl refl right)
             (record {
               first = λ zero. absurd (omega (arith, zero));
               editor = λ off. absurd (cc);
               shorter = prefix_of_nothing core.edits.log;
               shorter_length = omega arith;
-            }));
+            })));
       }
 
-  pub joins : (id : ℕ) (doing : Doing S E) (other : ℕ) (note : Doing S E) → doing.view.spent ≡ false → note.view.spent ≡ false
-      → note.view.holds ≡ [] → note.editor ≡ false → [] ≡ note.gathered → Joins (IsKept subject places worth touches opening) id doing other note (union_doing doing note) spent_doing
-  joins id doing other note live note_live empty_handed reader none_gathered t kept at apart there =
+  pub joins : (id : ℕ) (history : History S E) (other : ℕ) (note : History S E) → history.doing.view.spent ≡ false → note.doing.view.spent ≡ false
+      → note.doing.view.holds ≡ [] → note.doing.editor ≡ false → [] ≡ note.doing.gathered → [] ≡ note.steps
+      → Joins (IsKept subject places worth touches opening) id history other note (union_history history note) spent_history
+  joins id history other note live note_live empty_handed reader none_gathered no_steps t kept at apart there =
       let core : State E = kept.core in
-      let both : Doing S E = union_doing doing note in
+      let both : History S E = union_history history note in
+      let events' : List (Event E) = kept.events ++ Join id other ∷ [] in
+      let stay : (j : ℕ) → steps_of events' j ≡ steps_of kept.events j = seats_same kept.events (Join id other) refl in
       let at' : get_elem? t.views other ≡ some note = sym (set_else t.views id other both apart) ∙ there in
-      let same : view_at core id ≡ doing.view = same_view subject places worth touches untouched opening t kept id doing at live in
-      let same' : view_at core other ≡ note.view = same_view subject places worth touches untouched opening t kept other note at' note_live in
+      let same : view_at core id ≡ history.doing.view = same_view subject places worth touches opening t kept id history at live in
+      let same' : view_at core other ≡ note.doing.view = same_view subject places worth touches opening t kept other note at' note_live in
       let after : State E = after_join core id other in
       let middle : State E = with_view core id (union_of (view_at core id) (view_at core other)) in
       let honest = honest_state subject places worth touches opening t kept untouched in
@@ -84,52 +99,65 @@ module _ {S E : Type 0} (subject : S) (places : ℕ) (worth : List E → ℕ →
         other_live = ap (λ (v : View (List E)). v.spent) same' ∙ note_live;
         empty_handed = ap (λ (v : View (List E)). v.holds) same' ∙ empty_handed;
       } in
-      let seat : IsRightSeat core id doing = kept.seats.each id doing at in
-      let not_first : other ≢ 0 = λ zero. absurd (let on : note.editor ≡ true = (kept.seats.each other note at').first zero in cc) in
-      let own : IsPrefix doing.view.log core.edits.log =
+      let seat : IsRightSeat core id history.doing = seat_right subject places worth touches opening t kept id history at in
+      let not_first : other ≢ 0 =
+      λ zero. absurd (let on : note.doing.editor ≡ true = (seat_right subject places worth touches opening t kept other note at').first zero in cc) in
+      let own : IsPrefix history.doing.view.log core.edits.log =
       subst (λ (v : View (List E)). IsPrefix v.log core.edits.log) same (honest.views id).log.known_prefix in
-      let others : IsPrefix note.view.log core.edits.log =
+      let others : IsPrefix note.doing.view.log core.edits.log =
       subst (λ (v : View (List E)). IsPrefix v.log core.edits.log) same' (honest.views other).log.known_prefix in
       record {
         right = kept.right;
         core = after;
-        events = kept.events ++ Join id other ∷ [];
+        events = events';
         run = next_run subject places worth touches opening t kept (Join id other) Done after (record { allowed = ((λ e. apart (sym e)), not_first, may); gives = (refl, refl) });
         words = kept.words;
         subjects =
-            subject_set subject (slice_set t.views id both) other spent_doing
-            (subject_set subject t.views id both kept.subjects (λ still. kept.subjects id doing at live)) (λ off. absurd (cc));
+            doings_set_both (NameSubject subject) t.views id other both spent_history
+            (subject_set subject (slice_set (doings_of t.views) id both.doing) other spent_doing
+            (subject_set subject (doings_of t.views) id both.doing kept.subjects (λ still. same_subject subject places worth touches opening t kept id history at live))
+            (λ off. absurd (cc)));
+        steps =
+            steps_set events' events' (slice_set t.views id both)
+            (steps_set kept.events events' t.views kept.steps id history both at (λ j differs. stay j) refl
+            (same_steps subject places worth touches opening t kept id history at live ∙ sym (stay id)))
+            other note spent_history there (λ j differs. refl) none_gathered
+            (no_steps ∙ same_steps subject places worth touches opening t kept other note at' note_live ∙ sym (stay other));
         seats =
-            seat_changes middle after (slice_set t.views id both)
-            (seat_changes core middle t.views kept.seats id doing both at live
+            doings_set_both (AreSeats after events') t.views id other both spent_history
+            (seat_changes middle after events' events' (slice_set (doings_of t.views) id both.doing)
+            (seat_changes core middle kept.events events' (doings_of t.views) kept.seats id history.doing both.doing (doing_at t.views id history at) live
             (ap (λ v. slice_set core.views id (union_of v (view_at core other))) same
-            ∙ ap (λ v. slice_set core.views id (union_of doing.view v)) same')
-            refl
+            ∙ ap (λ v. slice_set core.views id (union_of history.doing.view v)) same')
+            (λ j differs. stay j) refl
             (λ j u differs right. seat_stays core middle j u refl refl right)
             (record {
               first = seat.first;
               editor = λ on. let ed = seat.editor on in record { first = ed.first; edits = ed.edits; marks = ed.marks };
-              shorter = shorter_prefix_of doing.view.log note.view.log core.edits.log own others;
-              shorter_length = shorter_below doing.view.log note.view.log;
+              shorter = shorter_prefix_of history.doing.view.log note.doing.view.log core.edits.log own others;
+              shorter_length = shorter_below history.doing.view.log note.doing.view.log;
             }))
-            other note spent_doing there note_live refl none_gathered
+            other note.doing spent_doing (set_else (doings_of t.views) id other both.doing apart ∙ doing_at t.views other note at') note_live refl
+            (λ j differs. refl) none_gathered
             (λ j u differs right. seat_stays middle after j u refl refl right)
             (record {
               first = λ zero. absurd (not_first zero);
               editor = λ off. absurd (cc);
               shorter = prefix_of_nothing core.edits.log;
               shorter_length = omega arith;
-            });
+            }));
       }
 
   -- a seat handed in to the editor's: no event of the core, whose view of it stays
-  pub gathers : (id : ℕ) (doing : Doing S E) (other : ℕ) (note : Doing S E) → doing.view.spent ≡ false → doing.editor ≡ true → note.view.spent ≡ false
-      → Joins (IsKept subject places worth touches opening) id doing other note (gather_doing doing note) spent_doing
-  gathers id doing other note live on note_live t kept at apart there =
+  pub gathers : (id : ℕ) (history : History S E) (other : ℕ) (note : History S E) → history.doing.view.spent ≡ false → history.doing.editor ≡ true
+      → note.doing.view.spent ≡ false
+      → Joins (IsKept subject places worth touches opening) id history other note (gather_history history note) spent_history
+  gathers id history other note live on note_live t kept at apart there =
       let core : State E = kept.core in
-      let both : Doing S E = gather_doing doing note in
+      let both : History S E = gather_history history note in
       let at' : get_elem? t.views other ≡ some note = sym (set_else t.views id other both apart) ∙ there in
-      let not_first : other ≢ 0 = λ zero. absurd (apart (zero ∙ sym ((kept.seats.each id doing at).editor on).first)) in
+      let first : id ≡ 0 = ((seat_right subject places worth touches opening t kept id history at).editor on).first in
+      let not_first : other ≢ 0 = λ zero. absurd (apart (zero ∙ sym first)) in
       record {
         right = kept.right;
         core = core;
@@ -137,14 +165,20 @@ module _ {S E : Type 0} (subject : S) (places : ℕ) (worth : List E → ℕ →
         run = kept.run;
         words = kept.words;
         subjects =
-            subject_set subject (slice_set t.views id both) other spent_doing
-            (subject_set subject t.views id both kept.subjects (λ still. kept.subjects id doing at live)) (λ off. absurd (cc));
+            doings_set_both (NameSubject subject) t.views id other both spent_history
+            (subject_set subject (slice_set (doings_of t.views) id both.doing) other spent_doing
+            (subject_set subject (doings_of t.views) id both.doing kept.subjects (λ still. same_subject subject places worth touches opening t kept id history at live))
+            (λ off. absurd (cc)));
+        steps = steps_gathered kept.events t.views kept.steps id other history both spent_history at live apart refl (λ none. absurd (cc)) refl;
         seats =
-            seat_gathers core t.views kept.seats id other doing note spent_doing at live at' note_live apart refl refl
+            doings_set_both (AreSeats core kept.events) t.views id other both spent_history
+            (seat_gathers core kept.events (doings_of t.views) kept.seats id other history.doing note.doing spent_doing note.steps
+            (same_steps subject places worth touches opening t kept other note at' note_live)
+            (doing_at t.views id history at) live (doing_at t.views other note at') note_live apart refl refl
             (record {
               first = λ zero. absurd (not_first zero);
               editor = λ off. absurd (cc);
               shorter = prefix_of_nothing core.edits.log;
               shorter_length = omega arith;
-            });
+            }));
       }

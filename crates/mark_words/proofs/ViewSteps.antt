@@ -1,6 +1,6 @@
 -- A step that changes the view of one seat and at most the clean word or the value of one place keeps the rule of the
 -- table where it is an event of the core.
-use Rattle.std.proofs.Common.{◌≡◌, ℕ, List, [], ◌∷◌, ◌++◌, Option, map, length, false, refl, ap, arith}
+use Rattle.std.proofs.Common.{◌≡◌, ℕ, List, [], ◌∷◌, ◌++◌, Option, map, length, true, false, refl, ap, arith}
 use Rattle.std.specs.Prelude.{slice_set}
 use mathlib.Core.Option.{some}
 use lib.ListN.{get_elem?}
@@ -12,11 +12,14 @@ use Rattle.mark_core.specs.declared.events.Event.{Event}
 use Rattle.mark_core.specs.declared.events.Outcome.{Outcome}
 use Rattle.mark_core.specs.Step.{Happens}
 use Rattle.mark_words.specs.declared.board.Doing.{Doing}
+use Rattle.mark_words.specs.declared.board.History.{History}
 use Rattle.mark_words.specs.Words.{words_of_state}
-use Rattle.mark_words.specs.Rule.{IsRightSeat, IsKept}
+use Rattle.mark_words.specs.Steps.{actor_of, is_single}
+use Rattle.mark_words.specs.Rule.{IsRightSeat, AreSeats, NameSubject, IsKept, doings_of}
 use Rattle.mark_words.specs.Plays.{KeepsRest}
 use Rattle.mark_words.proofs.Boards.{seat_stays, seat_changes, subject_set}
-use Rattle.mark_words.proofs.RunLemmas.{next_run}
+use Rattle.mark_words.proofs.StepLemmas.{doing_at, doings_set, next_number, with_step}
+use Rattle.mark_words.proofs.RunLemmas.{next_run, next_steps, others_stay, same_subject, seat_right}
 
 -- a change of the view that leaves its log and its count
 pub keeps_rest : {S E : Type 0} (before : Doing S E) (view : View (List E)) → view.spent ≡ before.view.spent → view.log ≡ before.view.log
@@ -24,33 +27,46 @@ pub keeps_rest : {S E : Type 0} (before : Doing S E) (view : View (List E)) → 
 keeps_rest before view spent log seen = record { subject = refl; editor = refl; edits = refl; marks = refl; spent = spent; log = log; seen = seen }
 
 module _ {S E : Type 0} (subject : S) (places : ℕ) (worth : List E → ℕ → ℕ) (touches : List E → E → ℕ → Type 0) (opening : List (Option ℕ))
-    (t : TableState E (Doing S E)) (kept : IsKept subject places worth touches opening t)
-    (id : ℕ) (doing : Doing S E) (at : get_elem? t.views id ≡ some doing) (live : doing.view.spent ≡ false) where
+    (t : TableState E (History S E)) (kept : IsKept subject places worth touches opening t)
+    (id : ℕ) (history : History S E) (at : get_elem? t.views id ≡ some history) (live : history.doing.view.spent ≡ false) where
   pub view_step : (event : Event E) (outcome : Outcome) (core' : State E) (view : View (List E)) (words' : List ℕ)
+      → is_single event ≡ true → actor_of event ≡ id
       → Happens worth touches kept.core event outcome core'
       → words' ≡ words_of_state core'
       → core'.edits ≡ kept.core.edits
       → map (λ (p : Place). p.mark) core'.places ≡ map (λ (p : Place). p.mark) kept.core.places
       → core'.views ≡ slice_set kept.core.views id view
-      → view.log ≡ doing.view.log
-      → IsKept subject places worth touches opening (record { words = words'; homes = t.homes; views = slice_set t.views id (record doing { view = view }) })
-  view_step event outcome core' view words' happens words edits marks views log =
-      let after : Doing S E = record doing { view = view } in
-      let right : IsRightSeat core' id doing = seat_stays kept.core core' id doing edits marks (kept.seats.each id doing at) in
+      → view.log ≡ history.doing.view.log
+      → IsKept subject places worth touches opening
+      (record {
+        words = words';
+        homes = t.homes;
+        views = slice_set t.views id (with_step history (record history.doing { view = view }) (next_number kept.events) event);
+      })
+  view_step event outcome core' view words' single own happens words edits marks views log =
+      let doing : Doing S E = record history.doing { view = view } in
+      let after : History S E = with_step history doing (next_number kept.events) event in
+      let right : IsRightSeat core' id history.doing =
+      seat_stays kept.core core' id history.doing edits marks (seat_right subject places worth touches opening t kept id history at) in
       record {
         right = kept.right;
         core = core';
         events = kept.events ++ event ∷ [];
         run = next_run subject places worth touches opening t kept event outcome core' happens;
         words = words;
-        subjects = subject_set subject t.views id after kept.subjects (λ still. kept.subjects id doing at live);
+        subjects =
+            doings_set (NameSubject subject) t.views id after
+            (subject_set subject (doings_of t.views) id doing kept.subjects (λ still. same_subject subject places worth touches opening t kept id history at live));
+        steps = next_steps subject places worth touches opening t kept id history at live event doing single own refl;
         seats =
-            seat_changes kept.core core' t.views kept.seats id doing after at live views refl
+            doings_set (AreSeats core' (kept.events ++ event ∷ [])) t.views id after
+            (seat_changes kept.core core' kept.events (kept.events ++ event ∷ []) (doings_of t.views) kept.seats id history.doing doing (doing_at t.views id history at) live
+            views (others_stay subject places worth touches opening t kept id history at live event single own) refl
             (λ j u apart stays. seat_stays kept.core core' j u edits marks stays)
             (record {
               first = right.first;
               editor = λ on. let ed = right.editor on in record { first = ed.first; edits = ed.edits; marks = ed.marks };
               shorter = right.shorter;
               shorter_length = omega (arith, right.shorter_length, ap length log);
-            });
+            }));
       }

@@ -14,11 +14,13 @@ use Rattle.mark_words.specs.declared.seats.Seat.{Seat}
 use Rattle.mark_words.specs.declared.closing.Words.{Words}
 use Rattle.mark_words.specs.declared.closing.Kept.{Kept}
 use Rattle.mark_words.specs.Rule.{AreApart}
-use Rattle.mark_words.specs.Token.{subject_of, topic_of, places_of, view_of, log_of, edits_of, closed_places, closed_place, closed_log}
+use Rattle.mark_words.specs.Steps.{steps_of}
+use Rattle.mark_words.specs.Token.{subject_of, topic_of, places_of, view_of, own_steps, log_of, edits_of, closed_places, closed_place, closed_log}
 
 -- Events of the core have led from the opening state to one with these words, with the editor's edits, and with the
--- views of all seats that were handed in, no two of which are one view of it. So it is honest. It may have further
--- views, of seats that were dropped.
+-- views of all seats that were handed in, no two of which are one view of it. So it is honest. Each seat's single steps
+-- are those of its view among the events, each at its number. The state may have further views, of seats that were
+-- dropped.
 pub record HasClosed {S E : Type 0} {G : Ghosts S E} (places : S → ℕ) (worth : S → List E → ℕ → ℕ) (touches : S → List E → E → ℕ → Type 0) (marks : Marks S E) (editor : Seat S E G) (others : List (Seat S E G)) (words : Words S E G) : Type 0 where
   pub same_count : closed_places words ≡ places_of marks
   pub same_log : closed_log words ≡ log_of editor
@@ -31,9 +33,11 @@ pub record HasClosed {S E : Type 0} {G : Ghosts S E} (places : S → ℕ) (worth
   pub edits : core.edits ≡ edits_of editor
   pub log : core.edits.log ≡ closed_log words
   pub editor_view : view_at core 0 ≡ view_of editor
+  pub editor_steps : steps_of events 0 ≡ own_steps editor
   -- which views of the state the other seats are, in order
   pub numbers : List ℕ
   pub other_views : map (view_at core) numbers ≡ map view_of others
+  pub other_steps : map (steps_of events) numbers ≡ map own_steps others
   pub apart : AreApart (0 ∷ numbers)
 
 -- the log of each seat that was handed in is a prefix of the editor's

@@ -8,6 +8,8 @@ use Rattle.mark_core.specs.View.{with_count, with_entry, split_off, union_of}
 use Rattle.mark_core.specs.View.{with_half, with_value, with_read_end, with_hold, with_loss, with_put, without_hold}
 use Rattle.mark_core.specs.Step.{marks_for, commits}
 use Rattle.mark_words.specs.declared.board.Doing.{Doing}
+use Rattle.mark_words.specs.declared.board.History.{History}
+use Rattle.mark_words.specs.declared.board.Past.{Past}
 use Rattle.mark_words.specs.declared.board.Topic.{Topic}
 
 -- edits of a seat that isn't the editor's, and of the editor's at the start
@@ -52,9 +54,9 @@ first_doing topic =
       marks = map (λ code. 0) topic.opening.value.items;
     }
 
--- the seat that stays, to which the view of another one was handed in
-abbrev pub gather_doing : {S E : Type 0} → Doing S E → Doing S E → Doing S E
-gather_doing doing other = record doing { gathered = other.view ∷ doing.gathered }
+-- the seat that stays, to which another one was handed in, with its steps
+abbrev pub gather_doing : {S E : Type 0} → Doing S E → Past E → Doing S E
+gather_doing doing past = record doing { gathered = past ∷ doing.gathered }
 
 -- the seat after a load of the count of commits
 abbrev pub with_see : {S E : Type 0} → Doing S E → ℕ → Doing S E
@@ -103,3 +105,24 @@ with_word_put doing place word = record doing { view = with_put doing.view place
 -- after a finish of a held place for the mark
 abbrev pub with_finish : {S E : Type 0} → Doing S E → ℕ → ℕ → Doing S E
 with_finish doing place mark = record doing { view = without_hold doing.view place mark }
+
+-- what the table keeps of its first seat,
+abbrev pub first_history : {S E : Type 0} → Topic S → History S E
+first_history topic = record { doing = first_doing topic; steps = [] }
+
+-- of a new seat that knows what this one does and has made no step,
+abbrev pub copy_history : {S E : Type 0} → History S E → History S E
+copy_history history = record { doing = copy_of history.doing; steps = [] }
+
+-- of a seat that another one was joined into, whose steps are its own still,
+abbrev pub union_history : {S E : Type 0} → History S E → History S E → History S E
+union_history history other = record history { doing = union_doing history.doing other.doing }
+
+-- of one that another one was handed in to,
+abbrev pub gather_history : {S E : Type 0} → History S E → History S E → History S E
+gather_history history other =
+    record history { doing = gather_doing history.doing (record { view = other.doing.view; steps = other.steps }) }
+
+-- and of a spent one
+abbrev pub spent_history : {S E : Type 0} → History S E
+spent_history = record { doing = spent_doing; steps = [] }

@@ -1,6 +1,8 @@
 pub mod Words
 pub mod Doing
+pub mod Steps
 pub mod Rule
+pub mod Law
 pub mod Read
 pub mod Plays
 pub mod Desk

@@ -3,15 +3,17 @@ use Rattle.std.specs.Prelude.{◌≡◌, ◌≤◌, ℕ, List, [], ◌∷◌, Op
 use mathlib.Core.Option.{some}
 use lib.ListN.{get_elem?}
 use Rattle.atomic_table.specs.Table.{State as TableState}
-use Rattle.mark_core.specs.declared.actors.View.{View}
 use Rattle.mark_core.specs.declared.words.Place.{Place}
 use Rattle.mark_core.specs.Mark.{IsPrefix}
 use Rattle.mark_core.specs.declared.events.Event.{Event}
 use Rattle.mark_core.specs.State.{State, view_at, opening_state}
 use Rattle.mark_core.specs.Run.{IsOpening, Runs}
 use Rattle.mark_words.specs.declared.board.Doing.{Doing}
+use Rattle.mark_words.specs.declared.board.History.{History}
+use Rattle.mark_words.specs.declared.board.Past.{Past}
 use Rattle.mark_words.specs.declared.board.Topic.{Topic}
 use Rattle.mark_words.specs.Words.{words_of_state}
+use Rattle.mark_words.specs.Steps.{steps_of, AreStepsOf}
 
 -- the editor's seat is the first one, has the state's edits and knows each place's mark
 pub record IsEditor {S E : Type 0} (core : State E) (seat : ℕ) (doing : Doing S E) : Type 0 where
@@ -38,22 +40,26 @@ abbrev pub AreApart : List ℕ → Type 0
 AreApart [] = Unit {0}
 AreApart (number ∷ numbers) = (Contains numbers number → ⊥) × AreApart numbers
 
--- the views that were handed in are those that the state has of so many spent seats, no two of one seat
-pub record AreGathered {S E : Type 0} (core : State E) (seats : List (Doing S E)) (views : List (View (List E))) : Type 0 where
+-- what state and events have of a seat
+abbrev pub past_at : {E : Type 0} → State E → List (Event E) → ℕ → Past E
+past_at core events seat = record { view = view_at core seat; steps = steps_of events seat }
+
+-- what was handed in is what the state and the events have of so many spent seats, no two of which are one
+pub record AreGathered {S E : Type 0} (core : State E) (events : List (Event E)) (seats : List (Doing S E)) (pasts : List (Past E)) : Type 0 where
   pub numbers : List ℕ
-  pub same : map (view_at core) numbers ≡ views
+  pub same : map (past_at core events) numbers ≡ pasts
   pub spent : (seat : ℕ) → Contains numbers seat → IsSpent seats seat
   pub apart : AreApart numbers
 
 -- The state has a view for each seat, which is the seat's own while it isn't spent, and each seat is right.
-pub record AreSeats {S E : Type 0} (core : State E) (seats : List (Doing S E)) : Type 0 where
+pub record AreSeats {S E : Type 0} (core : State E) (events : List (Event E)) (seats : List (Doing S E)) : Type 0 where
   pub count : length core.views ≡ length seats
   pub views :
       (seat : ℕ) (doing : Doing S E) → get_elem? seats seat ≡ some doing → doing.view.spent ≡ false
       → view_at core seat ≡ doing.view
   pub each : (seat : ℕ) (doing : Doing S E) → get_elem? seats seat ≡ some doing → IsRightSeat core seat doing
   pub gathered :
-      (seat : ℕ) (doing : Doing S E) → get_elem? seats seat ≡ some doing → AreGathered core seats doing.gathered
+      (seat : ℕ) (doing : Doing S E) → get_elem? seats seat ≡ some doing → AreGathered core events seats doing.gathered
 
 -- each seat that isn't spent names the subject
 abbrev pub NameSubject : {S E : Type 0} → S → List (Doing S E) → Type 0
@@ -61,20 +67,25 @@ NameSubject {S} {E} subject seats =
     (seat : ℕ) (doing : Doing S E) → get_elem? seats seat ≡ some doing → doing.view.spent ≡ false
     → doing.subject ≡ Some subject
 
+-- what the seats of a table know and have done
+abbrev pub doings_of : {S E : Type 0} → List (History S E) → List (Doing S E)
+doings_of seats = map (λ history. history.doing) seats
+
 -- The table is that of a run of the core: events have happened from the opening state on, each allowed where it
 -- happened, and have led to a state whose words are those of the table and whose views are its seats'. So that state
--- is honest.
-pub record IsKept {S E : Type 0} (subject : S) (places : ℕ) (worth : List E → ℕ → ℕ) (touches : List E → E → ℕ → Type 0) (opening : List (Option ℕ)) (t : TableState E (Doing S E)) : Type 0 where
+-- is honest. The single steps of the run are those of the seats, each at its number.
+pub record IsKept {S E : Type 0} (subject : S) (places : ℕ) (worth : List E → ℕ → ℕ) (touches : List E → E → ℕ → Type 0) (opening : List (Option ℕ)) (t : TableState E (History S E)) : Type 0 where
   pub right : IsOpening places worth opening
   pub core : State E
   pub events : List (Event E)
   pub run : Runs worth touches (opening_state opening) events core
   pub words : t.words ≡ words_of_state core
-  pub seats : AreSeats core t.views
-  pub subjects : NameSubject subject t.views
+  pub seats : AreSeats core events (doings_of t.views)
+  pub steps : AreStepsOf events t.views
+  pub subjects : NameSubject subject (doings_of t.views)
 
 -- the rule, for what the table is about
-abbrev pub Holds : {S E : Type 0} → (S → ℕ) → (S → List E → ℕ → ℕ) → (S → List E → E → ℕ → Type 0) → Topic S → TableState E (Doing S E) → Type 0
+abbrev pub Holds : {S E : Type 0} → (S → ℕ) → (S → List E → ℕ → ℕ) → (S → List E → E → ℕ → Type 0) → Topic S → TableState E (History S E) → Type 0
 Holds places worth touches topic =
     IsKept topic.subject.value (places topic.subject.value) (worth topic.subject.value) (touches topic.subject.value)
     topic.opening.value.items

@@ -8,6 +8,7 @@ use Rattle.mark_core.specs.declared.words.Half.{Half}
 use Rattle.mark_core.specs.declared.words.Place.{Place}
 use Rattle.mark_core.specs.declared.subjects.Subject.{Ghosts}
 use Rattle.mark_words.specs.declared.board.Doing.{Doing}
+use Rattle.mark_words.specs.declared.board.OwnStep.{OwnStep}
 use Rattle.mark_words.specs.declared.board.Topic.{Topic}
 use Rattle.mark_words.specs.declared.marks.Marks.{Marks}
 use Rattle.mark_words.specs.declared.seats.Seat.{Seat}
@@ -36,7 +37,11 @@ seat_table seat = seat.seat.table_id
 
 -- what a seat knows and has done
 abbrev pub doing_of : {S E : Type 0} {G : Ghosts S E} → Seat S E G → Doing S E
-doing_of seat = seat.seat.me.0
+doing_of seat = seat.seat.me.0.doing
+
+-- its single steps, in order
+abbrev pub own_steps : {S E : Type 0} {G : Ghosts S E} → Seat S E G → List (OwnStep E)
+own_steps seat = seat.seat.me.0.steps
 
 -- the seat is one of the table, and names what it is about
 pub record IsSeatOf {S E : Type 0} {G : Ghosts S E} (marks : Marks S E) (seat : Seat S E G) : Type 0 where
@@ -76,4 +81,4 @@ closed_place words place = shown_place (slots_items words.closed.words) place
 
 -- the editor's log as it was when the table was closed
 abbrev pub closed_log : {S E : Type 0} {G : Ghosts S E} → Words S E G → List E
-closed_log words = words.witness.me.0.view.log
+closed_log words = words.witness.me.0.doing.view.log

@@ -3,7 +3,7 @@
 ghost use Rattle.std.specs.Prelude.{◌≡◌, ◌+◌, ◌*◌};
 ghost use Rattle.std.specs.Mem.Slots.{slots_len, IsFull};
 
-use crate::board::Doing;
+use crate::board::History;
 use crate::marks::Marks;
 use crate::seats::Seat;
 use atomic_table::{Closed, Seat as TableSeat};
@@ -15,7 +15,7 @@ pub struct Words<S: Subject> {
     pub(crate) closed: Closed<S::Entry, Global>,
     pub(crate) places: usize,
     // a seat of no bytes that knows what the editor's did
-    pub(crate) witness: TableSeat<S::Entry, Doing<S, S::Entry>>,
+    pub(crate) witness: TableSeat<S::Entry, History<S, S::Entry>>,
     ghost full: { IsFull closed.words },
     ghost no_slots: { slots_len closed.slots ≡ 0 },
     ghost sized: { slots_len closed.words ≡ 3 * places + 1 },

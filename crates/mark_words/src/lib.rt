@@ -1,9 +1,10 @@
 // The marks protocol over atomic words, shared by threads. Word 0 of the table counts the committed edits, and
 // each place has three words: its mark, its clean word and its value. Each call but `open`, `meet` and
-// `close` is one atomic step, and each step is one event of `mark_core`: between any two steps, whatever
-// threads make them, the words and the views of all seats are those of a state to which a list of events leads
-// from the opening one, each allowed where it happens, and so of an honest state (specs/Rule.antt). Contracts
-// speak of tables and seats by the names in specs/Token.antt, and of what a step makes of a seat by those in
+// `close` is one atomic step. Between any two steps, whatever threads make them, the words and the views of all
+// seats are those of a state to which a list of events of `mark_core` leads from the opening one, each allowed
+// where it happens, and so of an honest state (specs/Rule.antt). Each call that loads or stores a word is one
+// event, at the end of that list as it stands then (specs/Steps.antt; `takes_one_event_a_step`). Contracts speak
+// of tables and seats by the names in specs/Token.antt, and of what a step makes of a seat by those in
 // specs/Doing.antt. Below stand `mark_core` and the kit's `atomic_table`.
 #![tactic(auto)]
 
@@ -11,6 +12,7 @@ mod board;
 mod closes;
 mod closing;
 mod codes;
+mod laws;
 mod marks;
 mod opens;
 mod plays;
@@ -19,8 +21,9 @@ mod seats;
 mod steps;
 mod work;
 
-pub use board::{Doing, Keeps, Topic};
+pub use board::{Doing, History, Keeps, OwnStep, Past, Topic};
 pub use closing::{Kept, Words};
+pub use laws::takes_one_event_a_step;
 pub use marks::Marks;
 pub use seats::Seat;
 

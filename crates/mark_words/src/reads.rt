@@ -6,7 +6,9 @@ ghost use Rattle.mark_core.specs.View.{new_half};
 ghost use Rattle.mark_core.specs.Growth.{BeginsRead};
 ghost use Rattle.mark_words.specs.Doing.{with_clean_read, with_value_read, with_mark_read};
 ghost use Rattle.mark_words.specs.Token.{IsSeatOf, subject_of, places_of};
-ghost use Rattle.mark_words.specs.Token.{doing_of, view_of, log_of, edits_of, half_of, is_editor};
+ghost use Rattle.mark_core.specs.declared.events.Event.TheVariants.{ReadClean, ReadValue, ReadMark};
+ghost use Rattle.mark_words.specs.Steps.{OneMore};
+ghost use Rattle.mark_words.specs.Token.{doing_of, own_steps, view_of, log_of, edits_of, half_of, is_editor};
 ghost use Rattle.mark_words.specs.Read.{GoesOn, Ends, Tells, LearnsClean};
 
 use crate::codes::clean_of;
@@ -23,6 +25,8 @@ impl<S: Subject> Marks<S> {
         requires there { place < places_of self.now }
         ensures same { IsSeatOf self.now seat.new }
         ensures doing { doing_of seat.new ≡ with_clean_read (doing_of seat.old) place result }
+        ensures step { OneMore (own_steps seat.old) (own_steps seat.new)
+            (λ view. ReadClean view place) }
         ensures begins { BeginsRead (view_of seat.old) place
             (new_half (view_of seat.old) place result) }
     {
@@ -36,6 +40,8 @@ impl<S: Subject> Marks<S> {
         requires there { place < places_of self.now }
         ensures same { IsSeatOf self.now seat.new }
         ensures doing { doing_of seat.new ≡ with_value_read (doing_of seat.old) place result }
+        ensures step { OneMore (own_steps seat.old) (own_steps seat.new)
+            (λ view. ReadValue view place) }
         ensures goes_on { GoesOn (doing_of seat.old) place result (doing_of seat.new) }
     {
         let at = 3 * place as usize + 3;
@@ -50,6 +56,8 @@ impl<S: Subject> Marks<S> {
         requires there { place < places_of self.now }
         ensures same { IsSeatOf self.now seat.new }
         ensures doing { doing_of seat.new ≡ with_mark_read (doing_of seat.old) place result }
+        ensures step { OneMore (own_steps seat.old) (own_steps seat.new)
+            (λ view. ReadMark view place) }
         ensures ends { Ends (doing_of seat.old) place result (doing_of seat.new) }
         ensures tells { Tells (S.worth (subject_of self.now)) (S.touches (subject_of self.now))
             (doing_of seat.old) place result }

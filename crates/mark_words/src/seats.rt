@@ -4,7 +4,7 @@ ghost use Rattle.std.specs.Prelude.{◌≡◌, ◌<◌, [], true, false, length,
 ghost use Rattle.std.specs.Option.{ForSome};
 ghost use Rattle.mark_words.specs.Desk.{HasDesk, KnowsAll, FitsWords};
 
-use crate::board::Doing;
+use crate::board::History;
 use atomic_table::Seat as TableSeat;
 use mark_core::Subject;
 
@@ -47,11 +47,11 @@ impl Desk {
 /// The token of one actor. It has no bytes but, for the editor, its copy of the marks.
 #[derive(Drop)]
 pub struct Seat<S: Subject> {
-    pub(crate) seat: TableSeat<S::Entry, Doing<S, S::Entry>>,
+    pub(crate) seat: TableSeat<S::Entry, History<S, S::Entry>>,
     pub(crate) desk: Option<Desk>,
-    ghost live: { seat.me.0.view.spent ≡ false },
+    ghost live: { seat.me.0.doing.view.spent ≡ false },
     ghost bare: { seat.me.1 ≡ [] },
-    ghost has_desk: { HasDesk seat.table_id.words seat.me.0 desk },
-    ghost knows_all: { KnowsAll seat.me.0 },
-    ghost fits: { FitsWords seat.me.0 },
+    ghost has_desk: { HasDesk seat.table_id.words seat.me.0.doing desk },
+    ghost knows_all: { KnowsAll seat.me.0.doing },
+    ghost fits: { FitsWords seat.me.0.doing },
 }

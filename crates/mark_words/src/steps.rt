@@ -1,9 +1,11 @@
 #![tactic(auto)]
 
-ghost use Rattle.std.specs.Prelude.{◌≡◌, ◌≤◌, ◌<◌, ◌+◌, length, Some, IsSome, true};
+ghost use Rattle.std.specs.Prelude.{◌≡◌, ◌≤◌, ◌<◌, ◌+◌, length, [], Some, IsSome, true};
 ghost use Rattle.mark_words.specs.Doing.{copy_of, with_see, with_mark, with_commit};
 ghost use Rattle.mark_words.specs.Token.{IsSeatOf, subject_of, places_of};
-ghost use Rattle.mark_words.specs.Token.{doing_of, log_of, seen_of, edits_of, is_editor};
+ghost use Rattle.mark_core.specs.declared.events.Event.TheVariants.{See, Mark, Commit};
+ghost use Rattle.mark_words.specs.Steps.{OneMore};
+ghost use Rattle.mark_words.specs.Token.{doing_of, own_steps, log_of, seen_of, edits_of, is_editor};
 ghost use Rattle.mark_words.specs.Editing.{IsIdleFor, IsAllMarked};
 ghost use Rattle.mark_words.specs.Meet.{HasMet, KeepsClean};
 
@@ -19,6 +21,7 @@ impl<S: Subject> Marks<S> {
         requires table { IsSeatOf self.now seat.old }
         ensures same { IsSeatOf self.now seat.new }
         ensures doing { doing_of seat.new ≡ with_see (doing_of seat.old) result }
+        ensures step { OneMore (own_steps seat.old) (own_steps seat.new) See }
         ensures seen { seen_of seat.old ≤ result }
         ensures known { length (log_of seat.old) ≤ result }
         ensures editor { is_editor seat.old ≡ true → result ≡ length (log_of seat.old) }
@@ -31,8 +34,10 @@ impl<S: Subject> Marks<S> {
         requires table { IsSeatOf self.now seat.old }
         ensures same { IsSeatOf self.now seat.new }
         ensures kept { doing_of seat.new ≡ doing_of seat.old }
+        ensures no_step { own_steps seat.new ≡ own_steps seat.old }
         ensures new { IsSeatOf self.now result }
         ensures copy { doing_of result ≡ copy_of (doing_of seat.old) }
+        ensures blank { own_steps result ≡ [] }
     {
         let copy = self.table.shared.split_seat::<Copies>(&mut seat.seat);
         Seat {
@@ -53,6 +58,8 @@ impl<S: Subject> Marks<S> {
         requires touched { S.touches (subject_of self.now) (log_of seat.old) entry.now place }
         ensures same { IsSeatOf self.now seat.new }
         ensures doing { doing_of seat.new ≡ with_mark (doing_of seat.old) entry.now place number }
+        ensures step { OneMore (own_steps seat.old) (own_steps seat.new)
+            (λ view. Mark view entry.now place) }
     {
         let Some(desk) = seat.desk.take() else {
             unreachable!()
@@ -75,6 +82,8 @@ impl<S: Subject> Marks<S> {
         ensures count { result ≡ length (log_of seat.old) + 1 }
         ensures doing { (entry : S.Entry) → (edits_of seat.old).pending ≡ Some entry
             → doing_of seat.new ≡ with_commit (doing_of seat.old) entry }
+        ensures step { (entry : S.Entry) → (edits_of seat.old).pending ≡ Some entry
+            → OneMore (own_steps seat.old) (own_steps seat.new) (λ view. Commit view entry) }
     {
         let Some(desk) = seat.desk.take() else {
             unreachable!()
@@ -93,6 +102,8 @@ impl<S: Subject> Marks<S> {
         ensures same { IsSeatOf self.now seat.new }
         ensures other_same { IsSeatOf self.now other.new }
         ensures other_kept { doing_of other.new ≡ doing_of other.old }
+        ensures step { OneMore (own_steps seat.old) (own_steps seat.new) See }
+        ensures no_step { own_steps other.new ≡ own_steps other.old }
         ensures met { HasMet (doing_of seat.old) (doing_of other.old) (doing_of seat.new) }
         ensures clean { KeepsClean (S.touches (subject_of self.now))
             (doing_of seat.old) (doing_of other.old) (doing_of seat.new) }

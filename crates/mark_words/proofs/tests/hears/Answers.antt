@@ -6,8 +6,8 @@ use Rattle.mark_words.proofs.tests.hears.Goals as goal
 
 pub returns-clause-viewer : goal.returns-clause-viewer
 returns-clause-viewer c =
-    let most : length c.args.relay.now.seat.me.0.view.log ≤ length c.meet.new.seat.seat.me.0.view.log =
-    prefix_length c.args.relay.now.seat.me.0.view.log c.meet.new.seat.seat.me.0.view.log c.meet.ensures.met.other_log in
+    let most : length c.args.relay.now.seat.me.0.doing.view.log ≤ length c.meet.new.seat.seat.me.0.doing.view.log =
+    prefix_length c.args.relay.now.seat.me.0.doing.view.log c.meet.new.seat.seat.me.0.doing.view.log c.meet.ensures.met.other_log in
     record { table = c.meet.ensures.same; many = omega (arith, c.requires.relay.many) }
 
 pub returns-clause-relay : goal.returns-clause-relay

@@ -11,7 +11,7 @@ returns-clause-ready c = ready_still c.args.marks.now c.args.editor.now c.meet.n
 pub returns-clause-log : goal.returns-clause-log
 returns-clause-log c =
     let met = c.meet.ensures.met in
-    let most = prefix_length c.args.editor.now.seat.me.0.view.log c.meet.new.seat.seat.me.0.view.log met.other_log in
+    let most = prefix_length c.args.editor.now.seat.me.0.doing.view.log c.meet.new.seat.seat.me.0.doing.view.log met.other_log in
     elim met.one_log [
       | inl own ↦ absurd (omega (arith, most, ap length (own ∙ c.requires.blank.none), c.requires.ready.entries))
       | inr theirs ↦ ap length theirs ∙ c.requires.ready.entries

@@ -21,3 +21,9 @@ invariant_of-seat-clause-knows_all g c = search (rules, rest_knows)
 
 pub invariant_of-seat-clause-fits : goal.invariant_of-seat-clause-fits
 invariant_of-seat-clause-fits g c = search (rules, rest_fits)
+
+pub returns-then-found-old-clause-step : goal.returns-then-found-old-clause-step
+returns-then-found-old-clause-step g c = c.compare_exchange-found.ensures.2.one c.args.place c.args.seen refl c.word_of-old.ensures
+
+pub returns-else-found-old-clause-step : goal.returns-else-found-old-clause-step
+returns-else-found-old-clause-step g c = c.compare_exchange-found.ensures.2.one c.args.place c.args.seen refl c.word_of-old.ensures

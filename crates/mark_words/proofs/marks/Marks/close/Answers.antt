@@ -1,8 +1,7 @@
 use Rattle.std.proofs.Common.{◌≡◌, arith, sym, ◌∙◌, ap, [], ◌++◌, map}
 use Rattle.mark_words.specs.declared.seats.Seat.{Seat}
 use Rattle.mark_words.proofs.SeatSteps.{splits, gathers}
-use Rattle.mark_words.specs.Token.{view_of}
-use Rattle.mark_words.proofs.CloseLemmas.{all_last, handed, no_items, closes, prefixes_closed, legal_closed}
+use Rattle.mark_words.proofs.CloseLemmas.{past_of, all_last, handed, no_items, closes, prefixes_closed, legal_closed}
 use Rattle.mark_words.proofs.marks.Marks.close.Goals as goal
 
 pub split_seat-witness-requires : goal.split_seat-witness-requires
@@ -45,12 +44,12 @@ returns-clause-closed g c =
     let none : c.loop-other.others.items ≡ [] = no_items c.loop-other.others.items (omega (arith, c.in_default-pop.ensures.cases.0)) in
     closes g.S.Subject.places g.S.Subject.worth g.S.Subject.touches c.args.self c.args.editor c.args.others.items _ last.0 last.1.0
     c.loop-other.all.id c.loop-other.all.me.0 last.1.1 inv.live inv.editor (g.S.Subject.untouched c.args.self.table.shared.key.subject.value) last.2
-    (inv.view ∙ ap (λ m. m.0.view) split.2) (inv.edits ∙ ap (λ m. m.0.edits) split.2)
+    (inv.view ∙ ap (λ m. m.0.doing.view) split.2) (inv.edits ∙ ap (λ m. m.0.doing.edits) split.2) (inv.steps ∙ ap (λ m. m.0.steps) split.2)
     (c.args.editor.knows_all.log c.requires.editor)
     (omega (arith, c.args.editor.has_desk.places c.in-Some.desk c.in-Some.is, c.args.self.sized, ap (λ z. z.words) c.requires.table.same_table))
-    (ap (λ m. m.0.view.log) split.4)
+    (ap (λ m. m.0.doing.view.log) split.4)
     _
-    (ap (λ l. map view_of l ++ c.loop-other.all.me.0.gathered) (sym none) ∙ inv.views)
+    (ap (λ l. map past_of l ++ c.loop-other.all.me.0.doing.gathered) (sym none) ∙ inv.pasts)
 
 pub returns-clause-prefixes : goal.returns-clause-prefixes
 returns-clause-prefixes g c =

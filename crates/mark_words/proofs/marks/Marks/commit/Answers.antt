@@ -1,6 +1,8 @@
-use Rattle.std.proofs.Common.{arith, ◌+◌, sym, ◌∙◌, ap}
+use Rattle.std.proofs.Common.{arith, ◌+◌, sym, ◌∙◌, ap, subst}
 use Rattle.std.proofs.lemmas.Option.{same_Some}
+use Rattle.mark_core.specs.declared.events.Event.TheVariants.{Commit}
 use Rattle.mark_words.specs.Doing.{with_commit}
+use Rattle.mark_words.specs.Steps.{OneMore}
 use Rattle.mark_words.specs.declared.board.Doing.{Doing}
 use Rattle.mark_words.proofs.EditSteps.{commits_some}
 use Rattle.mark_words.proofs.DeskLemmas.{desk_committed, knows_committed, fits_committed}
@@ -24,12 +26,12 @@ invariant_of-seat g c =
       bare = told.slots ∙ c.args.seat.now.bare;
       has_desk =
           desk_committed c.args.seat.now.seat.table_id.words c.store.new.seat.table_id.words
-          (ap (λ z. z.words) c.store.ensures.0) c.args.seat.now.seat.me.0 c.store.new.seat.me.0
+          (ap (λ z. z.words) c.store.ensures.0) c.args.seat.now.seat.me.0.doing c.store.new.seat.me.0.doing
           c.args.seat.now.desk c.in-Some.desk c.with_count.result (sym c.take.ensures.value ∙ c.in-Some.is) c.args.seat.now.has_desk
           told.entry told.doing c.with_count.ensures.count c.with_count.ensures.marks;
-      knows_all = knows_committed c.args.seat.now.seat.me.0 c.store.new.seat.me.0 c.args.seat.now.knows_all told.entry told.doing;
+      knows_all = knows_committed c.args.seat.now.seat.me.0.doing c.store.new.seat.me.0.doing c.args.seat.now.knows_all told.entry told.doing;
       fits =
-          fits_committed c.args.seat.now.seat.me.0 c.store.new.seat.me.0 c.args.seat.now.fits told.entry
+          fits_committed c.args.seat.now.seat.me.0.doing c.store.new.seat.me.0.doing c.args.seat.now.fits told.entry
           (c.args.seat.now.knows_all.number c.requires.editor c.requires.pending) told.doing;
     }
 
@@ -37,7 +39,12 @@ pub returns-clause-doing : goal.returns-clause-doing
 returns-clause-doing g c entry pending =
     let told = c.store.ensures.2 in
     told.doing
-    ∙ ap (λ x. with_commit c.args.seat.now.seat.me.0 x) (same_Some told.entry entry (sym told.pending ∙ pending))
+    ∙ ap (λ x. with_commit c.args.seat.now.seat.me.0.doing x) (same_Some told.entry entry (sym told.pending ∙ pending))
+
+pub returns-clause-step : goal.returns-clause-step
+returns-clause-step g c entry pending =
+    let told = c.store.ensures.2 in
+    subst (λ x. OneMore c.args.seat.now.seat.me.0.steps c.store.new.seat.me.0.steps (λ view. Commit view x)) (same_Some told.entry entry (sym told.pending ∙ pending)) told.one
 
 pub returns-clause-same : goal.returns-clause-same
 returns-clause-same g c =

@@ -27,3 +27,6 @@ returns-clause-doing g c = search rules
 
 pub returns-clause-clean : goal.returns-clause-clean
 returns-clause-clean g c log last = finish_clean _ log _ _ _ _ (returns-clause-doing g c) last
+
+pub returns-clause-step : goal.returns-clause-step
+returns-clause-step g c = c.store.ensures.2.one c.args.place c.args.mark refl c.word_of-free.ensures

@@ -26,11 +26,11 @@ invariant_of-seat g c =
       bare = told.slots ∙ c.args.seat.now.bare;
       has_desk =
           desk_marked c.args.seat.now.seat.table_id.words c.compare_exchange_with.new.seat.table_id.words
-          (ap (λ z. z.words) c.compare_exchange_with.ensures.0) c.args.seat.now.seat.me.0 c.compare_exchange_with.new.seat.me.0
+          (ap (λ z. z.words) c.compare_exchange_with.ensures.0) c.args.seat.now.seat.me.0.doing c.compare_exchange_with.new.seat.me.0.doing
           c.args.seat.now.desk c.in-Some.desk c.with_mark.result (sym c.take.ensures.value ∙ c.in-Some.is) c.args.seat.now.has_desk
           c.args.entry.now c.args.place c.args.number made c.with_mark.ensures.count c.with_mark.ensures.marks;
-      knows_all = knows_marked c.args.seat.now.seat.me.0 c.compare_exchange_with.new.seat.me.0 c.args.seat.now.knows_all c.args.entry.now c.args.place c.args.number c.requires.number c.requires.room made;
-      fits = fits_marked c.args.seat.now.seat.me.0 c.compare_exchange_with.new.seat.me.0 c.args.seat.now.fits c.args.entry.now c.args.place c.args.number made;
+      knows_all = knows_marked c.args.seat.now.seat.me.0.doing c.compare_exchange_with.new.seat.me.0.doing c.args.seat.now.knows_all c.args.entry.now c.args.place c.args.number c.requires.number c.requires.room made;
+      fits = fits_marked c.args.seat.now.seat.me.0.doing c.compare_exchange_with.new.seat.me.0.doing c.args.seat.now.fits c.args.entry.now c.args.place c.args.number made;
     }
 
 pub returns-clause-same : goal.returns-clause-same
@@ -40,3 +40,6 @@ returns-clause-same g c =
       same_table = c.compare_exchange_with.ensures.0 ∙ c.requires.table.same_table;
       same_subject = ap (λ (d : Doing _ _). d.subject) made ∙ c.requires.table.same_subject;
     }
+
+pub returns-clause-step : goal.returns-clause-step
+returns-clause-step g c = c.compare_exchange_with.ensures.2.one c.args.place c.args.entry.now refl refl

@@ -1,5 +1,8 @@
-use Rattle.std.proofs.Common.{arith, sym, ◌∙◌, ap}
+use Rattle.std.proofs.Common.{arith, sym, ◌∙◌, ap, subst}
 use Rattle.mark_words.specs.declared.board.Doing.{Doing}
+use Rattle.mark_words.specs.declared.board.History.{History}
+use Rattle.mark_core.specs.declared.events.Event.TheVariants.{See}
+use Rattle.mark_words.specs.Steps.{OneMore}
 use Rattle.mark_words.specs.Doing.{union_doing}
 use Rattle.mark_words.proofs.SeeSteps.{sees}
 use Rattle.mark_words.proofs.SeatSteps.{splits, joins}
@@ -27,7 +30,8 @@ join_seat-requires g c =
           (g.S.Subject.touches c.args.self.now.table.shared.key.subject.value) (g.S.Subject.untouched c.args.self.now.table.shared.key.subject.value)
           c.args.self.now.table.shared.key.opening.value.items
           c.args.seat.now.seat.id c.args.seat.now.seat.me.0 c.split_seat-note.result.id c.split_seat-note.result.me.0 c.args.seat.now.live
-          (ap (λ (d : Doing _ _). d.view.spent) copy) (ap (λ (d : Doing _ _). d.view.holds) copy) (ap (λ (d : Doing _ _). d.editor) copy) (ap (λ (d : Doing _ _). d.gathered) (sym copy)),
+          (ap (λ (h : History _ _). h.doing.view.spent) copy) (ap (λ (h : History _ _). h.doing.view.holds) copy) (ap (λ (h : History _ _). h.doing.editor) copy)
+          (ap (λ (h : History _ _). h.doing.gathered) (sym copy)) (ap (λ (h : History _ _). h.steps) (sym copy)),
     )
 
 pub load-requires : goal.load-requires
@@ -37,42 +41,45 @@ load-requires g c = (
   sees c.args.self.now.table.shared.key.subject.value (g.S.Subject.places c.args.self.now.table.shared.key.subject.value) (g.S.Subject.worth c.args.self.now.table.shared.key.subject.value)
       (g.S.Subject.touches c.args.self.now.table.shared.key.subject.value) (g.S.Subject.untouched c.args.self.now.table.shared.key.subject.value)
       c.args.self.now.table.shared.key.opening.value.items _ _ _ _
-      (ap (λ m. m.0.view.spent) c.join_seat.ensures.2 ∙ c.args.seat.now.live),
+      (ap (λ m. m.0.doing.view.spent) c.join_seat.ensures.2 ∙ c.args.seat.now.live),
 )
 
 pub invariant_of-seat : goal.invariant_of-seat
 invariant_of-seat g c =
-    let is = ap (λ m. m.0) c.join_seat.ensures.2 ∙ ap (λ (d : Doing _ _). union_doing c.args.seat.now.seat.me.0 d) (ap (λ m. m.0) c.split_seat-note.ensures.4) in
+    let is = ap (λ m. m.0.doing) c.join_seat.ensures.2 ∙ ap (λ (d : Doing _ _). union_doing c.args.seat.now.seat.me.0.doing d) (ap (λ m. m.0.doing) c.split_seat-note.ensures.4) in
     let same = ap (λ z. z.words) (c.load.ensures.0 ∙ c.join_seat.ensures.0) in
     record {
-      live = met_live _ c.args.seat.now.seat.me.0 c.args.other.now.seat.me.0 c.join_seat.new.seat.me c.load.new.seat.me c.load.result is c.load.ensures.2 c.args.seat.now.knows_all ∙ c.args.seat.now.live;
+      live = met_live _ c.args.seat.now.seat.me.0.doing c.args.other.now.seat.me.0.doing c.join_seat.new.seat.me c.load.new.seat.me c.load.result is c.load.ensures.2 c.args.seat.now.knows_all ∙ c.args.seat.now.live;
       bare = c.load.ensures.2.slots ∙ ap (λ m. m.1) c.join_seat.ensures.2 ∙ c.args.seat.now.bare;
       has_desk =
-          met_desk _ c.args.seat.now.seat.me.0 c.args.other.now.seat.me.0 c.join_seat.new.seat.me c.load.new.seat.me c.load.result is c.load.ensures.2 c.args.seat.now.knows_all
+          met_desk _ c.args.seat.now.seat.me.0.doing c.args.other.now.seat.me.0.doing c.join_seat.new.seat.me c.load.new.seat.me c.load.result is c.load.ensures.2 c.args.seat.now.knows_all
           c.args.seat.now.seat.table_id.words c.load.new.seat.table_id.words c.args.seat.now.desk same c.args.seat.now.has_desk;
-      knows_all = met_knows _ c.args.seat.now.seat.me.0 c.args.other.now.seat.me.0 c.join_seat.new.seat.me c.load.new.seat.me c.load.result is c.load.ensures.2 c.args.seat.now.knows_all;
+      knows_all = met_knows _ c.args.seat.now.seat.me.0.doing c.args.other.now.seat.me.0.doing c.join_seat.new.seat.me c.load.new.seat.me c.load.result is c.load.ensures.2 c.args.seat.now.knows_all;
       fits =
-          met_fits _ c.args.seat.now.seat.me.0 c.args.other.now.seat.me.0 c.join_seat.new.seat.me c.load.new.seat.me c.load.result is c.load.ensures.2 c.args.seat.now.knows_all
+          met_fits _ c.args.seat.now.seat.me.0.doing c.args.other.now.seat.me.0.doing c.join_seat.new.seat.me c.load.new.seat.me c.load.result is c.load.ensures.2 c.args.seat.now.knows_all
           c.args.seat.now.fits c.args.other.now.fits;
     }
 
 pub returns-clause-met : goal.returns-clause-met
 returns-clause-met g c =
-    let is = ap (λ m. m.0) c.join_seat.ensures.2 ∙ ap (λ (d : Doing _ _). union_doing c.args.seat.now.seat.me.0 d) (ap (λ m. m.0) c.split_seat-note.ensures.4) in
-    met _ c.args.seat.now.seat.me.0 c.args.other.now.seat.me.0 c.join_seat.new.seat.me c.load.new.seat.me c.load.result is c.load.ensures.2 c.args.seat.now.knows_all
+    let is = ap (λ m. m.0.doing) c.join_seat.ensures.2 ∙ ap (λ (d : Doing _ _). union_doing c.args.seat.now.seat.me.0.doing d) (ap (λ m. m.0.doing) c.split_seat-note.ensures.4) in
+    met _ c.args.seat.now.seat.me.0.doing c.args.other.now.seat.me.0.doing c.join_seat.new.seat.me c.load.new.seat.me c.load.result is c.load.ensures.2 c.args.seat.now.knows_all
 
 pub returns-clause-clean : goal.returns-clause-clean
 returns-clause-clean g c =
-    let is = ap (λ m. m.0) c.join_seat.ensures.2 ∙ ap (λ (d : Doing _ _). union_doing c.args.seat.now.seat.me.0 d) (ap (λ m. m.0) c.split_seat-note.ensures.4) in
-    met_clean _ c.args.seat.now.seat.me.0 c.args.other.now.seat.me.0 c.join_seat.new.seat.me c.load.new.seat.me c.load.result is c.load.ensures.2 c.args.seat.now.knows_all
+    let is = ap (λ m. m.0.doing) c.join_seat.ensures.2 ∙ ap (λ (d : Doing _ _). union_doing c.args.seat.now.seat.me.0.doing d) (ap (λ m. m.0.doing) c.split_seat-note.ensures.4) in
+    met_clean _ c.args.seat.now.seat.me.0.doing c.args.other.now.seat.me.0.doing c.join_seat.new.seat.me c.load.new.seat.me c.load.result is c.load.ensures.2 c.args.seat.now.knows_all
     (g.S.Subject.touches c.args.self.now.table.shared.key.subject.value)
 
 pub returns-clause-same : goal.returns-clause-same
 returns-clause-same g c =
-    let is = ap (λ m. m.0) c.join_seat.ensures.2 ∙ ap (λ (d : Doing _ _). union_doing c.args.seat.now.seat.me.0 d) (ap (λ m. m.0) c.split_seat-note.ensures.4) in
+    let is = ap (λ m. m.0.doing) c.join_seat.ensures.2 ∙ ap (λ (d : Doing _ _). union_doing c.args.seat.now.seat.me.0.doing d) (ap (λ m. m.0.doing) c.split_seat-note.ensures.4) in
     record {
       same_table = c.load.ensures.0 ∙ c.join_seat.ensures.0 ∙ c.requires.table.same_table;
       same_subject =
-          met_subject _ c.args.seat.now.seat.me.0 c.args.other.now.seat.me.0 c.join_seat.new.seat.me c.load.new.seat.me c.load.result is c.load.ensures.2 c.args.seat.now.knows_all
+          met_subject _ c.args.seat.now.seat.me.0.doing c.args.other.now.seat.me.0.doing c.join_seat.new.seat.me c.load.new.seat.me c.load.result is c.load.ensures.2 c.args.seat.now.knows_all
           ∙ c.requires.table.same_subject;
     }
+
+pub returns-clause-step : goal.returns-clause-step
+returns-clause-step g c = subst (λ l. OneMore l c.load.new.seat.me.0.steps See) (ap (λ m. m.0.steps) c.join_seat.ensures.2) c.load.ensures.2.one

@@ -21,3 +21,6 @@ invariant_of-seat-clause-knows_all g c = search (rules, rest_knows)
 
 pub invariant_of-seat-clause-fits : goal.invariant_of-seat-clause-fits
 invariant_of-seat-clause-fits g c = search (rules, rest_fits)
+
+pub returns-clause-step : goal.returns-clause-step
+returns-clause-step g c = c.store.ensures.2.one c.args.place refl

@@ -21,7 +21,10 @@ invariant_of-seat-clause-knows_all g c = search (rules, rest_knows)
 
 pub invariant_of-seat-clause-fits : goal.invariant_of-seat-clause-fits
 invariant_of-seat-clause-fits g c =
-    clean_read_fits c.args.seat.now.seat.me.0 c.load.new.seat.me.0 c.load.ensures.2.rest c.args.place c.load.result (omega arith) (c.load.ensures.2.doing c.args.place refl) c.args.seat.now.fits
+    clean_read_fits c.args.seat.now.seat.me.0.doing c.load.new.seat.me.0.doing c.load.ensures.2.rest c.args.place c.load.result (omega arith) (c.load.ensures.2.doing c.args.place refl) c.args.seat.now.fits
 
 pub returns-clause-begins : goal.returns-clause-begins
-returns-clause-begins g c = begins c.args.seat.now.seat.me.0.view c.args.place _
+returns-clause-begins g c = begins c.args.seat.now.seat.me.0.doing.view c.args.place _
+
+pub returns-clause-step : goal.returns-clause-step
+returns-clause-step g c = c.load.ensures.2.one c.args.place refl

@@ -21,7 +21,10 @@ invariant_of-seat-clause-knows_all g c = search (rules, rest_knows)
 
 pub invariant_of-seat-clause-fits : goal.invariant_of-seat-clause-fits
 invariant_of-seat-clause-fits g c =
-    value_read_fits c.args.seat.now.seat.me.0 c.load.new.seat.me.0 c.load.ensures.2.rest c.args.place c.load.result (c.load.ensures.2.doing c.args.place refl) c.args.seat.now.fits
+    value_read_fits c.args.seat.now.seat.me.0.doing c.load.new.seat.me.0.doing c.load.ensures.2.rest c.args.place c.load.result (c.load.ensures.2.doing c.args.place refl) c.args.seat.now.fits
 
 pub returns-clause-goes_on : goal.returns-clause-goes_on
-returns-clause-goes_on g c = goes_on c.args.seat.now.seat.me.0 c.load.new.seat.me.0 c.args.place c.load.result (c.load.ensures.2.doing c.args.place refl)
+returns-clause-goes_on g c = goes_on c.args.seat.now.seat.me.0.doing c.load.new.seat.me.0.doing c.args.place c.load.result (c.load.ensures.2.doing c.args.place refl)
+
+pub returns-clause-step : goal.returns-clause-step
+returns-clause-step g c = c.load.ensures.2.one c.args.place refl

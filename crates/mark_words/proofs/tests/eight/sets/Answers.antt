@@ -7,7 +7,7 @@ use Rattle.mark_words.proofs.tests.eight.sets.Goals as goal
 
 pub mark-requires-clause-number : goal.mark-requires-clause-number
 mark-requires-clause-number c =
-    let long : length c.args.editor.now.seat.me.0.view.log ≡ c.args.number = ap length c.requires.ready.scripted.log ∙ script_length c.args.number in
+    let long : length c.args.editor.now.seat.me.0.doing.view.log ≡ c.args.number = ap length c.requires.ready.scripted.log ∙ script_length c.args.number in
     omega (arith, c.from.ensures)
 
 pub returns-clause-ready : goal.returns-clause-ready

@@ -26,5 +26,5 @@ returns-clause-last c =
       entries = ready.entries;
       ends =
           ap (λ (d : Doing _ ℕ). last_or 1 d.view.log) last
-          ∙ last_added 1 c.mark-2.new.seat.seat.me.0.view.log c.args.entry;
+          ∙ last_added 1 c.mark-2.new.seat.seat.me.0.doing.view.log c.args.entry;
     }
