@@ -1,6 +1,7 @@
 pub mod Boards
 pub mod StepLemmas
 pub mod OrderLemmas
+pub mod WordLemmas
 pub mod RunLemmas
 pub mod SeeSteps
 pub mod ViewSteps

@@ -1,10 +1,10 @@
 -- A list of events is known from the single steps of its views, each at its number.
-use Rattle.std.proofs.Common.{◌≡◌, ◌≢◌, ◌<◌, ◌≤◌, ◌+◌, ◌==◌, ◌⊎◌, ℕ, zero, suc, List, [], ◌∷◌, ◌++◌, Bool, length, false, true, refl, sym, ◌∙◌, ap, subst, inl, inr, arith}
+use Rattle.std.proofs.Common.{◌≡◌, ◌≢◌, ◌<◌, ◌≤◌, ◌==◌, ℕ, zero, suc, List, [], ◌∷◌, ◌++◌, length, refl, sym, ◌∙◌, ap, subst, inl, inr, arith}
 use Rattle.std.specs.Prelude.{if◌then◌else◌, slice_set}
 use Rattle.std.proofs.Math.ListN.{length-set}
 use Rattle.std.proofs.lemmas.List.{append-nil}
 use Rattle.std.proofs.lemmas.Bool.{cases_eq, eq-eqb, ne_eqb, cases_lt}
-use mathlib.Core.Option.{some, some-injective}
+use mathlib.Core.Option.{some}
 use lib.ListN.{get_elem?}
 use Rattle.atomic_table.proofs.Lists.{set_else, set_here}
 use Rattle.mark_core.specs.declared.events.Event.{Event}
@@ -24,7 +24,7 @@ abbrev pub head_or : {X : Type 0} → X → List X → X
 head_or d [] = d
 head_or d (x ∷ xs) = x
 
-not_empty : {X : Type 0} (x : X) (xs : List X) → (x ∷ xs ≡ [] → ⊥)
+pub not_empty : {X : Type 0} (x : X) (xs : List X) → (x ∷ xs ≡ [] → ⊥)
 not_empty x xs e = absurd (let none : suc (length xs) ≡ 0 = ap length e in omega arith)
 
 -- the steps of a view, where it makes the first event and where it doesn't

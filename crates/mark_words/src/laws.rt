@@ -1,14 +1,15 @@
 #![tactic(auto)]
 
-ghost use Rattle.mark_words.specs.Law.{StepsAreEvents};
+ghost use Rattle.mark_words.specs.Law.{StepsStandLast, StepsAreEvents};
 ghost use Rattle.mark_words.specs.Token.{topic_of};
 
 use crate::marks::Marks;
 use mark_core::Subject;
 
 /// A single step is one event: where a seat has one step more, and the other seats have what they had, the events that
-/// lead to the words then are those that led to the words before, but for where splits and joins stand among them, and
-/// this one at their end. So its answer is that of the words as they stood, and each call of one step is one event.
+/// lead to the words then have the single steps of those before, and this one at their end. It happens on the words as
+/// they stood, and leaves them as they stand then; so its answer is that of the moment.
 pub fn takes_one_event_a_step<S: Subject>(_marks: &Marks<S>)
-    ensures { StepsAreEvents S.places S.worth S.touches (topic_of _marks.now) }
+    ensures last { StepsStandLast S.places S.worth S.touches (topic_of _marks.now) }
+    ensures words { StepsAreEvents S.places S.worth S.touches (topic_of _marks.now) }
 {}
