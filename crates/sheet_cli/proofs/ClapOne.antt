@@ -1,7 +1,7 @@
 -- What clap makes of words that are no options, for a command of one position: a second word is refused.
 use Rattle.std.proofs.Common.{refl, ap, ap₂, codes, true, List, Some, All, length, arith, [], ◌∷◌, ◌≡◌, ◌≢◌, ◌∙◌, ℕ, inl, inr, sym, subst}
 use Rattle.std.specs.Prelude.{is_some}
-use Rattle.clap.specs.Walk.{Rule, Held, Walk, walked, walk, nothing_held, to_positional, arg_by_index, rows_of, first_of, settled, finished}
+use Rattle.clap.specs.Walk.{Rule, Held, Walk, walked, walk, nothing_held, rows_of, first_of, settled, finished}
 use Rattle.clap.specs.Faults.{turn_fault, walk_fault, settle_fault, defaults_fault, check_fault, entered_fault, fault_of, is_simple_and_free}
 use Rattle.clap.specs.Simple.{App, Shape, HasMatchesOf, built, entered, is_simple, matches_of}
 use Rattle.clap.specs.Kinds.{Kinds, or_else, HasKind}

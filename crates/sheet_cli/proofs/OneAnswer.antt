@@ -8,7 +8,6 @@ use Rattle.sheet_model.specs.Sheets.{SheetValue, with_labels}
 use Rattle.edit_script.specs.Scripts.{ScriptValue, IsResult as IsScriptResult}
 use Rattle.edit_script.specs.declared.refused.ScriptRefused.{ScriptRefused}
 use Rattle.edit_script.specs.declared.script.Mode.TheVariants.{Play}
-use Rattle.edit_script.specs.declared.script.Step.{Step}
 use Rattle.edit_script.proofs.OneResult.{one_result as one_script_result}
 use Rattle.play_machine.proofs.OnePlay.{one_list}
 use Rattle.window_text.specs.Reports.{play_text}

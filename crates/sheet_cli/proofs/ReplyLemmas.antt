@@ -1,5 +1,5 @@
 -- From what a text gives to the reply to the words, over a shelf.
-use Rattle.std.proofs.Common.{◌≡◌, ◌≢◌, ℕ, suc, ◌+◌, ◌*◌, ◌<◌, ◌≤◌, ◌⊎◌, inl, inr, List, [], ◌∷◌, ◌++◌, length, length-append, refl, sym, subst, ap, arith}
+use Rattle.std.proofs.Common.{◌≡◌, ◌≢◌, ℕ, suc, ◌+◌, ◌*◌, ◌<◌, ◌≤◌, inl, inr, List, [], ◌∷◌, ◌++◌, length, length-append, refl, sym, subst, ap, arith}
 use Rattle.std.specs.Prelude.{max, fold, Option, IfSome, Result, Ok, Err, IfOk, Some, None, string_bytes}
 use Rattle.sheet_refs.specs.Cells.{Corners}
 use Rattle.csv_sheet.specs.Results.{IsResult}
@@ -13,7 +13,7 @@ use Rattle.edit_script.specs.Scripts.{ScriptValue, IsResult as IsScriptResult}
 use Rattle.edit_script.specs.declared.refused.ScriptRefused.{ScriptRefused}
 use Rattle.edit_script.specs.declared.script.Mode.TheVariants.{Play}
 use Rattle.edit_script.specs.declared.refused.ScriptRefused.TheVariants as script_why
-use Rattle.sheet_cli.specs.Answers.{Answer, Answers, AnswersWindow, AnswersCheck, AnswersPlay, Gives, GivesScript, HasNoScript, IsDue, IsPlayed, Owes, HasNoSheet, IsTextOf, status_of}
+use Rattle.sheet_cli.specs.Answers.{Answer, Answers, AnswersWindow, AnswersCheck, AnswersPlay, Gives, HasNoScript, IsDue, IsPlayed, Owes, HasNoSheet, status_of}
 use Rattle.sheet_cli.specs.Answers.Answer.{output, refusal}
 use Rattle.sheet_cli.specs.Answers.AnswersWindow.{written, outside, no_sheet}
 use Rattle.sheet_cli.specs.Answers.AnswersCheck.{listed, unlisted}

@@ -1,5 +1,5 @@
 -- From the reply to the words to what a run owes.
-use Rattle.std.proofs.Common.{◌≡◌, ℕ, ◌⊎◌, inl, inr, List, ◌∙◌, ap, subst, arith}
+use Rattle.std.proofs.Common.{◌≡◌, ℕ, inl, inr, List, ◌∙◌, subst, arith}
 use Rattle.std.specs.Prelude.{Option, String, string_bytes}
 use Rattle.std.specs.declared.alloc.Global.{Global}
 use Rattle.sheet_io.specs.Faults.{Rose}

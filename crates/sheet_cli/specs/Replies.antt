@@ -1,6 +1,5 @@
 -- Replies, before a byte is written.
 use Rattle.std.specs.Prelude.{◌≡◌, ℕ, List, ◌⊎◌, Result, Ok, Err, string_bytes}
-use Rattle.std.specs.declared.option.Option.{Option}
 use Rattle.sheet_refs.specs.Cells.{Corners}
 use Rattle.sheet_model.specs.Sheets.{SheetValue}
 use Rattle.sheet_io.specs.Faults.{Rose}

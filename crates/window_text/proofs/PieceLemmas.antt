@@ -1,8 +1,8 @@
 -- Handing out one text after another.
-use Rattle.std.proofs.Common.{◌≡◌, ℕ, Bool, true, false, List, [], ◌∷◌, ◌++◌, refl, sym, ◌∙◌, ap, ap₂, append_assoc}
+use Rattle.std.proofs.Common.{◌≡◌, ℕ, Bool, true, false, List, [], ◌++◌, refl, sym, ◌∙◌, ap, ap₂, append_assoc}
 use Rattle.std.proofs.lemmas.List.{append-nil}
 use Rattle.std.specs.Borrow.{Bor}
-use Rattle.std.specs.Fn.{Called, CalledAt}
+use Rattle.std.specs.Fn.{Called}
 use Rattle.window_text.specs.Pieces.{Taker, Sends, HandsOut}
 use Rattle.window_text.specs.Pieces.Sends.{nothing, stops, goes_on}
 

@@ -1,5 +1,5 @@
 -- Texts with each quote doubled.
-use Rattle.std.proofs.Common.{◌≡◌, ℕ, Bool, true, false, List, [], ◌∷◌, ◌++◌, refl, sym, ◌∙◌, ap, ap₂, All, append_assoc, take, drop, length, ◌<◌, ◌+◌, ◌-◌, arith, zero, suc}
+use Rattle.std.proofs.Common.{◌≡◌, ℕ, false, List, [], ◌∷◌, ◌++◌, refl, sym, ◌∙◌, ap, ap₂, All, append_assoc, take, drop, length, ◌<◌, ◌-◌, arith, zero, suc}
 use Rattle.std.specs.Prelude.{Some, slice_get, flat_map, if◌then◌else◌, ◌==◌}
 use Rattle.std.proofs.lemmas.Bool.{ne_eqb}
 use Rattle.std.proofs.lemmas.List.{take_all}

@@ -1,11 +1,11 @@
 -- The text of a row, cell by cell, and of a window, row by row.
-use Rattle.std.proofs.Common.{◌≡◌, ℕ, zero, suc, ◌+◌, ◌-◌, ◌<◌, ◌≤◌, List, [], ◌∷◌, ◌++◌, length, map, refl, sym, ◌∙◌, ap, ap₂, arith, append_assoc}
+use Rattle.std.proofs.Common.{◌≡◌, ℕ, suc, ◌+◌, ◌-◌, ◌<◌, ◌≤◌, List, [], ◌∷◌, ◌++◌, map, refl, sym, ◌∙◌, ap, arith, append_assoc}
 use Rattle.std.specs.List.{join_with_byte, range_with_len, flat_map}
 use Rattle.std.specs.Prelude.{Option, Some, IfSome}
 use Rattle.std.proofs.lemmas.Option.{MatchOption-at_some}
 use Rattle.std.proofs.lemmas.List.{append-nil}
-use Rattle.sheet_refs.specs.Cells.{Position, Corners, width, row_cells}
-use Rattle.window_text.specs.Texts.{row_text, rows_text}
+use Rattle.sheet_refs.specs.Cells.{Position, Corners, width}
+use Rattle.window_text.specs.Texts.{row_text}
 
 -- the texts of the cells of a row from a column on, each with a comma before it, and the line's end
 abbrev pub row_rest : (Position → List ℕ) → Corners → ℕ → ℕ → List ℕ

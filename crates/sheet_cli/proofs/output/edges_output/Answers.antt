@@ -1,5 +1,4 @@
-use Rattle.std.proofs.Common.{rules, of_calls, ◌≡◌, ◌++◌, length, ap, ◌∙◌}
-use Rattle.taco_graph.specs.Pairs.{pairs_of}
+use Rattle.std.proofs.Common.{rules, of_calls, ◌≡◌, ◌++◌, ap, ◌∙◌}
 use Rattle.window_text.specs.Texts.{check_text}
 use Rattle.sheet_cli.proofs.KeepLemmas.{kept, same}
 use Rattle.sheet_cli.specs.contracts.output.fn.edges_output.keep as closure

@@ -1,4 +1,4 @@
-use Rattle.std.proofs.Common.{◌≡◌, ap, ap₂, subst, ◌∙◌}
+use Rattle.std.proofs.Common.{ap, ap₂, subst, ◌∙◌}
 use Rattle.std.proofs.lemmas.Result.{IfOk-weaker}
 use Rattle.sheet_model.specs.Sheets.{SheetValue}
 use Rattle.play_machine.specs.Machine.{ArePlayed}

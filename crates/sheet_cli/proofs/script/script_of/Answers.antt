@@ -1,4 +1,3 @@
-use Rattle.std.proofs.Common.{◌≡◌}
 use Rattle.sheet_cli.proofs.script.script_of.Goals as goal
 
 pub returns-clause-table : goal.returns-clause-table

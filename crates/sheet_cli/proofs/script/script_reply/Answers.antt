@@ -1,7 +1,5 @@
-use Rattle.std.proofs.Common.{◌≡◌, ◌≢◌, sym, subst}
-use Rattle.std.specs.Prelude.{Ok, Err}
+use Rattle.std.proofs.Common.{sym, subst}
 use Rattle.sheet_model.specs.Sheets.{with_labels}
-use Rattle.edit_script.specs.Scripts.{IsScript}
 use Rattle.edit_script.specs.declared.script.Mode.TheVariants.{Play}
 use Rattle.play_machine.specs.Playing.{AreFit}
 use Rattle.play_machine.proofs.FitLemmas.{script_fits}

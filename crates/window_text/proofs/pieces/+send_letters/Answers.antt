@@ -1,4 +1,4 @@
-use Rattle.std.proofs.Common.{◌≡◌, ◌≢◌, true, false, ℕ, ◌+◌, ◌-◌, ◌/◌, ◌%◌, List, [], ◌∷◌, ◌++◌, refl, sym, ◌∙◌, ap, arith, subst}
+use Rattle.std.proofs.Common.{true, false, ◌-◌, ◌/◌, ◌++◌, sym, ◌∙◌, ap, subst}
 use Rattle.sheet_refs.specs.Names.{last_letters}
 use Rattle.window_text.specs.Pieces.{HandsOut}
 use Rattle.window_text.proofs.LetterLemmas.{no_room, no_column, last_letter}

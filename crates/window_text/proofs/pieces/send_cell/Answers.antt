@@ -1,4 +1,4 @@
-use Rattle.std.proofs.Common.{◌≡◌, true, false, ℕ, List, [], ◌∷◌, ◌++◌, refl, sym, ◌∙◌, ap, ap₂, subst}
+use Rattle.std.proofs.Common.{◌++◌, ◌∙◌, ap, ap₂, subst}
 use Rattle.std.specs.Fmt.{decimal}
 use Rattle.sheet_refs.specs.Names.{last_letters}
 use Rattle.window_text.specs.Pieces.{HandsOut}

@@ -1,4 +1,4 @@
-use Rattle.std.proofs.Common.{ℕ, List, [], ◌∷◌, ◌++◌, length}
+use Rattle.std.proofs.Common.{[], ◌∷◌, ◌++◌, length}
 use Rattle.value_core.specs.Values.{in_quotes}
 use Rattle.window_text.proofs.PieceLemmas.{Completes}
 use Rattle.window_text.proofs.QuoteLemmas.{with_double_quotes}

@@ -1,4 +1,4 @@
-use Rattle.std.proofs.Common.{◌≡◌, true, false, ℕ, List, [], ◌∷◌, ◌++◌, refl, sym, ◌∙◌, ap, ap₂, subst}
+use Rattle.std.proofs.Common.{false, [], ◌∷◌, ◌++◌, ap₂, subst}
 use Rattle.sheet_refs.specs.Names.{cell_text}
 use Rattle.window_text.specs.Pieces.{HandsOut}
 use Rattle.window_text.proofs.PieceLemmas.{and_then, cut}

@@ -1,4 +1,4 @@
-use Rattle.std.proofs.Common.{sym, ap, subst, true}
+use Rattle.std.proofs.Common.{sym, subst, true}
 use Rattle.window_text.specs.Pieces.{HandsOut}
 use Rattle.window_text.specs.Texts.{shown_value}
 use Rattle.window_text.proofs.PieceLemmas.{none}

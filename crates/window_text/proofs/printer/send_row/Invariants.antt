@@ -1,4 +1,3 @@
-use Rattle.std.proofs.Common.{ℕ, List}
 use Rattle.window_text.specs.Texts.{row_text, shown_cell}
 use Rattle.window_text.proofs.PieceLemmas.{Completes}
 use Rattle.window_text.proofs.RowLemmas.{row_rest}

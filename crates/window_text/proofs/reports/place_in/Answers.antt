@@ -1,4 +1,4 @@
-use Rattle.std.proofs.Common.{◌≡◌, ◌+◌, ◌-◌, ◌*◌, ◌<◌, ℕ, length, ap, arith, ◌∙◌}
+use Rattle.std.proofs.Common.{◌≡◌, ◌+◌, ◌-◌, ◌*◌, ◌<◌, length, ap, arith, ◌∙◌}
 use Rattle.std.proofs.lemmas.Nat.{mul-add-lt}
 use Rattle.sheet_refs.specs.Cells.{Position, cells_of, height, width}
 use Rattle.sheet_refs.proofs.Grid.{rows_length}

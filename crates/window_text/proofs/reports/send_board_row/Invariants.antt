@@ -1,4 +1,3 @@
-use Rattle.std.proofs.Common.{ℕ, List}
 use Rattle.window_text.specs.Reports.{board_text}
 use Rattle.window_text.specs.Texts.{row_text}
 use Rattle.window_text.proofs.PieceLemmas.{Completes}

@@ -1,5 +1,4 @@
-use Rattle.std.proofs.Common.{◌≡◌, ◌++◌, ◌∙◌, ap, subst}
-use Rattle.std.specs.Fmt.{decimal}
+use Rattle.std.proofs.Common.{◌++◌, ◌∙◌, subst}
 use Rattle.window_text.specs.Pieces.{HandsOut}
 use Rattle.window_text.proofs.PieceLemmas.{and_then}
 use Rattle.window_text.proofs.reports.send_number.Goals as goal

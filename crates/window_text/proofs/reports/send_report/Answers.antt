@@ -1,7 +1,7 @@
-use Rattle.std.proofs.Common.{◌≡◌, true, false, ℕ, List, [], ◌∷◌, ◌++◌, ap, ◌∙◌, subst}
+use Rattle.std.proofs.Common.{true, false, [], ◌∷◌, ap, ◌∙◌, subst}
 use Rattle.std.specs.Fmt.{decimal}
 use Rattle.window_text.specs.Pieces.{HandsOut}
-use Rattle.window_text.specs.Reports.{report_kind, window_text}
+use Rattle.window_text.specs.Reports.{report_kind}
 use Rattle.window_text.proofs.PieceLemmas.{and_then, cut}
 use Rattle.window_text.proofs.reports.send_report.Goals as goal
 

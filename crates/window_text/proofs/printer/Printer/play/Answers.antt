@@ -1,4 +1,4 @@
-use Rattle.std.proofs.Common.{◌≡◌, true, false, ℕ, List, [], sym, subst}
+use Rattle.std.proofs.Common.{true, false, sym, subst}
 use Rattle.window_text.specs.Pieces.{HandsOut}
 use Rattle.window_text.specs.Reports.{report_text}
 use Rattle.window_text.proofs.PieceLemmas.{none, next, ended}

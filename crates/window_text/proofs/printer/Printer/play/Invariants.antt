@@ -1,4 +1,3 @@
-use Rattle.std.proofs.Common.{ℕ, List}
 use Rattle.window_text.specs.Reports.{play_text}
 use Rattle.window_text.proofs.PieceLemmas.{Completes}
 use Rattle.window_text.proofs.ReportLemmas.{reports_rest}

@@ -1,4 +1,4 @@
-use Rattle.std.proofs.Common.{◌≡◌, true, ℕ, List, [], ◌∷◌, sym, subst}
+use Rattle.std.proofs.Common.{true, [], ◌∷◌, sym, subst}
 use Rattle.window_text.specs.Pieces.{HandsOut}
 use Rattle.window_text.proofs.PieceLemmas.{none, next, ended}
 use Rattle.window_text.proofs.RunsLemmas.{next_run, runs_end}

@@ -1,4 +1,3 @@
-use Rattle.std.proofs.Common.{ℕ, List}
 use Rattle.window_text.specs.Texts.{runs_text}
 use Rattle.window_text.proofs.PieceLemmas.{Completes}
 use Rattle.window_text.proofs.RunsLemmas.{runs_rest}
