@@ -1,28 +1,28 @@
 -- Which keys have an answer, and what is added for one key after another.
-use Rattle.std.proofs.Common.{◌≡◌, ◌≢◌, ◌↔◌, ◌⊎◌, inl, inr, ℕ, zero, suc, ◌+◌, ◌<◌, List, [], ◌∷◌, ◌++◌, ◌≤◌, map, length, get_or, take, Option, Some, None, Contains, refl, sym, ◌∙◌, ap, subst, arith}
-use Rattle.std.proofs.lemmas.List.{append-nil, append_assoc, get_or-map, length-append, length-map, take_more}
-use Rattle.std.proofs.lemmas.Option.{none-some}
-use Rattle.std.proofs.lemmas.List.Elements.{Contains-append_cases, Contains-append_left, Contains-push}
-use Rattle.sheet_refs.specs.Cells.{Position, Corners, IsIn}
-use Rattle.sheet_refs.specs.Rectangles.{Overlap}
-use Rattle.sheet_refs.proofs.ColumnLemmas.{none_among}
+use Rattle.std.proofs.Common.{◌≡◌, ◌≢◌, ◌↔◌, ◌⊎◌, inl, inr, ℕ, zero, suc, ◌+◌, ◌<◌, List, [], ◌∷◌, ◌++◌, length, get_or, take, Option, Some, None, Contains, refl, sym, ◌∙◌, ap, subst, arith}
+use Rattle.std.proofs.lemmas.List.{append-nil, append_assoc, get_or-map, length-map, map-append, take_more}
+use Rattle.std.proofs.lemmas.Option.{same_Some}
+use Rattle.std.proofs.lemmas.List.Elements.{Contains-append_cases, Contains-append_left, Contains-push, Contains-push_cases, Contains-get_or}
+use Rattle.std.proofs.lemmas.List.Quantifiers.{all_pairs_push}
+use Rattle.std.specs.List.{AllPairs}
+use Rattle.sheet_refs.specs.Cells.{Position, Corners, IsIn, IsOrdered}
+use Rattle.sheet_refs.specs.Rectangles.{Overlap, IsAmong}
 use Rattle.graph_walk.specs.Graphs.{Keeps}
-use Rattle.graph_walk.proofs.GatherLemmas.{among_next}
-use Rattle.edge_patterns.specs.Edges.{EdgeValue, IsEdge}
+use Rattle.edge_patterns.specs.Edges.{EdgeValue, IsEdge, IsPair}
 use Rattle.edge_patterns.specs.Queries.{Covers, IsDirect, IsSpreadTo, IsReferred, IsLedTo}
 use Rattle.edge_patterns.specs.Queries.IsSpreadTo.{at_once, onward}
 use Rattle.edge_patterns.specs.Queries.IsLedTo.{at_once as led_at_once, onward as led_onward}
 use Rattle.edge_patterns.proofs.RectangleLemmas.{rectangle_has, run_asked}
+use Rattle.edge_patterns.proofs.UnionLemmas.{run_has_ranges}
 use Rattle.edge_patterns.specs.declared.edge.Pattern.{Pattern}
 use Rattle.edge_patterns.specs.declared.edge.Pattern.TheVariants.{Single, Rr, Rf, Fr, Ff, Chain}
-use Rattle.range_index.specs.Entries.{Entry, entry_of, AddsOverlapping}
-use Rattle.taco_graph.specs.Stores.{edge_at, edges_of, AreStored, FilesAll}
-use Rattle.taco_graph.specs.Answers.{IsMeant, ByPattern, IsMeantAt, HasOneFor, NamesAnswering, AddsAnswersOf, AddsAnswers, AddsOneEach}
+use Rattle.range_index.specs.Entries.{Entry, AddsOverlapping}
+use Rattle.taco_graph.specs.Stores.{edge_at, edges_of, AreStored, EdgesDiffer}
+use Rattle.taco_graph.specs.Answers.{IsMeant, ByPattern, IsMeantAt, IsAnswered, EdgeAnswer, answer_of, ranges_of, HasAnswer, IsAnswerAt, NamesAnswering, AddsAnswersOf, AddsAnswers, AddsOneEach}
 use Rattle.taco_graph.specs.declared.answers.Question.{Question}
 use Rattle.taco_graph.specs.declared.answers.Question.TheVariants.{Dependents, Precedents, Ahead, Behind}
 use Rattle.slab.proofs.SlabLemmas.{Contains-cons}
-use Rattle.taco_graph.proofs.GraphLemmas.{listed_kept}
-use Rattle.taco_graph.proofs.ListLemmas.{no_longer}
+use Rattle.taco_graph.proofs.GraphLemmas.{kept_listed, listed_kept}
 use Rattle.taco_graph.proofs.StoreLemmas.{names}
 
 -- ---- an edge with an answer overlaps the query
@@ -71,64 +71,53 @@ module _ (slots : List (Option EdgeValue)) (runs rectangles : List Entry) (query
   pub names_behind : AddsOverlapping runs query old keys → NamesAnswering slots Behind query keys
   names_behind adds key cell at = names slots (λ edge. edge.dep) runs query old keys stored.runs_filed adds key at.edge at.here (behind_overlaps at.edge query cell (edge_is key at.edge at.here) at.meant)
 
--- ---- and it names no more than there are edges
+-- ---- and it names each key once
 
--- the keys under which edges stand
-abbrev kept_keys : List (Option EdgeValue) → List ℕ
-kept_keys [] = []
-kept_keys (None ∷ slots) = map suc (kept_keys slots)
-kept_keys (Some edge ∷ slots) = 0 ∷ map suc (kept_keys slots)
-
-as_many_keys : (slots : List (Option EdgeValue)) → length (kept_keys slots) ≡ length (edges_of slots)
-as_many_keys [] = refl
-as_many_keys (None ∷ slots) = length-map (kept_keys slots) suc ∙ as_many_keys slots
-as_many_keys (Some edge ∷ slots) = omega (arith, length-map (kept_keys slots) suc, as_many_keys slots)
-
-next_listed : (keys : List ℕ) (key : ℕ) → Contains keys key → Contains (map suc keys) (suc key)
-next_listed keys key (k, below, is) = (k, omega (arith, below, length-map keys suc), get_or-map suc keys k key (suc key) below ∙ ap suc is)
-
-key_listed : (slots : List (Option EdgeValue)) (key : ℕ) (edge : EdgeValue) → edge_at slots key ≡ Some edge → Contains (kept_keys slots) key
-key_listed [] key edge here = absurd (none-some edge here)
-key_listed (None ∷ slots) zero edge here = absurd (none-some edge here)
-key_listed (None ∷ slots) (suc key) edge here = next_listed (kept_keys slots) key (key_listed slots key edge here)
-key_listed (Some first ∷ slots) zero edge here = (0, omega arith, refl)
-key_listed (Some first ∷ slots) (suc key) edge here = Contains-cons 0 (suc key) (map suc (kept_keys slots)) (next_listed (kept_keys slots) key (key_listed slots key edge here))
-
-pub few_named : (slots : List (Option EdgeValue)) (side : EdgeValue → Corners) (entries : List Entry) (query : Corners) (old keys : List ℕ) → FilesAll slots side entries → AddsOverlapping entries query old keys → old ≡ [] → length keys ≤ length (edges_of slots)
-few_named slots side entries query old keys files adds none =
+pub all_once : {entries : List Entry} {query : Corners} {old keys : List ℕ} → AddsOverlapping entries query old keys → old ≡ [] → AllPairs (λ a b. a ≢ b) keys
+all_once {entries} {query} {old} {keys} adds none =
     let all : keys ≡ adds.added = adds.whole ∙ ap (λ (l : List ℕ). l ++ adds.added) none in
-    let fewer : length adds.added ≤ length (kept_keys slots) = no_longer adds.added (kept_keys slots) adds.once there in
-    omega (arith, ap length all, fewer, as_many_keys slots)
+    subst (λ (l : List ℕ). AllPairs (λ a b. a ≢ b) l) (sym all) adds.once
+
+-- ---- edges under different keys differ, since each has a pair that no other has
+
+pub edges_differ : (slots : List (Option EdgeValue)) (runs rectangles : List Entry) → AreStored slots runs rectangles → EdgesDiffer slots
+edges_differ slots runs rectangles stored key other a b differ here there same =
+    let is = stored.edges a (record { key = key; here = here }) in
+    let (range, pair) = (run_has_ranges a is a.dep.head).0 (first_cell is.dep.ordered) in
+    stored.apart key other a b differ here there range a.dep.head pair (subst (λ (e : EdgeValue). IsPair e range a.dep.head) same pair)
   where
-    there : (key : ℕ) → Contains adds.added key → Contains (kept_keys slots) key
-    there key listed = let filed = (files (entry_of key ((adds.exact key).0 listed).range)).0 ((adds.exact key).0 listed).listed in key_listed slots key filed.edge filed.here
+    first_cell : IsOrdered a.dep.head a.dep.tail → IsIn a.dep.head a.dep
+    first_cell ordered = record { row_from = omega arith; row_to = ordered.rows; col_from = omega arith; col_to = ordered.cols }
 
--- ---- the answer of the edge under a key
+-- ---- the ranges of some edges
 
-pub none_at : (slots : List (Option EdgeValue)) (question : Question) (query : Corners) (key : ℕ) → edge_at slots key ≡ None → (cell : Position) → ¬ IsMeantAt slots question query key cell
-none_at slots question query key free cell at = absurd (let here : None ≡ Some at.edge = sym free ∙ at.here in cc)
+range_listed : (answers : List EdgeAnswer) (answer : EdgeAnswer) → Contains answers answer → Contains (ranges_of answers) answer.range
+range_listed answers answer (k, below, is) = (
+  k,
+  omega (arith, below, length-map answers (λ (a : EdgeAnswer). a.range)),
+  get_or-map (λ (a : EdgeAnswer). a.range) answers k answer answer.range below ∙ ap (λ (a : EdgeAnswer). a.range) is,
+)
 
-pub covers_at : (slots : List (Option EdgeValue)) (question : Question) (query : Corners) (key : ℕ) (edge : EdgeValue) (result : Option Corners) → edge_at slots key ≡ Some edge → Covers result (IsMeant question edge query) → Covers result (IsMeantAt slots question query key)
-covers_at slots question query key edge result here covers = by_result result covers
-  where
-    the_edge : (cell : Position) → IsMeantAt slots question query key cell → IsMeant question edge query cell
-    the_edge cell at = let same : at.edge ≡ edge = (let here_at : Some at.edge ≡ Some edge = sym at.here ∙ here in cc) in subst (λ (e : EdgeValue). IsMeant question e query cell) same at.meant
+answer_listed : (answers : List EdgeAnswer) (range : Corners) → Contains (ranges_of answers) range → (answer : EdgeAnswer) × Contains answers answer × (answer.range ≡ range)
+answer_listed [] range listed = absurd (omega (arith, listed.1))
+answer_listed (first ∷ answers) range (zero, below, is) = (first, (0, omega arith, refl), is)
+answer_listed (first ∷ answers) range (suc k, below, is) =
+    let (answer, there, same) = answer_listed answers range (k, omega (arith, below), is) in
+    (answer, Contains-cons first answer answers there, same)
 
-    by_result : (r : Option Corners) → Covers r (IsMeant question edge query) → Covers r (IsMeantAt slots question query key)
-    by_result None none = λ cell at. none cell (the_edge cell at)
-    by_result (Some range) exact = λ cell. (λ inside. record { edge = edge; here = here; meant = (exact cell).0 inside }, λ at. (exact cell).1 (the_edge cell at))
+still_answered : (answers : List EdgeAnswer) (one : EdgeAnswer) (edge : EdgeValue) → HasAnswer answers edge → HasAnswer (answers ++ one ∷ []) edge
+still_answered answers one edge has = record { range = has.range; listed = Contains-append_left answers (one ∷ []) (answer_of edge has.range) has.listed }
 
 -- ---- one key after another
 
 module _ (slots : List (Option EdgeValue)) (question : Question) (query : Corners) where
   pub adds_none : (old : List Corners) → AddsAnswersOf slots question query [] old old
   adds_none old = record {
-    added = [];
+    answers = [];
     whole = sym (append-nil old);
-    all = λ key cell listed at. absurd (omega (arith, listed.1));
-    only = λ cell among. absurd (none_among cell among);
-    few = omega arith;
-    each = λ key cell listed at. absurd (omega (arith, listed.1));
+    once = λ i j d before within. absurd (omega (arith, within));
+    exact = λ answer listed. absurd (omega (arith, listed.1));
+    all = λ key edge cell listed here meant. absurd (omega (arith, listed.1));
   }
 
   only_key : (last key : ℕ) → Contains (last ∷ []) key → key ≡ last
@@ -137,79 +126,68 @@ module _ (slots : List (Option EdgeValue)) (question : Question) (query : Corner
 
   pub adds_silent : (keys : List ℕ) (key : ℕ) (old new : List Corners) → ((cell : Position) → ¬ IsMeantAt slots question query key cell) → AddsAnswersOf slots question query keys old new → AddsAnswersOf slots question query (keys ++ key ∷ []) old new
   adds_silent keys key old new silent adds = record {
-    added = adds.added;
+    answers = adds.answers;
     whole = adds.whole;
-    all = λ k cell listed at. elim (Contains-append_cases keys (key ∷ []) k listed) [
-      | inl before ↦ adds.all k cell before at
-      | inr one ↦ absurd (silent cell (subst (λ (i : ℕ). IsMeantAt slots question query i cell) (only_key key k one) at))
-    ];
-    only = adds.only;
-    few = omega (arith, adds.few, length-append keys (key ∷ []));
-    each = λ k cell listed at. elim (Contains-append_cases keys (key ∷ []) k listed) [
-      | inl before ↦ adds.each k cell before at
-      | inr one ↦ absurd (silent cell (subst (λ (i : ℕ). IsMeantAt slots question query i cell) (only_key key k one) at))
+    once = adds.once;
+    exact = λ answer listed. let (k, among, at) = adds.exact answer listed in (k, Contains-append_left keys (key ∷ []) k among, at);
+    all = λ k edge cell listed here meant. elim (Contains-append_cases keys (key ∷ []) k listed) [
+      | inl before ↦ adds.all k edge cell before here meant
+      | inr one ↦ absurd (silent cell (record { edge = edge; here = ap (edge_at slots) (sym (only_key key k one)) ∙ here; meant = meant }))
     ];
   }
 
-  one_more : (added : List Corners) (range : Corners) (meant : Position → Type 0) → HasOneFor added meant → HasOneFor (added ++ range ∷ []) meant
-  one_more added range meant one = record { range = one.range; listed = Contains-append_left added (range ∷ []) one.range one.listed; exact = one.exact }
-
-  pub adds_range : (keys : List ℕ) (key : ℕ) (old new newer : List Corners) (range : Corners) → newer ≡ new ++ range ∷ [] → ((cell : Position) → IsIn cell range ↔ IsMeantAt slots question query key cell) → AddsAnswersOf slots question query keys old new → AddsAnswersOf slots question query (keys ++ key ∷ []) old newer
-  adds_range keys key old new newer range pushed exact adds = record {
-    added = adds.added ++ range ∷ [];
-    whole = pushed ∙ (ap (λ (n : List Corners). n ++ range ∷ []) adds.whole ∙ append_assoc old adds.added (range ∷ []));
-    all = λ k cell listed at. (among_next adds.added range cell).1 (elim (Contains-append_cases keys (key ∷ []) k listed) [
-      | inl before ↦ inl (adds.all k cell before at)
-      | inr one ↦ inr ((exact cell).1 (subst (λ (i : ℕ). IsMeantAt slots question query i cell) (only_key key k one) at))
-    ]);
-    only = λ cell among. elim ((among_next adds.added range cell).0 among) [
-      | inl before ↦ adds.only cell before
-      | inr inside ↦ (key, (exact cell).0 inside)
+  pub adds_range : (keys : List ℕ) (key : ℕ) (old new newer : List Corners) (edge : EdgeValue) (range : Corners) → newer ≡ new ++ range ∷ [] → IsAnswerAt slots question query key (answer_of edge range) → ¬ Contains keys key → EdgesDiffer slots → AddsAnswersOf slots question query keys old new → AddsAnswersOf slots question query (keys ++ key ∷ []) old newer
+  adds_range keys key old new newer edge range pushed is absent differ adds = record {
+    answers = adds.answers ++ one ∷ [];
+    whole =
+        pushed ∙ (ap (λ (n : List Corners). n ++ range ∷ []) adds.whole ∙ (append_assoc old (ranges_of adds.answers) (range ∷ []) ∙ ap (λ (n : List Corners). old ++ n) (sym (map-append (λ (a : EdgeAnswer). a.range) adds.answers (one ∷ [])))));
+    once = all_pairs_push (λ (a b : EdgeAnswer). a.edge ≢ b.edge) adds.answers one adds.once (λ k d within. other (get_or adds.answers k d) (Contains-get_or adds.answers k d within));
+    exact = λ answer listed. elim (Contains-push_cases adds.answers one answer listed) [
+      | inl before ↦ let (k, among, at) = adds.exact answer before in (k, Contains-append_left keys (key ∷ []) k among, at)
+      | inr same ↦ (key, Contains-push keys key, subst (IsAnswerAt slots question query key) same is)
     ];
-    few = omega (arith, adds.few, length-append keys (key ∷ []), length-append adds.added (range ∷ []));
-    each = λ k cell listed at. elim (Contains-append_cases keys (key ∷ []) k listed) [
-      | inl before ↦ one_more adds.added range (IsMeantAt slots question query k) (adds.each k cell before at)
-      | inr one ↦
-          subst (λ (i : ℕ). HasOneFor (adds.added ++ range ∷ []) (IsMeantAt slots question query i)) (sym (only_key key k one))
-          (record { range = range; listed = Contains-push adds.added range; exact = exact })
+    all = λ k e cell listed here meant. elim (Contains-append_cases keys (key ∷ []) k listed) [
+      | inl before ↦ still_answered adds.answers one e (adds.all k e cell before here meant)
+      | inr last ↦ subst (HasAnswer (adds.answers ++ one ∷ [])) (same_Some edge e (sym is.here ∙ (ap (edge_at slots) (sym (only_key key k last)) ∙ here))) (record { range = range; listed = Contains-push adds.answers one })
     ];
   }
+    where
+      one : EdgeAnswer
+      one = answer_of edge range
+
+      other : (answer : EdgeAnswer) → Contains adds.answers answer → answer.edge ≢ edge
+      other answer listed =
+          let (k, among, at) = adds.exact answer listed in
+          differ k key answer.edge edge (λ same. absent (subst (λ (i : ℕ). Contains keys i) same among)) at.here is.here
 
   pub adds_all : (keys : List ℕ) (old new : List Corners) → NamesAnswering slots question query keys → AddsAnswersOf slots question query keys old new → AddsAnswers slots question query old new
-  adds_all keys old new named adds = record {
-    added = adds.added;
-    whole = adds.whole;
-    all = λ cell (key, at). adds.all key cell (named key cell at) at;
-    only = adds.only;
-  }
+  adds_all keys old new named adds = record { added = ranges_of adds.answers; whole = adds.whole; all = all; only = only }
+    where
+      all : (cell : Position) → IsAnswered slots question query cell → IsAmong (ranges_of adds.answers) cell
+      all cell (key, at) =
+          let has = adds.all key at.edge cell (named key cell at) at.here at.meant in
+          let (k, among, is) = adds.exact (answer_of at.edge has.range) has.listed in
+          record { range = has.range; listed = range_listed adds.answers (answer_of at.edge has.range) has.listed; inside = (is.exact cell).1 at.meant }
 
-  -- what an edge answers under its key
-  at_key : (key : ℕ) (edge : EdgeValue) (cell : Position) → edge_at slots key ≡ Some edge → IsMeantAt slots question query key cell ↔ IsMeant question edge query cell
-  at_key key edge cell here = (
-    λ at.
-        let same : at.edge ≡ edge = (let both : Some at.edge ≡ Some edge = sym at.here ∙ here in cc) in
-        subst (λ (e : EdgeValue). IsMeant question e query cell) same at.meant,
-    λ meant. record { edge = edge; here = here; meant = meant },
-  )
+      only : (cell : Position) → IsAmong (ranges_of adds.answers) cell → IsAnswered slots question query cell
+      only cell among =
+          let (answer, listed, same) = answer_listed adds.answers among.range among.listed in
+          let (key, there, is) = adds.exact answer listed in
+          (key, record { edge = answer.edge; here = is.here; meant = (is.exact cell).0 (subst (λ (r : Corners). IsIn cell r) (sym same) among.inside) })
 
-  pub adds_one_each : (keys : List ℕ) (old new : List Corners) → NamesAnswering slots question query keys → length keys ≤ length (edges_of slots) → AddsAnswersOf slots question query keys old new → AddsOneEach (edges_of slots) (λ edge. IsMeant question edge query) old new
-  adds_one_each keys old new named few adds = record {
-    added = adds.added;
+  pub adds_one_each : (keys : List ℕ) (old new : List Corners) → NamesAnswering slots question query keys → AddsAnswersOf slots question query keys old new → AddsOneEach (edges_of slots) (λ edge. IsMeant question edge query) old new
+  adds_one_each keys old new named adds = record {
+    answers = adds.answers;
     whole = adds.whole;
-    few = omega (arith, few, adds.few);
-    each = λ edge cell listed meant.
+    once = adds.once;
+    exact = λ answer listed. let (key, among, is) = adds.exact answer listed in record { listed = kept_listed slots key answer.edge is.here; exact = is.exact };
+    all = λ edge cell listed meant.
         let kept = listed_kept slots edge listed in
-        let at = (at_key kept.key edge cell kept.here).1 meant in
-        let one = adds.each kept.key cell (named kept.key cell at) at in
-        record {
-          range = one.range;
-          listed = one.listed;
-          exact = λ c. (λ inside. (at_key kept.key edge c kept.here).0 ((one.exact c).0 inside), λ is. (one.exact c).1 ((at_key kept.key edge c kept.here).1 is));
-        };
+        adds.all kept.key edge cell (named kept.key cell (record { edge = edge; here = kept.here; meant = meant })) kept.here meant;
   }
 
   pub adds_keep : (keys : List ℕ) (old new : List Corners) → AddsAnswersOf slots question query keys old new → Keeps old new
-  adds_keep keys old new adds = record { added = adds.added; whole = adds.whole }
+  adds_keep keys old new adds = record { added = ranges_of adds.answers; whole = adds.whole }
 
 pub take_next : (keys : List ℕ) (place key : ℕ) → place < length keys → key ≡ get_or keys place key → take (place + 1) keys ≡ take place keys ++ key ∷ []
 take_next keys place key within here = take_more keys place key within ∙ ap (λ (k : ℕ). take place keys ++ k ∷ []) (sym here)

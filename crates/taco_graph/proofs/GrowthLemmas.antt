@@ -1,8 +1,8 @@
 -- What happens to pairs where an edge grows in its place.
-use Rattle.std.proofs.Common.{◌≡◌, ◌≢◌, ◌↔◌, ◌⊎◌, inl, inr, ℕ, List, Option, Some, sym, ◌∙◌, ap, subst}
+use Rattle.std.proofs.Common.{◌≡◌, ◌⊎◌, inl, inr, ℕ, List, Option, Some, sym, ◌∙◌, ap, subst}
 use Rattle.std.proofs.lemmas.Bool.{cases_eq}
 use Rattle.std.proofs.lemmas.Option.{same_Some}
-use Rattle.sheet_refs.specs.Cells.{Position, Corners}
+use Rattle.sheet_refs.specs.Cells.{Position}
 use Rattle.edge_patterns.specs.Edges.{EdgeValue, IsPair}
 use Rattle.taco_graph.specs.Stores.{edge_at, IsKeptPair, IsApart, IsApartBeside, Puts, Gains}
 use Rattle.taco_graph.specs.Changes.{LacksCell, GainsPairs, HoldNoMore, IsJoinedAt}

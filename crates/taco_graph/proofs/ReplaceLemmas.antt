@@ -1,19 +1,18 @@
 -- The cell is taken out of one edge after another, and then gets one range after another.
-use Rattle.std.proofs.Common.{◌≡◌, ◌≢◌, ◌↔◌, ◌⊎◌, inl, inr, ℕ, zero, suc, ◌+◌, ◌*◌, ◌<◌, ◌≤◌, List, [], ◌∷◌, ◌++◌, length, get_or, take, Option, Some, None, Contains, refl, sym, ◌∙◌, ap, subst, arith}
-use Rattle.std.specs.List.{AllPairs}
+use Rattle.std.proofs.Common.{◌≡◌, ◌≢◌, ◌↔◌, ◌⊎◌, inl, inr, ℕ, zero, suc, ◌+◌, ◌<◌, ◌≤◌, List, [], ◌∷◌, ◌++◌, length, get_or, take, Option, Some, Contains, sym, ◌∙◌, ap, subst, arith}
 use Rattle.std.proofs.lemmas.Bool.{cases_eq}
 use Rattle.std.proofs.lemmas.Option.{none-some}
-use Rattle.std.proofs.lemmas.List.{get_or_default, get_or-take, length-take, take_all, take_more}
+use Rattle.std.proofs.lemmas.List.{take_all, take_more}
 use Rattle.std.proofs.lemmas.List.Elements.{Contains-push_cases, Contains-append_left, Contains-append_right, Contains-append_cases}
 use Rattle.sheet_refs.specs.Cells.{Position, Corners, IsIn}
 use Rattle.sheet_refs.specs.Refs.{AreRefs}
 use Rattle.sheet_refs.proofs.Grid.{same_position}
-use Rattle.graph_walk.specs.Graphs.{Pair, SamePairs, Replaces}
+use Rattle.graph_walk.specs.Graphs.{Replaces}
 use Rattle.edge_patterns.specs.Edges.{EdgeValue, IsEdge, IsPair, single_edge}
 use Rattle.edge_patterns.proofs.UnionLemmas.{run_has_ranges}
 use Rattle.edge_patterns.proofs.RectangleLemmas.{single_pair}
 use Rattle.taco_graph.specs.Pairs.{pairs_of}
-use Rattle.taco_graph.specs.Stores.{AreEdges, NamesOverlapping, edge_at, edges_of, IsKept, IsKeptPair, IsApart}
+use Rattle.taco_graph.specs.Stores.{AreEdges, NamesOverlapping, edge_at, edges_of, IsKeptPair, IsApart}
 use Rattle.taco_graph.specs.Changes.{LackCell, GainsPairs, HoldElsewhere, KeepsOthers, HoldersAreAmong, HasAtMost}
 use Rattle.taco_graph.proofs.GraphLemmas.{pairs_kept}
 
@@ -100,16 +99,6 @@ single_apart old now cell refs one absent replaced range at came kept =
       | inl (same, listed) ↦ absent (subst (λ (r : Corners). Contains refs r) is.0 listed)
       | inr (differ, was) ↦ differ is.1
     ]
-
-pub not_before : (refs : List Corners) (place : ℕ) (one : Corners) → AllPairs (λ a b. a ≢ b) refs → place < length refs → one ≡ get_or refs place one → ¬ Contains (take place refs) one
-not_before refs place one distinct within here (k, below, is) =
-    let short : length (take place refs) ≤ place = length_short in
-    let less : k < place = omega (arith, below, short) in
-    let same : get_or refs k one ≡ one = sym (get_or-take place refs k one less) ∙ is in
-    distinct k place one less within (same ∙ here)
-  where
-    length_short : length (take place refs) ≤ place
-    length_short = let l = length-take place refs in omega (arith, l)
 
 -- two cells are the same or not
 same_or : (a b : Position) → (a ≡ b) ⊎ (a ≢ b)

@@ -1,8 +1,7 @@
 -- What a query asks of each edge.
-use Rattle.std.specs.Prelude.{◌≡◌, ◌≢◌, ◌⊎◌, ◌↔◌, ◌++◌, ◌+◌, ◌≤◌, ℕ, List, length, Option, Some, Contains}
+use Rattle.std.specs.Prelude.{◌≡◌, ◌≢◌, ◌⊎◌, ◌↔◌, ◌++◌, ◌+◌, ℕ, List, map, Option, Some, Contains, AllPairs, MatchOption}
 use Rattle.graph_walk.specs.Graphs.{Adds}
 use Rattle.sheet_refs.specs.Cells.{Position, Corners, IsIn}
-use Rattle.sheet_refs.specs.Rectangles.{IsAmong}
 use Rattle.edge_patterns.specs.Edges.{EdgeValue}
 use Rattle.edge_patterns.specs.Queries.{IsDirect, IsSpreadTo, IsReferred, IsLedTo}
 use Rattle.edge_patterns.specs.declared.edge.Pattern.TheVariants.{Chain}
@@ -43,28 +42,58 @@ abbrev pub NamesAnswering : List (Option EdgeValue) → Question → Corners →
 NamesAnswering slots question query keys =
     (key : ℕ) (cell : Position) → IsMeantAt slots question query key cell → Contains keys key
 
--- one of some ranges has exactly the cells that are meant
-pub record HasOneFor (ranges : List Corners) (meant : Position → Type 0) : Type 0 where
+-- an edge with a range
+pub record EdgeAnswer : Type 0 where
+  pub edge : EdgeValue
   pub range : Corners
-  pub listed : Contains ranges range
-  pub exact : (cell : Position) → IsIn cell range ↔ meant cell
 
--- ranges were added, no more than there are edges, and for each edge of which any cell is meant one that has exactly these cells
+abbrev pub answer_of : EdgeValue → Corners → EdgeAnswer
+answer_of edge range = record { edge = edge; range = range }
+
+abbrev pub ranges_of : List EdgeAnswer → List Corners
+ranges_of answers = map (λ answer. answer.range) answers
+
+-- no edge stands twice, so that each has one range
+abbrev pub HaveOneAnswer : List EdgeAnswer → Type 0
+HaveOneAnswer answers = AllPairs (λ a b. a.edge ≢ b.edge) answers
+
+-- the edge is one of some edges, and the range has exactly the cells that are meant of it
+pub record IsAnswerOf (edges : List EdgeValue) (meant : EdgeValue → Position → Type 0) (answer : EdgeAnswer) : Type 0 where
+  pub listed : Contains edges answer.edge
+  pub exact : (cell : Position) → IsIn cell answer.range ↔ meant answer.edge cell
+
+-- an edge is there, with a range
+pub record HasAnswer (answers : List EdgeAnswer) (edge : EdgeValue) : Type 0 where
+  pub range : Corners
+  pub listed : Contains answers (answer_of edge range)
+
+-- at most one range was added for each edge, with exactly its cells: what was added are the ranges of edges of which none stands
+-- twice, and each edge of which any cell is meant is there
 pub record AddsOneEach (edges : List EdgeValue) (meant : EdgeValue → Position → Type 0) (old new : List Corners) : Type 0 where
-  pub added : List Corners
-  pub whole : new ≡ old ++ added
-  pub few : length added ≤ length edges
-  pub each : (edge : EdgeValue) (cell : Position) → Contains edges edge → meant edge cell → HasOneFor added (meant edge)
+  pub answers : List EdgeAnswer
+  pub whole : new ≡ old ++ ranges_of answers
+  pub once : HaveOneAnswer answers
+  pub exact : (answer : EdgeAnswer) → Contains answers answer → IsAnswerOf edges meant answer
+  pub all : (edge : EdgeValue) (cell : Position) → Contains edges edge → meant edge cell → HasAnswer answers edge
 
--- ranges were added that hold all cells which the edges under some keys answer, and only cells that some edge answers, and no more
--- than there are keys, one for each with an answer
+-- the edge stands under a key, and the range has exactly the cells that it answers
+pub record IsAnswerAt (slots : List (Option EdgeValue)) (question : Question) (query : Corners) (key : ℕ) (answer : EdgeAnswer) : Type 0 where
+  pub here : edge_at slots key ≡ Some answer.edge
+  pub exact : (cell : Position) → IsIn cell answer.range ↔ IsMeant question answer.edge query cell
+
+-- there is a range, which the edge under a key answers, or no cell is meant of what stands there
+abbrev pub AnswersAt : List (Option EdgeValue) → Question → Corners → ℕ → Option Corners → Type 0
+AnswersAt slots question query key result =
+    MatchOption result ((cell : Position) → ¬ IsMeantAt slots question query key cell)
+    (λ range. (edge : EdgeValue) × IsAnswerAt slots question query key (answer_of edge range))
+
+-- the ranges of edges of which none stands twice were added: those of the edges under some keys that have an answer
 pub record AddsAnswersOf (slots : List (Option EdgeValue)) (question : Question) (query : Corners) (keys : List ℕ) (old new : List Corners) : Type 0 where
-  pub added : List Corners
-  pub whole : new ≡ old ++ added
-  pub all : (key : ℕ) (cell : Position) → Contains keys key → IsMeantAt slots question query key cell → IsAmong added cell
-  pub only : (cell : Position) → IsAmong added cell → IsAnswered slots question query cell
-  pub few : length added ≤ length keys
-  pub each : (key : ℕ) (cell : Position) → Contains keys key → IsMeantAt slots question query key cell → HasOneFor added (IsMeantAt slots question query key)
+  pub answers : List EdgeAnswer
+  pub whole : new ≡ old ++ ranges_of answers
+  pub once : HaveOneAnswer answers
+  pub exact : (answer : EdgeAnswer) → Contains answers answer → (key : ℕ) × Contains keys key × IsAnswerAt slots question query key answer
+  pub all : (key : ℕ) (edge : EdgeValue) (cell : Position) → Contains keys key → edge_at slots key ≡ Some edge → IsMeant question edge query cell → HasAnswer answers edge
 
 -- ranges were added whose cells are exactly those that some edge answers
 abbrev pub AddsAnswers : List (Option EdgeValue) → Question → Corners → List Corners → List Corners → Type 0

@@ -67,6 +67,10 @@ pub record AreStored (slots : List (Option EdgeValue)) (runs rectangles : List E
   pub runs_filed : FilesAll slots (λ edge. edge.dep) runs
   pub rectangles_filed : FilesAll slots (λ edge. edge.prec) rectangles
 
+-- different keys have different edges
+abbrev pub EdgesDiffer : List (Option EdgeValue) → Type 0
+EdgesDiffer slots = (key other : ℕ) (a b : EdgeValue) → key ≢ other → edge_at slots key ≡ Some a → edge_at slots other ≡ Some b → a ≢ b
+
 -- a pair of the edge under a key
 pub record IsPairAt (slots : List (Option EdgeValue)) (key : ℕ) (range : Corners) (cell : Position) : Type 0 where
   pub edge : EdgeValue

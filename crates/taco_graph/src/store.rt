@@ -1,8 +1,8 @@
 // The edges of a graph, and the two indexes of them.
-ghost use Rattle.std.specs.Prelude.{◌≡◌, ◌+◌, ◌≤◌, None, Some, IsSome, IfSome, IfOk, OnOk};
-ghost use Rattle.taco_graph.specs.Stores.{edge_at, edges_of, AreEdges, IsApart, IsApartBeside, Puts, Gains, LeavesApart};
-ghost use Rattle.edge_patterns.specs.Queries.{Covers};
-ghost use Rattle.taco_graph.specs.Answers.{NamesAnswering, IsMeant, IsMeantAt, AddsAnswers, AddsOneEach};
+ghost use Rattle.std.specs.Prelude.{◌≡◌, ◌≢◌, ◌+◌, ◌≤◌, None, Some, IsSome, IfSome, IfOk, OnOk, AllPairs};
+ghost use Rattle.taco_graph.specs.Stores.{edge_at, edges_of, AreEdges, IsApart, IsApartBeside, EdgesDiffer};
+ghost use Rattle.taco_graph.specs.Stores.{Puts, Gains, LeavesApart};
+ghost use Rattle.taco_graph.specs.Answers.{NamesAnswering, IsMeant, AnswersAt, AddsAnswers, AddsOneEach};
 ghost use Rattle.graph_walk.specs.Graphs.{Keeps};
 
 use crate::answers::{Question, answer};
@@ -142,10 +142,11 @@ impl<I: RangeIndex> EdgeStore<I> {
         Ok(edges)
     }
 
-    // The keys of the edges that have an answer.
+    // The keys of the edges that have an answer, each once.
     fn keys_for(&self, question: Question, q: Range) -> Result<Vec<usize>, Memory>
         ensures named { IfOk result (λ keys. NamesAnswering self.now.slots question q keys.items) }
-        ensures few { IfOk result (λ keys. length keys.items ≤ length (edges_of self.now.slots)) }
+        ensures once { IfOk result (λ keys. AllPairs (λ a b. a ≢ b) keys.items) }
+        ensures differ { OnOk result (EdgesDiffer self.now.slots) }
     {
         let mut keys = Vec::new(self.alloc);
         match question {
@@ -159,7 +160,7 @@ impl<I: RangeIndex> EdgeStore<I> {
 
     // What the edge under a key answers, if there is one.
     fn answer_at(&self, question: Question, q: Range, key: usize) -> Option<Range>
-        ensures { Covers result (IsMeantAt self.now.slots question q key) }
+        ensures { AnswersAt self.now.slots question q key result }
     {
         let Some(edge) = self.get(key) else {
             return None;

@@ -1,4 +1,4 @@
-use Rattle.std.proofs.Common.{◌≡◌, ◌≤◌, true, Some, sym, ◌∙◌, subst, arith, rules}
+use Rattle.std.proofs.Common.{◌≡◌, true, Some, sym, ◌∙◌, subst, arith, rules}
 use Rattle.sheet_refs.specs.Cells.{Corners, IsIn}
 use Rattle.edge_patterns.specs.Edges.{EdgeValue}
 use Rattle.taco_graph.specs.Stores.{edge_at}

@@ -3,13 +3,14 @@ use Rattle.std.proofs.lemmas.List.{take_all, take_more}
 use Rattle.sheet_refs.specs.Cells.{Corners}
 use Rattle.sheet_refs.specs.Refs.{AreRefs}
 use Rattle.graph_walk.specs.Graphs.{Replaces}
-use Rattle.edge_patterns.specs.Edges.{EdgeValue, single_edge}
+use Rattle.edge_patterns.specs.Edges.{EdgeValue}
 use Rattle.taco_graph.specs.Pairs.{pairs_of}
 use Rattle.taco_graph.specs.Stores.{IsApart, edges_of}
 use Rattle.taco_graph.specs.Changes.{GainsPairs}
 use Rattle.taco_graph.specs.Taco.{TacoValue}
 use Rattle.taco_graph.proofs.ChangeLemmas.{keeps_same}
-use Rattle.taco_graph.proofs.ReplaceLemmas.{AreReplaced, at_most_still, not_before, replaced_more, replaced_none, replaced_on, replaces_pairs, single_apart}
+use Rattle.taco_graph.proofs.ReplaceLemmas.{AreReplaced, at_most_still, replaced_more, replaced_none, replaced_on, replaces_pairs, single_apart}
+use Rattle.taco_graph.proofs.ListLemmas.{not_before}
 use Rattle.taco_graph.proofs.taco.TacoGraph.replace.Goals as goal
 
 pub take_out-requires : goal.take_out-requires

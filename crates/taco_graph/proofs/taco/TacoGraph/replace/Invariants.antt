@@ -1,4 +1,4 @@
-use Rattle.std.proofs.Common.{◌≡◌, ◌+◌, ◌≤◌, take}
+use Rattle.std.proofs.Common.{◌+◌, ◌≤◌, take}
 use Rattle.sheet_refs.specs.Refs.{AreRefs}
 use Rattle.taco_graph.proofs.ReplaceLemmas.{AreReplaced}
 use Rattle.taco_graph.proofs.taco.TacoGraph.replace.Given as goal
