@@ -1,7 +1,9 @@
 pub mod ChangeLemmas
+pub mod DistinctLemmas
 pub mod EntryLemmas
 pub mod FoundLemmas
 pub mod GridLemmas
+pub mod LawLemmas
 pub mod ListedLemmas
 pub mod NearLemmas
 pub mod SlotLemmas

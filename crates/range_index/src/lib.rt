@@ -1,7 +1,8 @@
 //! Which of many ranges overlap a query.
 //!
 //! An index holds ids, each with a range (`specs/Entries.antt`), and answers exactly the ids whose ranges
-//! overlap a query, each once. `ListIndex` is the slow and plain one, `GridIndex` the fast one.
+//! overlap a query, each once. `ListIndex` is the slow and plain one, `GridIndex` the fast one. `index_laws` says what
+//! is there after any list of calls: under each id the range that its last call left to it.
 //!
 //! Below stands `sheet_refs`; the compressed graph stands above.
 #![tactic(auto)]
@@ -10,6 +11,7 @@ mod changes;
 mod grid;
 mod index;
 mod item;
+mod laws;
 mod list;
 mod tables;
 #[cfg(test)]
@@ -18,4 +20,5 @@ mod tiles;
 
 pub use grid::GridIndex;
 pub use index::RangeIndex;
+pub use laws::index_laws;
 pub use list::ListIndex;

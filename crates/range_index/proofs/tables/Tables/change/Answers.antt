@@ -1,6 +1,6 @@
-use Rattle.std.proofs.Common.{◌≡◌, Some, sym, ◌∙◌}
+use Rattle.std.proofs.Common.{sym, ◌∙◌}
 use Rattle.range_index.specs.Entries.{entry_of}
-use Rattle.range_index.specs.Grids.{entries_of, entry_at, home_of, stands_at}
+use Rattle.range_index.specs.Grids.{entries_of, entry_at}
 use Rattle.range_index.proofs.ChangeLemmas.{some_is}
 use Rattle.range_index.proofs.SlotLemmas.{home_same}
 use Rattle.range_index.proofs.RangeLemmas.{absent_after, are_changed, changes_by, entries_changed}
