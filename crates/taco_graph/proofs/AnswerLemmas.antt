@@ -5,7 +5,7 @@ use Rattle.std.proofs.lemmas.Option.{same_Some}
 use Rattle.std.proofs.lemmas.List.Elements.{Contains-append_cases, Contains-append_left, Contains-push, Contains-push_cases, Contains-get_or}
 use Rattle.std.proofs.lemmas.List.Quantifiers.{all_pairs_push}
 use Rattle.std.specs.List.{AllPairs}
-use Rattle.sheet_refs.specs.Cells.{Position, Corners, IsIn, IsOrdered}
+use Rattle.sheet_refs.specs.Cells.{Position, Corners, IsIn}
 use Rattle.sheet_refs.specs.Rectangles.{Overlap, IsAmong}
 use Rattle.graph_walk.specs.Graphs.{Keeps}
 use Rattle.edge_patterns.specs.Edges.{EdgeValue, IsEdge, IsPair}
@@ -13,7 +13,6 @@ use Rattle.edge_patterns.specs.Queries.{Covers, IsDirect, IsSpreadTo, IsReferred
 use Rattle.edge_patterns.specs.Queries.IsSpreadTo.{at_once, onward}
 use Rattle.edge_patterns.specs.Queries.IsLedTo.{at_once as led_at_once, onward as led_onward}
 use Rattle.edge_patterns.proofs.RectangleLemmas.{rectangle_has, run_asked}
-use Rattle.edge_patterns.proofs.UnionLemmas.{run_has_ranges}
 use Rattle.edge_patterns.specs.declared.edge.Pattern.{Pattern}
 use Rattle.edge_patterns.specs.declared.edge.Pattern.TheVariants.{Single, Rr, Rf, Fr, Ff, Chain}
 use Rattle.range_index.specs.Entries.{Entry, AddsOverlapping}
@@ -22,7 +21,7 @@ use Rattle.taco_graph.specs.Answers.{IsMeant, ByPattern, IsMeantAt, IsAnswered, 
 use Rattle.taco_graph.specs.declared.answers.Question.{Question}
 use Rattle.taco_graph.specs.declared.answers.Question.TheVariants.{Dependents, Precedents, Ahead, Behind}
 use Rattle.slab.proofs.SlabLemmas.{Contains-cons}
-use Rattle.taco_graph.proofs.GraphLemmas.{kept_listed, listed_kept}
+use Rattle.taco_graph.proofs.GraphLemmas.{first_pair, kept_listed, listed_kept}
 use Rattle.taco_graph.proofs.StoreLemmas.{names}
 
 -- ---- an edge with an answer overlaps the query
@@ -83,11 +82,8 @@ all_once {entries} {query} {old} {keys} adds none =
 pub edges_differ : (slots : List (Option EdgeValue)) (runs rectangles : List Entry) → AreStored slots runs rectangles → EdgesDiffer slots
 edges_differ slots runs rectangles stored key other a b differ here there same =
     let is = stored.edges a (record { key = key; here = here }) in
-    let (range, pair) = (run_has_ranges a is a.dep.head).0 (first_cell is.dep.ordered) in
+    let (range, pair) = first_pair a is in
     stored.apart key other a b differ here there range a.dep.head pair (subst (λ (e : EdgeValue). IsPair e range a.dep.head) same pair)
-  where
-    first_cell : IsOrdered a.dep.head a.dep.tail → IsIn a.dep.head a.dep
-    first_cell ordered = record { row_from = omega arith; row_to = ordered.rows; col_from = omega arith; col_to = ordered.cols }
 
 -- ---- the ranges of some edges
 

@@ -11,7 +11,7 @@ use Rattle.edge_patterns.proofs.UnionLemmas.{run_has_ranges}
 use Rattle.taco_graph.specs.Stores.{edge_at, IsKeptPair, IsApart, Puts, Gains, LeavesApart}
 use Rattle.taco_graph.specs.Changes.{LacksCell, GainsPairs, MovesPairs, IsJoinedAt, HoldNoMore, HoldElsewhere, KeepsOthers, HasAtMost, HasRoomForParts, KeepsRoomForParts, IsPartApart, GainsPartPairs, PartLacksCell}
 use Rattle.std.proofs.lemmas.Bool.{cases_eq}
-use Rattle.taco_graph.proofs.ListLemmas.{without, length_without, still_listed}
+use Rattle.range_index.proofs.DistinctLemmas.{without, length_without, still_listed}
 use Rattle.taco_graph.proofs.StoreLemmas.{still_here, here_more, not_free}
 
 -- ---- an edge is taken out

@@ -23,7 +23,8 @@ use Rattle.taco_graph.specs.Stores.{AreEdges, AreEdgesApart, edge_at, edges_of}
 use Rattle.taco_graph.specs.Changes.{EachHasAtMost}
 use Rattle.std.proofs.Math.Nat.{mul-one, one-mul}
 use Rattle.taco_graph.proofs.GraphLemmas.{edge_lists, pair_of, pair_listed, pairs_long, all_list, list_all, listed_kept, pairs_kept}
-use Rattle.taco_graph.proofs.ListLemmas.{no_longer, AllPairs-IsPermutation}
+use Rattle.taco_graph.proofs.ListLemmas.{AllPairs-IsPermutation}
+use Rattle.range_index.proofs.DistinctLemmas.{no_longer}
 
 -- ---- no pair is listed twice
 

@@ -1,5 +1,5 @@
 -- From edges to pairs, and from what edges answer to dependents and precedents.
-use Rattle.std.proofs.Common.{◌≡◌, ◌↔◌, inl, inr, ℕ, zero, suc, ◌<◌, List, [], ◌∷◌, ◌++◌, length, get_or, Option, Some, None, Contains, refl, sym, ◌∙◌, ap, subst, arith, add-one, zero-add, take, ◌+◌}
+use Rattle.std.proofs.Common.{◌≡◌, ◌↔◌, inl, inr, ℕ, zero, suc, ◌<◌, ◌≤◌, List, [], ◌∷◌, ◌++◌, length, get_or, Option, Some, None, Contains, refl, sym, ◌∙◌, ap, subst, arith, add-one, zero-add, take, ◌+◌}
 use Rattle.std.proofs.lemmas.Option.{same_Some, none-some}
 use Rattle.std.proofs.lemmas.List.{append-nil, get_or-map, length-map}
 use Rattle.std.proofs.lemmas.List.FromFn.{length-range_with_len, get_or-range_with_len}
@@ -7,10 +7,11 @@ use Rattle.std.proofs.lemmas.List.Elements.{Contains-append_left, Contains-appen
 use Rattle.std.specs.List.{range_with_len}
 use Rattle.std.specs.Prelude.{Result, Ok, Err, OnOk}
 use Rattle.slab.proofs.SlabLemmas.{Contains-cons, Contains-cons_cases}
-use Rattle.sheet_refs.specs.Cells.{Position, Corners, IsIn}
+use Rattle.sheet_refs.specs.Cells.{Position, Corners, IsIn, IsOrdered}
 use Rattle.graph_walk.specs.Graphs.{Pair, Step, Adds, IsDirectDependent, IsDependent, IsDirectPrecedent, IsPrecedent}
 use Rattle.graph_walk.proofs.PathLemmas.{path_step}
-use Rattle.edge_patterns.specs.Edges.{EdgeValue, IsPair, run_length}
+use Rattle.edge_patterns.specs.Edges.{EdgeValue, IsEdge, IsPair, run_length}
+use Rattle.edge_patterns.proofs.UnionLemmas.{run_has_ranges}
 use Rattle.edge_patterns.specs.Queries.{IsDirect, IsSpreadTo, IsReferred, IsLedTo}
 use Rattle.edge_patterns.specs.Queries.IsSpreadTo.{at_once, onward}
 use Rattle.edge_patterns.specs.Queries.IsLedTo.{at_once as led_at_once, onward as led_onward}
@@ -36,6 +37,13 @@ pub pair_listed : (edge : EdgeValue) (k : ℕ) (d : Pair) → k < run_length edg
 pair_listed edge k d below =
     get_or-map (pair_at edge) (range_with_len 0 (run_length edge)) k 0 d (omega (arith, below, length-range_with_len 0 (run_length edge)))
     ∙ ap (pair_at edge) (get_or-range_with_len 0 (run_length edge) k 0 below ∙ zero-add k)
+
+-- the first cell of the run has a range
+pub first_pair : (edge : EdgeValue) → IsEdge edge → (range : Corners) × IsPair edge range edge.dep.head
+first_pair edge is = (run_has_ranges edge is edge.dep.head).0 (first_cell is.dep.ordered)
+  where
+    first_cell : IsOrdered edge.dep.head edge.dep.tail → IsIn edge.dep.head edge.dep
+    first_cell ordered = record { row_from = omega arith; row_to = ordered.rows; col_from = omega arith; col_to = ordered.cols }
 
 pub edge_lists : (edge : EdgeValue) (pair : Pair) → Contains (pairs_of_edge edge) pair ↔ IsPair edge pair.range pair.cell
 edge_lists edge pair = (to, from)

@@ -1,3 +1,4 @@
+pub mod LawLemmas
 pub mod ListLemmas
 mod StoreLemmas
 mod AnswerLemmas

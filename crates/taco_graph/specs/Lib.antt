@@ -1,5 +1,6 @@
 pub mod Answers
 pub mod Changes
+pub mod Laws
 pub mod Order
 pub mod Pairs
 pub mod Stores

@@ -14,6 +14,7 @@
 mod answers;
 mod changes;
 mod counting;
+mod laws;
 mod order;
 mod store;
 mod taco;
@@ -21,4 +22,5 @@ mod taco;
 mod tests;
 
 pub use counting::pair_count;
+pub use laws::taco_laws;
 pub use taco::Taco;

@@ -1,0 +1,29 @@
+-- What is true of what edges answer, and of edges that stand for pairs.
+use Rattle.std.specs.Prelude.{◌≡◌, ◌↔◌, ◌+◌, ◌≤◌, List, [], ◌∷◌, ◌++◌, length}
+use Rattle.sheet_refs.specs.Cells.{Position, Corners, IsIn}
+use Rattle.graph_walk.specs.Graphs.{Pair}
+use Rattle.edge_patterns.specs.Edges.{EdgeValue}
+use Rattle.taco_graph.specs.declared.answers.Question.{Question}
+use Rattle.taco_graph.specs.Answers.{AddsOneEach, IsMeant}
+use Rattle.taco_graph.specs.Pairs.{StandFor, pairs_of}
+
+-- a list gains no more ranges than there are edges
+abbrev pub AnswersAreFew : Type 0
+AnswersAreFew =
+    (edges : List EdgeValue) (question : Question) (query : Corners) (old new : List Corners) → AddsOneEach edges (λ edge. IsMeant question edge query) old new → length new ≤ length old + length edges
+
+-- a list that has one range more, with exactly some cells
+pub record GainsOne (old new : List Corners) (cells : Position → Type 0) : Type 0 where
+  pub range : Corners
+  pub whole : new ≡ old ++ range ∷ []
+  pub exact : (cell : Position) → IsIn cell range ↔ cells cell
+
+-- one edge of which a cell is meant gives one range, with exactly the cells that are meant
+abbrev pub OneEdgeGivesOne : Type 0
+OneEdgeGivesOne =
+    (edge : EdgeValue) (question : Question) (query : Corners) (old new : List Corners) (cell : Position) → AddsOneEach (edge ∷ []) (λ e. IsMeant question e query) old new
+    → IsMeant question edge query cell → GainsOne old new (IsMeant question edge query)
+
+-- edges that stand for some pairs are no more than these: each has one of its own
+abbrev pub EdgesAreFew : Type 0
+EdgesAreFew = (edges : List EdgeValue) (pairs : List Pair) → StandFor edges pairs → length edges ≤ length (pairs_of edges)
