@@ -6,7 +6,7 @@ use Rattle.std.proofs.lemmas.List.Elements.{Contains-get_or}
 use Rattle.sheet_refs.specs.Cells.{Position, Corners, IsIn}
 use Rattle.edge_patterns.specs.Edges.{EdgeValue, IsEdge}
 use Rattle.range_index.proofs.DistinctLemmas.{no_longer}
-use Rattle.taco_graph.specs.Answers.{EdgeAnswer, answer_of, ranges_of, HaveOneAnswer, HasAnswer, IsAnswerOf, AddsOneEach}
+use Rattle.taco_graph.specs.Answers.{EdgeAnswer, ranges_of, HaveOneAnswer, HasAnswer, IsAnswerOf, AddsOneEach}
 use Rattle.taco_graph.specs.Laws.{GainsOne}
 use Rattle.taco_graph.specs.Pairs.{pairs_of, pairs_of_edge}
 use Rattle.taco_graph.proofs.GraphLemmas.{first_pair, pairs_long}

@@ -1,127 +1,17 @@
 // How edges are taken out and put back.
-ghost use Rattle.std.specs.Prelude.{◌≡◌, ◌+◌, ◌≤◌, IfSome};
+ghost use Rattle.std.specs.Prelude.{◌≡◌, ◌+◌, ◌≤◌};
+ghost use Rattle.edge_patterns.specs.Edges.{single_edge};
 ghost use Rattle.taco_graph.specs.Stores.{IsApart};
 ghost use Rattle.taco_graph.specs.Changes.{LacksCell, LackCell, GainsPairs, MovesPairs, IsJoinedAt};
 ghost use Rattle.taco_graph.specs.Changes.{HoldNoMore, HoldElsewhere, KeepsOthers, HoldersAreAmong};
 ghost use Rattle.taco_graph.specs.Changes.{HasRoomForParts, KeepsRoomForParts};
-ghost use Rattle.taco_graph.specs.Changes.{IsPartApart, GainsPartPairs, PartLacksCell, FindsJoined};
+ghost use Rattle.taco_graph.specs.Changes.{IsPartApart, GainsPartPairs, PartLacksCell};
 
+use crate::neighbours::{joined_beyond, joined_neighbour, joined_single};
 use crate::store::EdgeStore;
-use edge_patterns::{Edge, join, split};
+use edge_patterns::{Edge, split};
 use range_index::RangeIndex;
 use sheet_refs::{Cell, Range};
-
-// The edge with the pairs of an edge and of the one under a key, if there is one and the other doesn't hold the cell.
-fn joined_at<I: RangeIndex>(
-    store: &EdgeStore<I>,
-    key: usize,
-    edge: &Edge,
-    cell: Cell,
-) -> Option<Edge>
-    ensures { IfSome result (IsJoinedAt store.now.slots key edge.now cell) }
-{
-    let Some(other) = store.get(key) else {
-        return None;
-    };
-    if other.dep().contains(cell) {
-        return None;
-    }
-    join(edge, &other)
-}
-
-// The first of these keys whose edge can be joined with an edge and doesn't hold the cell, with the edge that has the
-// pairs of both.
-fn first_joined<I: RangeIndex>(
-    store: &EdgeStore<I>,
-    near: &[usize],
-    edge: &Edge,
-    cell: Cell,
-) -> Option<(usize, Edge)>
-    ensures { FindsJoined store.now.slots edge.now cell result }
-{
-    for key in near {
-        if let Some(joined) = joined_at(store, *key, edge, cell) {
-            return Some((*key, joined));
-        }
-    }
-    None
-}
-
-// The same of the keys of the edges that hold the cell with these coordinates. Where the keys want memory, the list has
-// some of them or none: the edge may then not be joined.
-fn joined_beside<I: RangeIndex>(
-    store: &EdgeStore<I>,
-    near: &mut Vec<usize>,
-    row: u32,
-    col: u32,
-    edge: &Edge,
-    cell: Cell,
-) -> Option<(usize, Edge)>
-    ensures { FindsJoined store.now.slots edge.now cell result }
-{
-    let Some(beside) = Cell::new(row, col) else {
-        return None;
-    };
-    near.clear();
-    let _ = store.keys_by_run(Range::of(beside, beside), near);
-    first_joined(store, near, edge, cell)
-}
-
-// The same of the cells above and below an edge's run, where it stands in one column.
-fn joined_in_column<I: RangeIndex>(
-    store: &EdgeStore<I>,
-    near: &mut Vec<usize>,
-    edge: &Edge,
-    cell: Cell,
-) -> Option<(usize, Edge)>
-    ensures { FindsJoined store.now.slots edge.now cell result }
-{
-    let (head, tail) = (edge.dep().head(), edge.dep().tail());
-    if head.col() != tail.col() {
-        return None;
-    }
-    let above = joined_beside(store, near, head.row() - 1, head.col(), edge, cell);
-    if above.is_some() {
-        return above;
-    }
-    joined_beside(store, near, tail.row() + 1, head.col(), edge, cell)
-}
-
-// The same of the cells to the left and to the right of it, where it stands in one row.
-fn joined_in_row<I: RangeIndex>(
-    store: &EdgeStore<I>,
-    near: &mut Vec<usize>,
-    edge: &Edge,
-    cell: Cell,
-) -> Option<(usize, Edge)>
-    ensures { FindsJoined store.now.slots edge.now cell result }
-{
-    let (head, tail) = (edge.dep().head(), edge.dep().tail());
-    if head.row() != tail.row() {
-        return None;
-    }
-    let left = joined_beside(store, near, head.row(), head.col() - 1, edge, cell);
-    if left.is_some() {
-        return left;
-    }
-    joined_beside(store, near, head.row(), tail.col() + 1, edge, cell)
-}
-
-// The same of all four, those of the column first.
-fn joined_neighbour<I: RangeIndex>(
-    store: &EdgeStore<I>,
-    near: &mut Vec<usize>,
-    edge: &Edge,
-    cell: Cell,
-) -> Option<(usize, Edge)>
-    ensures { FindsJoined store.now.slots edge.now cell result }
-{
-    let vertical = joined_in_column(store, near, edge, cell);
-    if vertical.is_some() {
-        return vertical;
-    }
-    joined_in_row(store, near, edge, cell)
-}
 
 // Joins an edge with a neighbour that can be joined with it and doesn't hold the cell, and takes that one out.
 fn absorb<I: RangeIndex>(
@@ -162,8 +52,42 @@ fn add_between<I: RangeIndex>(
     store.insert(twice);
 }
 
-/// Adds an edge, joined with up to two of its neighbours that don't hold the cell. Where it is joined with one, as where
-/// a column is built from the top, that one grows in its place.
+// Adds an edge that isn't joined.
+fn add_alone<I: RangeIndex>(store: &mut EdgeStore<I>, edge: Edge, cell: Cell)
+    requires apart { IsApart store.old.slots edge }
+    requires room { 1 ≤ store.old.room }
+    ensures pairs { GainsPairs store.old.slots store.new.slots edge }
+    ensures holders { LacksCell edge cell → HoldNoMore store.old.slots store.new.slots cell }
+    ensures room { store.old.room ≤ store.new.room + 1 }
+{
+    store.insert(edge);
+}
+
+// Adds an edge that can be joined with the one under a key: that one grows in its place, as where a column is built
+// from the top, or is joined with a third as well.
+fn grow<I: RangeIndex>(
+    store: &mut EdgeStore<I>,
+    near: &mut Vec<usize>,
+    edge: Edge,
+    key: usize,
+    joined: Edge,
+    cell: Cell,
+)
+    requires apart { IsApart store.old.slots edge }
+    requires joined { IsJoinedAt store.old.slots key edge cell joined }
+    requires room { 1 ≤ store.old.room }
+    ensures pairs { GainsPairs store.old.slots store.new.slots edge }
+    ensures holders { LacksCell edge cell → HoldNoMore store.old.slots store.new.slots cell }
+    ensures room { store.old.room ≤ store.new.room + 1 }
+{
+    if joined_beyond(store, near, &edge, &joined, cell).is_some() {
+        add_between(store, near, edge, cell);
+    } else {
+        store.change(key, joined);
+    }
+}
+
+/// Adds an edge, joined with up to two of its neighbours that don't hold the cell.
 pub(crate) fn add<I: RangeIndex>(
     store: &mut EdgeStore<I>,
     near: &mut Vec<usize>,
@@ -177,14 +101,32 @@ pub(crate) fn add<I: RangeIndex>(
     ensures room { store.old.room ≤ store.new.room + 1 }
 {
     let Some(found) = joined_neighbour(store, near, &edge, cell) else {
-        store.insert(edge);
+        add_alone(store, edge, cell);
         return;
     };
-    if joined_neighbour(store, near, &found.1, cell).is_some() {
-        add_between(store, near, edge, cell);
-    } else {
-        store.change(found.0, found.1);
-    }
+    grow(store, near, edge, found.0, found.1, cell);
+}
+
+/// Adds the edge of one cell and a range, given the keys of edges that hold the cell above: these are tried first, and
+/// then the other sides. A key may be stale, since each edge is looked at anew.
+pub(crate) fn add_single<I: RangeIndex>(
+    store: &mut EdgeStore<I>,
+    above: &[usize],
+    near: &mut Vec<usize>,
+    cell: Cell,
+    range: Range,
+)
+    requires apart { IsApart store.old.slots (single_edge cell range) }
+    requires room { 1 ≤ store.old.room }
+    ensures pairs { GainsPairs store.old.slots store.new.slots (single_edge cell range) }
+    ensures room { store.old.room ≤ store.new.room + 1 }
+{
+    let edge = Edge::single(cell, range);
+    let Some(found) = joined_single(store, above, near, &edge, cell) else {
+        add_alone(store, edge, cell);
+        return;
+    };
+    grow(store, near, edge, found.0, found.1, cell);
 }
 
 // Adds a part that is left of an edge, if there is one.

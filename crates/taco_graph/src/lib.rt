@@ -15,6 +15,7 @@ mod answers;
 mod changes;
 mod counting;
 mod laws;
+mod neighbours;
 mod order;
 mod store;
 mod taco;

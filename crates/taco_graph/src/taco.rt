@@ -4,7 +4,8 @@ ghost use Rattle.taco_graph.specs.Order.{AreInOrder};
 ghost use Rattle.taco_graph.specs.Pairs.{HaveFewPairs, StandFor};
 
 use crate::answers::Question;
-use crate::changes::{add, take_out};
+use crate::changes::{add_single, take_out};
+use crate::neighbours::keys_above;
 use crate::order::sort_edges;
 use crate::store::EdgeStore;
 use edge_patterns::Edge;
@@ -138,12 +139,14 @@ impl<I: RangeIndex> Graph for Taco<I> {
 
     fn replace(&mut self, cell: Cell, refs: &Refs) {
         take_out(&mut self.store, &mut self.held, &mut self.near, cell);
+        keys_above(&self.store, &mut self.held, cell);
         for range in refs.ranges() {
-            add(
+            add_single(
                 &mut self.store,
+                &self.held,
                 &mut self.near,
-                Edge::single(cell, *range),
                 cell,
+                *range,
             );
         }
     }

@@ -5,8 +5,7 @@ use Rattle.sheet_refs.specs.Refs.{AreRefs}
 use Rattle.graph_walk.specs.Graphs.{Replaces}
 use Rattle.edge_patterns.specs.Edges.{EdgeValue}
 use Rattle.taco_graph.specs.Pairs.{pairs_of}
-use Rattle.taco_graph.specs.Stores.{IsApart, edges_of}
-use Rattle.taco_graph.specs.Changes.{GainsPairs}
+use Rattle.taco_graph.specs.Stores.{edges_of}
 use Rattle.taco_graph.specs.Taco.{TacoValue}
 use Rattle.taco_graph.proofs.ChangeLemmas.{keeps_same}
 use Rattle.taco_graph.proofs.ReplaceLemmas.{AreReplaced, at_most_still, replaced_more, replaced_none, replaced_on, replaces_pairs, single_apart}
@@ -28,14 +27,13 @@ loop-range-init g c =
       omega (arith, left.fits),
     )
 
-pub add-requires-clause-apart : goal.add-requires-clause-apart
-add-requires-clause-apart g c =
-    subst (λ (e : EdgeValue). IsApart c.loop-range.self-inside.store.slots e) (sym c.single.ensures)
-    (single_apart c.take_out.new.store.slots c.loop-range.self-inside.store.slots c.args.cell (take c.loop-range.range-index c.ranges-range-items.result.now) c.range-item.result
-    (not_before c.ranges-range-items.result.now c.loop-range.range-index c.range-item.result c.loop-range.invariant.0.distinct c.loop-range-test.true c.range-item.is) c.loop-range.invariant.1)
+pub add_single-requires-clause-apart : goal.add_single-requires-clause-apart
+add_single-requires-clause-apart g c =
+    single_apart c.take_out.new.store.slots c.loop-range.self-inside.store.slots c.args.cell (take c.loop-range.range-index c.ranges-range-items.result.now) c.range-item.result
+    (not_before c.ranges-range-items.result.now c.loop-range.range-index c.range-item.result c.loop-range.invariant.0.distinct c.loop-range-test.true c.range-item.is) c.loop-range.invariant.1
 
-pub add-requires-clause-room : goal.add-requires-clause-room
-add-requires-clause-room g c = omega (arith, c.loop-range.invariant.0.few, c.loop-range-test.true, c.loop-range.invariant.2, c.loop-range.invariant.3)
+pub add_single-requires-clause-room : goal.add_single-requires-clause-room
+add_single-requires-clause-room g c = omega (arith, c.loop-range.invariant.0.few, c.loop-range-test.true, c.loop-range.invariant.2, c.loop-range.invariant.3)
 
 pub loop-range-preserved : goal.loop-range-preserved
 loop-range-preserved g c =
@@ -44,12 +42,12 @@ loop-range-preserved g c =
     let one : Corners = c.range-item.result in
     let mid = c.take_out.new.store.slots in
     let now = c.loop-range.self-inside.store.slots in
-    let next = c.add.new.store.slots in
+    let next = c.add_single.new.store.slots in
     let more : take (k + 1) items ≡ take k items ++ one ∷ [] = take_more items k one c.loop-range-test.true ∙ ap (λ (r : Corners). take k items ++ r ∷ []) (sym c.range-item.is) in (
       c.loop-range.invariant.0,
       subst (λ (l : List Corners). AreReplaced mid next c.args.cell l) (sym more)
-          (replaced_more mid now next c.args.cell (take k items) one (subst (λ (e : EdgeValue). GainsPairs now next e) c.single.ensures c.add.ensures.pairs) c.loop-range.invariant.1),
-      omega (arith, c.add.ensures.room, c.loop-range.invariant.2),
+          (replaced_more mid now next c.args.cell (take k items) one c.add_single.ensures.pairs c.loop-range.invariant.1),
+      omega (arith, c.add_single.ensures.room, c.loop-range.invariant.2),
       c.loop-range.invariant.3,
     )
 

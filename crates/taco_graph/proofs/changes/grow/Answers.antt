@@ -1,0 +1,15 @@
+use Rattle.taco_graph.proofs.ChangeLemmas.{is_there}
+use Rattle.taco_graph.proofs.GrowthLemmas.{grown_apart, grown_hold, grown_pairs}
+use Rattle.taco_graph.proofs.changes.grow.Goals as goal
+
+pub change-requires-clause-there : goal.change-requires-clause-there
+change-requires-clause-there g c = is_there c.args.store.now.slots c.args.key c.requires.joined.other c.requires.joined.here
+
+pub change-requires-clause-apart : goal.change-requires-clause-apart
+change-requires-clause-apart g c = grown_apart c.args.store.now.slots c.args.key c.args.edge c.args.joined c.args.cell c.requires.joined c.requires.apart
+
+pub returns-else-is_some-clause-pairs : goal.returns-else-is_some-clause-pairs
+returns-else-is_some-clause-pairs g c = grown_pairs c.args.store.now.slots c.args.key c.args.edge c.args.joined c.args.cell c.requires.joined c.change.new.self.slots c.change.ensures.changed
+
+pub returns-else-is_some-clause-holders : goal.returns-else-is_some-clause-holders
+returns-else-is_some-clause-holders g c = grown_hold c.args.store.now.slots c.args.key c.args.edge c.args.joined c.args.cell c.requires.joined c.change.new.self.slots c.change.ensures.changed
