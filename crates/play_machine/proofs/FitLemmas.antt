@@ -1,15 +1,13 @@
 -- The steps of a script that was read are about cells of its sheet, and make no more edits than a log may have.
-use Rattle.std.proofs.Common.{◌≡◌, ◌⊎◌, inl, inr, ℕ, zero, suc, ◌+◌, ◌*◌, ◌<◌, ◌≤◌, Bool, true, false, cond, List, [], ◌∷◌, ◌++◌, length, get_or, count_by, IsTrue, All, arith, refl, sym, ap, subst, ◌∙◌}
+use Rattle.std.proofs.Common.{◌≡◌, ◌⊎◌, inl, inr, ℕ, ◌+◌, ◌*◌, ◌<◌, ◌≤◌, Bool, false, List, [], ◌∷◌, ◌++◌, length, count_by, IsTrue, All, arith, refl, sym, ap, subst, ◌∙◌}
 use Rattle.std.specs.Prelude.{fold}
-use Rattle.std.proofs.lemmas.Bool.{cases_lt}
 use Rattle.std.proofs.lemmas.List.Elements.{All-push}
-use Rattle.std.proofs.lemmas.List.Sums.{sum_by-append, sum_by-cons}
-use Rattle.sheet_refs.specs.Cells.{Position, Corners, IsIn, cells_of, height, width}
+use Rattle.std.proofs.lemmas.List.Sums.{sum_by-cons}
+use Rattle.sheet_refs.specs.Cells.{Position, Corners, IsIn, height, width}
 use Rattle.sheet_refs.specs.Sizes.{is_inside}
 use Rattle.sheet_refs.specs.declared.sizes.Sizes.{Sizes}
 use Rattle.sheet_refs.proofs.Grid.{rows_length}
 use Rattle.sheet_model.specs.Sheets.{SheetValue, HasLabel, with_labels}
-use Rattle.sheet_model.specs.declared.change.Edit.{Edit}
 use Rattle.sheet_model.proofs.SheetLemmas.{held_content, held_empty}
 use Rattle.edit_script.specs.Lines.{LineValue, Skip, Client, Set, Clear, Look, Firm, Work}
 use Rattle.edit_script.specs.Scripts.{AreLines, AreSteps, Brought, IsAllowed, IsCommand, IsScript, IsSilent, ScriptValue, brought_by, nothing_yet, with_line}
@@ -17,11 +15,10 @@ use Rattle.edit_script.specs.Scripts.AreLines.{none as no_lines, more as more_li
 use Rattle.edit_script.specs.Scripts.AreSteps.{none as no_steps, silent as silent_line, command as command_line}
 use Rattle.edit_script.specs.Scripts.IsCommand.{set, clear, look, firm, work}
 use Rattle.edit_script.specs.declared.script.Command.{Command}
-use Rattle.edit_script.specs.declared.script.Command.TheVariants as asks
 use Rattle.edit_script.specs.declared.script.Mode.{Mode}
 use Rattle.edit_script.specs.declared.script.Step.{Step}
 use Rattle.edit_script.proofs.OneScript.{none_last, one_last}
-use Rattle.play_machine.specs.Playing.{AreFit, FitsSheet, IsFit, IsWindow, is_put}
+use Rattle.play_machine.specs.Playing.{AreFit, IsFit, IsWindow, is_put}
 use Rattle.play_machine.proofs.MarkLemmas.{not_both}
 use Rattle.play_machine.proofs.PlayLemmas.{one_of}
 use Rattle.play_machine.proofs.TurnLemmas.{true_or_false}

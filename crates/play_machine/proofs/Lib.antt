@@ -1,7 +1,9 @@
 pub mod FitLemmas
-pub mod LeastLemmas
+pub mod CountLemmas
 pub mod MarkLemmas
 pub mod OnePlay
 pub mod PlayLemmas
+pub mod QueueLemmas
 pub mod ReadyLemmas
 pub mod TurnLemmas
+pub mod WaiterLemmas

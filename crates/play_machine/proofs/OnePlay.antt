@@ -1,9 +1,9 @@
 -- Steps over a sheet give one list of reports.
-use Rattle.std.proofs.Common.{◌≡◌, ◌≢◌, ◌⊎◌, inl, inr, ℕ, zero, suc, ◌+◌, ◌<◌, ◌≤◌, true, false, List, [], ◌∷◌, ◌++◌, length, get_or, map, replicate, IsTrue, arith, refl, sym, ap, ap₂, subst, ◌∙◌}
+use Rattle.std.proofs.Common.{◌≡◌, ◌⊎◌, inl, inr, ℕ, ◌+◌, ◌<◌, ◌≤◌, true, false, List, [], ◌∷◌, ◌++◌, length, get_or, replicate, IsTrue, arith, refl, sym, ap, ap₂, subst, ◌∙◌}
 use Rattle.std.proofs.lemmas.Bool.{cases_eq, cases_lt}
 use Rattle.std.proofs.lemmas.Grind.{same_number_lists}
 use Rattle.std.proofs.lemmas.List.{length-replicate}
-use Rattle.sheet_refs.specs.Cells.{Position, Corners, cells_of}
+use Rattle.sheet_refs.specs.Cells.{Position, Corners}
 use Rattle.sheet_refs.specs.Sizes.{cell_count, is_inside, place_of}
 use Rattle.sheet_refs.specs.declared.sizes.Sizes.{Sizes}
 use Rattle.sheet_refs.proofs.Places.{place_same}
@@ -16,7 +16,7 @@ use Rattle.edit_script.specs.declared.script.Command.TheVariants.{Put, Look, Fir
 use Rattle.edit_script.specs.declared.script.Step.{Step}
 use Rattle.edit_script.proofs.OneScript.{none_last, one_last}
 use Rattle.window_text.specs.declared.report.Report.{Report}
-use Rattle.play_machine.specs.Machine.{AreTurns, Follows, IsFirst, IsMarked, IsNowhere, IsReady, IsTurn, Machine, MarksTouched, OneList, Plays, after_put, mark_of, opening, report_of, with_marks, without_mark}
+use Rattle.play_machine.specs.Machine.{AreTurns, Follows, IsFirst, IsMarked, IsReady, IsTurn, Machine, MarksTouched, OneList, Plays, after_put, mark_of, opening, report_of, with_marks, without_mark}
 use Rattle.play_machine.specs.Machine.AreTurns.{none as no_turns, more as more_turns}
 use Rattle.play_machine.specs.Machine.Follows.{puts, looks, settles, works}
 use Rattle.play_machine.specs.Machine.IsTurn.{clears_ready, clears_marked, clears_nothing}

@@ -1,7 +1,7 @@
 -- What steps do to the machine.
-use Rattle.std.proofs.Common.{◌≡◌, ◌↔◌, ℕ, zero, suc, ◌+◌, ◌<◌, ◌≤◌, Bool, true, false, cond, List, [], ◌∷◌, ◌++◌, length, length-append, get_or, take, map, replicate, count_by, IsTrue, All, Contains, arith, refl, sym, ap, subst, ◌∙◌}
+use Rattle.std.proofs.Common.{◌≡◌, ℕ, zero, suc, ◌+◌, ◌<◌, ◌≤◌, Bool, true, false, cond, List, [], ◌∷◌, ◌++◌, length, length-append, get_or, take, map, replicate, count_by, IsTrue, All, arith, refl, sym, ap, subst, ◌∙◌}
 use Rattle.std.specs.Prelude.{Some, slice_get}
-use Rattle.sheet_refs.specs.Cells.{Position, Corners, IsIn, cells_of}
+use Rattle.sheet_refs.specs.Cells.{Position, Corners, cells_of}
 use Rattle.sheet_refs.specs.Sizes.{cell_count, is_inside}
 use Rattle.sheet_refs.specs.declared.sizes.Sizes.{Sizes}
 use Rattle.graph_walk.specs.Paths.{IsReached}
@@ -30,7 +30,7 @@ use Rattle.play_machine.specs.Machine.{AreTurns, Follows, IsMarked, IsNowhere, M
 use Rattle.play_machine.specs.Machine.Follows.{puts, looks, settles, works}
 use Rattle.play_machine.specs.Machine.Plays.{more, none as no_steps}
 use Rattle.play_machine.specs.Marking.{Marks}
-use Rattle.play_machine.specs.Playing.{FitsSheet, IsFit, IsWindow, Tells, is_put}
+use Rattle.play_machine.specs.Playing.{IsFit, Tells, is_put}
 
 -- cells that an entry touches, marked with a number
 pub touched_marks : (opening sheet : SheetValue) (log : List Entry) (entry : Entry) (client : ℕ) (edit : Edit) (cells : List Position) (number : ℕ) (old new : List ℕ) → sheet ≡ after opening log → AreTouched opening log entry cells → entry ≡ entry_of client edit → Marks sheet.sizes cells number old new → MarksTouched sheet client edit number old new

@@ -1,20 +1,19 @@
 -- Which cells are ready, and the first cell that is such as is asked for.
-use Rattle.std.proofs.Common.{◌≡◌, ◌≢◌, ◌⊎◌, inl, inr, ℕ, zero, suc, ◌+◌, ◌<◌, ◌≤◌, Bool, true, false, List, [], ◌∷◌, ◌++◌, length, get_or, IsTrue, IsFalse, Contains, arith, refl, sym, ap, subst, ◌∙◌}
-use Rattle.std.specs.Prelude.{slice_get, Some, ◌↔◌}
+use Rattle.std.proofs.Common.{◌≡◌, ◌⊎◌, inl, inr, ℕ, ◌+◌, ◌<◌, ◌≤◌, Bool, true, false, List, [], ◌∷◌, ◌++◌, length, IsTrue, IsFalse, Contains, arith, refl, sym, ap, subst, ◌∙◌}
+use Rattle.std.specs.Prelude.{slice_get, Some}
 use Rattle.std.proofs.Math.Nat.{eq-or-lt_of_le}
 use Rattle.std.proofs.lemmas.List.Elements.{Contains-append_cases}
 use Rattle.std.proofs.lemmas.Option.{slice_get-get_or}
-use Rattle.sheet_refs.specs.Cells.{Position, Corners, IsIn, ListsCells, cells_of}
+use Rattle.sheet_refs.specs.Cells.{Position, Corners, ListsCells, cells_of}
 use Rattle.sheet_refs.specs.Sizes.{HoldsPart, MissesRange, is_inside, cell_count, place_of}
 use Rattle.sheet_refs.specs.declared.sizes.Sizes.{Sizes}
 use Rattle.sheet_refs.proofs.Places.{place-lt, place_same}
 use Rattle.formula_syntax.specs.Listing.{IsOnceEach}
-use Rattle.formula_syntax.proofs.Listings.{once_all, once_back}
+use Rattle.formula_syntax.proofs.Listings.{once_all}
 use Rattle.sheet_model.specs.Sheets.{SheetValue, content_of}
 use Rattle.edit_log.specs.Pairs.{ranges_in}
-use Rattle.edit_log.specs.Touches.{IsStep}
-use Rattle.play_machine.specs.Machine.{IsFirst, IsMarked, IsNowhere, IsReady, is_marked, mark_of}
-use Rattle.play_machine.specs.Marking.{HasNoMark, NoneHasMark, SomeHasMark}
+use Rattle.play_machine.specs.Machine.{IsFirst, IsNowhere, IsReady, is_marked, mark_of}
+use Rattle.play_machine.specs.Marking.{HasNoMark, NoneHasMark}
 use Rattle.play_machine.proofs.MarkLemmas.{mark_outside, not_both, only_member, unmarked_from}
 
 -- a cell past the rectangle isn't marked
@@ -47,12 +46,6 @@ module _ (sheet : SheetValue) (marks : List ℕ) (cell : Position) where
     where
       no_range : (range : Corners) → Contains [] range → ⊥
       no_range range there = absurd (omega (arith, there))
-
-  -- a cell that refers to a marked one isn't
-  pub refers_unready : (ranges : List Corners) → IsOnceEach (ranges_in (content_of sheet cell)) ranges → SomeHasMark sheet.sizes marks ranges → ¬ IsReady sheet marks cell
-  refers_unready ranges once some ready =
-      let listed = once_back (ranges_in (content_of sheet cell)) ranges some.0 once some.1 in
-      not_both (is_marked sheet.sizes marks some.2.0) some.2.2 (ready.inputs some.2.0 (record { pair = record { range = some.0; cell = cell }; of_sheet = listed; inside = some.2.1; cell_is = refl }))
 
   -- a marked cell none of whose ranges has a marked one is
   pub ready_all : (ranges : List Corners) → IsOnceEach (ranges_in (content_of sheet cell)) ranges → NoneHasMark sheet.sizes marks ranges → IsTrue (is_marked sheet.sizes marks cell) → IsReady sheet marks cell

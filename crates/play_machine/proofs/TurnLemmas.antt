@@ -1,10 +1,9 @@
 -- Turns can be made from any marks, and as many turns as there are cells leave no cell marked.
-use Rattle.std.proofs.Common.{◌≡◌, ◌≢◌, ◌⊎◌, inl, inr, ℕ, zero, suc, ◌+◌, ◌-◌, ◌*◌, ◌/◌, ◌%◌, ◌<◌, ◌≤◌, Bool, true, false, cond, List, [], ◌∷◌, length, get_or, set, replicate, count_by, IsTrue, IsFalse, Contains, arith, refl, sym, ap, subst, ◌∙◌}
+use Rattle.std.proofs.Common.{◌≡◌, ◌⊎◌, inl, inr, ℕ, zero, suc, ◌+◌, ◌-◌, ◌*◌, ◌/◌, ◌%◌, ◌<◌, ◌≤◌, Bool, true, false, cond, List, [], ◌∷◌, length, get_or, replicate, IsTrue, IsFalse, Contains, arith, refl, sym, ap, subst, ◌∙◌}
 use Rattle.std.specs.Prelude.{nat_lt}
 use Rattle.std.proofs.lemmas.Bool.{cases_lt, cases_eq}
 use Rattle.std.proofs.lemmas.Grind.{same_number_lists}
 use Rattle.std.proofs.lemmas.List.{get_or-replicate, length-replicate, length-set}
-use Rattle.std.proofs.lemmas.List.Sums.{count_by-le-length}
 use Rattle.std.proofs.lemmas.Option.{slice_get-get_or}
 use Rattle.sheet_refs.specs.Cells.{Position, Corners, IsIn}
 use Rattle.sheet_refs.specs.Sizes.{is_inside, cell_count, place_of}
@@ -18,7 +17,7 @@ use Rattle.edit_log.specs.Touches.{cell_at}
 use Rattle.play_machine.specs.Machine.{AreTurns, IsFirst, IsMarked, IsNowhere, IsReady, IsTurn, is_marked, mark_of, without_mark}
 use Rattle.play_machine.specs.Machine.AreTurns.{none as no_turns, more as more_turns}
 use Rattle.play_machine.specs.Machine.IsTurn.{clears_ready, clears_marked, clears_nothing}
-use Rattle.play_machine.specs.Marking.{ClearsFirst, HasMark, HasNoMark, NoneHasMark, SomeHasMark}
+use Rattle.play_machine.specs.Marking.{HasNoMark, NoneHasMark, marked_count}
 use Rattle.play_machine.proofs.MarkLemmas.{mark_inside, marked_from, not_both, unmarked_from}
 use Rattle.play_machine.proofs.ReadyLemmas.{outside_unmarked}
 
@@ -92,6 +91,13 @@ in_or_out cell range = go (cases_lt cell.row range.head.row) (cases_lt range.tai
     go (inr a) (inr b) (inr c) (inr d) = inl (record { row_from = a; row_to = b; col_from = c; col_to = d })
 
 -- some cell of a range is marked, or none is
+-- some cell of a range is marked, or of one of some ranges
+abbrev HasMark : Sizes → List ℕ → Corners → Type 0
+HasMark sizes marks range = (cell : Position) × IsIn cell range × IsTrue (is_marked sizes marks cell)
+
+abbrev SomeHasMark : Sizes → List ℕ → List Corners → Type 0
+SomeHasMark sizes marks ranges = (range : Corners) × Contains ranges range × HasMark sizes marks range
+
 module _ (sizes : Sizes) (marks : List ℕ) where
   abbrev MarkedIn : Corners → Position → Type 0
   MarkedIn range cell = IsIn cell range × IsTrue (is_marked sizes marks cell)
@@ -144,12 +150,8 @@ ready_or_not sheet marks cell = go (true_or_not (is_marked sheet.sizes marks cel
 abbrev one_of : Bool → ℕ
 one_of b = cond b 1 0
 
--- how many cells are marked
-abbrev marked_count : List ℕ → ℕ
-marked_count marks = count_by (nat_lt 0) marks
-
 -- it falls by one where a marked cell is cleared
-cleared_count : (sizes : Sizes) (marks : List ℕ) (cell : Position) → length marks ≡ cell_count sizes → IsTrue (is_inside sizes cell) → IsTrue (is_marked sizes marks cell) → marked_count (without_mark sizes marks cell) + 1 ≡ marked_count marks
+pub cleared_count : (sizes : Sizes) (marks : List ℕ) (cell : Position) → length marks ≡ cell_count sizes → IsTrue (is_inside sizes cell) → IsTrue (is_marked sizes marks cell) → marked_count (without_mark sizes marks cell) + 1 ≡ marked_count marks
 cleared_count sizes marks cell count inside marked =
     let place = place_of sizes cell in
     let below : place < length marks = (let h = place-lt sizes cell inside in omega (arith, h, count)) in
@@ -257,11 +259,6 @@ turns_clear sheet turns marks filled enough =
     nowhere made (inl less) = λ cell inside marked.
         let one = cleared_count sheet.sizes made.new cell (made.length_is ∙ filled) inside marked in
         absurd (omega (arith, less, one, enough))
-
--- a first cell that was cleared, as a turn where none is ready
-pub turn_cleared : (sheet : SheetValue) (old new : List ℕ) → IsNowhere sheet.sizes (IsReady sheet old) → ClearsFirst sheet.sizes old new → IsTurn sheet old new
-turn_cleared sheet old new none (inl (cell, first, is)) = clears_marked cell none first is
-turn_cleared sheet old new none (inr (nowhere, same)) = clears_nothing nowhere same
 
 -- there are as many marks after a turn as before it
 pub turn_length : (sheet : SheetValue) (old new : List ℕ) → IsTurn sheet old new → length new ≡ length old

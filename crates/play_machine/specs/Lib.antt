@@ -1,3 +1,4 @@
 pub mod Machine
 pub mod Marking
 pub mod Playing
+pub mod Waiting

@@ -9,12 +9,12 @@
 #![tactic(auto)]
 
 mod laws;
-mod least;
+mod marked;
 mod marks;
 mod player;
 mod playing;
-mod readiness;
-mod turns;
+mod queue;
+mod waiter;
 
 pub use laws::play_laws;
 pub use playing::play;

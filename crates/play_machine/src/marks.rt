@@ -1,7 +1,7 @@
-ghost use Rattle.std.specs.Prelude.{◌≡◌, ◌∷◌, [], length, replicate, IsTrue, IfOk};
-ghost use Rattle.sheet_refs.specs.Sizes.{cell_count, is_inside, place_of};
-ghost use Rattle.play_machine.specs.Machine.{is_marked, mark_of};
-ghost use Rattle.play_machine.specs.Marking.{Marks};
+ghost use Rattle.std.specs.Prelude.{◌≡◌, ◌∷◌, [], ◌+◌, ◌≤◌, length, replicate, IfOk};
+ghost use Rattle.sheet_refs.specs.Sizes.{cell_count};
+ghost use Rattle.play_machine.specs.Machine.{mark_of};
+ghost use Rattle.play_machine.specs.Marking.{Marks, marked_count};
 
 use sheet_refs::{Cell, Memory, Sizes};
 use std::alloc::Global;
@@ -17,13 +17,6 @@ pub(crate) fn no_marks(alloc: Global, cells: usize) -> Result<Vec<u64>, Memory>
     Ok(marks)
 }
 
-/// Takes all marks away.
-pub(crate) fn clear_all(marks: &mut Vec<u64>)
-    ensures { marks.new.items ≡ replicate (length marks.old.items) 0 }
-{
-    marks.fill(0);
-}
-
 /// The mark of a cell.
 pub(crate) fn mark_at(sizes: Sizes, marks: &[u64], cell: Cell) -> u64
     requires count { length marks.now ≡ cell_count sizes }
@@ -36,22 +29,33 @@ pub(crate) fn mark_at(sizes: Sizes, marks: &[u64], cell: Cell) -> u64
     }
 }
 
-// Marks a cell with a number, where it is in the rectangle.
-fn mark_cell(sizes: Sizes, cell: Cell, number: u64, marks: &mut Vec<u64>)
+// Marks a cell with a number, where it is in the rectangle; answers 1 where it had no mark, and else 0.
+fn mark_cell(sizes: Sizes, cell: Cell, number: u64, marks: &mut Vec<u64>) -> usize
     requires count { length marks.old.items ≡ cell_count sizes }
-    ensures { Marks sizes (cell ∷ []) number marks.old.items marks.new.items }
+    requires number { 1 ≤ number }
+    ensures marks { Marks sizes (cell ∷ []) number marks.old.items marks.new.items }
+    ensures counted { marked_count marks.new.items ≡ marked_count marks.old.items + result }
+    ensures one { result ≤ 1 }
 {
-    if sizes.holds(cell) {
-        marks[sizes.place(cell)] = number;
+    if !sizes.holds(cell) {
+        return 0;
     }
+    let place = sizes.place(cell);
+    let old = marks[place];
+    marks[place] = number;
+    if old == 0 { 1 } else { 0 }
 }
 
-/// Marks cells with a number.
-pub(crate) fn mark_all(sizes: Sizes, cells: &[Cell], number: u64, marks: &mut Vec<u64>)
+/// Marks cells with a number; answers how many had no mark.
+pub(crate) fn mark_all(sizes: Sizes, cells: &[Cell], number: u64, marks: &mut Vec<u64>) -> usize
     requires count { length marks.old.items ≡ cell_count sizes }
-    ensures { Marks sizes cells.now number marks.old.items marks.new.items }
+    requires number { 1 ≤ number }
+    ensures marks { Marks sizes cells.now number marks.old.items marks.new.items }
+    ensures counted { marked_count marks.new.items ≡ marked_count marks.old.items + result }
 {
+    let mut added = 0;
     for cell in cells {
-        mark_cell(sizes, *cell, number, marks);
+        added += mark_cell(sizes, *cell, number, marks);
     }
+    added
 }

@@ -1,11 +1,13 @@
 ghost use Rattle.std.specs.Prelude.{◌≡◌, ◌+◌, ◌<◌, ◌≤◌, [], length, IfOk, IfSome, IsTrue, OnOk};
-ghost use Rattle.sheet_refs.specs.Sizes.{cell_count, is_inside};
+ghost use Rattle.sheet_refs.specs.Sizes.{is_inside};
 ghost use Rattle.sheet_model.specs.Values.{AreValues, value_of};
 ghost use Rattle.edit_log.specs.Books.{IsPreparedFor, IsUnchanged, entry_of};
 ghost use Rattle.play_machine.specs.Machine.{MarksTouched, after_put, opening, report_of, shown_of};
 ghost use Rattle.play_machine.specs.Playing.{FitsSheet, IsWindow, machine_of};
+ghost use Rattle.play_machine.specs.Waiting.{AreKept};
 
-use crate::marks::{mark_all, mark_at, no_marks};
+use crate::marked::MarkedCells;
+use crate::marks::mark_at;
 use edit_log::{Book, PrepareRefused, Prepared};
 use graph_walk::Graph;
 use sheet_model::{Board, Edit, Sheet, Shown, all_values};
@@ -19,7 +21,7 @@ use window_text::Report;
 #[derive(Drop)]
 pub(crate) struct Player<G: Graph> {
     pub(crate) book: Book<G>,
-    pub(crate) marks: Vec<u64>,
+    pub(crate) cells: MarkedCells,
     pub(crate) values: Option<Vec<u64>>,
     pub(crate) alloc: Global,
 }
@@ -57,16 +59,15 @@ impl<G: Graph> Player<G> {
         G: Drop,
         requires { book.log ≡ [] }
         ensures machine { IfOk result
-            (λ player. machine_of player.book player.marks.items ≡ opening book.sheet) }
+            (λ player. machine_of player.book player.cells.marks.items ≡ opening book.sheet) }
+        ensures kept { IfOk result (λ player. AreKept player.book.sheet player.cells) }
         ensures values { IfOk result
             (λ player. IfSome player.values (λ v. AreValues player.book.sheet v.items)) }
     {
-        let sizes = book.sheet().sizes();
-        let cells = sizes.rows as usize * sizes.cols as usize;
-        let marks = no_marks(alloc, cells)?;
+        let cells = MarkedCells::new(alloc, book.sheet())?;
         Ok(Player {
             book,
-            marks,
+            cells,
             values: None,
             alloc,
         })
@@ -76,19 +77,20 @@ impl<G: Graph> Player<G> {
     pub(crate) fn put(&mut self, client: u32, edit: &Edit) -> Result<(), Memory>
         requires fits { FitsSheet self.old.book.sheet edit.now }
         requires few { length self.old.book.log < 1048576 }
-        requires count { length self.old.marks.items ≡ cell_count self.old.book.sheet.sizes }
+        requires kept { AreKept self.old.book.sheet self.old.cells }
         ensures marks { OnOk result (MarksTouched self.old.book.sheet client edit.now
-            (length self.old.book.log + 1) self.old.marks.items self.new.marks.items) }
-        ensures machine { OnOk result (machine_of self.new.book self.new.marks.items
-            ≡ after_put (machine_of self.old.book self.old.marks.items)
-            edit.now self.new.marks.items) }
+            (length self.old.book.log + 1) self.old.cells.marks.items self.new.cells.marks.items) }
+        ensures machine { OnOk result (machine_of self.new.book self.new.cells.marks.items
+            ≡ after_put (machine_of self.old.book self.old.cells.marks.items)
+            edit.now self.new.cells.marks.items) }
+        ensures kept { OnOk result (AreKept self.new.book.sheet self.new.cells) }
         ensures values { OnOk result
             (IfSome self.new.values (λ v. AreValues self.new.book.sheet v.items)) }
     {
         let sizes = self.book.sheet().sizes();
         let ready = prepare_edit(&mut self.book, client, edit)?;
         let applied = self.book.apply(ready);
-        mark_all(sizes, &applied.touched, applied.number, &mut self.marks);
+        self.cells.mark(sizes, &applied.touched, applied.number);
         self.values = None;
         Ok(())
     }
@@ -96,17 +98,17 @@ impl<G: Graph> Player<G> {
     // What is shown of a cell. The values are computed where the first cell since the last edit wants one.
     fn shown(&mut self, cell: Cell) -> Result<Shown, Memory>
         requires inside { IsTrue (is_inside self.old.book.sheet.sizes cell) }
-        requires count { length self.old.marks.items ≡ cell_count self.old.book.sheet.sizes }
+        requires kept { AreKept self.old.book.sheet self.old.cells }
         requires values { IfSome self.old.values (λ v. AreValues self.old.book.sheet v.items) }
         ensures shown { IfOk result
-            (λ shown. shown ≡ shown_of (machine_of self.old.book self.old.marks.items) cell) }
+            (λ shown. shown ≡ shown_of (machine_of self.old.book self.old.cells.marks.items) cell) }
         ensures same_book { self.new.book ≡ self.old.book }
-        ensures same_marks { self.new.marks ≡ self.old.marks }
+        ensures same_cells { self.new.cells ≡ self.old.cells }
         ensures values { OnOk result
             (IfSome self.new.values (λ v. AreValues self.new.book.sheet v.items)) }
     {
         let sheet = self.book.sheet();
-        let mark = mark_at(sheet.sizes(), &self.marks, cell);
+        let mark = mark_at(sheet.sizes(), &self.cells.marks, cell);
         if mark != 0 {
             return Ok(Shown::Stale(mark));
         }
@@ -122,12 +124,12 @@ impl<G: Graph> Player<G> {
     /// A look at a window.
     pub(crate) fn look(&mut self, firm: bool, window: Range) -> Result<Report, Memory>
         requires window { IsWindow self.old.book.sheet window }
-        requires count { length self.old.marks.items ≡ cell_count self.old.book.sheet.sizes }
+        requires kept { AreKept self.old.book.sheet self.old.cells }
         requires values { IfSome self.old.values (λ v. AreValues self.old.book.sheet v.items) }
         ensures report { IfOk result (λ report. report
-            ≡ report_of (machine_of self.old.book self.old.marks.items) firm window) }
+            ≡ report_of (machine_of self.old.book self.old.cells.marks.items) firm window) }
         ensures same_book { self.new.book ≡ self.old.book }
-        ensures same_marks { self.new.marks ≡ self.old.marks }
+        ensures same_cells { self.new.cells ≡ self.old.cells }
         ensures values { OnOk result
             (IfSome self.new.values (λ v. AreValues self.new.book.sheet v.items)) }
     {

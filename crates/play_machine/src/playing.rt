@@ -1,14 +1,12 @@
 ghost use Rattle.std.specs.Prelude.{◌≡◌, ◌<◌, [], length, All, IfOk, IfSome, IsTrue, OnOk};
-ghost use Rattle.sheet_refs.specs.Sizes.{cell_count};
 ghost use Rattle.sheet_model.specs.Values.{AreValues};
 ghost use Rattle.edit_log.specs.Books.{IsBook};
 ghost use Rattle.window_text.specs.Reports.{IsFull};
 ghost use Rattle.play_machine.specs.Machine.{ArePlayed};
 ghost use Rattle.play_machine.specs.Playing.{AreFit, IsFit, Tells, is_put, machine_of};
+ghost use Rattle.play_machine.specs.Waiting.{AreKept};
 
-use crate::marks::clear_all;
 use crate::player::Player;
-use crate::turns::work;
 use edit_log::Book;
 use edit_script::{Command, Step};
 use graph_walk::Graph;
@@ -21,13 +19,12 @@ impl<G: Graph> Player<G> {
     fn follow(&mut self, step: &Step, reports: &mut Vec<Report>) -> Result<(), Memory>
         requires fit { IsFit self.old.book.sheet step.now.command }
         requires few { IsTrue (is_put step.now.command) → length self.old.book.log < 1048576 }
-        requires count { length self.old.marks.items ≡ cell_count self.old.book.sheet.sizes }
+        requires kept { AreKept self.old.book.sheet self.old.cells }
         requires values { IfSome self.old.values (λ v. AreValues self.old.book.sheet v.items) }
-        ensures follows { OnOk result (Tells (machine_of self.old.book self.old.marks.items)
-            (machine_of self.new.book self.new.marks.items) step.now
+        ensures follows { OnOk result (Tells (machine_of self.old.book self.old.cells.marks.items)
+            (machine_of self.new.book self.new.cells.marks.items) step.now
             reports.old.items reports.new.items) }
-        ensures count { OnOk result
-            (length self.new.marks.items ≡ cell_count self.new.book.sheet.sizes) }
+        ensures kept { OnOk result (AreKept self.new.book.sheet self.new.cells) }
         ensures values { OnOk result
             (IfSome self.new.values (λ v. AreValues self.new.book.sheet v.items)) }
     {
@@ -42,20 +39,13 @@ impl<G: Graph> Player<G> {
                 Ok(())
             }
             Command::Firm(window) => {
-                clear_all(&mut self.marks);
+                self.cells.clear();
                 let report = self.look(true, *window)?;
                 reports.push(report)?;
                 Ok(())
             }
             Command::Work(turns) => {
-                let graph = self.book.graph();
-                work(
-                    self.alloc,
-                    self.book.sheet(),
-                    graph,
-                    *turns,
-                    &mut self.marks,
-                )?;
+                self.cells.work(self.book.sheet(), *turns)?;
                 Ok(())
             }
         }
@@ -66,7 +56,9 @@ impl<G: Graph> Player<G> {
 ///
 /// An edit takes the time of the walk of the graph over the dependents of its cell. Values are computed once at most
 /// between two edits, and only where a look shows one. A firm look, and work of as many turns as there are marks,
-/// take all marks away in one pass.
+/// take all marks away in one pass, or at once where there is none. The first shorter work since an edit looks at each
+/// cell of the sheet; its turns, and all up to the next edit, look at the cells in the references of marked ones twice
+/// at most. For these a list of the ranges of each waiting formula is kept.
 pub fn play<G: Graph>(
     alloc: Global,
     book: Book<G>,

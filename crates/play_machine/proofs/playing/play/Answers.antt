@@ -1,4 +1,4 @@
-use Rattle.std.proofs.Common.{◌≡◌, ◌+◌, ◌≤◌, ◌<◌, List, length, take, count_by, arith, ap, sym, subst, ◌∙◌}
+use Rattle.std.proofs.Common.{◌≡◌, ◌+◌, arith, ap, sym, subst, ◌∙◌}
 use Rattle.std.proofs.lemmas.List.{take_all}
 use Rattle.edit_script.specs.declared.script.Step.{Step}
 use Rattle.play_machine.specs.Machine.{Plays, opening}
@@ -9,8 +9,8 @@ use Rattle.play_machine.proofs.playing.play.Goals as goal
 pub loop-step-init : goal.loop-step-init
 loop-step-init g c =
     let told = c.in_ok-player.ensures in
-    let begun = opened (machine_of c.in_ok-player.player.book c.in_ok-player.player.marks.items) c.args.book.sheet told.machine in
-    (plays_none _ c.args.book.sheet _ told.machine c.new-reports.ensures.items, begun.3, told.values, begun.0, begun.1, begun.2)
+    let begun = opened (machine_of c.in_ok-player.player.book c.in_ok-player.player.cells.marks.items) c.args.book.sheet told.machine in
+    (plays_none _ c.args.book.sheet _ told.machine c.new-reports.ensures.items, told.kept, told.values, begun.0, begun.1, begun.2)
 
 pub follow-requires-clause-fit : goal.follow-requires-clause-fit
 follow-requires-clause-fit g c =
@@ -32,7 +32,7 @@ loop-step-preserved g c =
     let keeps = follows_keeps _ _ _ _ _ told.follows.follows in
     let more = count_more (λ (s : Step). is_put s.command) c.args.steps.now c.loop-step.step-index c.step-item.result c.loop-step-test.true c.step-item.is in (
       plays_more (opening c.args.book.sheet) _ _ c.args.steps.now c.loop-step.step-index c.step-item.result _ _ c.loop-step.invariant.0 told.follows c.loop-step-test.true c.step-item.is,
-      told.count,
+      told.kept,
       told.values,
       keeps.sizes ∙ c.loop-step.invariant.3,
       keeps.labels ∙ c.loop-step.invariant.4,
@@ -41,8 +41,8 @@ loop-step-preserved g c =
 
 pub returns-clause-reports : goal.returns-clause-reports
 returns-clause-reports g c = (
-  machine_of c.loop-step.player.book c.loop-step.player.marks.items,
-  subst (λ s. Plays (opening c.args.book.sheet) s (machine_of c.loop-step.player.book c.loop-step.player.marks.items) c.loop-step.reports.items) (take_all c.loop-step.step-index c.args.steps.now c.loop-step-test.false) c.loop-step.invariant.0,
+  machine_of c.loop-step.player.book c.loop-step.player.cells.marks.items,
+  subst (λ s. Plays (opening c.args.book.sheet) s (machine_of c.loop-step.player.book c.loop-step.player.cells.marks.items) c.loop-step.reports.items) (take_all c.loop-step.step-index c.args.steps.now c.loop-step-test.false) c.loop-step.invariant.0,
 )
 
 pub returns-clause-full : goal.returns-clause-full

@@ -8,11 +8,11 @@ use Rattle.play_machine.proofs.player.Player.look.Given as goal
 
 abbrev pub invariant-loop-place : goal.invariant-loop-place
 invariant-loop-place g l =
-    (l.self.book ≡ l.fn.self.book) × (l.self.marks ≡ l.fn.self.marks)
+    (l.self.book ≡ l.fn.self.book) × (l.self.cells ≡ l.fn.self.cells)
     × IfSome l.self.values (λ v. AreValues l.self.book.sheet v.items)
     × (l.board ≡ record {
       room = length (cells_of l.window);
       number = length l.fn.self.book.log;
       window = l.window;
-      cells = map (shown_of (machine_of l.fn.self.book l.fn.self.marks.items)) (take l.place (cells_of l.window));
+      cells = map (shown_of (machine_of l.fn.self.book l.fn.self.cells.marks.items)) (take l.place (cells_of l.window));
     })

@@ -1,4 +1,4 @@
-use Rattle.std.proofs.Common.{◌≡◌, ap, sym, subst, ◌∙◌}
+use Rattle.std.proofs.Common.{ap, ◌∙◌}
 use Rattle.sheet_model.specs.Sheets.{SheetValue}
 use Rattle.play_machine.proofs.PlayLemmas.{put_machine, put_marks}
 use Rattle.play_machine.proofs.player.Player.put.Goals as goal
@@ -8,12 +8,12 @@ returns-clause-marks g c =
     let book = c.args.self.now.book in
     let same = c.in_ok-ready.ensures.same in
     let prepared = c.in_ok-ready.ensures.prepared in
-    put_marks book.opening book.sheet c.prepare_edit.new.book.opening book.log c.prepare_edit.new.book.log c.sizes-sizes.result c.in_ok-ready.ready.entry c.args.client c.args.edit.now c.in_ok-ready.ready.touched c.deref.result.now c.apply-applied.result.number c.args.self.now.marks.items c.mark_all.new.marks.items
-    c.sheet.ensures.kept.replayed same.opening same.log prepared.touched c.in_ok-ready.ensures.entry (c.sizes-sizes.ensures.sizes ∙ ap (λ (s : SheetValue). s.sizes) c.sheet.ensures.sheet) (c.deref.ensures.value ∙ c.apply-applied.ensures.touched) (c.apply-applied.ensures.number ∙ prepared.number) c.mark_all.ensures
+    put_marks book.opening book.sheet c.prepare_edit.new.book.opening book.log c.prepare_edit.new.book.log c.sizes-sizes.result c.in_ok-ready.ready.entry c.args.client c.args.edit.now c.in_ok-ready.ready.touched c.deref.result.now c.apply-applied.result.number c.args.self.now.cells.marks.items c.mark.new.self.marks.items
+    c.sheet.ensures.kept.replayed same.opening same.log prepared.touched c.in_ok-ready.ensures.entry (c.sizes-sizes.ensures.sizes ∙ ap (λ (s : SheetValue). s.sizes) c.sheet.ensures.sheet) (c.deref.ensures.value ∙ c.apply-applied.ensures.touched) (c.apply-applied.ensures.number ∙ prepared.number) c.mark.ensures.marks
 
 pub returns-clause-machine : goal.returns-clause-machine
 returns-clause-machine g c =
     let book = c.args.self.now.book in
     let same = c.in_ok-ready.ensures.same in
-    put_machine book.sheet c.apply-applied.new.self.sheet c.prepare_edit.new.book.sheet book.log c.prepare_edit.new.book.log c.apply-applied.new.self.log c.in_ok-ready.ready.entry c.args.client c.args.edit.now c.args.self.now.marks.items c.mark_all.new.marks.items
+    put_machine book.sheet c.apply-applied.new.self.sheet c.prepare_edit.new.book.sheet book.log c.prepare_edit.new.book.log c.apply-applied.new.self.log c.in_ok-ready.ready.entry c.args.client c.args.edit.now c.args.self.now.cells.marks.items c.mark.new.self.marks.items
     same.sheet same.log c.apply-applied.ensures.applied.sheet c.apply-applied.ensures.applied.log c.in_ok-ready.ensures.entry
