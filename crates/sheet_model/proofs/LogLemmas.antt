@@ -1,10 +1,12 @@
 -- What logs do to a sheet.
-use Rattle.std.proofs.Common.{◌≡◌, Bool, true, false, cond, List, [], ◌∷◌, ◌++◌, refl, ◌∙◌}
+use Rattle.std.proofs.Common.{◌≡◌, ◌≢◌, Bool, true, false, cond, List, [], ◌∷◌, ◌++◌, IsTrue, refl, ◌∙◌, ap}
+use Rattle.sheet_refs.specs.Cells.{Position}
 use Rattle.sheet_refs.specs.Sizes.{is_inside}
 use Rattle.sheet_model.specs.Changes.{ChangeValue, after_change}
 use Rattle.sheet_model.specs.Logs.{after, after_edit}
-use Rattle.sheet_model.specs.Sheets.{SheetValue, with_content}
+use Rattle.sheet_model.specs.Sheets.{SheetValue, IsSheet, content_of, with_content}
 use Rattle.sheet_model.specs.declared.entry.Entry.{Entry}
+use Rattle.sheet_model.proofs.SheetLemmas.{content_of-same, content_of-other}
 
 -- one more entry makes one more edit
 pub after-more : (sheet : SheetValue) (log : List Entry) (entry : Entry) → after sheet (log ++ entry ∷ []) ≡ after_edit (after sheet log) entry.edit
@@ -34,3 +36,20 @@ after-sizes sheet (entry ∷ log) = after-sizes (after_edit sheet entry.edit) lo
 pub after-labels : (sheet : SheetValue) (log : List Entry) → (after sheet log).labels ≡ sheet.labels
 after-labels sheet [] = refl
 after-labels sheet (entry ∷ log) = after-labels (after_edit sheet entry.edit) log ∙ change-labels sheet entry.edit.change
+
+-- a change of a cell of the sheet writes there
+change-inside : (sheet : SheetValue) (change : ChangeValue) → IsTrue (is_inside sheet.sizes change.cell) → after_change sheet change ≡ with_content sheet change.cell change.content
+change-inside sheet change inside = rw inside refl
+
+pub change-here : (sheet : SheetValue) (change : ChangeValue) → IsSheet sheet → IsTrue (is_inside sheet.sizes change.cell) → content_of (after_change sheet change) change.cell ≡ change.content
+change-here sheet change is inside =
+    ap (λ (s : SheetValue). content_of s change.cell) (change-inside sheet change inside) ∙ content_of-same sheet change.cell change.content inside is
+
+-- and nowhere else
+pub change-others : (sheet : SheetValue) (change : ChangeValue) (cell : Position) → cell ≢ change.cell → content_of (after_change sheet change) cell ≡ content_of sheet cell
+change-others sheet change cell differs = go (is_inside sheet.sizes change.cell) refl
+  where
+    go : (b : Bool) → is_inside sheet.sizes change.cell ≡ b → content_of (after_change sheet change) cell ≡ content_of sheet cell
+    go true inside =
+        ap (λ (s : SheetValue). content_of s cell) (change-inside sheet change inside) ∙ content_of-other sheet change.cell change.content inside cell differs
+    go false outside = let same : after_change sheet change ≡ sheet = rw outside refl in ap (λ (s : SheetValue). content_of s cell) same

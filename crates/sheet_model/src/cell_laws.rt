@@ -1,3 +1,4 @@
+ghost use Rattle.sheet_model.specs.Changes.{ChangesFillTheirCell, ChangesLeaveOtherCells};
 ghost use Rattle.sheet_model.specs.Fields.{WritesOneContent, RefusedWritesNone};
 ghost use Rattle.sheet_model.specs.Logs.{OneMoreEntryIsOneMoreEdit, LogsKeepSizes, LogsKeepLabels};
 ghost use Rattle.sheet_model.specs.Sheets.{SheetsAreTheirCells};
@@ -15,10 +16,12 @@ pub fn sheet_laws()
     ensures { SheetsAreTheirCells }
 {}
 
-/// What holds of sheets after logs of edits: a log with one more entry makes one more edit, and no log changes
-/// the sizes or the labels of a sheet.
+/// What holds of sheets after logs of edits: a log with one more entry makes one more edit, which fills its cell
+/// and leaves every other cell as it was, and no log changes the sizes or the labels of a sheet.
 pub fn log_laws()
     ensures more { OneMoreEntryIsOneMoreEdit }
+    ensures here { ChangesFillTheirCell }
+    ensures others { ChangesLeaveOtherCells }
     ensures sizes { LogsKeepSizes }
     ensures labels { LogsKeepLabels }
 {}
