@@ -43,6 +43,6 @@ pub record IsEditing {S : Type 0} {G : Ghosts S ℕ} (marks : Marks S ℕ) (seat
   pub pending : (edits_of seat).pending ≡ None
   pub marked : (edits_of seat).marked ≡ []
 
--- the first of the two is a seat of the table that knows no entry
-pub record IsViewing {S X : Type 0} {G : Ghosts S ℕ} (marks : Marks S ℕ) (viewer : Seat S ℕ G × X) : Type 0 where
-  pub scripted : IsScripted marks viewer.0 0
+-- the first of the two is a seat of the table that knows so many entries
+pub record IsReading {S X : Type 0} {G : Ghosts S ℕ} (marks : Marks S ℕ) (reader : Seat S ℕ G × X) (number : ℕ) : Type 0 where
+  pub scripted : IsScripted marks reader.0 number

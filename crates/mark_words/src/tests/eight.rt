@@ -2,13 +2,13 @@
 
 ghost use Rattle.std.specs.Prelude.{◌≡◌, ◌≤◌, ◌<◌, ◌+◌, true, All, IfOk};
 ghost use Rattle.mark_words.specs.Token.{IsSeatOf, closed_places};
-ghost use Rattle.mark_words.specs.EightCells.{last_of, Sets, last_stays, script, IsScripted, IsEditing, IsViewing};
+ghost use Rattle.mark_words.specs.EightCells.{last_of, Sets, last_stays, script, IsScripted, IsEditing, IsReading};
 
 use crate::closing::Words;
 use crate::marks::Marks;
 use crate::seats::Seat;
 use crate::tests::uses::{looks, recomputes};
-use mark_core::{Clean, Memory, Seen, Subject};
+use mark_core::{Clean, Memory, Seen, Subject, shown};
 use std::alloc::Global;
 
 /// Eight places, of which entry n sets the one that n leaves when divided by 8.
@@ -73,32 +73,7 @@ pub(super) fn sets_many(marks: &Table, mut editor: Token, from: u32, number: u32
     editor
 }
 
-/// Works on one place.
-fn works_at(marks: &Table, worker: &mut Token, number: u32, place: u32) -> bool
-    requires worker { IsScripted marks.now worker.old number }
-    requires room { number ≤ 1048576 }
-    requires there { place < 8 }
-    ensures { IsScripted marks.now worker.new number }
-{
-    let word = u64::from(worth_after(number, place));
-    recomputes(marks, worker, place, word, u64::from(number)).is_some()
-}
-
-/// Works on all places, so many times.
-pub(super) fn works_on(marks: &Table, mut worker: Token, number: u32, turns: u32) -> Token
-    requires worker { IsScripted marks.now worker number }
-    requires room { number ≤ 1048576 }
-    ensures { IsScripted marks.now result number }
-{
-    for _ in 0..turns {
-        for place in 0..8 {
-            works_at(marks, &mut worker, number, place);
-        }
-    }
-    worker
-}
-
-/// What a viewer saw of a place.
+/// What a seat saw of a place, at the number of entries that it had seen.
 #[derive(Clone, Copy)]
 pub(super) struct Look {
     number: u64,
@@ -106,30 +81,68 @@ pub(super) struct Look {
     seen: Seen,
 }
 
-/// A viewer's seat, with what it saw.
-pub(super) type Viewer = (Token, Vec<Look>);
+/// A seat, with what it saw.
+pub(super) type Reader = (Token, Vec<Look>);
 
-/// Whether the look shows what it should, by going through the script.
+/// Works on one place. What its read of it showed, and whether the seat knows the place as clean then.
+fn works_at(marks: &Table, worker: &mut Token, number: u32, place: u32) -> (Look, bool)
+    requires worker { IsScripted marks.now worker.old number }
+    requires room { number ≤ 1048576 }
+    requires there { place < 8 }
+    ensures { IsScripted marks.now worker.new number }
+{
+    let word = u64::from(worth_after(number, place));
+    let number = u64::from(number);
+    let (loads, mark) = recomputes(marks, worker, place, word, number);
+    let seen = shown(number, loads.clean, loads.word, loads.mark);
+    let look = Look {
+        number,
+        place,
+        seen,
+    };
+    (look, mark.is_some())
+}
+
+/// Works on the places in turn, and keeps what it saw.
+pub(super) fn works_on(marks: &Table, worker: Reader, number: u32) -> Reader
+    requires worker { IsReading marks.now worker number }
+    requires room { number ≤ 1048576 }
+    ensures { IsReading marks.now result number }
+{
+    let (mut seat, mut kept) = worker;
+    for turn in 0..160 {
+        let (look, _) = works_at(marks, &mut seat, number, turn % 8);
+        if kept.push(look).is_err() {
+            break;
+        }
+    }
+    (seat, kept)
+}
+
+/// Whether the look shows what it should, by going through the script: a value is the worth at its number, and a mark
+/// is that of the last entry that sets the place, or of a later one of the 2,000 that does.
 pub(super) fn is_right(look: Look) -> bool {
     let Ok(number) = u32::try_from(look.number) else {
         return false;
     };
-    if number >= 1_048_577 || look.place >= 8 {
+    if number > 2000 || look.place >= 8 {
         return false;
     }
     let last = u64::from(worth_after(number, look.place));
-    let sets = |mark: u64| mark % 8 == u64::from(look.place);
+    let is_later = |mark: u64| look.number < mark
+        && mark <= 2000
+        && mark % 8 == u64::from(look.place);
     match look.seen {
         Seen::Value(word) => word == last,
-        Seen::Stale(mark) => mark == last || mark > look.number && sets(mark),
-        Seen::Newer(mark) => mark > look.number && sets(mark),
+        Seen::Stale(mark) => mark == last || is_later(mark),
+        Seen::Newer(mark) => is_later(mark),
     }
 }
 
 /// Looks at the places in turn, and keeps what it saw.
-pub(super) fn views(marks: &Table, viewer: Viewer) -> Viewer
-    requires { IsViewing marks.now viewer }
-    ensures { IsViewing marks.now result }
+pub(super) fn views(marks: &Table, viewer: Reader) -> Reader
+    requires { IsReading marks.now viewer 0 }
+    ensures { IsReading marks.now result 0 }
 {
     let (mut seat, mut kept) = viewer;
     for turn in 0..200 {
@@ -171,7 +184,26 @@ pub(super) fn ends(marks: &Table, worker: &mut Token) -> bool
 {
     let mut all = true;
     for place in 0..8 {
-        all = works_at(marks, worker, 2000, place) && all;
+        let (_, clean) = works_at(marks, worker, 2000, place);
+        all = clean && all;
+    }
+    all
+}
+
+/// Whether this is the worth of the place after the whole script.
+fn is_final(place: u32, seen: Seen) -> bool {
+    seen == Seen::Value(u64::from(worth_after(2000, place)))
+}
+
+/// Whether one look at each place shows its worth after the whole script.
+pub(super) fn shows_all(marks: &Table, seat: &mut Token) -> bool
+    requires { IsScripted marks.now seat.old 2000 }
+    ensures { IsScripted marks.now seat.new 2000 }
+{
+    let mut all = true;
+    for place in 0..8 {
+        let (number, seen) = looks(marks, seat, place);
+        all = number == 2000 && is_final(place, seen) && all;
     }
     all
 }

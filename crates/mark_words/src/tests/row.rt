@@ -51,7 +51,7 @@ fn computes(marks: &Table, worker: &mut Token, place: u32, count: u64, last: u32
     requires there { place < 2 }
     ensures worker { KnowsLast marks.now worker.new count last }
 {
-    recomputes(marks, worker, place, code(place, last), count)
+    recomputes(marks, worker, place, code(place, last), count).1
 }
 
 /// Two workers read a cell as stale and claim it. The first computes it, and the second answers what its claim found.

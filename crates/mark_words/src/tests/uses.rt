@@ -82,34 +82,34 @@ fn works<S: Subject>(
 }
 
 /// Reads the place and, where it is stale and free, computes it: the seat knows so many entries, over which this word
-/// is the place's worth. Where an answer is given, the seat knows the place as clean, with that mark.
+/// is the place's worth. What the read found; and where a mark is given, the seat knows the place as clean, with it.
 pub(super) fn recomputes<S: Subject>(
     marks: &Marks<S>,
     seat: &mut Seat<S>,
     place: u32,
     word: u64,
     known: u64,
-) -> Option<u64>
+) -> (Loads, Option<u64>)
     requires table { IsSeatOf marks.now seat.old }
     requires there { place < places_of marks.now }
     requires known { known ≡ length (log_of seat.old) }
     requires worth { S.worth (subject_of marks.now) (log_of seat.old) place ≡ word }
     ensures same { IsSeatOf marks.now seat.new }
     ensures log { log_of seat.new ≡ log_of seat.old }
-    ensures clean { IfSome result (λ mark. KnowsClean (S.touches (subject_of marks.now))
+    ensures clean { IfSome result.1 (λ mark. KnowsClean (S.touches (subject_of marks.now))
         (log_of seat.old) (view_of seat.new) place mark) }
 {
     let loads = reads(marks, seat, place);
     if loads.mark > known {
-        return None;
+        return (loads, None);
     }
     if loads.clean.is_for(loads.mark) {
-        return Some(loads.mark);
+        return (loads, Some(loads.mark));
     }
     if loads.clean.held || !works(marks, seat, place, loads.clean, word, loads.mark) {
-        return None;
+        return (loads, None);
     }
-    Some(loads.mark)
+    (loads, Some(loads.mark))
 }
 
 /// Reads the place twice and answers what it shows at the length of the seat's log. Where the first read showed a

@@ -3,5 +3,5 @@ use Rattle.std.specs.Prelude.{All}
 use Rattle.mark_words.specs.Token.{IsSeatOf}
 use Rattle.mark_words.proofs.tests.crowd.judge.Given as goal
 
-abbrev pub invariant-loop-viewer : goal.invariant-loop-viewer
-invariant-loop-viewer l = All (λ seat. IsSeatOf l._marks seat) l.done.items
+abbrev pub invariant-loop-reader : goal.invariant-loop-reader
+invariant-loop-reader l = All (λ seat. IsSeatOf l._marks seat) l.done.items
