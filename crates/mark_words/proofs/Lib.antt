@@ -2,6 +2,7 @@ pub mod Boards
 pub mod StepLemmas
 pub mod OrderLemmas
 pub mod WordLemmas
+pub mod SightLemmas
 pub mod RunLemmas
 pub mod SeeSteps
 pub mod ViewSteps

@@ -50,7 +50,7 @@ from_own {E} view number (first ∷ events) event own =
     (steps_from view (suc number) events) (steps_from view (suc number) (events ++ event ∷ [])) (from_own view (suc number) events event own)
     ∙ ap (λ n. (if actor_of first == view then here ∷ steps_from view (suc number) events else steps_from view (suc number) events) ++ last n) (omega arith)
 
-from_other : {E : Type 0} (view number : ℕ) (events : List (Event E)) (event : Event E) → actor_of event ≢ view
+pub from_other : {E : Type 0} (view number : ℕ) (events : List (Event E)) (event : Event E) → actor_of event ≢ view
     → steps_from view number (events ++ event ∷ []) ≡ steps_from view number events
 from_other {E} view number [] event other =
     let step : List (OwnStep E) = record { number = number; event = event } ∷ [] in

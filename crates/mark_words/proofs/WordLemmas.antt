@@ -168,15 +168,18 @@ module _ {E : Type 0} (worth : List E → ℕ → ℕ) (touches : List E → E �
       ]
 
   -- the last single step of a run that has one more than another
-  record IsLast (after after' : State E) (event : Event E) : Type 0 where
-    before : State E
-    outcome : Outcome
-    next : State E
-    alike : AreAlike after before
-    happens : Happens worth touches before event outcome next
-    stays : AreAlike next after'
+  pub record IsLast (after after' : State E) (event : Event E) : Type 0 where
+    pub before : State E
+    pub outcome : Outcome
+    pub next : State E
+    pub alike : AreAlike after before
+    pub happens : Happens worth touches before event outcome next
+    pub events : List (Event E)
+    pub run : Runs worth touches next events after'
+    pub none : single_steps events ≡ []
+    pub stays : AreAlike next after'
 
-  last_single : (events events' : List (Event E)) (s other after after' : State E) (event : Event E) → Runs worth touches s events after
+  pub last_single : (events events' : List (Event E)) (s other after after' : State E) (event : Event E) → Runs worth touches s events after
       → Runs worth touches other events' after' → AreAlike s other → single_steps events' ≡ single_steps events ++ event ∷ [] → IsLast after after' event
   last_single [] events' s other after after' event run run' alike is =
       let first : IsFirst other after' event [] = first_single events' other after' event [] run' is in
@@ -186,6 +189,9 @@ module _ {E : Type 0} (worth : List E → ℕ → ℕ) (touches : List E → E �
         next = first.next;
         alike = subst (λ (x : State E). AreAlike x first.before) (sym run) (alike_over s other first.before alike first.alike);
         happens = first.happens;
+        events = first.events;
+        run = first.run;
+        none = first.rest;
         stays = none_alike first.events first.next after' first.run first.rest;
       }
   last_single (made ∷ events) events' s other after after' event (next, outcome, happens, run) run' alike is =

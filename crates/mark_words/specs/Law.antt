@@ -1,9 +1,10 @@
 -- What follows from the rule of the table and from the one step more that a single step gives its seat.
-use Rattle.std.specs.Prelude.{◌≡◌, ℕ, List, [], ◌∷◌, ◌++◌, slice_set}
+use Rattle.std.specs.Prelude.{◌≡◌, ℕ, List, [], ◌∷◌, ◌++◌, false, slice_index, slice_set}
 use mathlib.Core.Option.{some}
 use lib.ListN.{get_elem?}
 use Rattle.atomic_table.specs.Table.{State as TableState}
 use Rattle.mark_core.specs.declared.events.Event.{Event}
+use Rattle.mark_core.specs.declared.events.Event.TheVariants.{See}
 use Rattle.mark_core.specs.declared.events.Outcome.{Outcome}
 use Rattle.mark_core.specs.State.{State}
 use Rattle.mark_core.specs.Step.{Happens}
@@ -35,8 +36,8 @@ pub record IsOneEvent {E : Type 0} (worth : List E → ℕ → ℕ) (touches : L
   pub words_after : words' ≡ words_of_state after
 
 module _ {S E : Type 0} (places : S → ℕ) (worth : S → List E → ℕ → ℕ) (touches : S → List E → E → ℕ → Type 0) (topic : Topic S) where
-  -- Where the rule holds at both moments, the events of the second have the single steps of the first, in their order, and
-  -- this one at their end.
+  -- Where the rule holds at both moments, the events of the second have the single steps of the first, in their order,
+  -- and this one at their end.
   abbrev pub StepsStandLast : Type 0
   StepsStandLast =
       (t t' : TableState E (History S E)) (kept : Holds places worth touches topic t) (kept' : Holds places worth touches topic t')
@@ -49,3 +50,9 @@ module _ {S E : Type 0} (places : S → ℕ) (worth : S → List E → ℕ → �
       (t t' : TableState E (History S E)) → Holds places worth touches topic t → Holds places worth touches topic t'
       → (event : ℕ → Event E) (step : IsOneStepOn t t' event)
       → IsOneEvent (worth topic.subject.value) (touches topic.subject.value) t.words (event step.one.view) t'.words
+
+  -- so the count that a seat has seen after a see is the one that stood
+  abbrev pub SeesShowTheCount : Type 0
+  SeesShowTheCount =
+      (t t' : TableState E (History S E)) → Holds places worth touches topic t → Holds places worth touches topic t'
+      → (step : IsOneStepOn t t' See) → step.after.doing.view.spent ≡ false → step.after.doing.view.seen ≡ slice_index t.words 0
