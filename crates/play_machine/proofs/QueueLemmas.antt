@@ -18,7 +18,7 @@ use Rattle.sheet_model.specs.Sheets.{SheetValue}
 use Rattle.edit_log.specs.Kept.{one_or_two}
 use Rattle.play_machine.specs.Machine.{IsFirst, IsMarked, IsNowhere, IsReady, is_marked, mark_of, without_mark}
 use Rattle.play_machine.specs.Marking.{Marks}
-use Rattle.play_machine.specs.Waiting.{AddsWaiter, AreWaiters, HasNoInput, IsAt, IsInput, IsListed, IsQueue, IsUnplaced, IsWaiter, NoneMarked, Places, TakesWaiters, Unplaced, WaitAt, Waits, WaitsOn}
+use Rattle.play_machine.specs.Waiting.{AddsWaiter, AreWaiters, HasNoMarkedInput, IsKeptAt, IsMarkedInput, HasWaiter, IsQueue, IsUnplaced, IsWaiter, NoneMarked, Places, TakesWaiters, Unplaced, WaitAt, Waits, WaitsOn}
 use Rattle.play_machine.specs.Waiting.Unplaced.{nothing, one, waiting, from}
 use Rattle.play_machine.specs.declared.queue.Queue.{Queue}
 use Rattle.play_machine.specs.declared.waiter.Waiter.{Waiter}
@@ -134,7 +134,7 @@ module _ (sheet : SheetValue) (marks : List ℕ) where
   pub list_placed : (list : List Waiter) (queue : Queue) → list ≡ [] → IsQueue sheet marks (waiting list) queue → IsQueue sheet marks nothing queue
   list_placed list queue none are = more_unplaced (waiting list) nothing queue (λ cell inside marked listed. empty cell listed) are
     where
-      empty : (cell : Position) → IsListed list cell → ⊥
+      empty : (cell : Position) → HasWaiter list cell → ⊥
       empty cell is = (let there = subst (λ l. Contains l is.waiter) none is.listed in absurd (omega (arith, there)))
 
   -- the one at the place is placed; those from the next place on aren't yet
@@ -152,10 +152,10 @@ module _ (sheet : SheetValue) (marks : List ℕ) where
   pub last_placed : (list whole : List Waiter) (waiter : Waiter) (old new : Queue) → whole ≡ list ++ waiter ∷ [] → Places sheet marks waiter.cell old new → IsQueue sheet marks (waiting whole) old → IsQueue sheet marks (waiting list) new
   last_placed list whole waiter old new is places are = places (waiting whole) (waiting list) split are
     where
-      split : (cell : Position) → IsTrue (is_inside sheet.sizes cell) → IsListed whole cell → IsListed list cell ⊎ (cell ≡ waiter.cell)
+      split : (cell : Position) → IsTrue (is_inside sheet.sizes cell) → HasWaiter whole cell → HasWaiter list cell ⊎ (cell ≡ waiter.cell)
       split cell inside there = go (Contains-append_cases list (waiter ∷ []) there.waiter (subst (λ l. Contains l there.waiter) is there.listed))
         where
-          go : Contains list there.waiter ⊎ Contains (waiter ∷ []) there.waiter → IsListed list cell ⊎ (cell ≡ waiter.cell)
+          go : Contains list there.waiter ⊎ Contains (waiter ∷ []) there.waiter → HasWaiter list cell ⊎ (cell ≡ waiter.cell)
           go (inl before) = inl (record { waiter = there.waiter; listed = before; cell_is = there.cell_is })
           go (inr last) = inr (sym there.cell_is ∙ ap (λ (w : Waiter). w.cell) (only_member waiter there.waiter last))
 
@@ -179,7 +179,7 @@ module _ (sheet : SheetValue) (marks : List ℕ) where
           at (inr same) = absurd (not_both (is_marked sheet.sizes marks cell) (subst (λ p. IsMarked sheet.sizes marks p) same marked) unmarked)
 
   -- a marked cell that refers to no marked one is put among the ready ones
-  pub placed_ready : (cell : Position) (old new : Queue) → IsTrue (is_inside sheet.sizes cell) → IsMarked sheet.sizes marks cell → HasNoInput sheet marks cell → Updates nat_cmp old.ready new.ready (place_of sheet.sizes cell) true → new.waits ≡ old.waits → new.first ≡ old.first → Places sheet marks cell old new
+  pub placed_ready : (cell : Position) (old new : Queue) → IsTrue (is_inside sheet.sizes cell) → IsMarked sheet.sizes marks cell → HasNoMarkedInput sheet marks cell → Updates nat_cmp old.ready new.ready (place_of sheet.sizes cell) true → new.waits ≡ old.waits → new.first ≡ old.first → Places sheet marks cell old new
   placed_ready cell old new inside marked no_input updates waits_are first_is left rest split are = record {
     within = λ place held. within place held (cases_eq place (place_of sheet.sizes cell));
     ready = λ c there held. ready c there held (one_or_two c cell);
@@ -245,10 +245,10 @@ other_waiters sheet marks list whole waiter is are other listed = are other (sub
 
 -- those that wait on the cell at a place, and one more
 module _ (old new : Waits) (place : ℕ) (waiter : Waiter) (adds : AddsWaiter old new place waiter) where
-  pub still_waits : (other : ℕ) (cell : Position) → IsAt old other cell → IsAt new other cell
+  pub still_waits : (other : ℕ) (cell : Position) → IsKeptAt old other cell → IsKeptAt new other cell
   still_waits other cell at = go (cases_eq other place)
     where
-      go : (other ≡ place) ⊎ (other ≡ place → ⊥) → IsAt new other cell
+      go : (other ≡ place) ⊎ (other ≡ place → ⊥) → IsKeptAt new other cell
       go (inl same) = record {
         list = adds.list;
         kept = ap (get nat_cmp new) same ∙ adds.kept;
@@ -261,7 +261,7 @@ module _ (old new : Waits) (place : ℕ) (waiter : Waiter) (adds : AddsWaiter ol
       }
       go (inr differs) = record { list = at.list; kept = adds.others other differs ∙ at.kept; listed = at.listed }
 
-  pub waits_too : IsAt new place waiter.cell
+  pub waits_too : IsKeptAt new place waiter.cell
   waits_too = record {
     list = adds.list;
     kept = adds.kept;
@@ -284,7 +284,7 @@ module _ (old new : Waits) (place : ℕ) (waiter : Waiter) (adds : AddsWaiter ol
           at (inr last) = subst Such (sym (only_member waiter w last)) this
 
 -- a cell waits on a marked one to which it refers
-pub placed_waiting : (sheet : SheetValue) (marks : List ℕ) (input : Position) (waiter : Waiter) (old new : Queue) → IsWaiter sheet marks waiter → IsInput sheet marks waiter.cell input → AddsWaiter old.waits new.waits (place_of sheet.sizes input) waiter → new.ready ≡ old.ready → new.first ≡ old.first → Places sheet marks waiter.cell old new
+pub placed_waiting : (sheet : SheetValue) (marks : List ℕ) (input : Position) (waiter : Waiter) (old new : Queue) → IsWaiter sheet marks waiter → IsMarkedInput sheet marks waiter.cell input → AddsWaiter old.waits new.waits (place_of sheet.sizes input) waiter → new.ready ≡ old.ready → new.first ≡ old.first → Places sheet marks waiter.cell old new
 placed_waiting sheet marks input waiter old new is on adds ready_are first_is left rest split are = record {
   within = λ place held. are.within place (subst (λ r. IsTrue (contains nat_cmp r place)) ready_are held);
   ready = λ c there held. are.ready c there (subst (λ r. IsTrue (contains nat_cmp r (place_of sheet.sizes c))) ready_are held);
@@ -360,12 +360,12 @@ module _ (sheet : SheetValue) (old : List ℕ) (cell : Position) (count : length
           conflict h = cc
       waiters p kept waiter at listed (inr differs) = still_waiter waiter (are.waiters p kept waiter (sym (takes.others p differs) ∙ at) listed)
 
-      each : (c : Position) → IsTrue (is_inside sheet.sizes c) → c ≢ cell → Holds sheet old queue c ⊎ WaitsOn sheet old queue.waits c ⊎ (c ≡ cell) → Holds sheet new_marks next c ⊎ WaitsOn sheet new_marks next.waits c ⊎ IsListed list c
+      each : (c : Position) → IsTrue (is_inside sheet.sizes c) → c ≢ cell → Holds sheet old queue c ⊎ WaitsOn sheet old queue.waits c ⊎ (c ≡ cell) → Holds sheet new_marks next c ⊎ WaitsOn sheet new_marks next.waits c ⊎ HasWaiter list c
       each c there differs (inl held) = inl (subst (λ r. IsTrue (contains nat_cmp r (place_of sheet.sizes c))) (sym ready_are) held)
       each c there differs (inr (inr same)) = absurd (differs same)
       each c there differs (inr (inl on)) = go (one_or_two on.input cell)
         where
-          go : (on.input ≡ cell) ⊎ (on.input ≢ cell) → Holds sheet new_marks next c ⊎ WaitsOn sheet new_marks next.waits c ⊎ IsListed list c
+          go : (on.input ≡ cell) ⊎ (on.input ≢ cell) → Holds sheet new_marks next c ⊎ WaitsOn sheet new_marks next.waits c ⊎ HasWaiter list c
           go (inl same) =
               let whole = takes.taken.all on.at.list (sym (ap (λ p. get nat_cmp queue.waits (place_of sheet.sizes p)) same) ∙ on.at.kept) in
               inr (inr (record { waiter = on.at.listed.waiter; listed = subst (λ l. Contains l on.at.listed.waiter) whole on.at.listed.listed; cell_is = on.at.listed.cell_is }))

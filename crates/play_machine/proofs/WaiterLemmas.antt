@@ -13,7 +13,7 @@ use Rattle.sheet_model.specs.Sheets.{SheetValue, content_of}
 use Rattle.edit_log.specs.Pairs.{ranges_in}
 use Rattle.play_machine.specs.Machine.{is_marked, mark_of}
 use Rattle.play_machine.specs.Marking.{HasNoMark, NoneHasMark}
-use Rattle.play_machine.specs.Waiting.{HasNoInput, IsInput, IsNextMarked, IsSeen, IsWaiter}
+use Rattle.play_machine.specs.Waiting.{HasNoMarkedInput, IsMarkedInput, IsNextMarked, IsSeen, IsWaiter}
 use Rattle.play_machine.specs.declared.waiter.Waiter.{Waiter}
 use Rattle.play_machine.proofs.MarkLemmas.{marked_from, taken_more, unmarked_from}
 use Rattle.play_machine.proofs.ReadyLemmas.{none_pushed, part_unmarked}
@@ -62,7 +62,7 @@ module _ (sheet : SheetValue) (marks : List ℕ) (waiter : Waiter) (is : IsWaite
   }
 
   -- it has looked at all
-  pub looked_at_all : length waiter.refs ≤ waiter.range → HasNoInput sheet marks waiter.cell
+  pub looked_at_all : length waiter.refs ≤ waiter.range → HasNoMarkedInput sheet marks waiter.cell
   looked_at_all past input step =
       let listed = once_all (ranges_in (content_of sheet waiter.cell)) waiter.refs step.pair.range is.refs (subst (λ (c : Position). Contains (ranges_in (content_of sheet c)) step.pair.range) step.cell_is step.of_sheet) in
       is.before step.pair.range (subst (λ rs. Contains rs step.pair.range) (sym (take_all waiter.range waiter.refs past)) listed) input step.inside
@@ -82,7 +82,7 @@ module _ (sheet : SheetValue) (marks : List ℕ) (waiter : Waiter) (is : IsWaite
           subst (λ r. IsSeen sheet.sizes marks r next.place) same (subst (IsSeen sheet.sizes marks range) (sym place_is) found.seen);
     }
 
-    pub found_input : waiter.range < length waiter.refs → range ≡ get_or waiter.refs waiter.range range → IsNextMarked sheet.sizes marks range (place, input) → IsInput sheet marks waiter.cell input
+    pub found_input : waiter.range < length waiter.refs → range ≡ get_or waiter.refs waiter.range range → IsNextMarked sheet.sizes marks range (place, input) → IsMarkedInput sheet marks waiter.cell input
     found_input below here found = record {
       marked = found.marked;
       step = record {

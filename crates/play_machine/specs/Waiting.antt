@@ -28,12 +28,12 @@ pub record IsNextMarked (sizes : Sizes) (marks : List ℕ) (range : Corners) (fo
   pub marked : IsMarked sizes marks found.1
 
 -- a marked cell to which another refers; or it refers to none
-pub record IsInput (sheet : SheetValue) (marks : List ℕ) (cell input : Position) : Type 0 where
+pub record IsMarkedInput (sheet : SheetValue) (marks : List ℕ) (cell input : Position) : Type 0 where
   pub marked : IsMarked sheet.sizes marks input
   pub step : IsStep sheet input cell
 
-abbrev pub HasNoInput : SheetValue → List ℕ → Position → Type 0
-HasNoInput sheet marks cell = (input : Position) → IsStep sheet input cell → IsFalse (is_marked sheet.sizes marks input)
+abbrev pub HasNoMarkedInput : SheetValue → List ℕ → Position → Type 0
+HasNoMarkedInput sheet marks cell = (input : Position) → IsStep sheet input cell → IsFalse (is_marked sheet.sizes marks input)
 
 -- no cell that a waiting one has looked at is marked
 pub record IsWaiter (sheet : SheetValue) (marks : List ℕ) (waiter : Waiter) : Type 0 where
@@ -49,17 +49,17 @@ AreWaiters sheet marks list = (waiter : Waiter) → Contains list waiter → IsW
 abbrev pub Waits : Type 0
 Waits = BTreeMap ℕ (Vec Waiter Global)
 
--- one of a list of waiting cells is a cell
-pub record IsListed (list : List Waiter) (cell : Position) : Type 0 where
+-- a cell is one of a list of those that wait
+pub record HasWaiter (list : List Waiter) (cell : Position) : Type 0 where
   pub waiter : Waiter
   pub listed : Contains list waiter
   pub cell_is : waiter.cell ≡ cell
 
 -- a cell waits on the one at a place
-pub record IsAt (waits : Waits) (place : ℕ) (cell : Position) : Type 0 where
+pub record IsKeptAt (waits : Waits) (place : ℕ) (cell : Position) : Type 0 where
   pub list : Vec Waiter Global
   pub kept : get nat_cmp waits place ≡ Some list
-  pub listed : IsListed list.items cell
+  pub listed : HasWaiter list.items cell
 
 -- a list has those that wait on the cell at a place, in their order; it is empty where none does
 pub record WaitAt (waits : Waits) (place : ℕ) (list : List Waiter) : Type 0 where
@@ -84,8 +84,8 @@ pub record AddsWaiter (old new : Waits) (place : ℕ) (waiter : Waiter) : Type 0
 -- a cell waits on a marked one to which it refers
 pub record WaitsOn (sheet : SheetValue) (marks : List ℕ) (waits : Waits) (cell : Position) : Type 0 where
   pub input : Position
-  pub is : IsInput sheet marks cell input
-  pub at : IsAt waits (place_of sheet.sizes input) cell
+  pub is : IsMarkedInput sheet marks cell input
+  pub at : IsKeptAt waits (place_of sheet.sizes input) cell
 
 -- no cell at a place below one is marked
 abbrev pub NoneMarked : Sizes → List ℕ → ℕ → Type 0
@@ -101,7 +101,7 @@ pub data Unplaced : Type 0 where
 abbrev pub IsUnplaced : Sizes → Unplaced → Position → Type 0
 IsUnplaced sizes nothing cell = ⊥
 IsUnplaced sizes (one other) cell = cell ≡ other
-IsUnplaced sizes (waiting list) cell = IsListed list cell
+IsUnplaced sizes (waiting list) cell = HasWaiter list cell
 IsUnplaced sizes (from place) cell = place ≤ place_of sizes cell
 
 -- each marked cell is among the ready ones, or waits on a marked one to which it refers, or is still to be placed

@@ -23,21 +23,22 @@ pub(crate) struct Queue {
     pub(crate) first: usize,
 }
 
-// Takes out those that wait on the cell at a place.
+// Takes out those that wait on the cell at a place; where none does, a list with room for so many.
 fn take_waiters(
     alloc: Global,
     waits: &mut BTreeMap<usize, Vec<Waiter>>,
     place: usize,
-) -> Vec<Waiter>
-    ensures { TakesWaiters waits.old waits.new place result.items }
+    room: usize,
+) -> Result<Vec<Waiter>, Memory>
+    ensures { IfOk result (λ list. TakesWaiters waits.old waits.new place list.items) }
 {
     match waits.remove(&place) {
-        Some(list) => list,
-        None => Vec::new(alloc),
+        Some(list) => Ok(list),
+        None => Ok(Vec::with_capacity(alloc, room)?),
     }
 }
 
-// Adds one to those that wait on the cell at a place.
+// Adds one to those that wait on the cell at a place. Mostly it is the only one, so the list begins with room for one.
 fn add_waiter(
     alloc: Global,
     waits: &mut BTreeMap<usize, Vec<Waiter>>,
@@ -46,7 +47,7 @@ fn add_waiter(
 ) -> Result<(), Memory>
     ensures { OnOk result (AddsWaiter waits.old waits.new place waiter) }
 {
-    let mut list = take_waiters(alloc, waits, place);
+    let mut list = take_waiters(alloc, waits, place, 1)?;
     list.push(waiter)?;
     waits.insert(place, list)?;
     Ok(())
@@ -180,7 +181,7 @@ impl Queue {
         ensures queue { OnOk result (IsQueue sheet.now marks.new.items nothing self.new) }
     {
         let place = sheet.place(cell);
-        let woken = take_waiters(alloc, &mut self.waits, place);
+        let woken = take_waiters(alloc, &mut self.waits, place, 0)?;
         marks[place] = 0;
         self.wake(alloc, sheet, marks, woken)
     }

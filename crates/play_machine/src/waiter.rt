@@ -4,7 +4,7 @@ ghost use Rattle.formula_syntax.specs.Listing.{IsOnceEach};
 ghost use Rattle.sheet_model.specs.Sheets.{content_of};
 ghost use Rattle.edit_log.specs.Pairs.{ranges_in};
 ghost use Rattle.play_machine.specs.Marking.{HasNoMark};
-ghost use Rattle.play_machine.specs.Waiting.{HasNoInput, IsInput, IsNextMarked, IsSeen, IsWaiter};
+ghost use Rattle.play_machine.specs.Waiting.{HasNoMarkedInput, IsMarkedInput, IsNextMarked, IsSeen, IsWaiter};
 
 use crate::marks::mark_at;
 use formula_syntax::refs;
@@ -80,8 +80,8 @@ impl Waiter {
         ensures cell { self.new.cell ≡ self.old.cell }
         ensures waiter { IsWaiter sheet.now marks.now self.new }
         ensures found { MatchOption result
-            (HasNoInput sheet.now marks.now self.old.cell)
-            (IsInput sheet.now marks.now self.old.cell) }
+            (HasNoMarkedInput sheet.now marks.now self.old.cell)
+            (IsMarkedInput sheet.now marks.now self.old.cell) }
     {
         let sizes = sheet.sizes();
         while self.range < self.refs.ranges().len() {

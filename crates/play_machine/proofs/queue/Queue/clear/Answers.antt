@@ -9,17 +9,17 @@ pub wake-requires-clause-queue : goal.wake-requires-clause-queue
 wake-requires-clause-queue c =
     let sheet = c.args.sheet.now in
     let marks = c.args.marks.now.items in
-    let list = c.take_waiters-woken.result.items in
+    let list = c.in_ok-woken.woken.items in
     let marks_are : c.deref.result.now ≡ new_marks sheet marks c.args.cell c.requires.count c.requires.inside = c.deref.ensures.value ∙ ap (λ p. set marks p 0) c.place-place.ensures.place in
-    let takes = subst (λ p. TakesWaiters c.args.self.now.waits c.take_waiters-woken.new.waits p list) c.place-place.ensures.place c.take_waiters-woken.ensures in
-    let new : Queue = record { ready = c.args.self.now.ready; waits = c.take_waiters-woken.new.waits; first = c.args.self.now.first } in
+    let takes = subst (λ p. TakesWaiters c.args.self.now.waits c.take_waiters.new.waits p list) c.place-place.ensures.place c.in_ok-woken.ensures in
+    let new : Queue = record { ready = c.args.self.now.ready; waits = c.take_waiters.new.waits; first = c.args.self.now.first } in
     subst (λ ms. IsQueue sheet ms (waiting list) new) (sym marks_are) (woken sheet marks c.args.cell c.requires.count c.requires.inside c.args.self.now new list c.requires.queue c.requires.taken takes refl refl)
 
 pub wake-requires-clause-waiters : goal.wake-requires-clause-waiters
 wake-requires-clause-waiters c =
     let sheet = c.args.sheet.now in
     let marks = c.args.marks.now.items in
-    let list = c.take_waiters-woken.result.items in
+    let list = c.in_ok-woken.woken.items in
     let marks_are : c.deref.result.now ≡ new_marks sheet marks c.args.cell c.requires.count c.requires.inside = c.deref.ensures.value ∙ ap (λ p. set marks p 0) c.place-place.ensures.place in
-    let taken = subst (λ p. WaitAt c.args.self.now.waits p list) c.place-place.ensures.place c.take_waiters-woken.ensures.taken in
+    let taken = subst (λ p. WaitAt c.args.self.now.waits p list) c.place-place.ensures.place c.in_ok-woken.ensures.taken in
     subst (λ ms. AreWaiters sheet ms list) (sym marks_are) (woken_waiters sheet marks c.args.cell c.requires.count c.requires.inside c.args.self.now list (one c.args.cell) c.requires.queue taken)

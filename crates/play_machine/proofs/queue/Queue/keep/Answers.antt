@@ -4,14 +4,14 @@ use Rattle.std.specs.Ordering.{nat_cmp}
 use Rattle.std.specs.BTreeSet.{Updates}
 use Rattle.sheet_refs.specs.Sizes.{place_of}
 use Rattle.sheet_model.proofs.ListLemmas.{on_ok}
-use Rattle.play_machine.specs.Waiting.{AddsWaiter, IsInput, Places}
+use Rattle.play_machine.specs.Waiting.{AddsWaiter, IsMarkedInput, Places}
 use Rattle.play_machine.specs.declared.queue.Queue.{Queue}
 use Rattle.play_machine.proofs.QueueLemmas.{placed_ready, placed_waiting}
 use Rattle.play_machine.proofs.queue.Queue.keep.Goals as goal
 
 pub returns-in-Some : goal.returns-in-Some
 returns-in-Some c =
-    let input = subst (λ cell. IsInput c.args.sheet.now c.args.marks.now cell c.in-Some.input) (sym c.in-Some.ensures.cell) c.in-Some.ensures.found in
+    let input = subst (λ cell. IsMarkedInput c.args.sheet.now c.args.marks.now cell c.in-Some.input) (sym c.in-Some.ensures.cell) c.in-Some.ensures.found in
     let new : Queue = record { ready = c.args.self.now.ready; waits = c.add_waiter.new.waits; first = c.args.self.now.first } in
     on_ok c.add_waiter.result
     (λ (adds : AddsWaiter c.args.self.now.waits c.add_waiter.new.waits c.place.result c.look_on.new.self).

@@ -2,7 +2,7 @@ use Rattle.std.proofs.Common.{◌≡◌, ◌<◌, ◌≤◌, List, length, get_o
 use Rattle.sheet_refs.specs.Cells.{Corners}
 use Rattle.sheet_refs.specs.declared.sizes.Sizes.{Sizes}
 use Rattle.play_machine.specs.Marking.{HasNoMark}
-use Rattle.play_machine.specs.Waiting.{HasNoInput, IsInput, IsNextMarked}
+use Rattle.play_machine.specs.Waiting.{HasNoMarkedInput, IsMarkedInput, IsNextMarked}
 use Rattle.play_machine.proofs.WaiterLemmas.{found_input, looked_at_all, looked_more, stops}
 use Rattle.play_machine.proofs.waiter.Waiter.look_on.Goals as goal
 
@@ -11,7 +11,7 @@ returns-in-Some-clause-found c =
     let below = subst (λ (r : List Corners). c.loop-self.self.range < length r) c.ranges-in-loop-self.ensures.ranges c.loop-self-test.true in
     let here = subst (λ (r : List Corners). c.index-ranges-self.result ≡ get_or r c.loop-self.self.range c.index-ranges-self.result) c.ranges-in-loop-self-2.ensures.ranges c.index-ranges-self.is in
     let found = subst (λ (s : Sizes). IsNextMarked s c.args.marks.now c.index-ranges-self.result c.in-Some.found) c.sizes-sizes.ensures.sizes c.in-Some.ensures in
-    subst (λ cell. IsInput c.args.sheet.now c.args.marks.now cell c.in-Some.found.1) c.loop-self.invariant.1
+    subst (λ cell. IsMarkedInput c.args.sheet.now c.args.marks.now cell c.in-Some.found.1) c.loop-self.invariant.1
     (found_input c.args.sheet.now c.args.marks.now c.loop-self.self c.loop-self.invariant.0 c.index-ranges-self.result c.in-Some.found.0 c.in-Some.found.1 below here found)
 
 pub returns-in-Some-clause-waiter : goal.returns-in-Some-clause-waiter
@@ -31,4 +31,4 @@ loop-self-preserved c =
 pub returns-clause-found : goal.returns-clause-found
 returns-clause-found c =
     let past = subst (λ (r : List Corners). length r ≤ c.loop-self.self.range) c.ranges-in-loop-self.ensures.ranges c.loop-self-test.false in
-    subst (λ cell. HasNoInput c.args.sheet.now c.args.marks.now cell) c.loop-self.invariant.1 (looked_at_all c.args.sheet.now c.args.marks.now c.loop-self.self c.loop-self.invariant.0 past)
+    subst (λ cell. HasNoMarkedInput c.args.sheet.now c.args.marks.now cell) c.loop-self.invariant.1 (looked_at_all c.args.sheet.now c.args.marks.now c.loop-self.self c.loop-self.invariant.0 past)
