@@ -1,18 +1,16 @@
 -- How the pairs of a graph grow, cell by cell.
-use Rattle.std.proofs.Common.{◌≡◌, ◌≢◌, ◌↔◌, ◌⊎◌, inl, inr, ◌<◌, ◌≤◌, ◌+◌, ℕ, Bool, true, false, List, [], Contains, IsTrue, if◌then◌else◌, arith, refl, sym, ap, subst, ◌∙◌}
+use Rattle.std.proofs.Common.{◌≡◌, ◌≢◌, ◌⊎◌, inl, inr, ◌<◌, ◌≤◌, ◌+◌, ℕ, Bool, true, false, List, [], Contains, arith, refl, sym, ap, subst, ◌∙◌}
 use Rattle.std.proofs.Math.Nat.{eq-or-lt_of_le}
 use Rattle.std.proofs.lemmas.Bool.Decides.{nat_tests}
 use Rattle.sheet_refs.specs.Cells.{Position, Corners}
 use Rattle.sheet_refs.specs.Sizes.{is_inside}
-use Rattle.formula_syntax.specs.Listing.{IsOnceEach, ranges_of}
-use Rattle.formula_syntax.specs.Tree.{Tree}
+use Rattle.formula_syntax.specs.Listing.{IsOnceEach}
 use Rattle.formula_syntax.proofs.Listings.{once_all, once_back}
 use Rattle.graph_walk.specs.Graphs.{Pair, Replaces, SamePairs}
 use Rattle.std.specs.declared.sync.Arc.{Arc}
 use Rattle.std.proofs.Common.{Global}
 use Rattle.formula_syntax.specs.declared.tree.Formula.{Formula}
 use Rattle.sheet_model.specs.declared.content.Content.{Content}
-use Rattle.sheet_model.specs.declared.content.Content.TheVariants as Content
 use Rattle.sheet_model.specs.Sheets.{SheetValue, content_value, content_of}
 use Rattle.edit_log.specs.Pairs.{IsPairOf, ArePairsOf, HasNoPairs, IsBefore, HasPairsBefore, ranges_in}
 

@@ -1,7 +1,5 @@
 -- The cells that depend on a cell by the pairs of a graph are those that an entry touches, and all lie in the sheet.
 use Rattle.std.proofs.Common.{◌≡◌, ◌≢◌, ◌↔◌, ◌⊎◌, inl, inr, cond, ℕ, ◌+◌, ◌<◌, ◌≤◌, length, length-append, get_or-set_same, length-set, List, ◌∷◌, [], ◌++◌, IsTrue, Contains, arith, refl, sym, ap, subst, ◌∙◌}
-use Rattle.std.specs.Prelude.{min, max}
-use Rattle.std.proofs.lemmas.Bool.Decides.{nat_tests}
 use Rattle.sheet_refs.specs.Cells.{Position, Corners, IsIn, span_of}
 use Rattle.sheet_refs.specs.Rectangles.{IsAmong}
 use Rattle.sheet_refs.specs.Sizes.{is_inside, place_of, cell_count}
@@ -21,7 +19,7 @@ use Rattle.edit_log.specs.Books.{BookValue, IsBookOf, IsPreparedFor, IsStoredEdi
 use Rattle.edit_log.specs.Kept.{Depends, one_or_two, content-kept}
 use Rattle.edit_log.specs.Pairs.{ranges_in, IsPairOf, ArePairsOf}
 use Rattle.edit_log.specs.Touches.{IsStep, Touches, AreTouched, ListsRowByRow}
-use Rattle.edit_log.proofs.PairLemmas.{IsCellOf, pair_inside}
+use Rattle.edit_log.proofs.PairLemmas.{pair_inside}
 
 -- the range of one cell has that cell alone
 one_cell : (cell from : Position) → IsIn from (span_of cell cell) → from ≡ cell

@@ -1,7 +1,7 @@
 -- Which cells an entry touches, and that all others keep their values: proofs that the subject of a sheet needs for its laws.
-use Rattle.std.proofs.Common.{◌≡◌, ◌≢◌, ◌↔◌, ◌⊎◌, inl, inr, ℕ, zero, suc, ◌+◌, ◌-◌, ◌*◌, ◌/◌, ◌%◌, ◌<◌, ◌≤◌, Bool, true, false, cond, List, [], ◌∷◌, ◌++◌, map, slice_get, Some, IsTrue, Contains, eqb, arith, refl, sym, ap, subst, ◌∙◌}
+use Rattle.std.proofs.Common.{◌≡◌, ◌≢◌, ◌↔◌, ◌⊎◌, inl, inr, ℕ, zero, suc, ◌+◌, ◌-◌, ◌*◌, ◌/◌, ◌%◌, ◌<◌, Bool, true, false, cond, List, [], ◌∷◌, ◌++◌, map, slice_get, Some, IsTrue, Contains, eqb, arith, refl, sym, ap, subst, ◌∙◌}
 use Rattle.std.proofs.lemmas.Bool.Decides.{nat_tests}
-use Rattle.sheet_refs.specs.Cells.{Position, Corners, IsIn}
+use Rattle.sheet_refs.specs.Cells.{Position}
 use Rattle.sheet_refs.specs.Ends.{Reference, corners_of}
 use Rattle.sheet_refs.specs.Sizes.{is_inside, place_of, cell_count}
 use Rattle.sheet_refs.specs.declared.sizes.Sizes.{Sizes}

@@ -1,5 +1,5 @@
 -- Why an edit is refused.
-use Rattle.std.specs.Prelude.{◌≡◌, ℕ, IsTrue, IsFalse, List, length}
+use Rattle.std.specs.Prelude.{◌≡◌, IsTrue, IsFalse, List, length}
 use Rattle.sheet_refs.specs.Cells.{Position}
 use Rattle.sheet_refs.specs.Sizes.{is_inside}
 use Rattle.sheet_model.specs.Sheets.{SheetValue}

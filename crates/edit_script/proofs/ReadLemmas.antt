@@ -1,17 +1,15 @@
 -- Reading a text line by line.
-use Rattle.std.proofs.Common.{◌≡◌, ◌∙◌, ◌+◌, ◌≤◌, ℕ, List, [], ◌∷◌, ◌++◌, length, length-append, append-nil, refl, sym, ap, subst, arith}
+use Rattle.std.proofs.Common.{◌≡◌, ◌∙◌, ◌+◌, ◌≤◌, ℕ, List, [], ◌∷◌, ◌++◌, length, length-append, refl, sym, ap, arith}
 use Rattle.std.proofs.lemmas.List.{append_assoc}
 use Rattle.sheet_refs.specs.declared.sizes.Sizes.{Sizes}
 use Rattle.sheet_model.proofs.TableLemmas.{adds_few}
 use Rattle.edit_script.specs.declared.progress.Progress.{Progress}
 use Rattle.edit_script.specs.declared.script.Mode.{Mode}
-use Rattle.edit_script.specs.declared.refused.ScriptRefused.{ScriptRefused}
-use Rattle.edit_script.specs.declared.refused.ScriptRefused.TheVariants.{BadLine, OutOfSheet, TooManyClients, WindowTooLarge, TooManyEdits, FormulaTooDeep, TooManyRefs, Memory}
 use Rattle.edit_script.specs.Lines.{LineValue, Skip, Client, Set, Clear, Look, Firm, Work, IsLine, IsOrder, Says, script_lines}
 use Rattle.edit_script.specs.Lines.IsLine.{empty, comment, order}
 use Rattle.edit_script.specs.Lines.IsOrder.{client, set, clear, look, firm, work}
-use Rattle.edit_script.specs.Progress.{brought, names_of, Extends, IsFit, IsReading, IsSound, Takes}
-use Rattle.edit_script.specs.Scripts.{AreLines, AreSteps, Brought, ScriptValue, IsFault, IsFirstFault, IsLineFault, IsScript, brought_by, line_number, nothing_yet, set_text}
+use Rattle.edit_script.specs.Progress.{brought, Extends, IsFit, IsReading, IsSound, Takes}
+use Rattle.edit_script.specs.Scripts.{nothing_yet, set_text}
 use Rattle.edit_script.proofs.WayLemmas.{way_begins, way_goes}
 
 -- what is said wants a cell to hold no long text

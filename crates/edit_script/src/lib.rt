@@ -5,7 +5,8 @@
 //! clients, the edits and the cells of windows. A text has one answer, a script or the first line that is
 //! refused, by the first of its causes (`specs/Scripts.antt`), and `read_script` gives it.
 //!
-//! Below stand `sheet_refs`, `sheet_model` and the kit's `bstr`; the program stands above.
+//! Below stand `sheet_refs`, `value_core`, `formula_syntax`, `sheet_model` and the kit's `bstr`; `play_machine` and the
+//! program stand above.
 #![tactic(auto)]
 
 mod laws;

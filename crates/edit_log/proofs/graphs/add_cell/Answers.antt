@@ -1,4 +1,4 @@
-use Rattle.std.proofs.Common.{◌≡◌, ap, sym, ◌∙◌, subst, List, []}
+use Rattle.std.proofs.Common.{◌≡◌, ap, sym, ◌∙◌, subst, []}
 use Rattle.formula_syntax.specs.Tree.{Tree}
 use Rattle.formula_syntax.specs.Listing.{IsOnceEach, ranges_of}
 use Rattle.sheet_model.specs.Sheets.{Computed, content_value, content_of}

@@ -1,4 +1,4 @@
-use Rattle.std.proofs.Common.{◌≡◌, ◌+◌, sym, subst, rules, arith}
+use Rattle.std.proofs.Common.{◌≡◌, ◌+◌, sym, subst, arith}
 use Rattle.edit_log.specs.Pairs.{HasPairsBefore}
 use Rattle.edit_log.proofs.PairLemmas.{column_ends}
 use Rattle.edit_log.proofs.graphs.add_column.Goals as goal

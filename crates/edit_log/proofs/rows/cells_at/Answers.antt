@@ -1,4 +1,4 @@
-use Rattle.std.proofs.Common.{◌≡◌, subst}
+use Rattle.std.proofs.Common.{subst}
 use Rattle.std.proofs.lemmas.List.{take_all}
 use Rattle.edit_log.specs.Rows.{AreCellsAt}
 use Rattle.edit_log.proofs.RowLemmas.{cells_more}

@@ -1,4 +1,4 @@
-use Rattle.std.proofs.Common.{◌≡◌, ◌<◌, All, List, ℕ, subst, sym}
+use Rattle.std.proofs.Common.{◌<◌, All, List, ℕ, subst, sym}
 use Rattle.std.proofs.lemmas.List.Sorted.{All-permutation}
 use Rattle.std.proofs.lemmas.Result.{IfOk-weaker}
 use Rattle.sheet_refs.specs.Sizes.{cell_count}

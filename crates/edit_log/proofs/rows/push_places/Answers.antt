@@ -1,4 +1,3 @@
-use Rattle.std.proofs.Common.{◌≡◌}
 use Rattle.sheet_refs.specs.Cells.{cells_of}
 use Rattle.edit_log.proofs.RowLemmas.{places_more}
 use Rattle.edit_log.proofs.rows.push_places.Goals as goal

@@ -1,4 +1,4 @@
-use Rattle.std.proofs.Common.{◌≡◌, sym, ap, subst}
+use Rattle.std.proofs.Common.{sym, ap, subst}
 use Rattle.sheet_refs.specs.Cells.{Position}
 use Rattle.graph_walk.specs.Graphs.{Replaces}
 use Rattle.sheet_model.specs.Changes.{ChangeValue}
