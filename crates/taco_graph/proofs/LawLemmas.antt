@@ -4,11 +4,12 @@ use Rattle.std.specs.List.{All, AllPairs, Contains}
 use Rattle.std.proofs.lemmas.List.{get_or-map, length-append, length-map}
 use Rattle.std.proofs.lemmas.List.Elements.{Contains-get_or}
 use Rattle.sheet_refs.specs.Cells.{Position, Corners, IsIn}
+use Rattle.graph_walk.specs.Graphs.{Pair}
 use Rattle.edge_patterns.specs.Edges.{EdgeValue, IsEdge}
 use Rattle.range_index.proofs.DistinctLemmas.{no_longer}
 use Rattle.taco_graph.specs.Answers.{EdgeAnswer, ranges_of, HaveOneAnswer, HasAnswer, IsAnswerOf, AddsOneEach}
 use Rattle.taco_graph.specs.Laws.{GainsOne}
-use Rattle.taco_graph.specs.Pairs.{pairs_of, pairs_of_edge}
+use Rattle.taco_graph.specs.Pairs.{StandFor, pairs_of, pairs_of_edge}
 use Rattle.taco_graph.proofs.GraphLemmas.{first_pair, pairs_long}
 
 -- ---- answers
@@ -57,9 +58,12 @@ one_gives edge meant old new cell adds is_meant = by_answers adds.answers adds.w
 
 -- ---- pairs
 
-pub edges_few : (edges : List EdgeValue) → All IsEdge edges → length edges ≤ length (pairs_of edges)
-edges_few [] are = omega arith
-edges_few (edge ∷ edges) are =
+each_has_one : (edges : List EdgeValue) → All IsEdge edges → length edges ≤ length (pairs_of edges)
+each_has_one [] are = omega arith
+each_has_one (edge ∷ edges) are =
     let (range, pair) = first_pair edge (are 0 edge (omega arith)) in
-    let later = edges_few edges (λ k d within. are (suc k) d (omega (arith, within))) in
+    let later = each_has_one edges (λ k d within. are (suc k) d (omega (arith, within))) in
     omega (arith, length-append (pairs_of_edge edge) (pairs_of edges), pairs_long edge, pair.within, later)
+
+pub edges_few : (edges : List EdgeValue) (pairs : List Pair) → StandFor edges pairs → length edges ≤ length pairs
+edges_few edges pairs stand = omega (arith, each_has_one edges stand.are_edges, no_longer (pairs_of edges) pairs stand.once (λ pair listed. (stand.same pair).0 listed))

@@ -5,7 +5,7 @@ use Rattle.graph_walk.specs.Graphs.{Pair}
 use Rattle.edge_patterns.specs.Edges.{EdgeValue}
 use Rattle.taco_graph.specs.declared.answers.Question.{Question}
 use Rattle.taco_graph.specs.Answers.{AddsOneEach, IsMeant}
-use Rattle.taco_graph.specs.Pairs.{StandFor, pairs_of}
+use Rattle.taco_graph.specs.Pairs.{StandFor}
 
 -- a list gains no more ranges than there are edges
 abbrev pub AnswersAreFew : Type 0
@@ -26,4 +26,4 @@ OneEdgeGivesOne =
 
 -- edges that stand for some pairs are no more than these: each has one of its own
 abbrev pub EdgesAreFew : Type 0
-EdgesAreFew = (edges : List EdgeValue) (pairs : List Pair) → StandFor edges pairs → length edges ≤ length (pairs_of edges)
+EdgesAreFew = (edges : List EdgeValue) (pairs : List Pair) → StandFor edges pairs → length edges ≤ length pairs
