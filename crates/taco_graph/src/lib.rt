@@ -3,10 +3,12 @@
 //!
 //! A `Taco` keeps edges in a slab, no pair in two of them, and files each under its key in two indexes: in the one
 //! with its run, in the other with the smallest rectangle that has its ranges (`specs/Stores.antt`). Its pairs are
-//! those of its edges (`specs/Pairs.antt`), and what its calls promise is the contract of `Graph`: a query looks at
-//! the edges that an index names and adds at most one range for each (`specs/Answers.antt`), and a change takes the
-//! cell out of the edges that hold it and joins what is left and what comes with edges beside it. `edges` lists edges
-//! that stand for the pairs, and `pair_count` counts them.
+//! those of its edges (`specs/Pairs.antt`). What its calls promise is the contract of `Graph`, and that a query adds at
+//! most one range for each edge, with exactly its answer (`specs/Answers.antt`). `edges` lists edges that stand for the
+//! pairs, `pair_count` counts them, and `taco_laws` says that neither answers nor edges are more than they need be.
+//!
+//! A query looks at the edges that an index names. A change takes the cell out of the edges that hold it and joins
+//! what is left and what comes with edges beside it.
 //!
 //! Below stand `sheet_refs`, `graph_walk` with the trait, `edge_patterns`, and `range_index` with the indexes.
 #![tactic(auto)]

@@ -9,11 +9,7 @@ use sheet_refs::{Cell, Range};
 
 /// Puts the keys of the edges that hold the cell above another into a list; some of them or none, where they want
 /// memory.
-pub(crate) fn keys_above<I: RangeIndex>(
-    store: &EdgeStore<I>,
-    above: &mut Vec<usize>,
-    cell: Cell,
-) {
+pub(crate) fn keys_above<I: RangeIndex>(store: &EdgeStore<I>, above: &mut Vec<usize>, cell: Cell) {
     above.clear();
     let Some(beside) = Cell::new(cell.row() - 1, cell.col()) else {
         return;

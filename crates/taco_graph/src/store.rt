@@ -128,7 +128,7 @@ impl<I: RangeIndex> EdgeStore<I> {
         self.runs.overlapping(q, keys)
     }
 
-    /// All edges, by rising key. It looks at each key that has been given out.
+    /// All edges, by rising key. It looks at each key that there is room for.
     pub(crate) fn edges(&self) -> Result<Vec<Edge>, Memory>
         ensures all { IfOk result (λ edges. edges.items ≡ edges_of self.now.slots) }
         ensures apart { AreEdgesApart (edges_of self.now.slots) }

@@ -141,13 +141,7 @@ impl<I: RangeIndex> Graph for Taco<I> {
         take_out(&mut self.store, &mut self.held, &mut self.near, cell);
         keys_above(&self.store, &mut self.held, cell);
         for range in refs.ranges() {
-            add_single(
-                &mut self.store,
-                &self.held,
-                &mut self.near,
-                cell,
-                *range,
-            );
+            add_single(&mut self.store, &self.held, &mut self.near, cell, *range);
         }
     }
 }
