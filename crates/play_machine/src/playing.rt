@@ -1,6 +1,5 @@
 ghost use Rattle.std.specs.Prelude.{◌≡◌, ◌<◌, [], length, All, IfOk, IfSome, IsTrue, OnOk};
 ghost use Rattle.sheet_model.specs.Values.{AreValues};
-ghost use Rattle.edit_log.specs.Books.{IsBook};
 ghost use Rattle.window_text.specs.Reports.{IsFull};
 ghost use Rattle.play_machine.specs.Machine.{ArePlayed};
 ghost use Rattle.play_machine.specs.Playing.{AreFit, IsFit, Tells, is_put, machine_of};

@@ -1,4 +1,4 @@
-ghost use Rattle.std.specs.Prelude.{◌≡◌, ◌≤◌, length, false, IfOk, OnOk, MatchOption, IsTrue};
+ghost use Rattle.std.specs.Prelude.{◌≡◌, length, false, IfOk, OnOk, MatchOption, IsTrue};
 ghost use Rattle.std.specs.BTreeSet.{IsEmpty, contains};
 ghost use Rattle.std.specs.Ordering.{nat_cmp};
 ghost use Rattle.sheet_refs.specs.Sizes.{cell_count, is_inside, place_of};
@@ -72,8 +72,8 @@ fn first_marked(sheet: &Sheet, marks: &[u64], from: usize) -> Option<Cell>
 }
 
 impl Queue {
-    /// The queue of a sheet with marks. It looks at each cell, and of each marked one at its references, up to the first
-    /// marked cell there.
+    /// The queue of a sheet with marks. It looks at each cell, and of each marked one at its references, up to the
+    /// first marked cell there.
     pub(crate) fn of(alloc: Global, sheet: &Sheet, marks: &[u64]) -> Result<Queue, Memory>
         requires count { length marks.now ≡ cell_count sheet.now.sizes }
         ensures { IfOk result (IsQueue sheet.now marks.now nothing) }
