@@ -39,65 +39,47 @@ stays_alike s (Claim view place seen) outcome after none gives = absurd (cc)
 stays_alike s (Put view place word) outcome after none gives = absurd (cc)
 stays_alike s (Finish view place mark) outcome after none gives = absurd (cc)
 
--- what edits and places are functions of those before is the same of states that are alike
-alike_by : {E : Type 0} (f : Edits E → List Place → Edits E) (g : Edits E → List Place → List Place) (s other after after' : State E) → AreAlike s other
-    → after.edits ≡ f s.edits s.places → after.places ≡ g s.edits s.places
-    → after'.edits ≡ f other.edits other.places → after'.places ≡ g other.edits other.places
-    → AreAlike after after'
-alike_by f g s other after after' alike edits places edits' places' =
-    record {
-      edits = edits ∙ ap (λ e. f e s.places) alike.edits ∙ ap (λ p. f other.edits p) alike.places ∙ sym edits';
-      places = places ∙ ap (λ e. g e s.places) alike.edits ∙ ap (λ p. g other.edits p) alike.places ∙ sym places';
-    }
-
 module _ {E : Type 0} (s other after after' : State E) (alike : AreAlike s other) where
-  -- an event that leaves the words, in both
-  both_stay : after.edits ≡ s.edits → after.places ≡ s.places → after'.edits ≡ other.edits → after'.places ≡ other.places → AreAlike after after'
-  both_stay edits places edits' places' = alike_by (λ e p. e) (λ e p. p) s other after after' alike edits places edits' places'
+  -- the states are known, and are alike
+  over : {x x' : State E} → after ≡ x → after' ≡ x' → x.edits ≡ x'.edits → x.places ≡ x'.places → AreAlike after after'
+  over is is' edits places =
+      record {
+        edits = ap (λ (z : State E). z.edits) is ∙ edits ∙ ap (λ (z : State E). z.edits) (sym is');
+        places = ap (λ (z : State E). z.places) is ∙ places ∙ ap (λ (z : State E). z.places) (sym is');
+      }
 
   -- one event on states that are alike
   pub same_event : (event : Event E) (outcome outcome' : Outcome) → Gives s event outcome after → Gives other event outcome' after' → AreAlike after after'
-  same_event (See view) outcome outcome' g g' =
-      both_stay (ap (λ (x : State E). x.edits) g.1) (ap (λ (x : State E). x.places) g.1) (ap (λ (x : State E). x.edits) g'.1) (ap (λ (x : State E). x.places) g'.1)
-  same_event (Split view) outcome outcome' g g' =
-      both_stay (ap (λ (x : State E). x.edits) g.1) (ap (λ (x : State E). x.places) g.1) (ap (λ (x : State E). x.edits) g'.1) (ap (λ (x : State E). x.places) g'.1)
-  same_event (Join view seat) outcome outcome' g g' =
-      both_stay (ap (λ (x : State E). x.edits) g.1) (ap (λ (x : State E). x.places) g.1) (ap (λ (x : State E). x.edits) g'.1) (ap (λ (x : State E). x.places) g'.1)
-  same_event (ReadClean view place) outcome outcome' g g' =
-      both_stay (ap (λ (x : State E). x.edits) g.1) (ap (λ (x : State E). x.places) g.1) (ap (λ (x : State E). x.edits) g'.1) (ap (λ (x : State E). x.places) g'.1)
-  same_event (ReadValue view place) outcome outcome' g g' =
-      both_stay (ap (λ (x : State E). x.edits) g.1) (ap (λ (x : State E). x.places) g.1) (ap (λ (x : State E). x.edits) g'.1) (ap (λ (x : State E). x.places) g'.1)
-  same_event (ReadMark view place) outcome outcome' g g' =
-      both_stay (ap (λ (x : State E). x.edits) g.1) (ap (λ (x : State E). x.places) g.1) (ap (λ (x : State E). x.edits) g'.1) (ap (λ (x : State E). x.places) g'.1)
-  same_event (Commit view entry) outcome outcome' g g' =
-      alike_by (λ e p. commits e entry) (λ e p. p) s other after after' alike
-      (ap (λ (x : State E). x.edits) g.1) (ap (λ (x : State E). x.places) g.1) (ap (λ (x : State E). x.edits) g'.1) (ap (λ (x : State E). x.places) g'.1)
+  same_event (See view) outcome outcome' g g' = over g.1 g'.1 alike.edits alike.places
+  same_event (Split view) outcome outcome' g g' = over g.1 g'.1 alike.edits alike.places
+  same_event (Join view seat) outcome outcome' g g' = over g.1 g'.1 alike.edits alike.places
+  same_event (ReadClean view place) outcome outcome' g g' = over g.1 g'.1 alike.edits alike.places
+  same_event (ReadValue view place) outcome outcome' g g' = over g.1 g'.1 alike.edits alike.places
+  same_event (ReadMark view place) outcome outcome' g g' = over g.1 g'.1 alike.edits alike.places
+  same_event (Commit view entry) outcome outcome' g g' = over g.1 g'.1 (ap (λ e. commits e entry) alike.edits) alike.places
   same_event (Mark view entry place) outcome outcome' g g' =
-      alike_by (λ e p. marks_for e entry place) (λ e p. slice_set p place (record (place_at p place) { mark = length e.log + 1 })) s other after after' alike
-      (ap (λ (x : State E). x.edits) g.1) (ap (λ (x : State E). x.places) g.1) (ap (λ (x : State E). x.edits) g'.1) (ap (λ (x : State E). x.places) g'.1)
+      over g.1 g'.1 (ap (λ e. marks_for e entry place) alike.edits)
+      (ap (λ p. slice_set p place (record (place_at p place) { mark = length s.edits.log + 1 })) alike.places
+      ∙ ap (λ (e : Edits E). slice_set other.places place (record (place_at other.places place) { mark = length e.log + 1 })) alike.edits)
   same_event (Put view place word) outcome outcome' g g' =
-      alike_by (λ e p. e) (λ e p. slice_set p place (record (place_at p place) { value = word })) s other after after' alike
-      (ap (λ (x : State E). x.edits) g.1) (ap (λ (x : State E). x.places) g.1) (ap (λ (x : State E). x.edits) g'.1) (ap (λ (x : State E). x.places) g'.1)
+      over g.1 g'.1 alike.edits (ap (λ p. slice_set p place (record (place_at p place) { value = word })) alike.places)
   same_event (Finish view place mark) outcome outcome' g g' =
-      alike_by (λ e p. e) (λ e p. slice_set p place (record (place_at p place) { clean = record { upto = mark + 1; held = false } })) s other after after' alike
-      (ap (λ (x : State E). x.edits) g.1) (ap (λ (x : State E). x.places) g.1) (ap (λ (x : State E). x.edits) g'.1) (ap (λ (x : State E). x.places) g'.1)
+      over g.1 g'.1 alike.edits
+      (ap (λ p. slice_set p place (record (place_at p place) { clean = record { upto = mark + 1; held = false } })) alike.places)
   same_event (Claim view place seen) outcome outcome' g g' =
       let here : (place_at s.places place).clean ≡ (place_at other.places place).clean = ap (λ (p : List Place). (place_at p place).clean) alike.places in
       elim g [
         | inl takes ↦
             elim g' [
               | inl takes' ↦
-                  alike_by (λ e p. e) (λ e p. slice_set p place (record (place_at p place) { clean = record { upto = seen.upto; held = true } })) s other after after' alike
-                  (ap (λ (x : State E). x.edits) takes.effect) (ap (λ (x : State E). x.places) takes.effect)
-                  (ap (λ (x : State E). x.edits) takes'.effect) (ap (λ (x : State E). x.places) takes'.effect)
+                  over takes.effect takes'.effect alike.edits
+                  (ap (λ p. slice_set p place (record (place_at p place) { clean = record { upto = seen.upto; held = true } })) alike.places)
               | inr misses' ↦ absurd (misses'.found (sym here ∙ takes.found))
             ]
         | inr misses ↦
             elim g' [
               | inl takes' ↦ absurd (misses.found (here ∙ takes'.found))
-              | inr misses' ↦
-                  both_stay (ap (λ (x : State E). x.edits) misses.effect) (ap (λ (x : State E). x.places) misses.effect)
-                  (ap (λ (x : State E). x.edits) misses'.effect) (ap (λ (x : State E). x.places) misses'.effect)
+              | inr misses' ↦ over misses.effect misses'.effect alike.edits alike.places
             ]
       ]
 
