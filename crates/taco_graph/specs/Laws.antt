@@ -1,10 +1,12 @@
 -- What is true of what edges answer, and of edges that stand for pairs.
 use Rattle.std.specs.Prelude.{◌≡◌, ◌↔◌, ◌+◌, ◌≤◌, List, [], ◌∷◌, ◌++◌, length}
+use Rattle.std.specs.List.Sorted.{IsNonDecreasingBy}
 use Rattle.sheet_refs.specs.Cells.{Position, Corners, IsIn}
 use Rattle.graph_walk.specs.Graphs.{Pair}
 use Rattle.edge_patterns.specs.Edges.{EdgeValue}
 use Rattle.taco_graph.specs.declared.answers.Question.{Question}
 use Rattle.taco_graph.specs.Answers.{AddsOneEach, IsMeant}
+use Rattle.taco_graph.specs.Order.{AreInOrder}
 use Rattle.taco_graph.specs.Pairs.{StandFor}
 
 -- a list gains no more ranges than there are edges
@@ -27,3 +29,7 @@ OneEdgeGivesOne =
 -- edges that stand for some pairs are no more than these: each has one of its own
 abbrev pub EdgesAreFew : Type 0
 EdgesAreFew = (edges : List EdgeValue) (pairs : List Pair) → StandFor edges pairs → length edges ≤ length pairs
+
+-- edges in order stand by the columns of their first cells, before all else
+abbrev pub OrderIsByColumns : Type 0
+OrderIsByColumns = (edges : List EdgeValue) → AreInOrder edges → IsNonDecreasingBy (λ edge. edge.dep.head.col) edges
