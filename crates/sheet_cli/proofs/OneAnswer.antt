@@ -15,7 +15,7 @@ use Rattle.csv_sheet.specs.declared.refused.SheetRefused.{SheetRefused}
 use Rattle.csv_sheet.specs.Results.{IsResult}
 use Rattle.csv_sheet.proofs.ResultLemmas.{one_result}
 use Rattle.taco_graph.specs.Pairs.{pairs_of}
-use Rattle.taco_graph.proofs.ListLemmas.{no_longer}
+use Rattle.range_index.proofs.DistinctLemmas.{no_longer}
 use Rattle.window_text.specs.Texts.{IsWithinSheet, check_text, runs_text}
 use Rattle.sheet_cli.specs.Graphs.{ListsEdges}
 use Rattle.sheet_cli.specs.Answers.{Answer, Answers, AnswersWindow, AnswersCheck, AnswersPlay, AreOfCheck, Gives, GivesScript, HasNoScript, HasNoSheet, IsPlayed, IsTextOf, Owes, Tells, Writes, OneAnswer, WordsAskForOne, status_of}
