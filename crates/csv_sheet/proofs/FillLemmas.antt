@@ -16,13 +16,13 @@ use Rattle.sheet_model.specs.Tables.AddsLabels.{done as adds_none}
 use Rattle.sheet_model.proofs.SheetLemmas.{sheet_blank, sheet_with_labels, sheet_with_content, held_content, table_after, grown_table, content_of-same, content_of-other, content_of-blank, IsContent-after}
 use Rattle.sheet_model.proofs.ContentLemmas.{refused_none}
 use Rattle.sheet_model.proofs.TableLemmas.{adds_one_more, one_more}
-use Rattle.csv_sheet.specs.Filling.{Holds, PutsField, IsPartFilled, IsRecordFor}
+use Rattle.csv_sheet.specs.Filling.{HoldsRecords, PutsField, IsPartFilled, IsRecordFor}
 use Rattle.csv_sheet.specs.Records.{Rows, fields_at, field_at, all_fields, cell_there}
 use Rattle.csv_sheet.specs.Results.{IsRefusedFormula}
 use Rattle.csv_sheet.proofs.FieldLemmas.{all_more, all_longer, field_new, field_same, field_nothing, place_below}
 
 -- a blank sheet holds no records
-pub holds_nothing : (sizes : Sizes) → IsSheetSize sizes → Holds [] (blank_sheet sizes)
+pub holds_nothing : (sizes : Sizes) → IsSheetSize sizes → HoldsRecords [] (blank_sheet sizes)
 holds_nothing sizes size = record {
   kept = sheet_blank sizes size;
   labels = adds_none [] [] [] refl refl;
@@ -30,7 +30,7 @@ holds_nothing sizes size = record {
 }
 
 -- an empty record changes nothing
-pub holds_row : (rows : Rows) (sheet : SheetValue) → Holds rows sheet → Holds (rows ++ [] ∷ []) sheet
+pub holds_row : (rows : Rows) (sheet : SheetValue) → HoldsRecords rows sheet → HoldsRecords (rows ++ [] ∷ []) sheet
 holds_row rows sheet holds = record {
   kept = holds.kept;
   labels = subst (λ t. AddsLabels t [] sheet.labels) (sym (all_more rows [] ∙ append-nil (all_fields rows))) holds.labels;
@@ -98,7 +98,7 @@ module _ (rows : Rows) (fields : List (List ℕ)) (field : List ℕ) (old new : 
   ]
 
   -- one field more
-  pub holds_field : length old.labels < 2 ^ 32 - 1 → Holds (rows ++ fields ∷ []) old → Holds (rows ++ (fields ++ field ∷ []) ∷ []) new
+  pub holds_field : length old.labels < 2 ^ 32 - 1 → HoldsRecords (rows ++ fields ∷ []) old → HoldsRecords (rows ++ (fields ++ field ∷ []) ∷ []) new
   holds_field room holds = record {
     kept = sheet_filled holds.kept room;
     labels = subst (λ t. AddsLabels t [] new.labels) (sym (all_longer rows fields field)) (adds_one_more (all_fields (rows ++ fields ∷ [])) field [] old.labels new.labels holds.labels put.table);
@@ -121,7 +121,7 @@ part_more row fields col old between new within room inside part put = record {
       let put_there = subst (λ k. PutsField (get_or fields col []) (cell_there k (length (take col fields))) between new) (sym at) (subst (λ k. PutsField (get_or fields col []) (cell_there row k) between new) (sym taken) put) in
       let inside_there = subst (λ k. IsTrue (is_inside between.sizes (cell_there k (length (take col fields))))) (sym at) (subst (λ k. IsTrue (is_inside between.sizes (cell_there row k))) (sym taken) inside) in
       let more = holds_field rows (take col fields) (get_or fields col []) between new inside_there put_there room (part.filled rows at holds) in
-      subst (λ fs. Holds (rows ++ fs ∷ []) new) (sym taken_more) more;
+      subst (λ fs. HoldsRecords (rows ++ fs ∷ []) new) (sym taken_more) more;
   sizes = ap (λ (s : SheetValue). s.sizes) put.placed ∙ part.sizes;
   few = (let one = one_more (get_or fields col []) between.labels new.labels put.table in let few = part.few in omega (arith, one, few));
   clean = λ k less. clean k less;

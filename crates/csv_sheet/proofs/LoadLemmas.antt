@@ -7,7 +7,7 @@ use Rattle.sheet_refs.specs.declared.sizes.Sizes.{Sizes}
 use Rattle.sheet_model.specs.Sheets.{SheetValue, IsSheetSize}
 use Rattle.csv_sheet.specs.Reading.{Measures}
 use Rattle.csv_sheet.specs.Records.{Rows, cell_there, longest, sizes_of, without_marks}
-use Rattle.csv_sheet.specs.Results.{AreText, IsTooLarge, NoField, IsFirstField, IsLong, IsAnswer, IsResult}
+use Rattle.csv_sheet.specs.Results.{AreText, IsTooLarge, NoField, IsFirstField, IsLong, IsGivenByRecords, IsSheetResult}
 use Rattle.csv_sheet.specs.declared.extent.Extent.{Extent}
 use Rattle.csv_sheet.specs.declared.refused.SheetRefused.{SheetRefused}
 use Rattle.csv_sheet.specs.declared.refused.SheetRefused.TheVariants as refused
@@ -17,12 +17,12 @@ use Rattle.csv_sheet.proofs.RecordLemmas.{has_columns}
 use Rattle.csv_sheet.proofs.ResultLemmas.{one_result, field_inside}
 
 pub result_from : (text records : List ℕ) (rows : Rows) (result : Result SheetValue SheetRefused) → records ≡ without_marks text
-    → AreRecords default_config StartRecord records rows → IsAnswer rows result → IsResult text result
+    → AreRecords default_config StartRecord records rows → IsGivenByRecords rows result → IsSheetResult text result
 result_from text records rows result same has answer = record { rows = rows; has = subst (λ t. AreRecords default_config StartRecord t rows) same has; answer = answer }
 
 -- a result that a text gives is the only one
-pub exact_from : (text : List ℕ) (result : Result SheetValue SheetRefused) → IsResult text result → (answer : Result SheetValue SheetRefused) → (result ≡ answer) ↔ IsResult text answer
-exact_from text result is answer = (λ same. subst (IsResult text) same is, λ other. one_result text result answer is other)
+pub exact_from : (text : List ℕ) (result : Result SheetValue SheetRefused) → IsSheetResult text result → (answer : Result SheetValue SheetRefused) → (result ≡ answer) ↔ IsSheetResult text answer
+exact_from text result is answer = (λ same. subst (IsSheetResult text) same is, λ other. one_result text result answer is other)
 
 pub records_without_marks : (text records : List ℕ) → records ≡ without_marks text → without_marks records ≡ records
 records_without_marks text records same = subst (λ t. without_marks t ≡ t) (sym same) (without_marks_twice text)

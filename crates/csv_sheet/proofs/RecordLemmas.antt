@@ -14,7 +14,7 @@ use Rattle.csv.proofs.ReadFacts.{rows-end, rows-more}
 use Rattle.csv.specs.Records.{AllText, field_at}
 use Rattle.csv.specs.declared.parser.Config.{Config}
 use Rattle.csv.specs.declared.parser.State.{State}
-use Rattle.csv_sheet.specs.Reading.{HasRead}
+use Rattle.csv_sheet.specs.Reading.{HasReadRecords}
 use Rattle.csv_sheet.specs.Records.{Rows, longest}
 
 -- the field at a place of a record
@@ -78,9 +78,9 @@ one_rows cfg s xs a b x y =
     let none : more.0 ≡ [] = nothing_left cfg x.0 x.1 more.0 more.2 x.3 in
     sym (more.1 ∙ ap (λ rest. a ++ rest) none ∙ append-nil a)
 
-module _ {R : Type 0} (left : R → Option (List ℕ)) (a b : Reader R) (fields : List (List ℕ)) (text : List ℕ) (rows : Rows) (has : HasRead left text rows a) where
+module _ {R : Type 0} (left : R → Option (List ℕ)) (a b : Reader R) (fields : List (List ℕ)) (text : List ℕ) (rows : Rows) (has : HasReadRecords left text rows a) where
   -- one record more
-  read_more : ReadRecord left a b true fields → b.flexible ≡ a.flexible → b.first ≡ true → HasRead left text (rows ++ fields ∷ []) b
+  read_more : ReadRecord left a b true fields → b.flexible ≡ a.flexible → b.first ≡ true → HasReadRecords left text (rows ++ fields ∷ []) b
   read_more read flexible first =
       let more = rows-more left a b fields default_config StartRecord text has.rest rows has.config has.source has.reached read in
       record {
@@ -98,7 +98,7 @@ module _ {R : Type 0} (left : R → Option (List ℕ)) (a b : Reader R) (fields 
   read_end read = (a.state, has.rest, has.reached, rows-end left a b fields default_config has.rest has.config has.source read)
 
   pub read_either : (found : Bool) → ReadRecord left a b found fields → b.flexible ≡ a.flexible → b.first ≡ true
-      → MatchBool found (HasRead left text (rows ++ fields ∷ []) b) (AreRecords default_config StartRecord text rows)
+      → MatchBool found (HasReadRecords left text (rows ++ fields ∷ []) b) (AreRecords default_config StartRecord text rows)
   read_either true read flexible first = read_more read flexible first
   read_either false read flexible first = read_end read
 

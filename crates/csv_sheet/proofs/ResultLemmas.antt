@@ -16,7 +16,7 @@ use Rattle.sheet_model.proofs.ContentLemmas.{one_content, refused_none}
 use Rattle.sheet_model.proofs.SameSheets.{same_sheet}
 use Rattle.sheet_model.proofs.TableLemmas.{adds_one}
 use Rattle.csv_sheet.specs.Records.{Rows, fields_at, field_at, all_fields, cell_there, longest, sizes_of, without_marks}
-use Rattle.csv_sheet.specs.Results.{AreText, IsFirstNotText, IsTooLarge, IsBefore, NoField, IsFirstField, IsLong, IsRefusedFormula, AreReadable, IsSheetOf, IsFirstRefused, IsAnswer, IsResult}
+use Rattle.csv_sheet.specs.Results.{AreText, IsFirstNotText, IsTooLarge, IsPlaceBefore, NoField, IsFirstField, IsLong, IsRefusedFormula, AreReadable, IsSheetOf, IsFirstRefused, IsGivenByRecords, IsSheetResult}
 use Rattle.csv_sheet.specs.declared.refused.SheetRefused.{SheetRefused}
 use Rattle.csv_sheet.specs.declared.refused.SheetRefused.TheVariants.{NotUtf8, TooManyCells, FieldTooLong, FormulaTooDeep, TooManyRefs, Memory}
 use Rattle.csv_sheet.proofs.FieldLemmas.{longest_of}
@@ -35,7 +35,7 @@ not_text : (rows : Rows) (number : ℕ) → IsFirstNotText rows number → AreTe
 not_text rows number first text = first.not_text (text first.row [] first.there)
 
 -- of two places one is before the other, or they are the same
-in_order : (r c row col : ℕ) → ((r ≡ row) × (c ≡ col)) ⊎ (IsBefore r c row col ⊎ IsBefore row col r c)
+in_order : (r c row col : ℕ) → ((r ≡ row) × (c ≡ col)) ⊎ (IsPlaceBefore r c row col ⊎ IsPlaceBefore row col r c)
 in_order r c row col = elim (cases_order r row) [
   | inl same ↦ elim (cases_order c col) [
     | inl same_col ↦ inl (same, same_col)
@@ -110,7 +110,7 @@ deep_not_many rows a b x y =
     let deep = subst (λ (k : Position). IsDeepFormula (field_at rows (k.row - 1) (k.col - 1))) same x.why in
     y.why.0 deep.deep
 
-one_answer : (rows : Rows) (a b : Result SheetValue SheetRefused) → IsAnswer rows a → IsAnswer rows b → a ≡ b
+one_answer : (rows : Rows) (a b : Result SheetValue SheetRefused) → IsGivenByRecords rows a → IsGivenByRecords rows b → a ≡ b
 one_answer rows (Ok a) (Ok b) x y = ap Ok (one_sheet rows a b x y)
 one_answer rows (Ok a) (Err (NotUtf8 b)) x y = absurd (not_text rows b y x.readable.text)
 one_answer rows (Ok a) (Err (TooManyCells b b')) x y = absurd (x.readable.fits y.1)
@@ -161,7 +161,7 @@ one_answer rows (Err Memory) (Err (FormulaTooDeep b)) x y = absurd x
 one_answer rows (Err Memory) (Err (TooManyRefs b)) x y = absurd x
 one_answer rows (Err Memory) (Err Memory) x y = absurd x
 
-pub one_result : (text : List ℕ) (a b : Result SheetValue SheetRefused) → IsResult text a → IsResult text b → a ≡ b
+pub one_result : (text : List ℕ) (a b : Result SheetValue SheetRefused) → IsSheetResult text a → IsSheetResult text b → a ≡ b
 one_result text a b x y =
     let same : y.rows ≡ x.rows = one_rows default_config StartRecord (without_marks text) y.rows x.rows y.has x.has in
-    one_answer x.rows a b x.answer (subst (λ rows. IsAnswer rows b) same y.answer)
+    one_answer x.rows a b x.answer (subst (λ rows. IsGivenByRecords rows b) same y.answer)

@@ -12,7 +12,7 @@ use Rattle.csv.specs.Records.{AllText}
 use Rattle.sheet_refs.specs.Cells.{Position}
 use Rattle.csv_sheet.specs.Records.{Rows, fields_at, field_at, cell_there, longest}
 use Rattle.csv_sheet.specs.Reading.{AreShort, IsFirstLong}
-use Rattle.csv_sheet.specs.Results.{AreText, IsFirstNotText, IsFirstField, NoField, IsLong, IsBefore}
+use Rattle.csv_sheet.specs.Results.{AreText, IsFirstNotText, IsFirstField, NoField, IsLong, IsPlaceBefore}
 
 module _ (rows : Rows) (more : List (List ℕ)) where
   pub length-more : length (rows ++ more ∷ []) ≡ length rows + 1
@@ -95,7 +95,7 @@ module _ (rows : Rows) (more : List (List ℕ)) where
               first.before r c earlier (subst (λ fs. c < length fs) (old_fields r old) within) (subst (λ fs. P (get_or fs c [])) (old_fields r old) holds);
         }
       where
-        earlier_row : (r c row col : ℕ) → IsBefore r c row col → row < length rows → r < length rows
+        earlier_row : (r c row col : ℕ) → IsPlaceBefore r c row col → row < length rows → r < length rows
         earlier_row r c row col (inl less) inside = omega (arith, less, inside)
         earlier_row r c row col (inr same) inside = let e = same.0 in omega (arith, e, inside)
 
@@ -110,7 +110,7 @@ module _ (rows : Rows) (more : List (List ℕ)) where
       before = λ r c before inside holds. by r c before inside holds;
     }
       where
-        by : (r c : ℕ) → IsBefore r c (length rows) col → c < length (fields_at (rows ++ more ∷ []) r) → ¬ P (field_at (rows ++ more ∷ []) r c)
+        by : (r c : ℕ) → IsPlaceBefore r c (length rows) col → c < length (fields_at (rows ++ more ∷ []) r) → ¬ P (field_at (rows ++ more ∷ []) r c)
         by r c (inl less) inside holds =
             none r c (subst (λ fs. c < length fs) (old_fields r less) inside) (subst (λ fs. P (get_or fs c [])) (old_fields r less) holds)
         by r c (inr same) inside holds =

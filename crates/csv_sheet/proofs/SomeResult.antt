@@ -26,9 +26,9 @@ use Rattle.sheet_model.specs.Fields.IsTableAfter.{label, other}
 use Rattle.sheet_model.specs.Labels.{with_label}
 use Rattle.sheet_model.specs.Sheets.{SheetValue, ContentValue, Constant, Computed, IsSheetSize, blank_sheet, with_content, with_labels}
 use Rattle.sheet_model.proofs.ListLemmas.{slice_get-push}
-use Rattle.csv_sheet.specs.Filling.{Holds, IsPartFilled, IsRecordFor}
+use Rattle.csv_sheet.specs.Filling.{HoldsRecords, IsPartFilled, IsRecordFor}
 use Rattle.csv_sheet.specs.Records.{Rows, fields_at, field_at, cell_there, longest, sizes_of, without_marks}
-use Rattle.csv_sheet.specs.Results.{AreText, IsFirstNotText, IsTooLarge, IsBefore, NoField, IsFirstField, IsLong, IsRefusedFormula, AreReadable, IsSheetOf, IsFirstRefused, IsAnswer, IsResult}
+use Rattle.csv_sheet.specs.Results.{AreText, IsFirstNotText, IsTooLarge, IsPlaceBefore, NoField, IsFirstField, IsLong, IsRefusedFormula, AreReadable, IsSheetOf, IsFirstRefused, IsGivenByRecords, IsSheetResult}
 use Rattle.csv_sheet.specs.declared.refused.SheetRefused.{SheetRefused}
 use Rattle.csv_sheet.specs.declared.refused.SheetRefused.TheVariants.{NotUtf8, TooManyCells, FieldTooLong, FormulaTooDeep, TooManyRefs}
 use Rattle.csv_sheet.proofs.FillLemmas.{holds_nothing, part_none, part_step}
@@ -98,7 +98,7 @@ module _ (P : List ℕ → Type 0) (rows : Rows) (no_first : (cell : Position) �
   first_at row c above left within is =
       no_first (cell_there row c) (record { row = row; col = c; cell_is = refl; there = within; is = is; before = before })
     where
-      before : (r k : ℕ) → IsBefore r k row c → k < length (fields_at rows r) → ¬ P (field_at rows r k)
+      before : (r k : ℕ) → IsPlaceBefore r k row c → k < length (fields_at rows r) → ¬ P (field_at rows r k)
       before r k (inl up) there has = above r k up there has
       before r k (inr (same, less)) there has =
           left k less (subst (λ j. k < length (fields_at rows j)) same there) (subst (λ j. P (field_at rows j k)) same has)
@@ -212,7 +212,7 @@ one_row n cols width most few narrow = grind (arith, row_places)
 module _ (all : Rows) (readable : AreReadable all) (clean : NoField IsRefusedFormula all) (size : IsSheetSize (sizes_of all)) where
   -- a sheet that holds the first records
   record HoldsFirst (n : ℕ) (sheet : SheetValue) : Type 0 where
-    holds : Holds (take n all) sheet
+    holds : HoldsRecords (take n all) sheet
     sizes : sheet.sizes ≡ sizes_of all
     few : length sheet.labels ≤ n * sheet.sizes.cols
 
@@ -234,7 +234,7 @@ module _ (all : Rows) (readable : AreReadable all) (clean : NoField IsRefusedFor
           let few : length sheet.labels ≤ length (take n all) * sheet.sizes.cols = subst (λ k. length sheet.labels ≤ k * sheet.sizes.cols) (sym count) first.few in
           let fits = record_fits all (take n all) (drop (suc n) all) (get_or all n []) (parts_of n inside) readable sheet first.holds first.sizes few in
           next_part n (get_or all n []) sheet (subst (λ k. IsRecordFor sheet k (get_or all n [])) count fits) (λ c within. clean n c within) (length (get_or all n [])) (omega arith) (λ new part. denied new (record {
-            holds = subst (λ rows. Holds rows new) (ap (λ fs. take n all ++ fs ∷ []) (take-length (get_or all n [])) ∙ sym (take-suc all n [] inside)) (part.filled (take n all) count first.holds);
+            holds = subst (λ rows. HoldsRecords rows new) (ap (λ fs. take n all ++ fs ∷ []) (take-length (get_or all n [])) ∙ sym (take-suc all n [] inside)) (part.filled (take n all) count first.holds);
             sizes = part.sizes ∙ first.sizes;
             few = subst (λ (s : Sizes). length new.labels ≤ suc n * s.cols) (sym part.sizes) (one_row n sheet.sizes.cols (length (get_or all n [])) (length new.labels) part.few fits.narrow);
           }))
@@ -242,7 +242,7 @@ module _ (all : Rows) (readable : AreReadable all) (clean : NoField IsRefusedFor
   -- there is the sheet
   no_sheet : ((sheet : SheetValue) → IsSheetOf all sheet → ⊥) → ⊥
   no_sheet denied = next_sheet (length all) (omega arith) (λ sheet first.
-      let holds : Holds all sheet = subst (λ rows. Holds rows sheet) (take-length all) first.holds in
+      let holds : HoldsRecords all sheet = subst (λ rows. HoldsRecords rows sheet) (take-length all) first.holds in
       denied sheet (record {
         readable = readable;
         kept = holds.kept;
@@ -267,7 +267,7 @@ size_of records rows has fits = record {
     no_columns (fields ∷ rest) e = absurd (omega (arith, e))
 
 module _ (rows : Rows) (records : List ℕ) (has : AreRecords default_config StartRecord records rows)
-    (denied : (result : Result SheetValue SheetRefused) → ¬ IsAnswer rows result) where
+    (denied : (result : Result SheetValue SheetRefused) → ¬ IsGivenByRecords rows result) where
   with_text : AreText rows → ⊥
   with_text text = no_sheet rows readable clean (size_of records rows has fits) (λ sheet is. denied (Ok sheet) is)
     where
@@ -292,7 +292,7 @@ module _ (rows : Rows) (records : List ℕ) (has : AreRecords default_config Sta
   no_answer : ⊥
   no_answer = all_are_text rows (λ number first. denied (Err (NotUtf8 number)) first) with_text
 
-pub some_result : (text : List ℕ) → ((result : Result SheetValue SheetRefused) → ¬ IsResult text result) → ⊥
+pub some_result : (text : List ℕ) → ((result : Result SheetValue SheetRefused) → ¬ IsSheetResult text result) → ⊥
 some_result text denied =
     let found = rows_within default_config (length (without_marks text) + 1) StartRecord (without_marks text) (omega arith) in
     no_answer found.0 (without_marks text) found.1 (λ result is. denied result (record { rows = found.0; has = found.1; answer = is }))

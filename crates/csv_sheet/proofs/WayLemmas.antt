@@ -15,10 +15,10 @@ use Rattle.sheet_model.specs.Fields.{IsContent, IsDeepFormula}
 use Rattle.sheet_model.specs.Sheets.{SheetValue, IsSheetSize, content_of, blank_sheet}
 use Rattle.sheet_model.specs.Tables.{AddsLabels}
 use Rattle.sheet_model.proofs.ContentLemmas.{refused_none}
-use Rattle.csv_sheet.specs.Filling.{Holds, IsRecordFor, IsRowRefusal, IsFieldRefusal, IsUnderWay}
-use Rattle.csv_sheet.specs.Reading.{HasRead}
+use Rattle.csv_sheet.specs.Filling.{HoldsRecords, IsRecordFor, IsRowRefusal, IsFieldRefusal, HasFilled}
+use Rattle.csv_sheet.specs.Reading.{HasReadRecords}
 use Rattle.csv_sheet.specs.Records.{Rows, fields_at, field_at, all_fields, cell_there, longest, sizes_of}
-use Rattle.csv_sheet.specs.Results.{AreReadable, IsSheetOf, IsAnswer, IsBefore, IsFirstField, IsFirstRefused, IsRefusedFormula, IsLong}
+use Rattle.csv_sheet.specs.Results.{AreReadable, IsSheetOf, IsGivenByRecords, IsPlaceBefore, IsFirstField, IsFirstRefused, IsRefusedFormula, IsLong}
 use Rattle.csv_sheet.specs.declared.refused.SheetRefused.{SheetRefused}
 use Rattle.csv_sheet.specs.declared.refused.SheetRefused.TheVariants.{NotUtf8, TooManyCells, FieldTooLong, FormulaTooDeep, TooManyRefs, Memory}
 use Rattle.csv_sheet.proofs.FieldLemmas.{longest_at, longest_of}
@@ -41,7 +41,7 @@ module _ (all before rest : Rows) (fields : List (List ℕ)) (whole : all ≡ (b
       omega (arith, e, d, f)
 
   -- it fits the sheet
-  pub record_fits : (sheet : SheetValue) → Holds before sheet → sheet.sizes ≡ sizes_of all → length sheet.labels ≤ length before * sheet.sizes.cols → IsRecordFor sheet (length before) fields
+  pub record_fits : (sheet : SheetValue) → HoldsRecords before sheet → sheet.sizes ≡ sizes_of all → length sheet.labels ≤ length before * sheet.sizes.cols → IsRecordFor sheet (length before) fields
   record_fits sheet holds sizes few = record {
     kept = holds.kept;
     within = subst (λ (s : Sizes). length before < s.rows) (sym sizes) below;
@@ -57,7 +57,7 @@ module _ (all before rest : Rows) (fields : List (List ℕ)) (whole : all ≡ (b
       ap (λ rows. field_at rows r c) front ∙ ap (λ fs. get_or fs c []) (get_or-append before (fields ∷ rest) [] r less)
 
   -- no formula in the records before it is refused
-  earlier_kept : (sheet : SheetValue) → Holds before sheet → sheet.sizes ≡ sizes_of all → (r c : ℕ) → r < length before → c < length (fields_at all r) → ¬ IsRefusedFormula (field_at all r c)
+  earlier_kept : (sheet : SheetValue) → HoldsRecords before sheet → sheet.sizes ≡ sizes_of all → (r c : ℕ) → r < length before → c < length (fields_at all r) → ¬ IsRefusedFormula (field_at all r c)
   earlier_kept sheet holds sizes r c less within refused =
       let row_below : r < length all = (let b = below in omega (arith, less, b)) in
       let beside : c < longest all = longest_of all r c row_below within in
@@ -65,7 +65,7 @@ module _ (all before rest : Rows) (fields : List (List ℕ)) (whole : all ≡ (b
       refused_none sheet.labels (field_at before r c) (content_of sheet (cell_there r c)) (subst IsRefusedFormula same refused)
       (holds.cells r c (subst (λ (s : Sizes). r < s.rows) (sym sizes) row_below) (subst (λ (s : Sizes). c < s.cols) (sym sizes) beside))
 
-  first_here : (sheet : SheetValue) → Holds before sheet → sheet.sizes ≡ sizes_of all → (col : ℕ) → col < length fields → IsRefusedFormula (get_or fields col [])
+  first_here : (sheet : SheetValue) → HoldsRecords before sheet → sheet.sizes ≡ sizes_of all → (col : ℕ) → col < length fields → IsRefusedFormula (get_or fields col [])
       → ((c : ℕ) → c < col → ¬ IsRefusedFormula (get_or fields c [])) → IsFirstField IsRefusedFormula all (cell_there (length before) col)
   first_here sheet holds sizes col within refused clean = record {
     row = length before;
@@ -76,7 +76,7 @@ module _ (all before rest : Rows) (fields : List (List ℕ)) (whole : all ≡ (b
     before = λ r c earlier inside. by r c earlier inside;
   }
     where
-      by : (r c : ℕ) → IsBefore r c (length before) col → c < length (fields_at all r) → ¬ IsRefusedFormula (field_at all r c)
+      by : (r c : ℕ) → IsPlaceBefore r c (length before) col → c < length (fields_at all r) → ¬ IsRefusedFormula (field_at all r c)
       by r c (inl less) inside = earlier_kept sheet holds sizes r c less inside
       by r c (inr same) inside = λ refused_there.
           clean c same.1 (subst (λ fs. IsRefusedFormula (get_or fs c [])) (ap (fields_at all) same.0 ∙ here) refused_there)
@@ -88,7 +88,7 @@ module _ (all before rest : Rows) (fields : List (List ℕ)) (whole : all ≡ (b
       subst (λ k. Why (field_at all k (col + 1 - 1))) (sym row_is) (subst (λ k. Why (field_at all (length before) k)) (sym col_is) (subst (λ fs. Why (get_or fs col [])) (sym here) why))
 
   -- a record that is refused tells what the text gives
-  pub row_refused : (sheet : SheetValue) → Holds before sheet → sheet.sizes ≡ sizes_of all → (refused : SheetRefused) → refused ≢ Memory → IsRowRefusal (length before) fields refused → IsAnswer all (Err refused)
+  pub row_refused : (sheet : SheetValue) → HoldsRecords before sheet → sheet.sizes ≡ sizes_of all → (refused : SheetRefused) → refused ≢ Memory → IsRowRefusal (length before) fields refused → IsGivenByRecords all (Err refused)
   row_refused sheet holds sizes (NotUtf8 number) other is = absurd is.why
   row_refused sheet holds sizes (TooManyCells height width) other is = absurd is.why
   row_refused sheet holds sizes (FieldTooLong at) other is = absurd is.why
@@ -106,12 +106,12 @@ module _ {R : Type 0} (left : R → Option (List ℕ)) (text : List ℕ) (all : 
   old_sizes = ap (λ (s : SheetValue). s.sizes) blank
 
   -- before the first record
-  pub way_begins : IsSheetSize old.sizes → (reader : Reader R) → HasRead left text [] reader → IsUnderWay left text 0 old old reader
+  pub way_begins : IsSheetSize old.sizes → (reader : Reader R) → HasReadRecords left text [] reader → HasFilled left text 0 old old reader
   way_begins size reader read = record {
     rows = [];
     count = refl;
     read = read;
-    holds = subst (Holds []) (sym blank) (holds_nothing (sizes_of all) (subst IsSheetSize old_sizes size));
+    holds = subst (HoldsRecords []) (sym blank) (holds_nothing (sizes_of all) (subst IsSheetSize old_sizes size));
     sizes = refl;
     few = (let none : length old.labels ≡ 0 = ap (λ (s : SheetValue). length s.labels) blank in omega (arith, none));
   }
@@ -125,7 +125,7 @@ module _ {R : Type 0} (left : R → Option (List ℕ)) (text : List ℕ) (all : 
       omega (arith, less_all, count)
 
   -- behind the last row
-  pub way_ends : (new : SheetValue) (reader : Reader R) → IsUnderWay left text old.sizes.rows old new reader → IsSheetOf all new
+  pub way_ends : (new : SheetValue) (reader : Reader R) → HasFilled left text old.sizes.rows old new reader → IsSheetOf all new
   way_ends new reader way =
       let front = rows_in_front default_config StartRecord text way.rows all reader.state way.read.rest way.read.reached has in
       let count : length way.rows ≡ length all = way.count ∙ ap (λ (s : Sizes). s.rows) old_sizes in
@@ -147,10 +147,10 @@ module _ {R : Type 0} (left : R → Option (List ℕ)) (text : List ℕ) (all : 
       no_rest rows (fields ∷ rest) e = (let d = length-append rows (fields ∷ rest) in absurd (omega (arith, d, e)))
 
   -- one record more
-  pub way_goes : (row : ℕ) (fields : List (List ℕ)) (between new : SheetValue) (reader later : Reader R) → (way : IsUnderWay left text row old between reader)
-      → HasRead left text (way.rows ++ fields ∷ []) later
-      → ((rows : Rows) → length rows ≡ row → Holds rows between → Holds (rows ++ fields ∷ []) new) → new.sizes ≡ between.sizes → length new.labels ≤ (row + 1) * between.sizes.cols
-      → IsUnderWay left text (row + 1) old new later
+  pub way_goes : (row : ℕ) (fields : List (List ℕ)) (between new : SheetValue) (reader later : Reader R) → (way : HasFilled left text row old between reader)
+      → HasReadRecords left text (way.rows ++ fields ∷ []) later
+      → ((rows : Rows) → length rows ≡ row → HoldsRecords rows between → HoldsRecords (rows ++ fields ∷ []) new) → new.sizes ≡ between.sizes → length new.labels ≤ (row + 1) * between.sizes.cols
+      → HasFilled left text (row + 1) old new later
   way_goes row fields between new reader later way read filled sizes few = record {
     rows = way.rows ++ fields ∷ [];
     count = length-append way.rows (fields ∷ []) ∙ ap (λ n. n + 1) way.count;
@@ -161,8 +161,8 @@ module _ {R : Type 0} (left : R → Option (List ℕ)) (text : List ℕ) (all : 
   }
 
   -- the record that was read fits the sheet
-  pub way_fits : (row : ℕ) (fields : List (List ℕ)) (between : SheetValue) (reader later : Reader R) → (way : IsUnderWay left text row old between reader)
-      → HasRead left text (way.rows ++ fields ∷ []) later → IsRecordFor between row fields
+  pub way_fits : (row : ℕ) (fields : List (List ℕ)) (between : SheetValue) (reader later : Reader R) → (way : HasFilled left text row old between reader)
+      → HasReadRecords left text (way.rows ++ fields ∷ []) later → IsRecordFor between row fields
   way_fits row fields between reader later way read =
       let front = rows_in_front default_config StartRecord text (way.rows ++ fields ∷ []) all later.state read.rest read.reached has in
       let sizes : between.sizes ≡ sizes_of all = way.sizes ∙ old_sizes in
@@ -171,8 +171,8 @@ module _ {R : Type 0} (left : R → Option (List ℕ)) (text : List ℕ) (all : 
       (record_fits all way.rows front.0 fields front.1 readable between way.holds sizes few)
 
   -- where it is refused, that is what the text gives
-  pub way_refused : (row : ℕ) (fields : List (List ℕ)) (between : SheetValue) (reader later : Reader R) → (way : IsUnderWay left text row old between reader)
-      → HasRead left text (way.rows ++ fields ∷ []) later → (refused : SheetRefused) → refused ≢ Memory → IsRowRefusal row fields refused → IsAnswer all (Err refused)
+  pub way_refused : (row : ℕ) (fields : List (List ℕ)) (between : SheetValue) (reader later : Reader R) → (way : HasFilled left text row old between reader)
+      → HasReadRecords left text (way.rows ++ fields ∷ []) later → (refused : SheetRefused) → refused ≢ Memory → IsRowRefusal row fields refused → IsGivenByRecords all (Err refused)
   way_refused row fields between reader later way read refused other is =
       let front = rows_in_front default_config StartRecord text (way.rows ++ fields ∷ []) all later.state read.rest read.reached has in
       let sizes : between.sizes ≡ sizes_of all = way.sizes ∙ old_sizes in

@@ -2,7 +2,7 @@
 use Rattle.std.specs.Prelude.{◌≡◌, ◌≢◌, ℕ, ◌+◌, ◌*◌, ◌<◌, ◌≤◌, List, [], ◌∷◌, ◌++◌, length, take, slice_index_or, Option}
 use Rattle.csv.specs.Records.{AllText}
 use Rattle.csv.specs.declared.reader.Reader.{Reader}
-use Rattle.csv_sheet.specs.Reading.{HasRead}
+use Rattle.csv_sheet.specs.Reading.{HasReadRecords}
 use Rattle.sheet_refs.specs.Cells.{Position}
 use Rattle.sheet_model.specs.Fields.{IsContent, IsDeepFormula, IsTableAfter}
 use Rattle.sheet_model.specs.Sheets.{SheetValue, ContentValue, IsSheet, content_of, with_content, with_labels}
@@ -14,7 +14,7 @@ use Rattle.csv_sheet.specs.declared.refused.SheetRefused.{SheetRefused}
 use Rattle.csv_sheet.specs.declared.refused.SheetRefused.TheVariants.{NotUtf8, TooManyCells, FieldTooLong, FormulaTooDeep, TooManyRefs, Memory}
 
 -- the sheet holds these records, and nothing where they have no field
-pub record Holds (rows : Rows) (sheet : SheetValue) : Type 0 where
+pub record HoldsRecords (rows : Rows) (sheet : SheetValue) : Type 0 where
   pub kept : IsSheet sheet
   pub labels : AddsLabels (all_fields rows) [] sheet.labels
   pub cells : (row col : ℕ) → row < sheet.sizes.rows → col < sheet.sizes.cols
@@ -54,16 +54,16 @@ pub record IsRowRefusal (row : ℕ) (fields : List (List ℕ)) (refused : SheetR
 
 -- so many fields of a record were put into a row
 pub record IsPartFilled (row : ℕ) (fields : List (List ℕ)) (col : ℕ) (old new : SheetValue) : Type 0 where
-  pub filled : (rows : Rows) → length rows ≡ row → Holds rows old → Holds (rows ++ take col fields ∷ []) new
+  pub filled : (rows : Rows) → length rows ≡ row → HoldsRecords rows old → HoldsRecords (rows ++ take col fields ∷ []) new
   pub sizes : new.sizes ≡ old.sizes
   pub few : length new.labels ≤ row * old.sizes.cols + col
   pub clean : (k : ℕ) → k < col → ¬ IsRefusedFormula (slice_index_or fields k [])
 
 -- so many records of a text were read and put into a sheet
-pub record IsUnderWay {R : Type 0} (left : R → Option (List ℕ)) (text : List ℕ) (row : ℕ) (old new : SheetValue) (reader : Reader R) : Type 0 where
+pub record HasFilled {R : Type 0} (left : R → Option (List ℕ)) (text : List ℕ) (row : ℕ) (old new : SheetValue) (reader : Reader R) : Type 0 where
   pub rows : Rows
   pub count : length rows ≡ row
-  pub read : HasRead left text rows reader
-  pub holds : Holds rows new
+  pub read : HasReadRecords left text rows reader
+  pub holds : HoldsRecords rows new
   pub sizes : new.sizes ≡ old.sizes
   pub few : length new.labels ≤ row * old.sizes.cols

@@ -9,7 +9,7 @@ use Rattle.csv_sheet.specs.Results.{AreText, IsFirstNotText, IsFirstField, NoFie
 use Rattle.csv_sheet.specs.declared.extent.Extent.{Extent}
 
 -- the reader has given these records of a text, and reads on
-pub record HasRead {R : Type 0} (left : R → Option (List ℕ)) (text : List ℕ) (rows : Rows) (reader : Reader R) : Type 0 where
+pub record HasReadRecords {R : Type 0} (left : R → Option (List ℕ)) (text : List ℕ) (rows : Rows) (reader : Reader R) : Type 0 where
   pub plain : reader.trim ≡ trim.None
   pub ready : Ready reader
   pub config : reader.config ≡ default_config

@@ -29,8 +29,8 @@ abbrev pub IsTooLarge : Rows → Type 0
 IsTooLarge rows = (1048576 < length rows * longest rows) ⊎ (16384 < longest rows)
 
 -- row by row, the one place is before the other
-abbrev pub IsBefore : ℕ → ℕ → ℕ → ℕ → Type 0
-IsBefore r c row col = (r < row) ⊎ ((r ≡ row) × (c < col))
+abbrev pub IsPlaceBefore : ℕ → ℕ → ℕ → ℕ → Type 0
+IsPlaceBefore r c row col = (r < row) ⊎ ((r ≡ row) × (c < col))
 
 -- of no field is something true
 abbrev pub NoField : (List ℕ → Type 0) → Rows → Type 0
@@ -43,7 +43,7 @@ pub record IsFirstField (P : List ℕ → Type 0) (rows : Rows) (cell : Position
   pub cell_is : cell ≡ cell_there row col
   pub there : col < length (fields_at rows row)
   pub is : P (field_at rows row col)
-  pub before : (r c : ℕ) → IsBefore r c row col → c < length (fields_at rows r) → ¬ P (field_at rows r c)
+  pub before : (r c : ℕ) → IsPlaceBefore r c row col → c < length (fields_at rows r) → ¬ P (field_at rows r c)
 
 -- a field of more than 8192 bytes
 abbrev pub IsLong : List ℕ → Type 0
@@ -76,35 +76,35 @@ pub record IsFirstRefused (Why : List ℕ → Type 0) (rows : Rows) (cell : Posi
   pub why : Why (field_at rows (cell.row - 1) (cell.col - 1))
 
 -- what records give; want of memory is none of it
-abbrev pub IsAnswer : Rows → Result SheetValue SheetRefused → Type 0
-IsAnswer rows (Ok sheet) = IsSheetOf rows sheet
-IsAnswer rows (Err (NotUtf8 number)) = IsFirstNotText rows number
-IsAnswer rows (Err (TooManyCells height width)) =
+abbrev pub IsGivenByRecords : Rows → Result SheetValue SheetRefused → Type 0
+IsGivenByRecords rows (Ok sheet) = IsSheetOf rows sheet
+IsGivenByRecords rows (Err (NotUtf8 number)) = IsFirstNotText rows number
+IsGivenByRecords rows (Err (TooManyCells height width)) =
     AreText rows × IsTooLarge rows × (height ≡ length rows) × (width ≡ longest rows)
-IsAnswer rows (Err (FieldTooLong cell)) = AreText rows × (¬ IsTooLarge rows) × IsFirstField IsLong rows cell
-IsAnswer rows (Err (FormulaTooDeep cell)) = IsFirstRefused IsDeepFormula rows cell
-IsAnswer rows (Err (TooManyRefs cell)) = IsFirstRefused HasTooManyRefs rows cell
-IsAnswer rows (Err Memory) = ⊥
+IsGivenByRecords rows (Err (FieldTooLong cell)) = AreText rows × (¬ IsTooLarge rows) × IsFirstField IsLong rows cell
+IsGivenByRecords rows (Err (FormulaTooDeep cell)) = IsFirstRefused IsDeepFormula rows cell
+IsGivenByRecords rows (Err (TooManyRefs cell)) = IsFirstRefused HasTooManyRefs rows cell
+IsGivenByRecords rows (Err Memory) = ⊥
 
 -- what a text gives
-pub record IsResult (text : List ℕ) (result : Result SheetValue SheetRefused) : Type 0 where
+pub record IsSheetResult (text : List ℕ) (result : Result SheetValue SheetRefused) : Type 0 where
   pub rows : Rows
   pub has : HasRows text rows
-  pub answer : IsAnswer rows result
+  pub answer : IsGivenByRecords rows result
 
 -- a text gives one thing
-abbrev pub OneResult : Type 0
-OneResult = (text : List ℕ) (a b : Result SheetValue SheetRefused) → IsResult text a → IsResult text b → a ≡ b
+abbrev pub OneSheetResult : Type 0
+OneSheetResult = (text : List ℕ) (a b : Result SheetValue SheetRefused) → IsSheetResult text a → IsSheetResult text b → a ≡ b
 
 -- and no text is without one: that none of all results is its own is false
 abbrev pub SomeResult : Type 0
-SomeResult = (text : List ℕ) → ¬ ((result : Result SheetValue SheetRefused) → ¬ IsResult text result)
+SomeResult = (text : List ℕ) → ¬ ((result : Result SheetValue SheetRefused) → ¬ IsSheetResult text result)
 
 -- a refusal in words
-abbrev pub refusal_text : SheetRefused → List ℕ
-refusal_text (NotUtf8 number) = codes "sheet: record " ++ (decimal number ++ codes " is not UTF-8")
-refusal_text (TooManyCells height width) = codes "sheet: too many cells"
-refusal_text (FieldTooLong cell) = codes "sheet: field too long at " ++ cell_text cell
-refusal_text (FormulaTooDeep cell) = codes "sheet: formula too deep at " ++ cell_text cell
-refusal_text (TooManyRefs cell) = codes "sheet: too many references at " ++ cell_text cell
-refusal_text Memory = codes "out of memory"
+abbrev pub sheet_refusal_text : SheetRefused → List ℕ
+sheet_refusal_text (NotUtf8 number) = codes "sheet: record " ++ (decimal number ++ codes " is not UTF-8")
+sheet_refusal_text (TooManyCells height width) = codes "sheet: too many cells"
+sheet_refusal_text (FieldTooLong cell) = codes "sheet: field too long at " ++ cell_text cell
+sheet_refusal_text (FormulaTooDeep cell) = codes "sheet: formula too deep at " ++ cell_text cell
+sheet_refusal_text (TooManyRefs cell) = codes "sheet: too many references at " ++ cell_text cell
+sheet_refusal_text Memory = codes "out of memory"

@@ -5,10 +5,10 @@ ghost use Rattle.csv.specs.Records.{fields_of};
 ghost use Rattle.csv.specs.declared.parser.State.TheVariants.{StartRecord};
 ghost use Rattle.sheet_refs.specs.Sizes.{is_inside};
 ghost use Rattle.sheet_model.specs.Sheets.{blank_sheet};
-ghost use Rattle.csv_sheet.specs.Filling.{Holds, PutsField, IsFieldRefusal, IsRecordFor};
+ghost use Rattle.csv_sheet.specs.Filling.{HoldsRecords, PutsField, IsFieldRefusal, IsRecordFor};
 ghost use Rattle.csv_sheet.specs.Filling.{IsRowRefusal};
 ghost use Rattle.csv_sheet.specs.Records.{Rows, sizes_of, without_marks};
-ghost use Rattle.csv_sheet.specs.Results.{AreReadable, IsAnswer, IsSheetOf};
+ghost use Rattle.csv_sheet.specs.Results.{AreReadable, IsGivenByRecords, IsSheetOf};
 ghost use Rattle.csv_sheet.specs.declared.refused.SheetRefused.TheVariants as refused;
 
 use crate::records::{field, read_next, reader_of};
@@ -47,7 +47,7 @@ fn fill_cell(sheet: &mut Sheet, cell: Cell, field: &[u8]) -> Result<(), SheetRef
 fn fill_row(sheet: &mut Sheet, row: u32, fields: &ByteRecord) -> Result<(), SheetRefused>
     requires { IsRecordFor sheet.old row (fields_of fields.now) }
     ensures filled { OnOk result ((rows : Rows) → length rows ≡ row
-        → Holds rows sheet.old → Holds (rows ++ fields_of fields.now ∷ []) sheet.new) }
+        → HoldsRecords rows sheet.old → HoldsRecords (rows ++ fields_of fields.now ∷ []) sheet.new) }
     ensures sizes { OnOk result (sheet.new.sizes ≡ sheet.old.sizes) }
     ensures few { OnOk result (length sheet.new.labels ≤ (row + 1) * sheet.old.sizes.cols) }
     ensures why { IfErr result (IsRowRefusal row (fields_of fields.now)) }
@@ -67,7 +67,7 @@ pub(crate) fn fill(alloc: Global, text: &[u8], sheet: &mut Sheet) -> Result<(), 
     ensures filled { OnOk result ((rows : Rows)
         × AreRecords default_config StartRecord text.now rows × IsSheetOf rows sheet.new) }
     ensures why { IfErr result (λ e. e ≢ refused.Memory → (rows : Rows)
-        × AreRecords default_config StartRecord text.now rows × IsAnswer rows (Err e)) }
+        × AreRecords default_config StartRecord text.now rows × IsGivenByRecords rows (Err e)) }
 {
     let mut reader = reader_of(alloc, text);
     let mut fields = ByteRecord::new(alloc);

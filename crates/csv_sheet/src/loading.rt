@@ -1,6 +1,6 @@
 ghost use Rattle.std.specs.Prelude.{◌≡◌, ◌≢◌, ◌≤◌, ◌↔◌, length, Result, Err};
 ghost use Rattle.sheet_model.specs.Sheets.{SheetValue};
-ghost use Rattle.csv_sheet.specs.Results.{IsResult};
+ghost use Rattle.csv_sheet.specs.Results.{IsSheetResult};
 ghost use Rattle.csv_sheet.specs.declared.refused.SheetRefused.{SheetRefused as Refusal};
 ghost use Rattle.csv_sheet.specs.declared.refused.SheetRefused.TheVariants as refused;
 
@@ -15,7 +15,7 @@ use std::alloc::Global;
 // The sheet of a text, or the first cause why it has none.
 fn load_text(alloc: Global, text: &[u8]) -> Result<Sheet, SheetRefused>
     requires { length text.now ≤ 16777216 }
-    ensures { result ≢ Err refused.Memory → IsResult text.now result }
+    ensures { result ≢ Err refused.Memory → IsSheetResult text.now result }
 {
     let records = behind_marks(text);
     let extent = measure(alloc, records)?;
@@ -50,9 +50,9 @@ fn load_text(alloc: Global, text: &[u8]) -> Result<Sheet, SheetRefused>
 /// of cells.
 pub fn load(alloc: Global, text: &[u8]) -> Result<Sheet, SheetRefused>
     requires { length text.now ≤ 16777216 }
-    ensures result { result ≢ Err refused.Memory → IsResult text.now result }
+    ensures result { result ≢ Err refused.Memory → IsSheetResult text.now result }
     ensures exact { result ≢ Err refused.Memory
-        → (answer : Result SheetValue Refusal) → result ≡ answer ↔ IsResult text.now answer }
+        → (answer : Result SheetValue Refusal) → result ≡ answer ↔ IsSheetResult text.now answer }
 {
     load_text(alloc, text)
 }

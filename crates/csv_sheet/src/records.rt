@@ -3,7 +3,7 @@ ghost use Rattle.std.specs.Prelude.{IfOk, MatchBool};
 ghost use Rattle.csv.specs.Reading.{AreRecords, default_config};
 ghost use Rattle.csv.specs.Records.{fields_of};
 ghost use Rattle.csv.specs.declared.parser.State.TheVariants.{StartRecord};
-ghost use Rattle.csv_sheet.specs.Reading.{HasRead};
+ghost use Rattle.csv_sheet.specs.Reading.{HasReadRecords};
 ghost use Rattle.csv_sheet.specs.Records.{Rows, without_marks};
 
 use csv::{ByteRecord, Reader, ReaderBuilder};
@@ -24,7 +24,7 @@ pub(crate) fn behind_marks(text: &[u8]) -> &[u8]
 /// A reader of the records of a text that has no byte order mark at its front.
 pub(crate) fn reader_of(alloc: Global, text: &[u8]) -> Reader<&[u8]>
     requires { without_marks text.now ≡ text.now }
-    ensures { HasRead (λ s. Some s.now) text.now [] result }
+    ensures { HasReadRecords (λ s. Some s.now) text.now [] result }
 {
     ReaderBuilder::new()
         .has_headers(false)
@@ -35,9 +35,9 @@ pub(crate) fn reader_of(alloc: Global, text: &[u8]) -> Reader<&[u8]>
 /// Reads the next record; answers whether there was one.
 pub(crate) fn read_next(reader: &mut Reader<&[u8]>, fields: &mut ByteRecord) -> Result<bool, Memory>
     ensures { IfOk result (λ found. (text : List ℕ) (rows : Rows)
-        → HasRead (λ s. Some s.now) text rows reader.old
+        → HasReadRecords (λ s. Some s.now) text rows reader.old
         → MatchBool found
-        (HasRead (λ s. Some s.now) text (rows ++ fields_of fields.new ∷ []) reader.new)
+        (HasReadRecords (λ s. Some s.now) text (rows ++ fields_of fields.new ∷ []) reader.new)
         (AreRecords default_config StartRecord text rows)) }
 {
     // Over a text in memory a reader fails for want of memory alone.

@@ -24,9 +24,9 @@ pub enum SheetRefused {
 /// Prints the refusal in words, as `sheet: field too long at A1`.
 impl fmt::Display for SheetRefused {
     ghost use Rattle.std.specs.Prelude.{Some};
-    ghost use Rattle.csv_sheet.specs.Results.{refusal_text};
+    ghost use Rattle.csv_sheet.specs.Results.{sheet_refusal_text};
 
-    ghost output = { λ refused. Some (refusal_text refused) };
+    ghost output = { λ refused. Some (sheet_refusal_text refused) };
 
     fn fmt<W: fmt::Write>(&self, f: &mut fmt::Formatter<W>) -> fmt::Result {
         match self {

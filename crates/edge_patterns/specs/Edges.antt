@@ -83,18 +83,18 @@ pub record IsBeside (axis : Axis) (run range : Corners) : Type 0 where
   pub moved : ((along axis range.head ≡ along axis run.head + 1) × (along axis range.tail ≡ along axis run.tail + 1)) ⊎ ((along axis range.head + 1 ≡ along axis run.head) × (along axis range.tail + 1 ≡ along axis run.tail))
 
 -- a run of at least two cells, over which a head or a tail that moves doesn't make a range whose head is past its tail
-pub record HasRoom (axis : Axis) (edge : EdgeValue) : Type 0 where
+pub record HasRoomToMove (axis : Axis) (edge : EdgeValue) : Type 0 where
   pub several : 2 ≤ count_along axis edge.dep
   pub fits : along axis edge.prec.head + (count_along axis edge.dep - 1) ≤ along axis edge.prec.tail
 
 -- what each pattern asks of run and rectangle
 abbrev pub IsShapeOf : Axis → Pattern → EdgeValue → Type 0
 IsShapeOf axis Single edge = count_along axis edge.dep ≡ 1
-IsShapeOf axis Rr edge = HasRoom axis edge × ¬ IsBeside axis edge.dep edge.prec
-IsShapeOf axis Rf edge = HasRoom axis edge
-IsShapeOf axis Fr edge = HasRoom axis edge
+IsShapeOf axis Rr edge = HasRoomToMove axis edge × ¬ IsBeside axis edge.dep edge.prec
+IsShapeOf axis Rf edge = HasRoomToMove axis edge
+IsShapeOf axis Fr edge = HasRoomToMove axis edge
 IsShapeOf axis Ff edge = 2 ≤ count_along axis edge.dep
-IsShapeOf axis Chain edge = HasRoom axis edge × IsBeside axis edge.dep edge.prec
+IsShapeOf axis Chain edge = HasRoomToMove axis edge × IsBeside axis edge.dep edge.prec
 
 -- a cell that has a name
 abbrev pub HasName : Position → Type 0

@@ -12,7 +12,7 @@ use Rattle.std.proofs.Common.{Global}
 use Rattle.formula_syntax.specs.declared.tree.Formula.{Formula}
 use Rattle.sheet_model.specs.declared.content.Content.{Content}
 use Rattle.sheet_model.specs.Sheets.{SheetValue, content_value, content_of}
-use Rattle.edit_log.specs.Pairs.{IsPairOf, ArePairsOf, HasNoPairs, IsBefore, HasPairsBefore, ranges_in}
+use Rattle.edit_log.specs.Pairs.{IsPairOf, ArePairsOf, HasNoPairs, IsBeforeRow, HasPairsBefore, ranges_in}
 
 -- a cell of a pair lies in the sheet
 pub record IsCellOf (sheet : SheetValue) (cell : Position) : Type 0 where
@@ -43,7 +43,7 @@ pair_inside sheet pair is = by_test (is_inside sheet.sizes pair.cell) refl
 pub none_before : (sheet : SheetValue) (pairs : List Pair) → HasNoPairs pairs → HasPairsBefore sheet 1 1 pairs
 none_before sheet pairs none pair = (λ there. absurd (none pair there), λ at. absurd (outside at.0 (pair_inside sheet pair at.1)))
   where
-    outside : IsBefore 1 1 pair.cell → IsCellOf sheet pair.cell → ⊥
+    outside : IsBeforeRow 1 1 pair.cell → IsCellOf sheet pair.cell → ⊥
     outside (inl left) is = omega (arith, left, is.col_from)
     outside (inr above) is = omega (arith, above.1, is.row_from)
 
@@ -52,11 +52,11 @@ pub column_ends : (sheet : SheetValue) (col row : ℕ) (pairs : List Pair) → s
 column_ends sheet col row pairs past before pair =
     (λ there. let at = (before pair).0 there in (onward at.0, at.1), λ at. (before pair).1 (backward at.0 (pair_inside sheet pair at.1), at.1))
   where
-    onward : IsBefore col row pair.cell → IsBefore (col + 1) 1 pair.cell
+    onward : IsBeforeRow col row pair.cell → IsBeforeRow (col + 1) 1 pair.cell
     onward (inl left) = inl (omega (arith, left))
     onward (inr above) = inl (omega (arith, above.0))
 
-    backward : IsBefore (col + 1) 1 pair.cell → IsCellOf sheet pair.cell → IsBefore col row pair.cell
+    backward : IsBeforeRow (col + 1) 1 pair.cell → IsCellOf sheet pair.cell → IsBeforeRow col row pair.cell
     backward (inl left) is = elim (eq-or-lt_of_le (omega (arith, left))) [
       | inl same ↦ inr (same, omega (arith, is.row_to, past))
       | inr less ↦ inl less
@@ -69,7 +69,7 @@ all_before sheet col pairs past before pair =
     (λ there. ((before pair).0 there).1, λ is. (before pair).1 (inl (omega (arith, (pair_inside sheet pair is).col_to, past)), is))
 
 -- a cell of the next row is before it, or is that cell
-row_ends : (cell other : Position) → IsBefore cell.col (cell.row + 1) other → IsBefore cell.col cell.row other ⊎ (other ≡ cell)
+row_ends : (cell other : Position) → IsBeforeRow cell.col (cell.row + 1) other → IsBeforeRow cell.col cell.row other ⊎ (other ≡ cell)
 row_ends cell other (inl left) = inl (inl left)
 row_ends cell other (inr above) = elim (eq-or-lt_of_le (omega (arith, above.1))) [
   | inl same ↦ inr (same_cell other cell same above.0)
@@ -83,12 +83,12 @@ row_ends cell other (inr above) = elim (eq-or-lt_of_le (omega (arith, above.1)))
     same_cell a b row col = ap (λ r. at r a.col) row ∙ ap (λ c. at b.row c) col
 
 -- what is before a row is before the next one, and isn't the cell there
-row_on : (cell other : Position) → IsBefore cell.col cell.row other → IsBefore cell.col (cell.row + 1) other × (other ≢ cell)
+row_on : (cell other : Position) → IsBeforeRow cell.col cell.row other → IsBeforeRow cell.col (cell.row + 1) other × (other ≢ cell)
 row_on cell other (inl left) = (inl left, λ same. absurd (omega (arith, left, ap (λ (c : Position). c.col) same)))
 row_on cell other (inr above) = (inr (above.0, omega (arith, above.1)), λ same. absurd (omega (arith, above.1, ap (λ (c : Position). c.row) same)))
 
 -- a cell is before the row below it
-at_row : (cell : Position) → IsBefore cell.col (cell.row + 1) cell
+at_row : (cell : Position) → IsBeforeRow cell.col (cell.row + 1) cell
 at_row cell = inr (refl, omega arith)
 
 -- a cell without a formula has no pairs
@@ -96,7 +96,7 @@ pub without_formula : (sheet : SheetValue) (cell : Position) (pairs : List Pair)
 without_formula sheet cell pairs none before pair =
     (λ there. let at = (before pair).0 there in ((row_on cell pair.cell at.0).0, at.1), λ at. (before pair).1 (earlier (row_ends cell pair.cell at.0) at.1, at.1))
   where
-    earlier : IsBefore cell.col cell.row pair.cell ⊎ (pair.cell ≡ cell) → IsPairOf sheet pair → IsBefore cell.col cell.row pair.cell
+    earlier : IsBeforeRow cell.col cell.row pair.cell ⊎ (pair.cell ≡ cell) → IsPairOf sheet pair → IsBeforeRow cell.col cell.row pair.cell
     earlier (inl above) is = above
     earlier (inr same) is = absurd (no_element pair.range (subst (λ (l : List Corners). Contains l pair.range) (ap (λ (c : Position). ranges_in (content_of sheet c)) same ∙ none) is))
 
@@ -108,16 +108,16 @@ with_formula sheet cell old kept new refs once before same replaced pair =
     ranges_at : Position → List Corners
     ranges_at c = ranges_in (content_of sheet c)
 
-    from_new : ((pair.cell ≡ cell) × Contains refs pair.range) ⊎ ((pair.cell ≢ cell) × Contains kept pair) → IsBefore cell.col (cell.row + 1) pair.cell × IsPairOf sheet pair
+    from_new : ((pair.cell ≡ cell) × Contains refs pair.range) ⊎ ((pair.cell ≢ cell) × Contains kept pair) → IsBeforeRow cell.col (cell.row + 1) pair.cell × IsPairOf sheet pair
     from_new (inl own) = (
-      subst (λ (c : Position). IsBefore cell.col (cell.row + 1) c) (sym own.0) (at_row cell),
+      subst (λ (c : Position). IsBeforeRow cell.col (cell.row + 1) c) (sym own.0) (at_row cell),
       subst (λ (c : Position). Contains (ranges_at c) pair.range) (sym own.0) (once_back (ranges_at cell) refs pair.range once own.1),
     )
     from_new (inr other) =
         let at = (before pair).0 ((same pair).0 other.1) in
         ((row_on cell pair.cell at.0).0, at.1)
 
-    to_new : IsBefore cell.col cell.row pair.cell ⊎ (pair.cell ≡ cell) → IsPairOf sheet pair → ((pair.cell ≡ cell) × Contains refs pair.range) ⊎ ((pair.cell ≢ cell) × Contains kept pair)
+    to_new : IsBeforeRow cell.col cell.row pair.cell ⊎ (pair.cell ≡ cell) → IsPairOf sheet pair → ((pair.cell ≡ cell) × Contains refs pair.range) ⊎ ((pair.cell ≢ cell) × Contains kept pair)
     to_new (inl above) is = inr ((row_on cell pair.cell above).1, (same pair).1 ((before pair).1 (above, is)))
     to_new (inr own) is = inl (own, once_all (ranges_at cell) refs pair.range once (subst (λ (c : Position). Contains (ranges_at c) pair.range) own is))
 

@@ -18,7 +18,7 @@ use Rattle.value_core.specs.declared.value.Value.TheVariants as value
 use Rattle.edit_log.specs.Books.{BookValue, IsBookOf, IsPreparedFor, IsStoredEdit, IsUnchanged, PreparedValue}
 use Rattle.edit_log.specs.Kept.{Depends, one_or_two, content-kept}
 use Rattle.edit_log.specs.Pairs.{ranges_in, IsPairOf, ArePairsOf}
-use Rattle.edit_log.specs.Touches.{IsStep, Touches, AreTouched, ListsRowByRow}
+use Rattle.edit_log.specs.Touches.{DependsDirectly, Touches, AreTouched, ListsRowByRow}
 use Rattle.edit_log.proofs.PairLemmas.{pair_inside}
 
 -- the range of one cell has that cell alone
@@ -35,10 +35,10 @@ in_one_cell cell = record { row_from = omega arith; row_to = omega arith; col_fr
 pub reach_depends : (sheet : SheetValue) (pairs : List Pair) (start : Position) → ArePairsOf sheet pairs → (cell : Position) → Reach pairs (span_of start start) cell ↔ Depends sheet start cell
 reach_depends sheet pairs start are cell = (
   reached_within (Step pairs) (λ from. IsIn from (span_of start start)) (Depends sheet start)
-      (λ c inside. reached_start (IsStep sheet) (λ from. from ≡ start) c (one_cell start c inside))
-      (λ from to one depends. reached_step (IsStep sheet) (λ f. f ≡ start) from to depends (record { pair = one.pair; of_sheet = (are one.pair).0 one.listed; inside = one.inside; cell_is = one.cell_is }))
+      (λ c inside. reached_start (DependsDirectly sheet) (λ from. from ≡ start) c (one_cell start c inside))
+      (λ from to one depends. reached_step (DependsDirectly sheet) (λ f. f ≡ start) from to depends (record { pair = one.pair; of_sheet = (are one.pair).0 one.listed; inside = one.inside; cell_is = one.cell_is }))
       cell,
-  reached_within (IsStep sheet) (λ from. from ≡ start) (Reach pairs (span_of start start))
+  reached_within (DependsDirectly sheet) (λ from. from ≡ start) (Reach pairs (span_of start start))
       (λ c is. reached_start (Step pairs) (λ from. IsIn from (span_of start start)) c (subst (λ (p : Position). IsIn p (span_of start start)) (sym is) (in_one_cell start)))
       (λ from to one reached. reached_step (Step pairs) (λ f. IsIn f (span_of start start)) from to reached (record { pair = one.pair; listed = (are one.pair).1 one.of_sheet; inside = one.inside; cell_is = one.cell_is }))
       cell,
@@ -46,7 +46,7 @@ reach_depends sheet pairs start are cell = (
 
 -- the cells that depend on a cell of the sheet lie in it
 depends_inside : (sheet : SheetValue) (start : Position) → IsTrue (is_inside sheet.sizes start) → (cell : Position) → Depends sheet start cell → IsTrue (is_inside sheet.sizes cell)
-depends_inside sheet start inside = reached_within (IsStep sheet) (λ from. from ≡ start) (λ c. IsTrue (is_inside sheet.sizes c))
+depends_inside sheet start inside = reached_within (DependsDirectly sheet) (λ from. from ≡ start) (λ c. IsTrue (is_inside sheet.sizes c))
     (λ c is. subst (λ (p : Position). IsTrue (is_inside sheet.sizes p)) (sym is) inside)
     (λ from to one from_in.
     let at = pair_inside sheet one.pair one.of_sheet in

@@ -43,8 +43,8 @@ pub record IsUnchanged {G : Type 0} (pairs_of : G → List Pair) (old new : Book
   pub pairs : SamePairs (pairs_of old.graph) (pairs_of new.graph)
 
 -- the client with its edit
-abbrev pub entry_of : ℕ → Edit → Entry
-entry_of client edit = record { client = client; edit = edit }
+abbrev pub client_entry : ℕ → Edit → Entry
+client_entry client edit = record { client = client; edit = edit }
 
 -- an edit that is ready to be made: the entry, its number, and the cells that it touches
 pub record PreparedValue : Type 0 where

@@ -22,7 +22,7 @@ use Rattle.sheet_model.proofs.LoopLemmas.{agree_on}
 use Rattle.sheet_model.proofs.SheetLemmas.{content_of-other}
 use Rattle.sheet_model.proofs.ValueLemmas.{step_local}
 use Rattle.edit_log.specs.Pairs.{ranges_in}
-use Rattle.edit_log.specs.Touches.{IsStep, Touches, place_worth, TouchesPlace, cell_at}
+use Rattle.edit_log.specs.Touches.{DependsDirectly, Touches, place_worth, TouchesPlace, cell_at}
 
 -- an element at a place is in the list, and so is what it is mapped to
 mapped_member : {A B : Type 0} (f : A → B) (xs : List A) (i : ℕ) (x : A) → slice_get xs i ≡ Some x → Contains (map f xs) (f x)
@@ -40,7 +40,7 @@ named_listed (Computed tree) through place at = mapped_member corners_of (refere
 
 -- the cells that depend on a cell, by the formulas of a sheet
 abbrev pub Depends : SheetValue → Position → Position → Type 0
-Depends sheet start cell = IsReached (IsStep sheet) (λ from. from ≡ start) cell
+Depends sheet start cell = IsReached (DependsDirectly sheet) (λ from. from ≡ start) cell
 
 -- two cells are one, or differ
 pub one_or_two : (a b : Position) → (a ≡ b) ⊎ (a ≢ b)
@@ -63,7 +63,7 @@ content-kept sheet change cell differs = go (is_inside sheet.sizes change.cell) 
     go false outside = refl
 
 -- an input of a cell leads to it by a step
-input_step : (sheet : SheetValue) (cell input : Position) → IsInput sheet cell input → IsStep sheet input cell
+input_step : (sheet : SheetValue) (cell input : Position) → IsInput sheet cell input → DependsDirectly sheet input cell
 input_step sheet cell input is =
     record {
       pair = record { range = corners_of is.named.through; cell = cell };
@@ -79,13 +79,13 @@ module _ (sheet : SheetValue) (change : ChangeValue) where
 
   step-kept : (cell : Position) (f : Position → Value) → Kept cell → step (after_change sheet change) cell f ≡ step sheet cell f
   step-kept cell f kept =
-      let differs : cell ≢ change.cell = λ same. kept (reached_start (IsStep sheet) (λ from. from ≡ change.cell) cell same) in
+      let differs : cell ≢ change.cell = λ same. kept (reached_start (DependsDirectly sheet) (λ from. from ≡ change.cell) cell same) in
       ap (λ s. step_content s f (content_of (after_change sheet change) cell)) (change-sizes sheet change)
       ∙ ap (step_content sheet.sizes f) (content-kept sheet change cell differs)
 
   agree : AgreeOn (IsInput sheet) Kept (step (after_change sheet change)) (step sheet)
   agree = record {
-    closed = λ cell input kept is depends. kept (reached_step (IsStep sheet) (λ from. from ≡ change.cell) input cell depends (input_step sheet cell input is));
+    closed = λ cell input kept is depends. kept (reached_step (DependsDirectly sheet) (λ from. from ≡ change.cell) input cell depends (input_step sheet cell input is));
     same = λ cell f g kept same. step-kept cell f kept ∙ step_local sheet cell f g same;
   }
 
@@ -102,14 +102,14 @@ untouched opening log entry cell spared =
 
 -- where two sheets differ in one cell alone, the same cells depend on that cell
 pub depends-same : (a b : SheetValue) (start : Position) → ((cell : Position) → cell ≢ start → content_of a cell ≡ content_of b cell) → (cell : Position) → Depends a start cell → Depends b start cell
-depends-same a b start same = reached_within (IsStep a) (λ from. from ≡ start) (Depends b start)
-    (λ cell is. reached_start (IsStep b) (λ from. from ≡ start) cell is)
+depends-same a b start same = reached_within (DependsDirectly a) (λ from. from ≡ start) (Depends b start)
+    (λ cell is. reached_start (DependsDirectly b) (λ from. from ≡ start) cell is)
     (λ from to one depends. elim (one_or_two to start) [
-      | inl is ↦ reached_start (IsStep b) (λ from. from ≡ start) to is
-      | inr differs ↦ reached_step (IsStep b) (λ from. from ≡ start) from to depends (step_in from to one differs)
+      | inl is ↦ reached_start (DependsDirectly b) (λ from. from ≡ start) to is
+      | inr differs ↦ reached_step (DependsDirectly b) (λ from. from ≡ start) from to depends (step_in from to one differs)
     ])
   where
-    step_in : (from to : Position) → IsStep a from to → to ≢ start → IsStep b from to
+    step_in : (from to : Position) → DependsDirectly a from to → to ≢ start → DependsDirectly b from to
     step_in from to one differs = record {
       pair = one.pair;
       of_sheet = subst (λ (content : ContentValue). Contains (ranges_in content) one.pair.range) (same one.pair.cell (λ is. differs (sym one.cell_is ∙ is))) one.of_sheet;

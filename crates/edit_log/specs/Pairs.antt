@@ -23,9 +23,9 @@ abbrev pub HasNoPairs : List Pair → Type 0
 HasNoPairs pairs = (pair : Pair) → ¬ Contains pairs pair
 
 -- a cell comes before a row of a column, where cells are counted column by column, each from the top
-abbrev pub IsBefore : ℕ → ℕ → Position → Type 0
-IsBefore col row cell = (cell.col < col) ⊎ ((cell.col ≡ col) × (cell.row < row))
+abbrev pub IsBeforeRow : ℕ → ℕ → Position → Type 0
+IsBeforeRow col row cell = (cell.col < col) ⊎ ((cell.col ≡ col) × (cell.row < row))
 
 -- the pairs of a graph are those of the sheet's cells that come before a row of a column
 abbrev pub HasPairsBefore : SheetValue → ℕ → ℕ → List Pair → Type 0
-HasPairsBefore sheet col row pairs = (pair : Pair) → Contains pairs pair ↔ (IsBefore col row pair.cell × IsPairOf sheet pair)
+HasPairsBefore sheet col row pairs = (pair : Pair) → Contains pairs pair ↔ (IsBeforeRow col row pair.cell × IsPairOf sheet pair)

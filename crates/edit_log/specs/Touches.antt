@@ -14,7 +14,7 @@ use Rattle.sheet_model.specs.declared.entry.Entry.{Entry}
 use Rattle.edit_log.specs.Pairs.{IsPairOf}
 
 -- the one cell is in a range to which the other's formula refers: the other depends directly on it
-pub record IsStep (sheet : SheetValue) (from to : Position) : Type 0 where
+pub record DependsDirectly (sheet : SheetValue) (from to : Position) : Type 0 where
   pub pair : Pair
   pub of_sheet : IsPairOf sheet pair
   pub inside : IsIn from pair.range
@@ -27,7 +27,7 @@ IsChanged entry cell = cell ≡ entry.edit.change.cell
 -- an entry touches its cell, and all cells that depend on it in any number of steps, by the formulas that stand in
 -- the sheet after the log, before the entry
 abbrev pub Touches : SheetValue → List Entry → Entry → Position → Type 0
-Touches opening log entry cell = IsReached (IsStep (after opening log)) (IsChanged entry) cell
+Touches opening log entry cell = IsReached (DependsDirectly (after opening log)) (IsChanged entry) cell
 
 -- a cell that an entry doesn't touch keeps its value
 abbrev pub UntouchedCellsKeepTheirValues : Type 0

@@ -5,7 +5,7 @@ ghost use Rattle.sheet_refs.specs.Sizes.{is_inside, AreNamed};
 ghost use Rattle.formula_syntax.specs.Listing.{IsOnceEach};
 ghost use Rattle.graph_walk.specs.Graphs.{Reach};
 ghost use Rattle.sheet_model.specs.Sheets.{HasLabel, content_value};
-ghost use Rattle.edit_log.specs.Books.{IsPreparedFor, IsUnchanged, entry_of};
+ghost use Rattle.edit_log.specs.Books.{IsPreparedFor, IsUnchanged, client_entry};
 ghost use Rattle.edit_log.specs.Pairs.{ranges_in};
 ghost use Rattle.edit_log.specs.Refusals.{IsCause};
 ghost use Rattle.edit_log.specs.Touches.{ListsRowByRow, IsReachInside};
@@ -81,7 +81,7 @@ impl<G: Graph> Book<G> {
         requires label { HasLabel (length self.now.sheet.labels) edit.change.content }
         requires room { length self.now.log < 1048576 }
         ensures prepared { IfOk result (IsPreparedFor self.now.opening self.now.log) }
-        ensures entry { IfOk result (λ prepared. prepared.entry ≡ entry_of client edit) }
+        ensures entry { IfOk result (λ prepared. prepared.entry ≡ client_entry client edit) }
     {
         let change = edit.change.copy()?;
         let refs = refs_in(self.alloc, &change.content)?;
@@ -114,7 +114,7 @@ impl<G: Graph> Book<G> {
     pub fn prepare(&mut self, client: u32, edit: Edit) -> Result<Prepared, PrepareRefused>
         requires { HasLabel (length self.old.sheet.labels) edit.change.content }
         ensures prepared { IfOk result (IsPreparedFor self.new.opening self.new.log) }
-        ensures entry { IfOk result (λ prepared. prepared.entry ≡ entry_of client edit) }
+        ensures entry { IfOk result (λ prepared. prepared.entry ≡ client_entry client edit) }
         ensures room { OnOk result (1 ≤ self.new.spare) }
         ensures same { IsUnchanged G.pairs self.old self.new }
         ensures out_of_sheet { IsFalse (is_inside self.old.sheet.sizes edit.change.cell)

@@ -10,13 +10,13 @@ use Rattle.std.proofs.lemmas.Str.Ascii.{IsAscii-from_all}
 use Rattle.sheet_refs.specs.Cells.{Position, Corners}
 use Rattle.sheet_refs.specs.Names.{IsLetter, IsDigit, IsCellName, IsRangeName}
 use Rattle.sheet_refs.specs.Names.IsRangeName.{one, two}
-use Rattle.edit_script.specs.Lines.{LineValue, Skip, IsLine, IsNameByte, IsOrder, IsSpaced}
-use Rattle.edit_script.specs.Lines.IsLine.{empty, comment, order}
+use Rattle.edit_script.specs.Lines.{LineValue, Skip, IsLineOf, IsNameByte, IsOrder, IsSpaced}
+use Rattle.edit_script.specs.Lines.IsLineOf.{empty, comment, order}
 use Rattle.edit_script.specs.Lines.IsOrder.{client, set, clear, look, firm, work}
 use Rattle.edit_script.proofs.SpaceLemmas.{HasNoSpace}
 
 -- an empty line, and one that begins with `#`
-pub skips : (line : List ℕ) → (length line ≡ 0) ⊎ (get_or line 0 0 ≡ 35) → IsLine line Skip
+pub skips : (line : List ℕ) → (length line ≡ 0) ⊎ (get_or line 0 0 ≡ 35) → IsLineOf line Skip
 skips [] first = empty [] refl
 skips (b ∷ rest) (inl none) = absurd (omega (arith, none))
 skips (b ∷ rest) (inr hash) = comment (b ∷ rest) rest (ap (λ x. x ∷ rest) hash)
@@ -106,7 +106,7 @@ pub record IsOrderLine (line : List ℕ) (value : LineValue) : Type 0 where
   pub space : HasNoSpace word
   pub utf8 : IsUtf8 line
 
-pub order_line : (line : List ℕ) (value : LineValue) → (length line ≡ 0 → ⊥) → get_or line 0 0 ≢ 35 → IsLine line value → IsOrderLine line value
+pub order_line : (line : List ℕ) (value : LineValue) → (length line ≡ 0 → ⊥) → get_or line 0 0 ≢ 35 → IsLineOf line value → IsOrderLine line value
 order_line line _ some no_hash (empty _ none) = absurd (some (ap length none))
 order_line line _ some no_hash (comment _ rest is) = absurd (no_hash (ap (λ l. get_or l 0 0) is))
 order_line line value some no_hash (order _ word behind _ text_is is) = record {

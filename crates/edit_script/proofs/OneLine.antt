@@ -4,8 +4,8 @@ use Rattle.std.specs.Prelude.{codes}
 use Rattle.sheet_refs.specs.Cells.{Position}
 use Rattle.sheet_refs.specs.Names.{IsCellName}
 use Rattle.sheet_refs.proofs.NameLemmas.{one_cell, one_range}
-use Rattle.edit_script.specs.Lines.{LineValue, Set, Clear, Look, Firm, Work, IsLine, IsOrder, IsSpaced, IsTurns, Says, SetsCell}
-use Rattle.edit_script.specs.Lines.IsLine.{empty, comment, order}
+use Rattle.edit_script.specs.Lines.{LineValue, Set, Clear, Look, Firm, Work, IsLineOf, IsOrder, IsSpaced, IsTurns, Says, SetsCell}
+use Rattle.edit_script.specs.Lines.IsLineOf.{empty, comment, order}
 use Rattle.edit_script.specs.Lines.IsOrder.{client, set, clear, look, firm, work}
 use Rattle.edit_script.specs.declared.script.Mode.{Mode}
 use Rattle.edit_script.proofs.LineLemmas.{word_space}
@@ -73,7 +73,7 @@ order_no_comment line word behind others value is said hash =
     let same : first ≡ 35 = ap (λ l. get_or l 0 0) whole in
     omega (arith, low, same)
 
-one_line : (line : List ℕ) (a b : LineValue) → IsLine line a → IsLine line b → a ≡ b
+one_line : (line : List ℕ) (a b : LineValue) → IsLineOf line a → IsLineOf line b → a ≡ b
 one_line line _ _ (empty _ none) (empty _ none') = refl
 one_line line _ _ (empty _ none) (comment _ rest is) = refl
 one_line line _ b (empty _ none) (order _ word behind _ is said) = absurd (order_some line word behind b is said none)

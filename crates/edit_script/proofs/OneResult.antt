@@ -6,7 +6,7 @@ use Rattle.sheet_model.specs.Labels.{IsTable}
 use Rattle.sheet_model.specs.Tables.{AddsLabels}
 use Rattle.sheet_model.proofs.TableLemmas.{adds_one}
 use Rattle.edit_script.specs.Lines.{script_lines}
-use Rattle.edit_script.specs.Scripts.{AreLines, AreSteps, IsFault, IsFirstFault, IsScript, OneResult, ScriptValue, brought_by, line_number, set_texts}
+use Rattle.edit_script.specs.Scripts.{AreLines, AreSteps, IsFault, IsFirstFault, IsScript, OneScriptResult, ScriptValue, brought_by, line_number, set_texts}
 use Rattle.edit_script.specs.declared.refused.ScriptRefused.{ScriptRefused}
 use Rattle.edit_script.specs.declared.script.Mode.{Mode}
 use Rattle.edit_script.proofs.OneFault.{one_fault}
@@ -44,7 +44,7 @@ module _ (mode : Mode) (sizes : Sizes) (old new other : List (List ℕ)) (text :
     ]
   ]
 
-pub one_result : OneResult
+pub one_result : OneScriptResult
 one_result mode sizes old new other text (Ok a) (Ok b) table x y = (let same = one_script mode sizes old new other text a b table x y in (ap Ok same.0, same.1))
 one_result mode sizes old new other text (Ok a) (Err why) table x y = absurd (script_or_fault mode sizes old new other text a why new other x y)
 one_result mode sizes old new other text (Err why) (Ok b) table x y = absurd (script_or_fault mode sizes old new other text b why other new y x)

@@ -10,7 +10,7 @@ use Rattle.sheet_model.specs.declared.change.Edit.{Edit}
 use Rattle.sheet_model.proofs.ContentLemmas.{one_content}
 use Rattle.sheet_model.proofs.LabelLemmas.{distinct-with_label}
 use Rattle.edit_script.specs.Lines.{LineValue, Skip, Client, Set, Clear, Look, Firm, Work, Says}
-use Rattle.edit_script.specs.Scripts.{AreLines, AreSteps, Brought, IsAllowed, IsCommand, IsFault, IsSilent, IsStep, brought_by, nothing_yet, with_line}
+use Rattle.edit_script.specs.Scripts.{AreLines, AreSteps, Brought, IsAllowed, IsCommand, IsFault, IsSilent, IsStepOfLine, brought_by, nothing_yet, with_line}
 use Rattle.edit_script.specs.Scripts.AreLines.{none as no_lines, more}
 use Rattle.edit_script.specs.Scripts.AreSteps.{none as no_steps, silent as silent_line, command as command_line}
 use Rattle.edit_script.specs.Scripts.IsCommand.{set, clear, look, firm, work}
@@ -168,7 +168,7 @@ module _ (labels : List (List ℕ)) (table : IsTable labels) where
   silent_none (Firm range) _ quiet command = absurd quiet
   silent_none (Work turns) _ quiet command = absurd quiet
 
-  one_step : (known : List LineValue) (line : LineValue) (a b : Step) → IsStep labels (brought_by known) line a → IsStep labels (brought_by known) line b → a ≡ b
+  one_step : (known : List LineValue) (line : LineValue) (a b : Step) → IsStepOfLine labels (brought_by known) line a → IsStepOfLine labels (brought_by known) line b → a ≡ b
   one_step known line a b x y =
       let now = brought_by known in
       let client = one_place now.names now.client a.client b.client (names_apart nothing_yet known (λ i j d less within same. omega (arith, within, less))) x.client y.client in
@@ -194,5 +194,5 @@ module _ (labels : List (List ℕ)) (table : IsTable labels) where
   one_steps known _ _ (command_line lines _ line a _ step are is split added) (command_line lines' _ line' b _ step' are' is' split' added') =
       let ends = one_last lines' lines line' line (sym split' ∙ split) in
       let before : a ≡ b = one_steps lines a b are (subst (λ l. AreSteps labels l b) ends.0 are') in
-      let last : step ≡ step' = one_step known line step step' is (subst (λ l. IsStep labels (brought_by known) l step') ends.1 is') in
+      let last : step ≡ step' = one_step known line step step' is (subst (λ l. IsStepOfLine labels (brought_by known) l step') ends.1 is') in
       added ∙ (λ i. before i ++ last i ∷ []) ∙ sym added'

@@ -5,15 +5,15 @@ use Rattle.sheet_refs.specs.declared.sizes.Sizes.{Sizes}
 use Rattle.sheet_model.proofs.TableLemmas.{adds_few}
 use Rattle.edit_script.specs.declared.progress.Progress.{Progress}
 use Rattle.edit_script.specs.declared.script.Mode.{Mode}
-use Rattle.edit_script.specs.Lines.{LineValue, Skip, Client, Set, Clear, Look, Firm, Work, IsLine, IsOrder, Says, script_lines}
-use Rattle.edit_script.specs.Lines.IsLine.{empty, comment, order}
+use Rattle.edit_script.specs.Lines.{LineValue, Skip, Client, Set, Clear, Look, Firm, Work, IsLineOf, IsOrder, Says, script_lines}
+use Rattle.edit_script.specs.Lines.IsLineOf.{empty, comment, order}
 use Rattle.edit_script.specs.Lines.IsOrder.{client, set, clear, look, firm, work}
-use Rattle.edit_script.specs.Progress.{brought, Extends, IsFit, IsReading, IsSound, Takes}
+use Rattle.edit_script.specs.Progress.{brought, Extends, HoldsShortText, IsReading, IsWithinLimits, Takes}
 use Rattle.edit_script.specs.Scripts.{nothing_yet, set_text}
 use Rattle.edit_script.proofs.WayLemmas.{way_begins, way_goes}
 
 -- what is said wants a cell to hold no long text
-order_fit : (word behind : List ℕ) (line : LineValue) → IsOrder word behind line → IsFit line
+order_fit : (word behind : List ℕ) (line : LineValue) → IsOrder word behind line → HoldsShortText line
 order_fit word _ _ (client _ name w is_name) = tt
 order_fit word _ _ (set _ text content cell w sets) = sets.short
 order_fit word _ _ (clear _ name cell w is_name) = tt
@@ -21,17 +21,17 @@ order_fit word _ _ (look _ name range w is_name) = tt
 order_fit word _ _ (firm _ name range w is_name) = tt
 order_fit word _ _ (work _ digits turns w is_turns) = tt
 
-line_fit : (text : List ℕ) (line : LineValue) → IsLine text line → IsFit line
+line_fit : (text : List ℕ) (line : LineValue) → IsLineOf text line → HoldsShortText line
 line_fit text _ (empty _ none) = tt
 line_fit text _ (comment _ rest is) = tt
 line_fit text line (order _ word behind _ text_is is) = order_fit word behind line is
 
-pub says_fit : (mode : Mode) (text : List ℕ) (line : LineValue) → Says mode text line → IsFit line
+pub says_fit : (mode : Mode) (text : List ℕ) (line : LineValue) → Says mode text line → HoldsShortText line
 says_fit mode text line says = line_fit text line says.0
 
 module _ (mode : Mode) (sizes : Sizes) (old : List (List ℕ)) (text : List ℕ) where
   -- before the first line
-  pub reading_begins : (left : List (List ℕ)) (progress : Progress) → left ≡ script_lines text → brought progress ≡ nothing_yet → IsSound progress
+  pub reading_begins : (left : List (List ℕ)) (progress : Progress) → left ≡ script_lines text → brought progress ≡ nothing_yet → IsWithinLimits progress
       → progress.steps.items ≡ [] → IsReading mode sizes old old text 0 left progress
   reading_begins left progress all nothing sound none = record {
     taken = [];

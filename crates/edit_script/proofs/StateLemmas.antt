@@ -8,7 +8,7 @@ use Rattle.sheet_model.specs.Labels.{with_label}
 use Rattle.sheet_model.proofs.LabelLemmas.{length-with_label, distinct-with_label}
 use Rattle.edit_script.specs.declared.progress.Progress.{Progress}
 use Rattle.edit_script.specs.declared.script.Step.{Step}
-use Rattle.edit_script.specs.Progress.{names_of, brought, client_named, IsPlace, IsSound}
+use Rattle.edit_script.specs.Progress.{names_of, brought, client_named, IsPlace, IsWithinLimits}
 use Rattle.edit_script.specs.Scripts.{with_client}
 use Rattle.edit_script.proofs.NameLemmas.{client_at, client_there, few_names}
 
@@ -20,9 +20,9 @@ follow_brought old new name place names at rest =
     let edits : new.edits ≡ old.edits = ap (λ (p : Progress). p.edits) rest in
     rw (who, names, cells, edits) refl
 
-pub follow_sound : (old new : Progress) (name : List ℕ) (place : ℕ) → IsSound old → (length (names_of old) < 32) ⊎ Contains (names_of old) name
+pub follow_sound : (old new : Progress) (name : List ℕ) (place : ℕ) → IsWithinLimits old → (length (names_of old) < 32) ⊎ Contains (names_of old) name
     → names_of new ≡ with_label (names_of old) name → slice_get (names_of new) place ≡ Some name
-    → new ≡ record old { names = new.names } → IsSound (record new { client = Some place })
+    → new ≡ record old { names = new.names } → IsWithinLimits (record new { client = Some place })
 follow_sound old new name place sound room names at rest =
     let long = length-map new.names.items string_bytes in
     let was = length-map old.names.items string_bytes in
@@ -46,7 +46,7 @@ follow_sound old new name place sound room names at rest =
     }
 
 -- the client whose commands follow stays the one, where there is one
-pub stays_brought : (old : Progress) (place : ℕ) → old.client ≡ Some place → IsSound old → brought old ≡ with_client (brought old) (brought old).client
+pub stays_brought : (old : Progress) (place : ℕ) → old.client ≡ Some place → IsWithinLimits old → brought old ≡ with_client (brought old) (brought old).client
 stays_brought old place is sound =
     let inside : place < length old.names.items = subst (IsPlace (length old.names.items)) is sound.client in
     let long = length-map old.names.items string_bytes in

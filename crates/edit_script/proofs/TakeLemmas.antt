@@ -18,7 +18,7 @@ use Rattle.edit_script.specs.declared.refused.ScriptRefused.TheVariants.{Memory}
 use Rattle.edit_script.specs.declared.script.Command.{Command}
 use Rattle.edit_script.specs.declared.script.Command.TheVariants as asks
 use Rattle.edit_script.specs.Lines.{LineValue, Skip, Client, Set}
-use Rattle.edit_script.specs.Progress.{brought, edit_of, IsSound, AddsCommand, AddsSet, IsPlainlyAllowed, IsTextFault, Takes}
+use Rattle.edit_script.specs.Progress.{brought, edit_of, IsWithinLimits, AddsCommand, AddsSet, IsPlainlyAllowed, IsTextFault, Takes}
 use Rattle.edit_script.specs.Progress.AddsStep.{silent as adds_none, command as adds_one}
 use Rattle.edit_script.specs.Scripts.{Brought, IsAllowed, IsCommand, IsDeepEdit, HasManyRefs, IsLineFault, line_number, with_client, with_line, set_text}
 use Rattle.edit_script.specs.Scripts.IsCommand.{set}
@@ -35,7 +35,7 @@ allowed sizes now line plain shallow few = record {
 }
 
 -- a line that says nothing
-pub skip_taken : (sizes : Sizes) (labels : List (List ℕ)) (old : Progress) → IsSound old → Takes sizes Skip labels old labels old
+pub skip_taken : (sizes : Sizes) (labels : List (List ℕ)) (old : Progress) → IsWithinLimits old → Takes sizes Skip labels old labels old
 skip_taken sizes labels old sound = record {
   allowed = record { inside = λ no. no; client = λ no. no; window = λ no. no; edit = λ no. no; shallow = λ no. no; few_refs = λ no. no };
   brought_is = refl;
@@ -46,7 +46,7 @@ skip_taken sizes labels old sound = record {
 
 module _ {T E : Type 0} (sizes : Sizes) (labels : List (List ℕ)) (old new : Progress) where
   -- one that names a client
-  pub client_taken : (r : Result T E) (name : List ℕ) → IsPlainlyAllowed sizes (brought old) (Client name) → OnOk r (IsSound new)
+  pub client_taken : (r : Result T E) (name : List ℕ) → IsPlainlyAllowed sizes (brought old) (Client name) → OnOk r (IsWithinLimits new)
       → OnOk r (brought new ≡ with_client (brought old) name) → new.steps ≡ old.steps → OnOk r (Takes sizes (Client name) labels old labels new)
   client_taken (Ok x) name plain sound brought_is steps = record {
     allowed = allowed sizes (brought old) (Client name) plain (λ no. no) (λ no. no);
@@ -59,7 +59,7 @@ module _ {T E : Type 0} (sizes : Sizes) (labels : List (List ℕ)) (old new : Pr
 
   -- one that gives a command and no label
   pub command_taken : (r : Result T E) (line : LineValue) (command : Command) → IsPlainlyAllowed sizes (brought old) line → ¬ IsDeepEdit line → ¬ HasManyRefs line
-      → set_text line ≡ [] → IsCommand labels line command → OnOk r (IsSound new) → OnOk r (brought new ≡ with_line (brought old) line)
+      → set_text line ≡ [] → IsCommand labels line command → OnOk r (IsWithinLimits new) → OnOk r (brought new ≡ with_line (brought old) line)
       → OnOk r (AddsCommand command (brought new) old.steps.items new.steps.items) → OnOk r (Takes sizes line labels old labels new)
   command_taken (Ok x) line command plain shallow few none is sound brought_is adds = record {
     allowed = allowed sizes (brought old) line plain shallow few;
@@ -72,7 +72,7 @@ module _ {T E : Type 0} (sizes : Sizes) (labels : List (List ℕ)) (old new : Pr
 
   -- and one by which a cell is to hold what a text writes
   pub set_taken : (r : Result T E) (after : List (List ℕ)) (cell : Position) (text : List ℕ) → IsPlainlyAllowed sizes (brought old) (Set cell text)
-      → OnOk r (IsSound new) → OnOk r (brought new ≡ with_line (brought old) (Set cell text))
+      → OnOk r (IsWithinLimits new) → OnOk r (brought new ≡ with_line (brought old) (Set cell text))
       → OnOk r (AddsSet after text cell (brought new) old.steps.items new.steps.items) → OnOk r (IsTableAfter text labels after)
       → OnOk r (Takes sizes (Set cell text) labels old after new)
   set_taken (Ok x) after cell text plain sound brought_is adds table = record {

@@ -9,11 +9,11 @@ use Rattle.sheet_model.specs.Tables.{AddsLabels}
 use Rattle.sheet_model.specs.Tables.AddsLabels.{done, next}
 use Rattle.sheet_model.proofs.SheetLemmas.{IsContent-after}
 use Rattle.edit_script.specs.Lines.{LineValue, Says}
-use Rattle.edit_script.specs.Scripts.{Brought, AreSteps, IsAllowed, IsCommand, IsStep, brought_by, nothing_yet, with_line, set_text, set_texts}
+use Rattle.edit_script.specs.Scripts.{Brought, AreSteps, IsAllowed, IsCommand, IsStepOfLine, brought_by, nothing_yet, with_line, set_text, set_texts}
 use Rattle.edit_script.specs.Scripts.AreLines.{none as no_lines, more}
 use Rattle.edit_script.specs.Scripts.AreSteps.{none as no_steps, silent as silent_line, command as command_line}
 use Rattle.edit_script.specs.Scripts.IsCommand.{set, clear, look, firm, work}
-use Rattle.edit_script.specs.Progress.{AddsStep, IsSound, IsUnderWay, Takes, brought}
+use Rattle.edit_script.specs.Progress.{AddsStep, IsWithinLimits, HasTakenLines, Takes, brought}
 use Rattle.edit_script.specs.Progress.AddsStep.{silent as adds_none, command as adds_one}
 use Rattle.edit_script.specs.declared.progress.Progress.{Progress}
 use Rattle.edit_script.specs.declared.script.Command.{Command}
@@ -55,7 +55,7 @@ steps_more : (labels : List (List ℕ)) (before : List LineValue) (line : LineVa
 steps_more labels before line now old new now_is are (adds_none quiet same) =
     silent_line before (before ++ line ∷ []) line new (subst (AreSteps labels before) (sym same) are) quiet refl
 steps_more labels before line now old new now_is are (adds_one step is added) =
-    command_line before (before ++ line ∷ []) line old new step are (subst (λ k. IsStep labels k line step) now_is is) refl added
+    command_line before (before ++ line ∷ []) line old new step are (subst (λ k. IsStepOfLine labels k line step) now_is is) refl added
 
 brought_more : (before : List LineValue) (line : LineValue) → brought_by (before ++ line ∷ []) ≡ with_line (brought_by before) line
 brought_more before line = fold-append with_line nothing_yet before (line ∷ [])
@@ -64,7 +64,7 @@ set_texts_more : (before : List LineValue) (line : LineValue) → set_texts (bef
 set_texts_more before line = flat_map-append set_text before (line ∷ []) ∙ ap (λ t. set_texts before ++ t) (append-nil (set_text line))
 
 -- before the first line
-pub way_begins : (mode : Mode) (sizes : Sizes) (old : List (List ℕ)) (progress : Progress) → brought progress ≡ nothing_yet → progress.steps.items ≡ [] → IsSound progress → IsUnderWay mode sizes old old [] progress
+pub way_begins : (mode : Mode) (sizes : Sizes) (old : List (List ℕ)) (progress : Progress) → brought progress ≡ nothing_yet → progress.steps.items ≡ [] → IsWithinLimits progress → HasTakenLines mode sizes old old [] progress
 way_begins mode sizes old progress nothing none sound = record {
   lines = [];
   said = no_lines;
@@ -76,8 +76,8 @@ way_begins mode sizes old progress nothing none sound = record {
 
 -- and behind each
 pub way_goes : (mode : Mode) (sizes : Sizes) (old between new texts : List (List ℕ)) (text : List ℕ) (line : LineValue) (progress after : Progress)
-    → IsUnderWay mode sizes old between texts progress → Says mode text line → Takes sizes line between progress new after
-    → IsUnderWay mode sizes old new (texts ++ text ∷ []) after
+    → HasTakenLines mode sizes old between texts progress → Says mode text line → Takes sizes line between progress new after
+    → HasTakenLines mode sizes old new (texts ++ text ∷ []) after
 way_goes mode sizes old between new texts text line progress after way says takes =
     let now_is : brought after ≡ brought_by (way.lines ++ line ∷ []) = takes.brought_is ∙ ap (λ k. with_line k line) way.brought_is ∙ sym (brought_more way.lines line) in
     record {

@@ -59,10 +59,10 @@ pub data IsOrder : List ℕ → List ℕ → LineValue → Type 0 where
   work : (word digits : List ℕ) (turns : ℕ) → word ≡ codes "work" → IsTurns digits turns → IsOrder word digits (Work turns)
 
 -- the line says this; an empty one, and one that begins with `#`, says nothing
-pub data IsLine : List ℕ → LineValue → Type 0 where
-  empty : (line : List ℕ) → line ≡ [] → IsLine line Skip
-  comment : (line rest : List ℕ) → line ≡ 35 ∷ rest → IsLine line Skip
-  order : (line word behind : List ℕ) (value : LineValue) → IsSpaced word behind line → IsOrder word behind value → IsLine line value
+pub data IsLineOf : List ℕ → LineValue → Type 0 where
+  empty : (line : List ℕ) → line ≡ [] → IsLineOf line Skip
+  comment : (line rest : List ℕ) → line ≡ 35 ∷ rest → IsLineOf line Skip
+  order : (line word behind : List ℕ) (value : LineValue) → IsSpaced word behind line → IsOrder word behind value → IsLineOf line value
 
 -- turns are asked for in the play mode alone
 abbrev pub IsFor : Mode → LineValue → Type 0
@@ -71,4 +71,4 @@ IsFor mode _ = Unit {0}
 
 -- the line says this in a script of the mode
 abbrev pub Says : Mode → List ℕ → LineValue → Type 0
-Says mode line value = IsLine line value × IsFor mode value
+Says mode line value = IsLineOf line value × IsFor mode value

@@ -9,7 +9,7 @@ use Rattle.sheet_model.specs.Sheets.{ContentValue}
 use Rattle.sheet_model.specs.Tables.{AddsLabels}
 use Rattle.sheet_model.specs.declared.change.Edit.{Edit}
 use Rattle.edit_script.specs.Lines.{LineValue, Set, script_lines}
-use Rattle.edit_script.specs.Scripts.{Brought, AreLines, AreSteps, IsSilent, IsStep, IsAllowed, LeavesSheet, IsClientTooMany, IsWindowTooLarge, IsEditTooMany, IsPartOutside, IsLargeWindow, with_line, brought_by, set_text, set_texts}
+use Rattle.edit_script.specs.Scripts.{Brought, AreLines, AreSteps, IsSilent, IsStepOfLine, IsAllowed, LeavesSheet, IsClientTooMany, IsWindowTooLarge, IsEditTooMany, IsPartOutside, IsLargeWindow, with_line, brought_by, set_text, set_texts}
 use Rattle.edit_script.specs.declared.refused.ScriptRefused.{ScriptRefused}
 use Rattle.edit_script.specs.declared.refused.ScriptRefused.TheVariants.{OutOfSheet, WindowTooLarge, TooManyEdits, FormulaTooDeep, TooManyRefs}
 use Rattle.edit_script.specs.declared.script.Command.{Command}
@@ -41,7 +41,7 @@ abbrev pub IsPlace : ℕ → Option ℕ → Type 0
 IsPlace count client = MatchOption client (count ≡ 0) (λ place. place < count)
 
 -- what is kept is within the limits, and of clients that are there
-pub record IsSound (progress : Progress) : Type 0 where
+pub record IsWithinLimits (progress : Progress) : Type 0 where
   pub few : length progress.names.items ≤ 32
   pub distinct : AllPairs (λ a b. a ≢ b) (names_of progress)
   pub client : IsPlace (length progress.names.items) progress.client
@@ -50,9 +50,9 @@ pub record IsSound (progress : Progress) : Type 0 where
   pub clients : All (λ step. step.client < length progress.names.items) progress.steps.items
 
 -- a line that may be taken wants a cell to hold no long text
-abbrev pub IsFit : LineValue → Type 0
-IsFit (Set cell text) = length text ≤ 8192
-IsFit _ = Unit {0}
+abbrev pub HoldsShortText : LineValue → Type 0
+HoldsShortText (Set cell text) = length text ≤ 8192
+HoldsShortText _ = Unit {0}
 
 -- an edit of one cell
 abbrev pub edit_of : Position → ContentValue → Edit
@@ -77,7 +77,7 @@ pub record AddsSet (labels : List (List ℕ)) (text : List ℕ) (cell : Position
 -- a line gives no step, or one that is added
 pub data AddsStep (labels : List (List ℕ)) (now : Brought) (line : LineValue) (old new : List Step) : Type 0 where
   silent : IsSilent line → new ≡ old → AddsStep labels now line old new
-  command : (step : Step) → IsStep labels now line step → new ≡ old ++ step ∷ [] → AddsStep labels now line old new
+  command : (step : Step) → IsStepOfLine labels now line step → new ≡ old ++ step ∷ [] → AddsStep labels now line old new
 
 -- nothing is wrong with the line, whatever a cell is to hold
 pub record IsPlainlyAllowed (sizes : Sizes) (now : Brought) (line : LineValue) : Type 0 where
@@ -107,23 +107,23 @@ IsTextFault text number why =
 pub record Takes (sizes : Sizes) (line : LineValue) (old_labels : List (List ℕ)) (old : Progress) (new_labels : List (List ℕ)) (new : Progress) : Type 0 where
   pub allowed : IsAllowed sizes (brought old) line
   pub brought_is : brought new ≡ with_line (brought old) line
-  pub sound : IsSound new
+  pub sound : IsWithinLimits new
   pub step : AddsStep new_labels (brought new) line old.steps.items new.steps.items
   pub labels : AddsLabels (set_text line) old_labels new_labels
 
 -- some lines were taken, over a table before them, and left another
-pub record IsUnderWay (mode : Mode) (sizes : Sizes) (old new : List (List ℕ)) (texts : List (List ℕ)) (progress : Progress) : Type 0 where
+pub record HasTakenLines (mode : Mode) (sizes : Sizes) (old new : List (List ℕ)) (texts : List (List ℕ)) (progress : Progress) : Type 0 where
   pub lines : List LineValue
   pub said : AreLines mode sizes texts lines
   pub brought_is : brought progress ≡ brought_by lines
   pub steps : AreSteps new lines progress.steps.items
   pub labels : AddsLabels (set_texts lines) old new
-  pub sound : IsSound progress
+  pub sound : IsWithinLimits progress
 
 -- so many lines of a text were taken, and these are left; each may have added a label
 pub record IsReading (mode : Mode) (sizes : Sizes) (old new : List (List ℕ)) (text : List ℕ) (number : ℕ) (left : List (List ℕ)) (progress : Progress) : Type 0 where
   pub taken : List (List ℕ)
   pub all : script_lines text ≡ taken ++ left
   pub count : number ≡ length taken
-  pub way : IsUnderWay mode sizes old new taken progress
+  pub way : HasTakenLines mode sizes old new taken progress
   pub few : length new ≤ length old + number

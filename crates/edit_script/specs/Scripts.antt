@@ -40,15 +40,15 @@ nothing_yet = record { client = codes "main"; names = []; cells = 0; edits = 0 }
 abbrev pub with_client : Brought → List ℕ → Brought
 with_client now name = record { client = name; names = with_label now.names name; cells = now.cells; edits = now.edits }
 
-abbrev pub cell_count : Corners → ℕ
-cell_count range = height range * width range
+abbrev pub window_cells : Corners → ℕ
+window_cells range = height range * width range
 
 -- an edit more, and a window more
 abbrev pub with_edit : Brought → Brought
 with_edit now = record now { edits = now.edits + 1 }
 
 abbrev pub with_window : Brought → Corners → Brought
-with_window now range = record now { cells = now.cells + cell_count range }
+with_window now range = record now { cells = now.cells + window_cells range }
 
 -- and with what a line brings
 abbrev pub with_line : Brought → LineValue → Brought
@@ -82,7 +82,7 @@ IsClientTooMany now _ = ⊥
 
 -- a window of more than 65536 cells, or one with which all windows have more than 4194304
 abbrev pub IsLargeWindow : Brought → Corners → Type 0
-IsLargeWindow now range = (65536 < cell_count range) ⊎ (4194304 < now.cells + cell_count range)
+IsLargeWindow now range = (65536 < window_cells range) ⊎ (4194304 < now.cells + window_cells range)
 
 abbrev pub IsWindowTooLarge : Brought → LineValue → Type 0
 IsWindowTooLarge now (Look range) = IsLargeWindow now range
@@ -162,7 +162,7 @@ IsSilent (Client name) = Unit {0}
 IsSilent _ = ⊥
 
 -- the command of a line, and the place of the client to whom it belongs
-pub record IsStep (labels : List (List ℕ)) (now : Brought) (line : LineValue) (step : Step) : Type 0 where
+pub record IsStepOfLine (labels : List (List ℕ)) (now : Brought) (line : LineValue) (step : Step) : Type 0 where
   pub client : slice_get now.names step.client ≡ Some now.client
   pub command : IsCommand labels line step.command
 
@@ -172,7 +172,7 @@ pub data AreSteps (labels : List (List ℕ)) : List LineValue → List Step → 
   silent : (lines known : List LineValue) (line : LineValue) (steps : List Step)
       → AreSteps labels lines steps → IsSilent line → known ≡ lines ++ line ∷ [] → AreSteps labels known steps
   command : (lines known : List LineValue) (line : LineValue) (steps all : List Step) (step : Step)
-      → AreSteps labels lines steps → IsStep labels (brought_by known) line step
+      → AreSteps labels lines steps → IsStepOfLine labels (brought_by known) line step
       → known ≡ lines ++ line ∷ [] → all ≡ steps ++ step ∷ [] → AreSteps labels known all
 
 -- what the cells that are set are to hold, as texts
@@ -204,18 +204,18 @@ pub record IsFirstFault (mode : Mode) (sizes : Sizes) (old new : List (List ℕ)
   pub labels : AddsLabels (set_texts lines) old new
 
 -- what a text gives: a script and the labels after it, or the first refusal
-abbrev pub IsResult : Mode → Sizes → List (List ℕ) → List (List ℕ) → List ℕ → Result ScriptValue ScriptRefused → Type 0
-IsResult mode sizes old new text (Ok script) = IsScript mode sizes old new text script
-IsResult mode sizes old new text (Err why) = IsFirstFault mode sizes old new text why
+abbrev pub IsScriptResult : Mode → Sizes → List (List ℕ) → List (List ℕ) → List ℕ → Result ScriptValue ScriptRefused → Type 0
+IsScriptResult mode sizes old new text (Ok script) = IsScript mode sizes old new text script
+IsScriptResult mode sizes old new text (Err why) = IsFirstFault mode sizes old new text why
 
 -- over a table of labels a text gives one thing, and leaves one table
-abbrev pub OneResult : Type 0
-OneResult =
+abbrev pub OneScriptResult : Type 0
+OneScriptResult =
     (mode : Mode) (sizes : Sizes) (old new other : List (List ℕ)) (text : List ℕ) (a b : Result ScriptValue ScriptRefused)
-    → IsTable new → IsResult mode sizes old new text a → IsResult mode sizes old other text b → (a ≡ b) × (new ≡ other)
+    → IsTable new → IsScriptResult mode sizes old new text a → IsScriptResult mode sizes old other text b → (a ≡ b) × (new ≡ other)
 
 -- the names of a script are distinct, and each of its steps belongs to one of them
-pub record IsWhole (script : ScriptValue) : Type 0 where
+pub record IsWholeScript (script : ScriptValue) : Type 0 where
   pub distinct : AllPairs (λ a b. a ≢ b) script.names
   pub clients : All (λ step. step.client < length script.names) script.steps
 
@@ -223,12 +223,12 @@ pub record IsWhole (script : ScriptValue) : Type 0 where
 abbrev pub fault_text : ℕ → List ℕ → List ℕ
 fault_text number fault = codes "script: line " ++ (decimal number ++ (codes ": " ++ fault))
 
-abbrev pub refusal_text : ScriptRefused → List ℕ
-refusal_text (BadLine number) = fault_text number (codes "bad line")
-refusal_text (OutOfSheet number) = fault_text number (codes "cell outside the sheet")
-refusal_text (TooManyClients number) = fault_text number (codes "too many clients")
-refusal_text (WindowTooLarge number) = fault_text number (codes "window too large")
-refusal_text (TooManyEdits number) = fault_text number (codes "too many edits")
-refusal_text (FormulaTooDeep number) = fault_text number (codes "formula too deep")
-refusal_text (TooManyRefs number) = fault_text number (codes "too many references")
-refusal_text Memory = codes "out of memory"
+abbrev pub script_refusal_text : ScriptRefused → List ℕ
+script_refusal_text (BadLine number) = fault_text number (codes "bad line")
+script_refusal_text (OutOfSheet number) = fault_text number (codes "cell outside the sheet")
+script_refusal_text (TooManyClients number) = fault_text number (codes "too many clients")
+script_refusal_text (WindowTooLarge number) = fault_text number (codes "window too large")
+script_refusal_text (TooManyEdits number) = fault_text number (codes "too many edits")
+script_refusal_text (FormulaTooDeep number) = fault_text number (codes "formula too deep")
+script_refusal_text (TooManyRefs number) = fault_text number (codes "too many references")
+script_refusal_text Memory = codes "out of memory"

@@ -5,11 +5,11 @@ ghost use Rattle.sheet_refs.specs.Sizes.{is_inside};
 ghost use Rattle.sheet_model.specs.Fields.{IsContent, IsTableAfter};
 ghost use Rattle.sheet_model.specs.Labels.{with_label};
 ghost use Rattle.sheet_model.specs.Sheets.{IsWritten, content_value, with_labels};
-ghost use Rattle.edit_script.specs.Progress.{brought, names_of, edit_of, IsFit, IsSound, AddsCommand, AddsSet, Takes};
+ghost use Rattle.edit_script.specs.Progress.{brought, names_of, edit_of, HoldsShortText, IsWithinLimits, AddsCommand, AddsSet, Takes};
 ghost use Rattle.edit_script.specs.Progress.{IsEditFault, IsWindowFault, IsTextFault, IsPlainlyAllowed, Extends};
 ghost use Rattle.edit_script.specs.Saying.{line_value};
 ghost use Rattle.edit_script.specs.Scripts.{IsLineFault, IsPartOutside, IsLargeWindow, line_number};
-ghost use Rattle.edit_script.specs.Scripts.{nothing_yet, with_client, with_edit, with_window, cell_count};
+ghost use Rattle.edit_script.specs.Scripts.{nothing_yet, with_client, with_edit, with_window, window_cells};
 ghost use Rattle.edit_script.specs.declared.refused.ScriptRefused.TheVariants as refused;
 ghost use Rattle.edit_script.specs.declared.script.Command.TheVariants as asks;
 
@@ -52,7 +52,7 @@ impl Progress {
     /// Before the first line.
     pub(crate) fn new(alloc: Global) -> Progress
         ensures brought { brought result ≡ nothing_yet }
-        ensures sound { IsSound result }
+        ensures sound { IsWithinLimits result }
         ensures steps { result.steps.items ≡ [] }
     {
         Progress {
@@ -66,7 +66,7 @@ impl Progress {
 
     /// The script of the lines.
     pub(crate) fn into_script(self) -> Script
-        requires { IsSound self }
+        requires { IsWithinLimits self }
         ensures names { result.names ≡ names_of self }
         ensures steps { result.steps ≡ self.steps.items }
     {
@@ -82,8 +82,8 @@ impl Progress {
         number: u32,
         sheet: &mut Sheet,
     ) -> Result<(), ScriptRefused>
-        requires sound { IsSound self.old }
-        requires fits { IsFit (line_value line.now) }
+        requires sound { IsWithinLimits self.old }
+        requires fits { HoldsShortText (line_value line.now) }
         requires room { length sheet.old.labels < 2 ^ 32 - 1 }
         ensures taken { OnOk result (Takes sheet.old.sizes (line_value line.now)
             sheet.old.labels self.old sheet.new.labels self.new) }
@@ -107,8 +107,8 @@ impl Progress {
         number: u32,
         sheet: &mut Sheet,
     ) -> Result<(), ScriptRefused>
-        requires sound { IsSound self.old }
-        requires fits { IsFit (line_value line.now) }
+        requires sound { IsWithinLimits self.old }
+        requires fits { HoldsShortText (line_value line.now) }
         requires room { length sheet.old.labels < 2 ^ 32 - 1 }
         requires allowed { IsPlainlyAllowed sheet.old.sizes
             (brought self.old) (line_value line.now) }
@@ -133,7 +133,7 @@ impl Progress {
 
     // The first cause for which a line is refused, whatever a cell is to hold.
     fn fault(&self, line: &Line<'_>, number: u32, sizes: Sizes) -> Option<ScriptRefused>
-        requires { IsSound self.now }
+        requires { IsWithinLimits self.now }
         ensures { MatchOption result
             (IsPlainlyAllowed sizes (brought self.now) (line_value line.now))
             (λ why. (line_number why ≡ number)
@@ -151,13 +151,13 @@ impl Progress {
 
     // Whether a client is one too many.
     fn client_fault(&self, name: &str, number: u32) -> Option<ScriptRefused>
-        requires { IsSound self.now }
+        requires { IsWithinLimits self.now }
         ensures { MatchOption result
             ((length (names_of self.now) < 32) ⊎ Contains (names_of self.now) name.now)
             (λ why. (why ≡ refused.TooManyClients number) × (32 ≤ length (names_of self.now))
             × ¬ Contains (names_of self.now) name.now) }
     {
-        if self.names.len() < MAX_CLIENTS || place_of(&self.names, name).is_some() {
+        if self.names.len() < MAX_CLIENTS || client_place(&self.names, name).is_some() {
             return None;
         }
         Some(ScriptRefused::TooManyClients(number))
@@ -180,7 +180,7 @@ impl Progress {
 
     // Whether a window lies in part outside the sheet, or is too large.
     fn window_fault(&self, range: Range, number: u32, sizes: Sizes) -> Option<ScriptRefused>
-        requires { IsSound self.now }
+        requires { IsWithinLimits self.now }
         ensures { MatchOption result
             ((¬ IsPartOutside sizes range) × ¬ IsLargeWindow (brought self.now) range)
             (λ why. IsWindowFault sizes (brought self.now) range number why) }
@@ -196,10 +196,10 @@ impl Progress {
 
     // The commands that follow belong to the client; answers the client's place.
     fn follow(&mut self, alloc: Global, name: &str) -> Result<u32, Memory>
-        requires sound { IsSound self.old }
+        requires sound { IsWithinLimits self.old }
         requires room { (length (names_of self.old) < 32) ⊎ Contains (names_of self.old) name.now }
         ensures place { IfOk result (λ place. slice_get (names_of self.new) place ≡ Some name.now) }
-        ensures sound { OnOk result (IsSound self.new) }
+        ensures sound { OnOk result (IsWithinLimits self.new) }
         ensures brought { OnOk result (brought self.new ≡ with_client (brought self.old) name.now) }
         ensures steps { self.new.steps ≡ self.old.steps }
     {
@@ -216,7 +216,7 @@ impl Progress {
         ensures names { OnOk result (names_of self.new ≡ with_label (names_of self.old) name.now) }
         ensures rest { self.new ≡ record self.old { names = self.new.names } }
     {
-        match place_of(&self.names, name) {
+        match client_place(&self.names, name) {
             Some(place) => Ok(place),
             None => self.add_client(alloc, name),
         }
@@ -236,10 +236,10 @@ impl Progress {
 
     // Takes a line that names a client.
     fn name(&mut self, alloc: Global, name: &str) -> Result<(), ScriptRefused>
-        requires sound { IsSound self.old }
+        requires sound { IsWithinLimits self.old }
         requires room { (length (names_of self.old) < 32) ⊎ Contains (names_of self.old) name.now }
         ensures refused { IfErr result (λ why. why ≡ refused.Memory) }
-        ensures sound { OnOk result (IsSound self.new) }
+        ensures sound { OnOk result (IsWithinLimits self.new) }
         ensures brought { OnOk result (brought self.new ≡ with_client (brought self.old) name.now) }
         ensures steps { self.new.steps ≡ self.old.steps }
     {
@@ -249,10 +249,10 @@ impl Progress {
 
     // The place of the client whose commands follow, who is there from the first one on.
     fn commander(&mut self, alloc: Global) -> Result<u32, Memory>
-        requires sound { IsSound self.old }
+        requires sound { IsWithinLimits self.old }
         ensures place { IfOk result (λ place. slice_get (names_of self.new) place
             ≡ Some (brought self.new).client) }
-        ensures sound { OnOk result (IsSound self.new) }
+        ensures sound { OnOk result (IsWithinLimits self.new) }
         ensures brought { OnOk result
             (brought self.new ≡ with_client (brought self.old) (brought self.old).client) }
         ensures steps { self.new.steps ≡ self.old.steps }
@@ -265,9 +265,9 @@ impl Progress {
 
     // Adds a command of that client.
     fn push(&mut self, alloc: Global, command: Command) -> Result<(), ScriptRefused>
-        requires sound { IsSound self.old }
+        requires sound { IsWithinLimits self.old }
         ensures refused { IfErr result (λ why. why ≡ refused.Memory) }
-        ensures sound { OnOk result (IsSound self.new) }
+        ensures sound { OnOk result (IsWithinLimits self.new) }
         ensures brought { OnOk result
             (brought self.new ≡ with_client (brought self.old) (brought self.old).client) }
         ensures step { OnOk result (AddsCommand command (brought self.new)
@@ -291,11 +291,11 @@ impl Progress {
 
     // Adds an edit of the client whose commands follow.
     fn put(&mut self, alloc: Global, cell: Cell, content: Content) -> Result<(), ScriptRefused>
-        requires sound { IsSound self.old }
+        requires sound { IsWithinLimits self.old }
         requires room { self.old.edits < 1048576 }
         requires written { IsWritten (content_value content) }
         ensures refused { IfErr result (λ why. why ≡ refused.Memory) }
-        ensures sound { OnOk result (IsSound self.new) }
+        ensures sound { OnOk result (IsWithinLimits self.new) }
         ensures brought { OnOk result (brought self.new
             ≡ with_edit (with_client (brought self.old) (brought self.old).client)) }
         ensures step { OnOk result (AddsCommand (asks.Put (edit_of cell (content_value content)))
@@ -315,14 +315,14 @@ impl Progress {
         number: u32,
         sheet: &mut Sheet,
     ) -> Result<(), ScriptRefused>
-        requires sound { IsSound self.old }
+        requires sound { IsWithinLimits self.old }
         requires edits { self.old.edits < 1048576 }
         requires short { length text.now ≤ 8192 }
         requires room { length sheet.old.labels < 2 ^ 32 - 1 }
         ensures refused { IfErr result
             (λ why. why ≢ refused.Memory → IsTextFault text.now number why) }
         ensures same { IfErr result (λ why. why ≢ refused.Memory → sheet.new ≡ sheet.old) }
-        ensures sound { OnOk result (IsSound self.new) }
+        ensures sound { OnOk result (IsWithinLimits self.new) }
         ensures brought { OnOk result (brought self.new
             ≡ with_edit (with_client (brought self.old) (brought self.old).client)) }
         ensures step { OnOk result (AddsSet sheet.new.labels text.now cell (brought self.new)
@@ -337,10 +337,10 @@ impl Progress {
 
     // Adds a look of that client.
     fn look(&mut self, alloc: Global, range: Range, command: Command) -> Result<(), ScriptRefused>
-        requires sound { IsSound self.old }
-        requires room { self.old.cells + cell_count range ≤ 4194304 }
+        requires sound { IsWithinLimits self.old }
+        requires room { self.old.cells + window_cells range ≤ 4194304 }
         ensures refused { IfErr result (λ why. why ≡ refused.Memory) }
-        ensures sound { OnOk result (IsSound self.new) }
+        ensures sound { OnOk result (IsWithinLimits self.new) }
         ensures brought { OnOk result (brought self.new
             ≡ with_window (with_client (brought self.old) (brought self.old).client) range) }
         ensures step { OnOk result (AddsCommand command (brought self.new)
@@ -352,7 +352,7 @@ impl Progress {
 }
 
 // The place of a name among these.
-fn place_of(names: &[String], name: &str) -> Option<u32>
+fn client_place(names: &[String], name: &str) -> Option<u32>
     requires { length names.now ≤ 32 }
     ensures { MatchOption result (¬ Contains (map string_bytes names.now) name.now)
         (λ place. slice_get (map string_bytes names.now) place ≡ Some name.now) }

@@ -1,7 +1,7 @@
 ghost use Rattle.std.specs.Prelude.{◌≡◌, ◌≢◌, ◌≤◌, length, Ok, Err};
 ghost use Rattle.sheet_model.specs.Sheets.{with_labels};
 ghost use Rattle.edit_script.specs.Progress.{Extends};
-ghost use Rattle.edit_script.specs.Scripts.{IsResult};
+ghost use Rattle.edit_script.specs.Scripts.{IsScriptResult};
 ghost use Rattle.edit_script.specs.declared.refused.ScriptRefused.TheVariants as refused;
 
 use crate::line::read_line;
@@ -28,7 +28,7 @@ pub fn read_script(
     requires short { length text.now ≤ 16777216 }
     requires room { length sheet.old.labels ≤ 3000000000 }
     ensures result { result ≢ Err refused.Memory
-        → IsResult mode sheet.old.sizes sheet.old.labels sheet.new.labels text.now result }
+        → IsScriptResult mode sheet.old.sizes sheet.old.labels sheet.new.labels text.now result }
     ensures kept { sheet.new ≡ with_labels sheet.old sheet.new.labels }
     ensures grown { Extends sheet.old.labels sheet.new.labels }
 {

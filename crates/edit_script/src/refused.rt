@@ -30,9 +30,9 @@ pub enum ScriptRefused {
 /// Prints the refusal in words, as `script: line 3: bad line`.
 impl fmt::Display for ScriptRefused {
     ghost use Rattle.std.specs.Prelude.{Some};
-    ghost use Rattle.edit_script.specs.Scripts.{refusal_text};
+    ghost use Rattle.edit_script.specs.Scripts.{script_refusal_text};
 
-    ghost output = { λ refused. Some (refusal_text refused) };
+    ghost output = { λ refused. Some (script_refusal_text refused) };
 
     fn fmt<W: fmt::Write>(&self, f: &mut fmt::Formatter<W>) -> fmt::Result {
         match self {

@@ -48,7 +48,7 @@ impl Model for Script {
     ghost use Rattle.std.specs.Coded.{codes};
     ghost use Rattle.std.specs.Prelude.{map, string_bytes};
     ghost use Rattle.formula_syntax.specs.TreeCode.{tree_code};
-    ghost use Rattle.edit_script.specs.Scripts.{ScriptValue, IsWhole};
+    ghost use Rattle.edit_script.specs.Scripts.{ScriptValue, IsWholeScript};
 
     ghost Value = { ScriptValue };
 
@@ -56,7 +56,7 @@ impl Model for Script {
 
     ghost view = { λ s. record { names = map string_bytes s.names.items; steps = s.steps.items } };
 
-    ghost invariant = { λ s. IsWhole
+    ghost invariant = { λ s. IsWholeScript
         (record { names = map string_bytes s.names.items; steps = s.steps.items }) };
 }
 

@@ -7,7 +7,7 @@ use Rattle.formula_syntax.specs.declared.functions.Function.TheVariants.{Counta}
 use Rattle.formula_eval.specs.declared.items.Item.{Item}
 use Rattle.formula_eval.specs.declared.tally.Tally.{Tally}
 use Rattle.formula_eval.specs.Functions.{Contribution, contribution, contributions, add_contribution}
-use Rattle.formula_eval.specs.Tallies.{Tallies, Adds, IsBounded}
+use Rattle.formula_eval.specs.Tallies.{Tallies, AddsItems, IsBounded}
 
 added_ok : (c : Contribution) (r t : Result (List ℤ) ErrorKind) (ms ns : List ℤ) → add_contribution c r ≡ Ok ms → ((front : List ℤ) → r ≡ Ok front → t ≡ Ok (front ++ ns)) → add_contribution c t ≡ Ok (ms ++ ns)
 added_ok (Err kind) r t ms ns is go = absurd (cc)
@@ -49,7 +49,7 @@ pub first_err : (f : Function) (xs ys : List Item) (kind : ErrorKind) → contri
 first_err f [] ys kind is = absurd (cc)
 first_err f (x ∷ xs) ys kind is = added_first (contribution f x) (contributions f xs) (contributions f (xs ++ ys)) kind is (λ rest. first_err f xs ys kind rest)
 
-pub adds_nothing : (f : Function) (tally : Tally) → IsBounded tally → Adds f tally tally []
+pub adds_nothing : (f : Function) (tally : Tally) → IsBounded tally → AddsItems f tally tally []
 adds_nothing f tally bounded = record {
   numbers = [];
   given = refl;
@@ -58,7 +58,7 @@ adds_nothing f tally bounded = record {
   count = omega arith;
 }
 
-pub adds_both : (f : Function) (a b c : Tally) (xs ys : List Item) → Adds f a b xs → Adds f b c ys → Adds f a c (xs ++ ys)
+pub adds_both : (f : Function) (a b c : Tally) (xs ys : List Item) → AddsItems f a b xs → AddsItems f b c ys → AddsItems f a c (xs ++ ys)
 adds_both f a b c xs ys first second = record {
   numbers = first.numbers ++ second.numbers;
   given = append_ok f xs ys first.numbers second.numbers first.given second.given;
@@ -67,7 +67,7 @@ adds_both f a b c xs ys first second = record {
   count = omega (arith, first.count, second.count, length-append xs ys);
 }
 
-pub adds_one : (f : Function) (old new : Tally) (item : Item) (number : ℤ) → contribution f item ≡ Ok (Some number) → ((before : List ℤ) → Tallies f old before → Tallies f new (before ++ number ∷ [])) → IsBounded new → new.count ≡ old.count + 1 → Adds f old new (item ∷ [])
+pub adds_one : (f : Function) (old new : Tally) (item : Item) (number : ℤ) → contribution f item ≡ Ok (Some number) → ((before : List ℤ) → Tallies f old before → Tallies f new (before ++ number ∷ [])) → IsBounded new → new.count ≡ old.count + 1 → AddsItems f old new (item ∷ [])
 adds_one f old new item number is tallied bounded count = record {
   numbers = number ∷ [];
   given = rw is refl;
@@ -77,7 +77,7 @@ adds_one f old new item number is tallied bounded count = record {
 }
 
 -- a range that shows nothing adds nothing, and one that shows the same adds the same
-pub adds_same : (f : Function) (old new : Tally) (xs ys : List Item) → ys ≡ xs → Adds f old new xs → Adds f old new ys
+pub adds_same : (f : Function) (old new : Tally) (xs ys : List Item) → ys ≡ xs → AddsItems f old new xs → AddsItems f old new ys
 adds_same f old new xs ys same adds = rw same adds
 
 -- every item counts for COUNTA, and none is an error
@@ -91,7 +91,7 @@ pub counta_err : (items : List Item) (kind : ErrorKind) → contributions Counta
 counta_err items kind is = let ok = counta_ok items in cc (ok.1, is)
 
 -- COUNTA's tally has as many numbers as there were items
-pub counta_count : (old new : Tally) (items : List Item) → Tallies Counta old [] → Adds Counta old new items → new.count ≡ length items
+pub counta_count : (old new : Tally) (items : List Item) → Tallies Counta old [] → AddsItems Counta old new items → new.count ≡ length items
 counta_count old new items start adds =
     let all = adds.tallied [] start in
     let ok = counta_ok items in
@@ -102,5 +102,5 @@ pub when_ok : {T E P : Type 0} {Q : E → Type 0} (r : Result T E) → OnOk r P 
 when_ok (Ok x) ok err never = ok
 when_ok (Err e) ok err never = absurd (never e err)
 
-pub counta_here : (old new : Tally) (items : List Item) (r : Result (Unit {0}) ErrorKind) → OnOk r (Adds Counta old new items) → IfErr r (λ kind. contributions Counta items ≡ Err kind) → Tallies Counta old [] → new.count ≡ length items
+pub counta_here : (old new : Tally) (items : List Item) (r : Result (Unit {0}) ErrorKind) → OnOk r (AddsItems Counta old new items) → IfErr r (λ kind. contributions Counta items ≡ Err kind) → Tallies Counta old [] → new.count ≡ length items
 counta_here old new items r ok err start = counta_count old new items start (when_ok {Q = λ kind. contributions Counta items ≡ Err kind} r ok err (λ kind is. counta_err items kind is))

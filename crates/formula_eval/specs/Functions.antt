@@ -121,8 +121,8 @@ abbrev pub unless_error : Value → Value → Value
 unless_error (Error kind) other = other
 unless_error value other = value
 
-abbrev pub sign_of : ℤ → ℤ
-sign_of n = if int_lt n (pos 0) then neg_ℤ (pos 1) else (if int_eq n (pos 0) then pos 0 else pos 1)
+abbrev pub sign_number : ℤ → ℤ
+sign_number n = if int_lt n (pos 0) then neg_ℤ (pos 1) else (if int_eq n (pos 0) then pos 0 else pos 1)
 
 -- the remainder with the divisor's sign: `m - n * floor(m / n)`
 abbrev pub floor_remainder : ℤ → ℤ → ℤ
@@ -153,7 +153,7 @@ scalar_value If a b c = or_error (as_truth a) (λ truth. choice truth b c)
 scalar_value Iferror a b c = unless_error a b
 scalar_value Not a b c = or_error (as_truth a) (λ truth. Truth (not truth))
 scalar_value Abs a b c = or_error (as_number a) (λ n. Number (pos (nat_abs n)))
-scalar_value Sign a b c = or_error (as_number a) (λ n. Number (sign_of n))
+scalar_value Sign a b c = or_error (as_number a) (λ n. Number (sign_number n))
 scalar_value Mod a b c = on_both (as_number a) (as_number b) (division_value floor_remainder)
 scalar_value Quotient a b c = on_both (as_number a) (as_number b) (division_value int_div)
 scalar_value Iserror a b c = Truth (is_error a)

@@ -31,24 +31,24 @@ KeepsProduct (Some kept) product = kept ≡ product
 KeepsProduct None product = IsWhole product → ⊥
 
 -- what is kept of numbers for a function
-abbrev pub Keeps : Function → Running → List ℤ → Type 0
-Keeps f (Sum total) numbers = (f ≡ function.Sum) × (total ≡ fold ◌+ℤ◌ (pos 0) numbers)
-Keeps f (Product product) numbers = (f ≡ function.Product) × KeepsProduct product (fold ◌*ℤ◌ (pos 1) numbers)
-Keeps f (Least m) numbers = (f ≡ function.Min) × (m ≡ least numbers)
-Keeps f (Greatest m) numbers = (f ≡ function.Max) × (m ≡ greatest numbers)
-Keeps f (All m) numbers = (f ≡ function.And) × (m ≡ least numbers)
-Keeps f (Any m) numbers = (f ≡ function.Or) × (m ≡ greatest numbers)
-Keeps f Count numbers = is_counting f ≡ true
+abbrev pub KeepsNumbers : Function → Running → List ℤ → Type 0
+KeepsNumbers f (Sum total) numbers = (f ≡ function.Sum) × (total ≡ fold ◌+ℤ◌ (pos 0) numbers)
+KeepsNumbers f (Product product) numbers = (f ≡ function.Product) × KeepsProduct product (fold ◌*ℤ◌ (pos 1) numbers)
+KeepsNumbers f (Least m) numbers = (f ≡ function.Min) × (m ≡ least numbers)
+KeepsNumbers f (Greatest m) numbers = (f ≡ function.Max) × (m ≡ greatest numbers)
+KeepsNumbers f (All m) numbers = (f ≡ function.And) × (m ≡ least numbers)
+KeepsNumbers f (Any m) numbers = (f ≡ function.Or) × (m ≡ greatest numbers)
+KeepsNumbers f Count numbers = is_counting f ≡ true
 
 -- a tally of numbers
 pub record Tallies (f : Function) (tally : Tally) (numbers : List ℤ) : Type 0 where
   pub count : tally.count ≡ length numbers
-  pub keeps : Keeps f tally.running numbers
+  pub keeps : KeepsNumbers f tally.running numbers
 
 -- what is kept of numbers becomes what is kept of one more, given whether there were none
 abbrev pub KeepsOneMore : Running → Bool → ℤ → Running → Type 0
 KeepsOneMore old none number new =
-    (f : Function) (numbers : List ℤ) → Keeps f old numbers → none ≡ are_none numbers → Keeps f new (numbers ++ number ∷ [])
+    (f : Function) (numbers : List ℤ) → KeepsNumbers f old numbers → none ≡ are_none numbers → KeepsNumbers f new (numbers ++ number ∷ [])
 
 -- a tally of numbers becomes one of one more
 abbrev pub TalliesOneMore : Tally → ℤ → Tally → Type 0
@@ -67,7 +67,7 @@ pub record IsBounded (tally : Tally) : Type 0 where
   pub small : sum_size tally.running ≤ tally.count * 2 ^ 53
 
 -- a tally after more items, none of which is an error
-pub record Adds (f : Function) (old new : Tally) (items : List Item) : Type 0 where
+pub record AddsItems (f : Function) (old new : Tally) (items : List Item) : Type 0 where
   pub numbers : List ℤ
   pub given : contributions f items ≡ Ok numbers
   pub tallied : (before : List ℤ) → Tallies f old before → Tallies f new (before ++ numbers)

@@ -5,7 +5,7 @@ ghost use Rattle.formula_eval.specs.Functions.{contributions};
 ghost use Rattle.formula_eval.specs.Inputs.{IsPlainRange, IsKnownPlain, seen_values};
 ghost use Rattle.formula_eval.specs.Items.{items_of_cells};
 ghost use Rattle.formula_eval.specs.Seen.{seen_items};
-ghost use Rattle.formula_eval.specs.Tallies.{Adds, IsBounded};
+ghost use Rattle.formula_eval.specs.Tallies.{AddsItems, IsBounded};
 
 use crate::inputs::Inputs;
 use crate::items::Item;
@@ -25,7 +25,7 @@ pub(crate) fn value_at<I: Inputs>(inputs: &I, cell: Cell) -> Value
     decode(word).unwrap()
 }
 
-/// Adds the cells of a range to the sequence of a function, row by row, up to the first error that is
+/// AddsItems the cells of a range to the sequence of a function, row by row, up to the first error that is
 /// handed on. It looks at each cell of the rectangle once; cells past it take no time.
 pub(crate) fn add_cells<I: Inputs>(
     inputs: &I,
@@ -36,7 +36,7 @@ pub(crate) fn add_cells<I: Inputs>(
     requires plain { IsPlainRange (I.sizes inputs.now) (I.codes inputs.now) range }
     requires bounded { IsBounded tally.old }
     requires room { tally.old.count < 2 ^ 59 }
-    ensures ok { OnOk result (Adds function tally.old tally.new
+    ensures ok { OnOk result (AddsItems function tally.old tally.new
         (seen_items (I.sizes inputs.now) (I.codes inputs.now) range)) }
     ensures few { OnOk result (tally.new.count ≤ tally.old.count + 17179869184) }
     ensures err { IfErr result (λ kind. contributions function
@@ -54,11 +54,11 @@ pub(crate) fn add_cells<I: Inputs>(
     Ok(())
 }
 
-// Adds one cell of a range; an empty one adds nothing.
+// AddsItems one cell of a range; an empty one adds nothing.
 fn add_cell(function: Function, value: Value, tally: &mut Tally) -> Result<(), ErrorKind>
     requires bounded { IsBounded tally.old }
     requires room { tally.old.count < 2 ^ 60 }
-    ensures ok { OnOk result (Adds function tally.old tally.new (items_of_cells (value ∷ []))) }
+    ensures ok { OnOk result (AddsItems function tally.old tally.new (items_of_cells (value ∷ []))) }
     ensures err { IfErr result
         (λ kind. contributions function (items_of_cells (value ∷ [])) ≡ Err kind) }
 {

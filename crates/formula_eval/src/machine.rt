@@ -12,7 +12,7 @@ ghost use Rattle.formula_eval.specs.Meaning.{IsNoReference, scalar_of_range};
 ghost use Rattle.formula_eval.specs.Pending.{value_of_all, value_of_one, HasRoomFor};
 ghost use Rattle.formula_eval.specs.Seen.{IsPlainTree, AllPlain, seen_value};
 ghost use Rattle.formula_eval.specs.Seen.{seen_parameter, seen_parameters};
-ghost use Rattle.formula_eval.specs.Tallies.{Adds, IsBounded};
+ghost use Rattle.formula_eval.specs.Tallies.{AddsItems, IsBounded};
 ghost use Rattle.formula_eval.specs.declared.machine.Pending.{Pending as PendingOperator};
 
 use crate::cells::{add_cells, value_at};
@@ -213,7 +213,7 @@ fn sequence<I: Inputs>(
     tally.finish()
 }
 
-// Adds a parameter to the sequence of a function.
+// AddsItems a parameter to the sequence of a function.
 #[cycle(machine)]
 fn add_parameter<I: Inputs>(
     inputs: &I,
@@ -227,7 +227,7 @@ fn add_parameter<I: Inputs>(
     requires room { HasRoomFor pending.old (node_count (tree_of parameter.now)) }
     requires bounded { IsBounded tally.old }
     requires few { tally.old.count < 2 ^ 59 }
-    ensures ok { OnOk result (Adds function tally.old tally.new (items_of_parameter
+    ensures ok { OnOk result (AddsItems function tally.old tally.new (items_of_parameter
         (seen_parameter (I.sizes inputs.now) (I.codes inputs.now) (tree_of parameter.now)))) }
     ensures few { OnOk result (tally.new.count ≤ tally.old.count + 17179869184) }
     ensures err { IfErr result (λ kind. contributions function (items_of_parameter

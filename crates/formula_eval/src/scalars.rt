@@ -4,7 +4,7 @@ ghost use Rattle.value_core.specs.Wholes.{IsWhole};
 ghost use Rattle.formula_eval.specs.Functions.{scalar_value as scalar_value_of};
 ghost use Rattle.formula_eval.specs.Functions.{floor_remainder as remainder_of, or_error};
 ghost use Rattle.formula_eval.specs.Functions.{unless_error as value_unless_error, choice, on_both};
-ghost use Rattle.formula_eval.specs.Functions.{division_value, sign_of};
+ghost use Rattle.formula_eval.specs.Functions.{division_value, sign_number};
 
 use formula_syntax::Function;
 use value_core::{ErrorKind, Value, Whole, as_number, as_truth, in_range};
@@ -68,7 +68,7 @@ fn magnitude(number: Result<Whole, ErrorKind>) -> Value
 }
 
 fn sign(number: Result<Whole, ErrorKind>) -> Value
-    ensures { result ≡ or_error number (λ n. Number (sign_of n)) }
+    ensures { result ≡ or_error number (λ n. Number (sign_number n)) }
 {
     match &number {
         Err(kind) => Value::Error(*kind),

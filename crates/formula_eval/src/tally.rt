@@ -7,7 +7,7 @@ ghost use Rattle.value_core.specs.Conversions.{in_range as value_in_range};
 ghost use Rattle.formula_eval.specs.Tallies.{Tallies, KeepsProduct, KeepsOneMore, TalliesOneMore};
 ghost use Rattle.formula_eval.specs.Tallies.{IsTotalOf};
 ghost use Rattle.formula_eval.specs.Tallies.{IsTruthOfSome};
-ghost use Rattle.formula_eval.specs.Tallies.{Adds, IsBounded};
+ghost use Rattle.formula_eval.specs.Tallies.{AddsItems, IsBounded};
 ghost use Rattle.formula_eval.specs.Tallies.{sum_size};
 ghost use Rattle.std.specs.Int.{int_min, int_max};
 
@@ -86,14 +86,14 @@ impl Tally {
     }
 }
 
-/// Adds an item to the sequence of a function; answers the item's error, where it hands one on.
+/// AddsItems an item to the sequence of a function; answers the item's error, where it hands one on.
 ///
 /// It is a part of the loop over the cells of a range, whose time is mostly spent here.
 #[inline(always)]
 pub(crate) fn add(function: Function, item: Item, tally: &mut Tally) -> Result<(), ErrorKind>
     requires bounded { IsBounded tally.old }
     requires room { tally.old.count < 2 ^ 60 }
-    ensures ok { OnOk result (Adds function tally.old tally.new (item ∷ [])) }
+    ensures ok { OnOk result (AddsItems function tally.old tally.new (item ∷ [])) }
     ensures err { IfErr result (λ kind. contributions function (item ∷ []) ≡ Err kind) }
 {
     match contribution(function, item) {

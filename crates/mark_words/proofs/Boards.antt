@@ -17,7 +17,7 @@ use Rattle.mark_core.specs.declared.events.Event.{Event}
 use Rattle.mark_words.specs.declared.board.Doing.{Doing}
 use Rattle.mark_words.specs.declared.board.OwnStep.{OwnStep}
 use Rattle.mark_words.specs.declared.board.Past.{Past}
-use Rattle.mark_words.specs.Words.{code_of, clean_at, shown_place, words_of_places}
+use Rattle.mark_words.specs.Words.{word_of_clean, clean_at, shown_place, words_of_places}
 use Rattle.mark_words.specs.Rule.{IsRightSeat, IsSpent, past_at, AreGathered, AreSeats, NameSubject}
 use Rattle.mark_words.specs.Steps.{steps_of}
 
@@ -90,11 +90,11 @@ mark_set count [] place new lt = absurd (omega arith)
 mark_set count (p ∷ places) zero new lt = refl
 mark_set count (p ∷ places) (suc place) new lt =
     ap (λ i. slice_set (count ∷ words_of_places (p ∷ places)) i new) (next_word place 1)
-    ∙ ap (λ l. count ∷ p.mark ∷ code_of p.clean ∷ l) (mark_set p.value places place new (omega arith))
+    ∙ ap (λ l. count ∷ p.mark ∷ word_of_clean p.clean ∷ l) (mark_set p.value places place new (omega arith))
 
 -- the clean word of a place
 pub clean_word : (count : ℕ) (places : List Place) (place : ℕ) → place < length places
-    → slice_index (count ∷ words_of_places places) (3 * place + 2) ≡ code_of (place_at places place).clean
+    → slice_index (count ∷ words_of_places places) (3 * place + 2) ≡ word_of_clean (place_at places place).clean
 clean_word count [] place lt = absurd (omega arith)
 clean_word count (p ∷ places) zero lt = refl
 clean_word count (p ∷ places) (suc place) lt =
@@ -110,13 +110,13 @@ value_word count (p ∷ places) (suc place) lt =
 
 -- a clean word stored in its word
 pub clean_set : (count : ℕ) (places : List Place) (place : ℕ) (clean : Clean) → place < length places
-    → slice_set (count ∷ words_of_places places) (3 * place + 2) (code_of clean)
+    → slice_set (count ∷ words_of_places places) (3 * place + 2) (word_of_clean clean)
     ≡ count ∷ words_of_places (set places place (record (place_at places place) { clean = clean }))
 clean_set count [] place clean lt = absurd (omega arith)
 clean_set count (p ∷ places) zero clean lt = refl
 clean_set count (p ∷ places) (suc place) clean lt =
-    ap (λ i. slice_set (count ∷ words_of_places (p ∷ places)) i (code_of clean)) (next_word place 2)
-    ∙ ap (λ l. count ∷ p.mark ∷ code_of p.clean ∷ l) (clean_set p.value places place clean (omega arith))
+    ap (λ i. slice_set (count ∷ words_of_places (p ∷ places)) i (word_of_clean clean)) (next_word place 2)
+    ∙ ap (λ l. count ∷ p.mark ∷ word_of_clean p.clean ∷ l) (clean_set p.value places place clean (omega arith))
 
 -- and a value in its
 pub value_set : (count : ℕ) (places : List Place) (place value : ℕ) → place < length places
@@ -126,7 +126,7 @@ value_set count [] place value lt = absurd (omega arith)
 value_set count (p ∷ places) zero value lt = refl
 value_set count (p ∷ places) (suc place) value lt =
     ap (λ i. slice_set (count ∷ words_of_places (p ∷ places)) i value) (next_word place 3)
-    ∙ ap (λ l. count ∷ p.mark ∷ code_of p.clean ∷ l) (value_set p.value places place value (omega arith))
+    ∙ ap (λ l. count ∷ p.mark ∷ word_of_clean p.clean ∷ l) (value_set p.value places place value (omega arith))
 
 -- the marks of places, of which one is exchanged for one with its mark
 pub marks_stay : (places : List Place) (place : ℕ) (changed : Place) → changed.mark ≡ (place_at places place).mark
@@ -355,7 +355,7 @@ subject_added {S} {E} subject seats new name here j u e live =
     (at_push seats new u j e)
 
 -- a clean word is what its word stands for
-clean_at-code_of_parts : (upto : ℕ) (held : Bool) → (let c : Clean = record { upto = upto; held = held } in clean_at (code_of c) ≡ c)
+clean_at-code_of_parts : (upto : ℕ) (held : Bool) → (let c : Clean = record { upto = upto; held = held } in clean_at (word_of_clean c) ≡ c)
 clean_at-code_of_parts upto true =
     let half : (2 * upto + 1) / 2 ≡ upto = omega arith in
     let odd : (2 * upto + 1) % 2 ≡ 1 = omega arith in
@@ -367,7 +367,7 @@ clean_at-code_of_parts upto false =
     ap (λ n. (let c : Clean = record { upto = n; held = 2 * upto % 2 == 1 } in c)) half
     ∙ ap (λ n. (let c : Clean = record { upto = upto; held = n == 1 } in c)) even
 
-pub clean_at-code_of : (clean : Clean) → clean_at (code_of clean) ≡ clean
+pub clean_at-code_of : (clean : Clean) → clean_at (word_of_clean clean) ≡ clean
 clean_at-code_of clean = clean_at-code_of_parts clean.upto clean.held
 
 -- the words of a place, behind those of another one
@@ -386,4 +386,4 @@ shown_same count [] place lt = absurd (omega arith)
 shown_same count (p ∷ places) zero lt =
     ap (λ c. (let q : Place = record { mark = p.mark; clean = c; value = p.value } in q)) (clean_at-code_of p.clean)
 shown_same count (p ∷ places) (suc place) lt =
-    shown_next count p.mark (code_of p.clean) (p.value ∷ words_of_places places) place ∙ shown_same p.value places place (omega arith)
+    shown_next count p.mark (word_of_clean p.clean) (p.value ∷ words_of_places places) place ∙ shown_same p.value places place (omega arith)

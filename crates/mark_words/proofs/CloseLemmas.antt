@@ -26,7 +26,7 @@ use Rattle.mark_words.specs.declared.closing.Words.{Words}
 use Rattle.mark_words.specs.Words.{shown_place}
 use Rattle.mark_words.specs.Doing.{gather_history}
 use Rattle.mark_words.specs.Token.{subject_of, topic_of, places_of, seat_table, own_steps, view_of, log_of, edits_of, closed_places, closed_log}
-use Rattle.mark_words.specs.Rule.{AreApart, past_at, IsKept, IsEditor, IsSpent, AreGathered, doings_of}
+use Rattle.mark_words.specs.Rule.{HaveNoRepeats, past_at, IsKeptTable, IsEditor, IsSpent, AreGathered, doings_of}
 use Rattle.mark_words.specs.Steps.{steps_of}
 use Rattle.mark_words.specs.Closed.{HasClosed, ArePrefixes, AreLegal}
 use Rattle.mark_words.proofs.Boards.{Contains-cons_cases, not_spent, shown_same}
@@ -60,8 +60,8 @@ map_of f h [] = refl
 map_of f h (x ∷ xs) = ap (λ l. h (f x) ∷ l) (map_of f h xs)
 
 -- the numbers of the first views of a list
-numbers_front : {V : Type 0} (f : ℕ → V) (numbers : List ℕ) (vs ws : List V) → map f numbers ≡ vs ++ ws → AreApart numbers
-    → (front : List ℕ) × (map f front ≡ vs) × AreApart front × ((n : ℕ) → Contains front n → Contains numbers n)
+numbers_front : {V : Type 0} (f : ℕ → V) (numbers : List ℕ) (vs ws : List V) → map f numbers ≡ vs ++ ws → HaveNoRepeats numbers
+    → (front : List ℕ) × (map f front ≡ vs) × HaveNoRepeats front × ((n : ℕ) → Contains front n → Contains numbers n)
 numbers_front f numbers [] ws same apart = ([], refl, tt, λ n among. absurd (let lt : among.0 < 0 = among.1 in omega arith))
 numbers_front f [] (v ∷ vs) ws same apart = absurd (let none : 0 ≡ suc (length (vs ++ ws)) = ap length same in omega arith)
 numbers_front {V} f (m ∷ numbers) (v ∷ vs) ws same apart =
@@ -128,7 +128,7 @@ handed {S} {E} {G} table first start all all' others others' last inv is same ma
 
 module _ {S E : Type 0} {G : Ghosts S E} (places : S → ℕ) (worth : S → List E → ℕ → ℕ) (touches : S → List E → E → ℕ → Type 0)
     (marks : Marks S E) (editor : Seat S E G) (others : List (Seat S E G)) (words : Words S E G) where
-  module _ (t : TableState E (History S E)) (kept : IsKept (subject_of marks) (places (subject_of marks)) (worth (subject_of marks)) (touches (subject_of marks)) (topic_of marks).opening.value.items t)
+  module _ (t : TableState E (History S E)) (kept : IsKeptTable (subject_of marks) (places (subject_of marks)) (worth (subject_of marks)) (touches (subject_of marks)) (topic_of marks).opening.value.items t)
       (id : ℕ) (seat : History S E) (at : get_elem? t.views id ≡ some seat) (live : seat.doing.view.spent ≡ false) (on : seat.doing.editor ≡ true) where
     pub closes : ((log : List E) (entry : E) (place : ℕ) → place < places (subject_of marks) → (touches (subject_of marks) log entry place → ⊥)
         → worth (subject_of marks) (log ++ entry ∷ []) place ≡ worth (subject_of marks) log place)

@@ -22,7 +22,7 @@ use Rattle.mark_words.specs.declared.board.Doing.{Doing}
 use Rattle.mark_words.specs.declared.board.History.{History}
 use Rattle.mark_words.specs.Doing.{with_mark, with_commit}
 use Rattle.mark_words.specs.Words.{words_of_places}
-use Rattle.mark_words.specs.Rule.{IsRightSeat, IsEditor, AreSeats, NameSubject, IsKept, doings_of}
+use Rattle.mark_words.specs.Rule.{IsRightSeat, IsEditor, AreSeats, NameSubject, IsKeptTable, doings_of}
 use Rattle.mark_words.specs.Plays.{Marked, Committed}
 use Rattle.mark_words.proofs.Boards.{first_set, mark_word, mark_set, seat_changes, subject_set}
 use Rattle.mark_words.proofs.StepLemmas.{doing_at, doings_set, next_number, with_step, one_more}
@@ -47,7 +47,7 @@ module _ {S E : Type 0} (subject : S) (places : ℕ) (worth : List E → ℕ →
   pub commits_entry : (slots id : ℕ) (me : Me E (History S E)) (step : Step E) (entry : E) (new : ℕ) → me.0.doing.view.spent ≡ false → me.0.doing.editor ≡ true → me.0.doing.edits.pending ≡ Some entry
       → ((place : ℕ) → place < length opening → touches me.0.doing.view.log entry place → Contains me.0.doing.edits.marked place)
       → new ≡ length me.0.doing.view.log + 1
-      → Allows (IsKept subject places worth touches opening) slots id me 0 (λ n. new) (λ n after. Committed step me new after)
+      → Allows (IsKeptTable subject places worth touches opening) slots id me 0 (λ n. new) (λ n after. Committed step me new after)
   commits_entry slots id me step entry new live on pending all is t kept deep at fits =
       let core : State E = kept.core in
       let honest = honest_state subject places worth touches opening t kept untouched in
@@ -113,7 +113,7 @@ module _ {S E : Type 0} (subject : S) (places : ℕ) (worth : List E → ℕ →
   pub commits_some : (slots id : ℕ) (me : Me E (History S E)) (step : Step E) (new : ℕ) → me.0.doing.view.spent ≡ false → me.0.doing.editor ≡ true → is_some me.0.doing.edits.pending ≡ true
       → ((entry : E) → me.0.doing.edits.pending ≡ Some entry → (place : ℕ) → place < length opening → touches me.0.doing.view.log entry place → Contains me.0.doing.edits.marked place)
       → new ≡ length me.0.doing.view.log + 1
-      → Allows (IsKept subject places worth touches opening) slots id me 0 (λ n. new) (λ n after. Committed step me new after)
+      → Allows (IsKeptTable subject places worth touches opening) slots id me 0 (λ n. new) (λ n after. Committed step me new after)
   commits_some slots id me step new live on there all is =
       let entry = some_entry me.0.doing.edits.pending there in
       commits_entry slots id me step entry.0 new live on entry.1 (all entry.0 entry.1) is
@@ -122,7 +122,7 @@ module _ {S E : Type 0} (subject : S) (places : ℕ) (worth : List E → ℕ →
       → (me.0.doing.edits.pending ≡ None) ⊎ (me.0.doing.edits.pending ≡ Some entry) → touches me.0.doing.view.log entry place
       → new ≡ length me.0.doing.view.log + 1 → (d : ℕ) → old ≡ get_or me.0.doing.marks place d
       → step.word ≡ 3 * place + 1 → step.second ≡ new → step.said ≡ some entry
-      → Allows (IsKept subject places worth touches opening) slots id me (3 * place + 1) (λ n. either (n == old) new n) (λ n after. Marked step me n after)
+      → Allows (IsKeptTable subject places worth touches opening) slots id me (3 * place + 1) (λ n. either (n == old) new n) (λ n after. Marked step me n after)
   marks_place slots id me step entry place old new live on there idle touched is d known word second said t kept deep at fits =
       let core : State E = kept.core in
       let honest = honest_state subject places worth touches opening t kept untouched in

@@ -14,7 +14,7 @@ use Rattle.mark_words.specs.declared.board.History.{History}
 use Rattle.mark_words.specs.declared.board.Topic.{Topic}
 use Rattle.mark_words.specs.Words.{words_of_places, opening_words}
 use Rattle.mark_words.specs.Doing.{first_doing, first_history}
-use Rattle.mark_words.specs.Rule.{IsRightSeat, AreGathered, IsKept, NameSubject}
+use Rattle.mark_words.specs.Rule.{IsRightSeat, AreGathered, IsKeptTable, NameSubject}
 use Rattle.mark_words.proofs.Boards.{none_gathered}
 
 words_open : (opening : List (Option ℕ)) → opening_words opening ≡ words_of_places (map opening_place opening)
@@ -63,7 +63,7 @@ module _ {S E : Type 0} (places : ℕ) (worth : List E → ℕ → ℕ) (touches
   steps_open (suc seat) history e = absurd (some-ne-none history (sym e))
 
   pub opens : (words : List ℕ) → words ≡ 0 ∷ opening_words topic.opening.value.items
-      → IsKept topic.subject.value places worth touches topic.opening.value.items (opening_table words [] (first_history topic))
+      → IsKeptTable topic.subject.value places worth touches topic.opening.value.items (opening_table words [] (first_history topic))
   opens words is =
       record {
         right = right;

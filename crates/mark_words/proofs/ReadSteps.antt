@@ -29,7 +29,7 @@ use Rattle.mark_words.specs.declared.board.Doing.{Doing}
 use Rattle.mark_words.specs.declared.board.History.{History}
 use Rattle.mark_words.specs.Words.{clean_at}
 use Rattle.mark_words.specs.Doing.{with_clean_read, with_value_read, with_mark_read}
-use Rattle.mark_words.specs.Rule.{IsEditor, IsKept}
+use Rattle.mark_words.specs.Rule.{IsEditor, IsKeptTable}
 use Rattle.mark_words.specs.Plays.{BeganRead, WentOn, EndedRead}
 use Rattle.mark_words.specs.Read.{IsWorthAfter, TellsOf, GoesOn, Ends, LearnsClean}
 use Rattle.mark_words.proofs.Boards.{clean_word, value_word, mark_word, clean_at-code_of}
@@ -147,7 +147,7 @@ module _ {S E : Type 0} (subject : S) (places : ℕ) (worth : List E → ℕ →
     (untouched : (log : List E) (entry : E) (place : ℕ) → place < places → (touches log entry place → ⊥) → worth (log ++ entry ∷ []) place ≡ worth log place)
     (opening : List (Option ℕ)) (slots id : ℕ) (me : Me E (History S E)) (step : Step E) (place : ℕ) (live : me.0.doing.view.spent ≡ false) (there : place < length opening) where
   pub reads_clean : step.word ≡ 3 * place + 2
-      → Allows (IsKept subject places worth touches opening) slots id me (3 * place + 2) (λ n. n) (λ n after. BeganRead step me n after)
+      → Allows (IsKeptTable subject places worth touches opening) slots id me (3 * place + 2) (λ n. n) (λ n after. BeganRead step me n after)
   reads_clean word t kept deep at fits =
       let core : State E = kept.core in
       let honest = honest_state subject places worth touches opening t kept untouched in
@@ -175,7 +175,7 @@ module _ {S E : Type 0} (subject : S) (places : ℕ) (worth : List E → ℕ →
       )
 
   pub reads_value : step.word ≡ 3 * place + 3
-      → Allows (IsKept subject places worth touches opening) slots id me (3 * place + 3) (λ n. n) (λ n after. WentOn step me n after)
+      → Allows (IsKeptTable subject places worth touches opening) slots id me (3 * place + 3) (λ n. n) (λ n after. WentOn step me n after)
   reads_value word t kept deep at fits =
       let core : State E = kept.core in
       let honest = honest_state subject places worth touches opening t kept untouched in
@@ -207,7 +207,7 @@ module _ {S E : Type 0} (subject : S) (places : S → ℕ) (worth : S → List E
     (untouched : (log : List E) (entry : E) (place : ℕ) → place < places subject → (touches subject log entry place → ⊥) → worth subject (log ++ entry ∷ []) place ≡ worth subject log place)
     (opening : List (Option ℕ)) (slots id : ℕ) (me : Me E (History S E)) (step : Step E) (place : ℕ) (live : me.0.doing.view.spent ≡ false) (there : place < length opening) where
   pub reads_mark : step.word ≡ 3 * place + 1
-      → Allows (IsKept subject (places subject) (worth subject) (touches subject) opening) slots id me (3 * place + 1) (λ n. n) (λ n after. EndedRead worth touches step me n after)
+      → Allows (IsKeptTable subject (places subject) (worth subject) (touches subject) opening) slots id me (3 * place + 1) (λ n. n) (λ n after. EndedRead worth touches step me n after)
   reads_mark word t kept deep at fits =
       let core : State E = kept.core in
       let honest = honest_state subject (places subject) (worth subject) (touches subject) opening t kept untouched in

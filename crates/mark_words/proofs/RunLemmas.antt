@@ -13,7 +13,7 @@ use Rattle.mark_core.specs.Run.{IsCodeless, Runs}
 use Rattle.mark_core.proofs.Runs.{honest_from_opening}
 use Rattle.mark_words.specs.declared.board.Doing.{Doing}
 use Rattle.mark_words.specs.declared.board.History.{History}
-use Rattle.mark_words.specs.Rule.{IsRightSeat, IsKept}
+use Rattle.mark_words.specs.Rule.{IsRightSeat, IsKeptTable}
 use Rattle.mark_words.specs.Steps.{actor_of, is_single, steps_of, AreStepsOf}
 use Rattle.mark_words.proofs.StepLemmas.{doing_at, steps_more, others_same, steps_set, next_number, with_step}
 
@@ -26,7 +26,7 @@ run_more worth touches (first ∷ events) s before event outcome after (next, an
     (next, answer, first_happens, run_more worth touches events next before event outcome after rest happens)
 
 module _ {S E : Type 0} (subject : S) (places : ℕ) (worth : List E → ℕ → ℕ) (touches : List E → E → ℕ → Type 0) (opening : List (Option ℕ))
-    (t : TableState E (History S E)) (kept : IsKept subject places worth touches opening t) where
+    (t : TableState E (History S E)) (kept : IsKeptTable subject places worth touches opening t) where
   -- the run of the table with the event that happens next
   pub next_run : (event : Event E) (outcome : Outcome) (after : State E) → Happens worth touches kept.core event outcome after
       → Runs worth touches (opening_state opening) (kept.events ++ event ∷ []) after

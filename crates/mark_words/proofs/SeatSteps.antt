@@ -19,7 +19,7 @@ use Rattle.mark_core.specs.declared.events.Outcome.TheVariants.{Done, Seat}
 use Rattle.mark_words.specs.declared.board.Doing.{Doing}
 use Rattle.mark_words.specs.declared.board.History.{History}
 use Rattle.mark_words.specs.Doing.{copy_of, shorter_of, spent_doing, copy_history, union_history, gather_history, spent_history}
-use Rattle.mark_words.specs.Rule.{IsRightSeat, AreSeats, NameSubject, IsKept, doings_of}
+use Rattle.mark_words.specs.Rule.{IsRightSeat, AreSeats, NameSubject, IsKeptTable, doings_of}
 use Rattle.mark_words.specs.Steps.{steps_of, AreStepsOf}
 use Rattle.mark_words.proofs.Boards.{some_within, seat_stays, seat_changes, seat_added, seat_gathers, subject_set, subject_added}
 use Rattle.mark_words.proofs.StepLemmas.{doing_at, doings_push, doings_set_both, seats_same, steps_set, steps_added, steps_gathered}
@@ -40,7 +40,7 @@ module _ {S E : Type 0} (subject : S) (places : ℕ) (worth : List E → ℕ →
     (untouched : (log : List E) (entry : E) (place : ℕ) → place < places → (touches log entry place → ⊥) → worth (log ++ entry ∷ []) place ≡ worth log place)
     (opening : List (Option ℕ)) where
   pub splits : (id : ℕ) (history : History S E) → history.doing.view.spent ≡ false
-      → Splits (IsKept subject places worth touches opening) id history history (copy_history history)
+      → Splits (IsKeptTable subject places worth touches opening) id history history (copy_history history)
   splits id history live t kept at =
       let core : State E = kept.core in
       let doing : Doing S E = history.doing in
@@ -81,7 +81,7 @@ module _ {S E : Type 0} (subject : S) (places : ℕ) (worth : List E → ℕ →
 
   pub joins : (id : ℕ) (history : History S E) (other : ℕ) (note : History S E) → history.doing.view.spent ≡ false → note.doing.view.spent ≡ false
       → note.doing.view.holds ≡ [] → note.doing.editor ≡ false → [] ≡ note.doing.gathered → [] ≡ note.steps
-      → Joins (IsKept subject places worth touches opening) id history other note (union_history history note) spent_history
+      → Joins (IsKeptTable subject places worth touches opening) id history other note (union_history history note) spent_history
   joins id history other note live note_live empty_handed reader none_gathered no_steps t kept at apart there =
       let core : State E = kept.core in
       let both : History S E = union_history history note in
@@ -151,7 +151,7 @@ module _ {S E : Type 0} (subject : S) (places : ℕ) (worth : List E → ℕ →
   -- a seat handed in to the editor's: no event of the core, whose view of it stays
   pub gathers : (id : ℕ) (history : History S E) (other : ℕ) (note : History S E) → history.doing.view.spent ≡ false → history.doing.editor ≡ true
       → note.doing.view.spent ≡ false
-      → Joins (IsKept subject places worth touches opening) id history other note (gather_history history note) spent_history
+      → Joins (IsKeptTable subject places worth touches opening) id history other note (gather_history history note) spent_history
   gathers id history other note live on note_live t kept at apart there =
       let core : State E = kept.core in
       let both : History S E = gather_history history note in

@@ -17,7 +17,7 @@ use Rattle.mark_words.specs.declared.board.Doing.{Doing}
 use Rattle.mark_words.specs.declared.board.History.{History}
 use Rattle.mark_words.specs.Doing.{with_see}
 use Rattle.mark_words.specs.Words.{words_of_places}
-use Rattle.mark_words.specs.Rule.{IsRightSeat, AreSeats, NameSubject, IsKept, doings_of}
+use Rattle.mark_words.specs.Rule.{IsRightSeat, AreSeats, NameSubject, IsKeptTable, doings_of}
 use Rattle.mark_words.specs.Plays.{Saw}
 use Rattle.mark_words.proofs.Boards.{first_again, seat_stays, seat_changes, subject_set}
 use Rattle.mark_words.proofs.StepLemmas.{doing_at, doings_set, next_number, with_step, one_more}
@@ -27,7 +27,7 @@ module _ {S E : Type 0} (subject : S) (places : ℕ) (worth : List E → ℕ →
     (untouched : (log : List E) (entry : E) (place : ℕ) → place < places → (touches log entry place → ⊥) → worth (log ++ entry ∷ []) place ≡ worth log place)
     (opening : List (Option ℕ)) where
   pub sees : (slots id : ℕ) (me : Me E (History S E)) (step : Step E) → me.0.doing.view.spent ≡ false
-      → Allows (IsKept subject places worth touches opening) slots id me 0 (λ n. n) (λ n after. Saw step me n after)
+      → Allows (IsKeptTable subject places worth touches opening) slots id me 0 (λ n. n) (λ n after. Saw step me n after)
   sees slots id me step live t kept deep at fits =
       let core : State E = kept.core in
       let count : ℕ = slice_index t.words 0 in

@@ -16,7 +16,7 @@ use Rattle.mark_core.specs.View.{with_count, split_off, union_of}
 use Rattle.mark_core.specs.State.{State, view_at, with_view, spent_view, opening_state}
 use Rattle.mark_core.specs.Run.{Runs}
 use Rattle.mark_words.specs.declared.board.History.{History}
-use Rattle.mark_words.specs.Rule.{IsKept}
+use Rattle.mark_words.specs.Rule.{IsKeptTable}
 use Rattle.mark_words.specs.Steps.{single_steps, steps_from, steps_of}
 use Rattle.mark_words.specs.Law.{IsOneStepOn}
 use Rattle.mark_words.proofs.Boards.{some_within}
@@ -118,7 +118,7 @@ module _ {E : Type 0} (worth : List E → ℕ → ℕ) (touches : List E → E �
 module _ {S E : Type 0} (subject : S) (places : ℕ) (worth : List E → ℕ → ℕ) (touches : List E → E → ℕ → Type 0)
     (untouched : (log : List E) (entry : E) (place : ℕ) → place < places → (touches log entry place → ⊥) → worth (log ++ entry ∷ []) place ≡ worth log place)
     (opening : List (Option ℕ)) (t t' : TableState E (History S E))
-    (kept : IsKept subject places worth touches opening t) (kept' : IsKept subject places worth touches opening t') (step : IsOneStepOn t t' See)
+    (kept : IsKeptTable subject places worth touches opening t) (kept' : IsKeptTable subject places worth touches opening t') (step : IsOneStepOn t t' See)
     (steps : single_steps kept'.events ≡ single_steps kept.events ++ See step.one.view ∷ []) where
   at_after : get_elem? t'.views step.seat ≡ some step.after
   at_after =

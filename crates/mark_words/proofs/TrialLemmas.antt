@@ -22,18 +22,18 @@ use Rattle.mark_words.specs.declared.board.Doing.{Doing}
 use Rattle.mark_words.specs.declared.marks.Marks.{Marks}
 use Rattle.mark_words.specs.declared.seats.Seat.{Seat}
 use Rattle.mark_words.specs.Doing.{with_clean_read, with_value_read, with_mark_read, with_claim, with_word_put, with_mark, with_commit}
-use Rattle.mark_words.specs.Read.{IsWorthAfter, TellsOf, GoesOn, Ends, Tells}
-use Rattle.mark_words.specs.EightCells.{last_of, script}
+use Rattle.mark_words.specs.Read.{IsWorthAfter, TellsOf, GoesOn, Ends, TellsOfRead}
+use Rattle.mark_words.specs.EightCells.{last_setting, script}
 use Rattle.mark_words.specs.Token.{IsSeatOf, doing_of}
-use Rattle.mark_words.specs.Trial.{IsReady, HasRead, IsWorthOf, IsStaleAfter}
+use Rattle.mark_words.specs.Trial.{IsReadyEditor, HasReadPlace, IsWorthOf, IsStaleAfter}
 use Rattle.mark_words.proofs.ReadSteps.{read_end_cases}
 use Rattle.mark_words.proofs.TokenLemmas.{begins}
 
 -- the three loads of a read, one after the other
 pub has_read : {S E : Type 0} (worth : List E → ℕ → ℕ) (touches : List E → E → ℕ → Type 0) (before begun valued after : Doing S E) (place : ℕ) (clean : Clean) (word mark : ℕ)
     → begun ≡ with_clean_read before place clean → valued ≡ with_value_read begun place word → after ≡ with_mark_read valued place mark
-    → GoesOn begun place word valued → Ends valued place mark after → Tells worth touches valued place mark
-    → HasRead worth touches before place clean word mark after
+    → GoesOn begun place word valued → Ends valued place mark after → TellsOfRead worth touches valued place mark
+    → HasReadPlace worth touches before place clean word mark after
 has_read {S} {E} worth touches before begun valued after place clean word mark first second third goes_on ends tells =
     let start : Half = new_half before.view place clean in
     let half : Half = record start { word = Some word } in
@@ -75,7 +75,7 @@ has_read {S} {E} worth touches before begun valued after place clean word mark f
         }
 
 module _ {S E : Type 0} (worth : List E → ℕ → ℕ) (touches : List E → E → ℕ → Type 0) (before after : Doing S E) (place : ℕ) (clean : Clean) (word mark : ℕ)
-    (read : HasRead worth touches before place clean word mark after) where
+    (read : HasReadPlace worth touches before place clean word mark after) where
   upto_is : read.half.clean.upto ≡ clean.upto
   upto_is = ap (λ (x : Clean). x.upto) read.same_clean
 
@@ -151,8 +151,8 @@ module _ {S E : Type 0} (worth : List E → ℕ → ℕ) (touches : List E → E
 
 -- two reads of a place
 module _ {S E : Type 0} (worth : List E → ℕ → ℕ) (touches : List E → E → ℕ → Type 0) (before between after : Doing S E) (place : ℕ)
-    (clean clean' : Clean) (word word' mark mark' : ℕ) (first : HasRead worth touches before place clean word mark between)
-    (second : HasRead worth touches between place clean' word' mark' after) (number : ℕ) (is : number ≡ length before.view.log) where
+    (clean clean' : Clean) (word word' mark mark' : ℕ) (first : HasReadPlace worth touches before place clean word mark between)
+    (second : HasReadPlace worth touches between place clean' word' mark' after) (number : ℕ) (is : number ≡ length before.view.log) where
   -- a mark of the second read that isn't the first one's, after a value, is past the log
   later_read : clean.upto ≡ mark + 1 → mark ≤ number → clean'.upto ≢ mark' + 1 → number < mark'
   later_read upto within stale =
@@ -188,7 +188,7 @@ script_length (suc number) =
 
 -- the last entry of a longer script that sets the place
 pub last_next : (place found : ℕ) (entries : List ℕ) (entry : ℕ)
-    → last_of place found (entries ++ entry ∷ []) ≡ (if entry % 8 == place then entry else last_of place found entries)
+    → last_setting place found (entries ++ entry ∷ []) ≡ (if entry % 8 == place then entry else last_setting place found entries)
 last_next place found [] entry = refl
 last_next place found (next ∷ entries) entry = last_next place (if next % 8 == place then next else found) entries entry
 
@@ -205,7 +205,7 @@ either_place (suc (suc place)) lt = absurd (omega arith)
 
 -- the editor's seat is still ready where it knows what it knew
 pub ready_still : {S E : Type 0} {G : Ghosts S E} (marks : Marks S E) (before after : Seat S E G) (count : ℕ)
-    → IsReady marks before count → IsSeatOf marks after → doing_of after ≡ doing_of before → IsReady marks after count
+    → IsReadyEditor marks before count → IsSeatOf marks after → doing_of after ≡ doing_of before → IsReadyEditor marks after count
 ready_still {S} {E} marks before after count ready same kept =
     record {
       table = same;
@@ -217,7 +217,7 @@ ready_still {S} {E} marks before after count ready same kept =
     }
 
 -- the editor's seat that has marked both cells for an entry
-module _ {S E : Type 0} {G : Ghosts S E} (marks : Marks S E) (before first second : Seat S E G) (entry : E) (count number : ℕ) (ready : IsReady marks before count)
+module _ {S E : Type 0} {G : Ghosts S E} (marks : Marks S E) (before first second : Seat S E G) (entry : E) (count number : ℕ) (ready : IsReadyEditor marks before count)
     (one : doing_of first ≡ with_mark (doing_of before) entry 0 number) (both : doing_of second ≡ with_mark (doing_of first) entry 1 number) where
   pub both_marked : (place : ℕ) → place < 2 → Contains (doing_of second).edits.marked place
   both_marked place there =
@@ -230,7 +230,7 @@ module _ {S E : Type 0} {G : Ghosts S E} (marks : Marks S E) (before first secon
   entry_pending = ap (λ (d : Doing S E). d.edits.pending) both
 
   -- and has committed it
-  pub ready_next : (after : Seat S E G) → IsSeatOf marks after → doing_of after ≡ with_commit (doing_of second) entry → IsReady marks after (count + 1)
+  pub ready_next : (after : Seat S E G) → IsSeatOf marks after → doing_of after ≡ with_commit (doing_of second) entry → IsReadyEditor marks after (count + 1)
   ready_next after same last =
       record {
         table = same;

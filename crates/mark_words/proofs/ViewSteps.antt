@@ -15,7 +15,7 @@ use Rattle.mark_words.specs.declared.board.Doing.{Doing}
 use Rattle.mark_words.specs.declared.board.History.{History}
 use Rattle.mark_words.specs.Words.{words_of_state}
 use Rattle.mark_words.specs.Steps.{actor_of, is_single}
-use Rattle.mark_words.specs.Rule.{IsRightSeat, AreSeats, NameSubject, IsKept, doings_of}
+use Rattle.mark_words.specs.Rule.{IsRightSeat, AreSeats, NameSubject, IsKeptTable, doings_of}
 use Rattle.mark_words.specs.Plays.{KeepsRest}
 use Rattle.mark_words.proofs.Boards.{seat_stays, seat_changes, subject_set}
 use Rattle.mark_words.proofs.StepLemmas.{doing_at, doings_set, next_number, with_step}
@@ -27,7 +27,7 @@ pub keeps_rest : {S E : Type 0} (before : Doing S E) (view : View (List E)) → 
 keeps_rest before view spent log seen = record { subject = refl; editor = refl; edits = refl; marks = refl; spent = spent; log = log; seen = seen }
 
 module _ {S E : Type 0} (subject : S) (places : ℕ) (worth : List E → ℕ → ℕ) (touches : List E → E → ℕ → Type 0) (opening : List (Option ℕ))
-    (t : TableState E (History S E)) (kept : IsKept subject places worth touches opening t)
+    (t : TableState E (History S E)) (kept : IsKeptTable subject places worth touches opening t)
     (id : ℕ) (history : History S E) (at : get_elem? t.views id ≡ some history) (live : history.doing.view.spent ≡ false) where
   pub view_step : (event : Event E) (outcome : Outcome) (core' : State E) (view : View (List E)) (words' : List ℕ)
       → is_single event ≡ true → actor_of event ≡ id
@@ -37,7 +37,7 @@ module _ {S E : Type 0} (subject : S) (places : ℕ) (worth : List E → ℕ →
       → map (λ (p : Place). p.mark) core'.places ≡ map (λ (p : Place). p.mark) kept.core.places
       → core'.views ≡ slice_set kept.core.views id view
       → view.log ≡ history.doing.view.log
-      → IsKept subject places worth touches opening
+      → IsKeptTable subject places worth touches opening
       (record {
         words = words';
         homes = t.homes;

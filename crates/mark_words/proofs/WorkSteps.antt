@@ -21,10 +21,10 @@ use Rattle.mark_core.specs.Honest.{IsHonest}
 use Rattle.mark_core.specs.Run.{IsCodeless}
 use Rattle.mark_core.specs.Step.{after_claim, after_refusal, after_put, after_finish}
 use Rattle.mark_words.specs.declared.board.History.{History}
-use Rattle.mark_words.specs.Words.{code_of, clean_at, words_of_places}
+use Rattle.mark_words.specs.Words.{word_of_clean, clean_at, words_of_places}
 use Rattle.mark_words.specs.Doing.{with_claim, with_refusal, with_word_put, with_finish}
 use Rattle.mark_words.specs.Steps.{OneMore}
-use Rattle.mark_words.specs.Rule.{IsKept}
+use Rattle.mark_words.specs.Rule.{IsKeptTable}
 use Rattle.mark_words.specs.Plays.{TriedClaim, PutWord, GaveBack}
 use Rattle.mark_words.proofs.Boards.{clean_word, clean_set, value_set, marks_stay, clean_at-code_of}
 use Rattle.mark_words.proofs.StepLemmas.{with_step, next_number, one_more}
@@ -41,7 +41,7 @@ miss found old new differs = ap (λ b. either b new found) (ne_eqb found old dif
 module _ {S E : Type 0} (subject : S) (places : ℕ) (worth : List E → ℕ → ℕ) (touches : List E → E → ℕ → Type 0)
     (untouched : (log : List E) (entry : E) (place : ℕ) → place < places → (touches log entry place → ⊥) → worth (log ++ entry ∷ []) place ≡ worth log place)
     (opening : List (Option ℕ)) (slots id : ℕ) (me : Me E (History S E)) (step : Step E) (place : ℕ) (live : me.0.doing.view.spent ≡ false) (there : place < length opening) where
-  module _ (t : TableState E (History S E)) (kept : IsKept subject places worth touches opening t) (at : get_elem? t.views id ≡ some me.0) where
+  module _ (t : TableState E (History S E)) (kept : IsKeptTable subject places worth touches opening t) (at : get_elem? t.views id ≡ some me.0) where
     abbrev core : State E
     core = kept.core
 
@@ -58,21 +58,21 @@ module _ {S E : Type 0} (subject : S) (places : ℕ) (worth : List E → ℕ →
     may = record { there = lt; live = ap (λ (v : View (List E)). v.spent) same ∙ live }
 
     -- the words after a store of a clean word
-    clean_stored : (clean : Clean) → slice_set t.words (3 * place + 2) (code_of clean)
+    clean_stored : (clean : Clean) → slice_set t.words (3 * place + 2) (word_of_clean clean)
         ≡ length core.edits.log ∷ words_of_places (slice_set core.places place (record (place_at core.places place) { clean = clean }))
     clean_stored clean =
-        ap (λ ws. slice_set ws (3 * place + 2) (code_of clean)) kept.words ∙ clean_set (length core.edits.log) core.places place clean lt
+        ap (λ ws. slice_set ws (3 * place + 2) (word_of_clean clean)) kept.words ∙ clean_set (length core.edits.log) core.places place clean lt
 
     -- the clean word that stands there
-    word_found : slice_index t.words (3 * place + 2) ≡ code_of (place_at core.places place).clean
+    word_found : slice_index t.words (3 * place + 2) ≡ word_of_clean (place_at core.places place).clean
     word_found = ap (λ ws. slice_index ws (3 * place + 2)) kept.words ∙ clean_word (length core.edits.log) core.places place lt
 
     clean_found : clean_at (slice_index t.words (3 * place + 2)) ≡ (place_at core.places place).clean
     clean_found = ap clean_at word_found ∙ clean_at-code_of (place_at core.places place).clean
 
-    took : (seen : Clean) (stored : ℕ) → MayClaim me.0.doing.view place seen → slice_index t.words (3 * place + 2) ≡ code_of seen
-        → (let held : Clean = record { upto = seen.upto; held = true } in stored ≡ code_of held)
-        → IsKept subject places worth touches opening (record { words = slice_set t.words (3 * place + 2) stored; homes = t.homes; views = slice_set t.views id (with_step me.0 (with_claim me.0.doing place) (next_number kept.events) (Claim id place seen)) })
+    took : (seen : Clean) (stored : ℕ) → MayClaim me.0.doing.view place seen → slice_index t.words (3 * place + 2) ≡ word_of_clean seen
+        → (let held : Clean = record { upto = seen.upto; held = true } in stored ≡ word_of_clean held)
+        → IsKeptTable subject places worth touches opening (record { words = slice_set t.words (3 * place + 2) stored; homes = t.homes; views = slice_set t.views id (with_step me.0 (with_claim me.0.doing place) (next_number kept.events) (Claim id place seen)) })
     took seen stored ground found is =
         let held : Clean = record { upto = seen.upto; held = true } in
         view_step subject places worth touches opening t kept id me.0 at live (Claim id place seen) (Claimed true) (after_claim core id place seen) (with_hold me.0.doing.view place)
@@ -87,17 +87,17 @@ module _ {S E : Type 0} (subject : S) (places : ℕ) (worth : List E → ℕ →
         (ap (λ (v : View (List E)). slice_set core.views id (with_hold v place)) same)
         refl
 
-    lost : (seen : Clean) (stored : ℕ) → MayClaim me.0.doing.view place seen → slice_index t.words (3 * place + 2) ≢ code_of seen
+    lost : (seen : Clean) (stored : ℕ) → MayClaim me.0.doing.view place seen → slice_index t.words (3 * place + 2) ≢ word_of_clean seen
         → stored ≡ slice_index t.words (3 * place + 2)
         → (let found : Clean = clean_at (slice_index t.words (3 * place + 2)) in
-        IsKept subject places worth touches opening (record { words = slice_set t.words (3 * place + 2) stored; homes = t.homes; views = slice_set t.views id (with_step me.0 (with_refusal me.0.doing place found) (next_number kept.events) (Claim id place seen)) }))
+        IsKeptTable subject places worth touches opening (record { words = slice_set t.words (3 * place + 2) stored; homes = t.homes; views = slice_set t.views id (with_step me.0 (with_refusal me.0.doing place found) (next_number kept.events) (Claim id place seen)) }))
     lost seen stored ground differs is =
         let found : Clean = clean_at (slice_index t.words (3 * place + 2)) in
         view_step subject places worth touches opening t kept id me.0 at live (Claim id place seen) (Claimed false) (after_refusal core id place) (with_loss me.0.doing.view place found)
         (slice_set t.words (3 * place + 2) stored) refl refl
         (record {
           allowed = (may, subst (λ (v : View (List E)). MayClaim v place seen) (sym same) ground);
-          gives = inr (record { found = λ e. differs (word_found ∙ ap code_of e); answer = refl; effect = refl });
+          gives = inr (record { found = λ e. differs (word_found ∙ ap word_of_clean e); answer = refl; effect = refl });
         })
         (ap (λ n. slice_set t.words (3 * place + 2) n) is ∙ set-get_or t.words (3 * place + 2) 0 ∙ kept.words)
         refl refl
@@ -105,14 +105,14 @@ module _ {S E : Type 0} (subject : S) (places : ℕ) (worth : List E → ℕ →
         ∙ ap (λ c. slice_set core.views id (with_loss me.0.doing.view place c)) (sym clean_found))
         refl
 
-  pub claims : (seen : Clean) (old new : ℕ) → MayClaim me.0.doing.view place seen → old ≡ code_of seen
-      → (let held : Clean = record { upto = seen.upto; held = true } in new ≡ code_of held)
+  pub claims : (seen : Clean) (old new : ℕ) → MayClaim me.0.doing.view place seen → old ≡ word_of_clean seen
+      → (let held : Clean = record { upto = seen.upto; held = true } in new ≡ word_of_clean held)
       → step.word ≡ 3 * place + 2 → step.first ≡ old
-      → Allows (IsKept subject places worth touches opening) slots id me (3 * place + 2) (λ n. either (n == old) new n) (λ n after. TriedClaim step me n after)
+      → Allows (IsKeptTable subject places worth touches opening) slots id me (3 * place + 2) (λ n. either (n == old) new n) (λ n after. TriedClaim step me n after)
   claims seen old new ground is next word first t kept deep at fits =
       let found : ℕ = slice_index t.words (3 * place + 2) in
       let here : (place' : ℕ) → step.word ≡ 3 * place' + 2 → place ≡ place' = λ place' word'. omega (arith, word, word') in
-      let one : (place' : ℕ) (seen' : Clean) → step.word ≡ 3 * place' + 2 → step.first ≡ code_of seen'
+      let one : (place' : ℕ) (seen' : Clean) → step.word ≡ 3 * place' + 2 → step.first ≡ word_of_clean seen'
       → OneMore me.0.steps (me.0.steps ++ record { number = next_number kept.events; event = Claim id place seen } ∷ []) (λ v. Claim v place' seen') = λ place' seen' word' first'.
       let same_clean : seen ≡ seen' =
       sym (clean_at-code_of seen) ∙ ap clean_at (sym is ∙ sym first ∙ first') ∙ clean_at-code_of seen' in
@@ -150,7 +150,7 @@ module _ {S E : Type 0} (subject : S) (places : ℕ) (worth : List E → ℕ →
       ]
 
   pub puts : (word : ℕ) → MayPut worth me.0.doing.view place word → step.word ≡ 3 * place + 3 → step.first ≡ word
-      → Allows (IsKept subject places worth touches opening) slots id me (3 * place + 3) (λ n. word) (λ n after. PutWord step me word after)
+      → Allows (IsKeptTable subject places worth touches opening) slots id me (3 * place + 3) (λ n. word) (λ n after. PutWord step me word after)
   puts word ground index first t kept deep at fits =
       let core : State E = kept.core in
       let changed : Place = record (place_at core.places place) { value = word } in (
@@ -180,9 +180,9 @@ module _ {S E : Type 0} (subject : S) (places : ℕ) (worth : List E → ℕ →
       )
 
   pub finishes : (mark stored : ℕ) → MayFinish worth touches me.0.doing.view place mark
-      → (let free : Clean = record { upto = mark + 1; held = false } in stored ≡ code_of free)
+      → (let free : Clean = record { upto = mark + 1; held = false } in stored ≡ word_of_clean free)
       → step.word ≡ 3 * place + 2 → step.first ≡ stored
-      → Allows (IsKept subject places worth touches opening) slots id me (3 * place + 2) (λ n. stored) (λ n after. GaveBack step me stored after)
+      → Allows (IsKeptTable subject places worth touches opening) slots id me (3 * place + 2) (λ n. stored) (λ n after. GaveBack step me stored after)
   finishes mark stored ground is index first t kept deep at fits =
       let free : Clean = record { upto = mark + 1; held = false } in
       let core : State E = kept.core in

@@ -13,7 +13,7 @@ use Rattle.mark_words.specs.declared.marks.Marks.{Marks}
 use Rattle.mark_words.specs.declared.seats.Seat.{Seat}
 use Rattle.mark_words.specs.declared.closing.Words.{Words}
 use Rattle.mark_words.specs.declared.closing.Kept.{Kept}
-use Rattle.mark_words.specs.Rule.{AreApart}
+use Rattle.mark_words.specs.Rule.{HaveNoRepeats}
 use Rattle.mark_words.specs.Steps.{steps_of}
 use Rattle.mark_words.specs.Token.{subject_of, topic_of, places_of, view_of, own_steps, log_of, edits_of, closed_places, closed_place, closed_log}
 
@@ -38,7 +38,7 @@ pub record HasClosed {S E : Type 0} {G : Ghosts S E} (places : S → ℕ) (worth
   pub numbers : List ℕ
   pub other_views : map (view_at core) numbers ≡ map view_of others
   pub other_steps : map (steps_of events) numbers ≡ map own_steps others
-  pub apart : AreApart (0 ∷ numbers)
+  pub apart : HaveNoRepeats (0 ∷ numbers)
 
 -- the log of each seat that was handed in is a prefix of the editor's
 abbrev pub ArePrefixes : {S E : Type 0} {G : Ghosts S E} → List (Seat S E G) → Words S E G → Type 0

@@ -6,21 +6,21 @@ use Rattle.mark_words.specs.declared.seats.Seat.{Seat}
 use Rattle.mark_words.specs.Token.{IsSeatOf, places_of, is_editor, edits_of, log_of}
 
 -- the last of the entries that sets the place, and this one where none does
-abbrev pub last_of : ℕ → ℕ → List ℕ → ℕ
-last_of place found [] = found
-last_of place found (entry ∷ entries) = last_of place (if entry % 8 == place then entry else found) entries
+abbrev pub last_setting : ℕ → ℕ → List ℕ → ℕ
+last_setting place found [] = found
+last_setting place found (entry ∷ entries) = last_setting place (if entry % 8 == place then entry else found) entries
 
 -- the entry sets the place
-abbrev pub Sets : ℕ → ℕ → Type 0
-Sets entry place = (entry % 8 == place) ≡ true
+abbrev pub SetsPlace : ℕ → ℕ → Type 0
+SetsPlace entry place = (entry % 8 == place) ≡ true
 
 chosen : (b : Bool) (x y : ℕ) → (b ≡ true → ⊥) → (if b then x else y) ≡ y
 chosen true x y spared = absurd (spared refl)
 chosen false x y spared = refl
 
 -- an entry that doesn't set the place leaves the last one that does
-pub last_stays : (place found : ℕ) (entries : List ℕ) (entry : ℕ) → (Sets entry place → ⊥)
-    → last_of place found (entries ++ entry ∷ []) ≡ last_of place found entries
+pub last_stays : (place found : ℕ) (entries : List ℕ) (entry : ℕ) → (SetsPlace entry place → ⊥)
+    → last_setting place found (entries ++ entry ∷ []) ≡ last_setting place found entries
 last_stays place found [] entry spared = chosen (entry % 8 == place) entry found spared
 last_stays place found (next ∷ entries) entry spared =
     last_stays place (if next % 8 == place then next else found) entries entry spared
@@ -44,5 +44,5 @@ pub record IsEditing {S : Type 0} {G : Ghosts S ℕ} (marks : Marks S ℕ) (seat
   pub marked : (edits_of seat).marked ≡ []
 
 -- the first of the two is a seat of the table that knows so many entries
-pub record IsReading {S X : Type 0} {G : Ghosts S ℕ} (marks : Marks S ℕ) (reader : Seat S ℕ G × X) (number : ℕ) : Type 0 where
+pub record IsReadingPlace {S X : Type 0} {G : Ghosts S ℕ} (marks : Marks S ℕ) (reader : Seat S ℕ G × X) (number : ℕ) : Type 0 where
   pub scripted : IsScripted marks reader.0 number

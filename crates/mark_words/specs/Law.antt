@@ -12,7 +12,7 @@ use Rattle.mark_words.specs.declared.board.History.{History}
 use Rattle.mark_words.specs.declared.board.Topic.{Topic}
 use Rattle.mark_words.specs.Words.{words_of_state}
 use Rattle.mark_words.specs.Steps.{single_steps, OneMore, NoneHandedIn}
-use Rattle.mark_words.specs.Rule.{Holds}
+use Rattle.mark_words.specs.Rule.{HoldsRule}
 
 -- The second moment of a table has one step more of one seat than the first, and of the other seats what they had. None
 -- was handed in to another.
@@ -40,19 +40,19 @@ module _ {S E : Type 0} (places : S → ℕ) (worth : S → List E → ℕ → �
   -- and this one at their end.
   abbrev pub StepsStandLast : Type 0
   StepsStandLast =
-      (t t' : TableState E (History S E)) (kept : Holds places worth touches topic t) (kept' : Holds places worth touches topic t')
+      (t t' : TableState E (History S E)) (kept : HoldsRule places worth touches topic t) (kept' : HoldsRule places worth touches topic t')
       (event : ℕ → Event E) (step : IsOneStepOn t t' event)
       → single_steps kept'.events ≡ single_steps kept.events ++ event step.one.view ∷ []
 
   -- and it happens on the words of the first moment, and leaves those of the second
   abbrev pub StepsAreEvents : Type 0
   StepsAreEvents =
-      (t t' : TableState E (History S E)) → Holds places worth touches topic t → Holds places worth touches topic t'
+      (t t' : TableState E (History S E)) → HoldsRule places worth touches topic t → HoldsRule places worth touches topic t'
       → (event : ℕ → Event E) (step : IsOneStepOn t t' event)
       → IsOneEvent (worth topic.subject.value) (touches topic.subject.value) t.words (event step.one.view) t'.words
 
   -- so the count that a seat has seen after a see is the one that stood
   abbrev pub SeesShowTheCount : Type 0
   SeesShowTheCount =
-      (t t' : TableState E (History S E)) → Holds places worth touches topic t → Holds places worth touches topic t'
+      (t t' : TableState E (History S E)) → HoldsRule places worth touches topic t → HoldsRule places worth touches topic t'
       → (step : IsOneStepOn t t' See) → step.after.doing.view.spent ≡ false → step.after.doing.view.seen ≡ slice_index t.words 0

@@ -8,10 +8,10 @@ use Rattle.mark_core.specs.declared.events.Event.TheVariants.{See, Mark, Commit,
 use Rattle.mark_words.specs.declared.board.Doing.{Doing}
 use Rattle.mark_words.specs.declared.board.History.{History}
 use Rattle.mark_words.specs.Steps.{OneMore}
-use Rattle.mark_words.specs.Words.{clean_at, code_of}
+use Rattle.mark_words.specs.Words.{clean_at, word_of_clean}
 use Rattle.mark_words.specs.Doing.{with_see, with_mark, with_commit}
 use Rattle.mark_words.specs.Doing.{with_clean_read, with_value_read, with_mark_read, with_claim, with_refusal, with_word_put, with_finish}
-use Rattle.mark_words.specs.Read.{Tells}
+use Rattle.mark_words.specs.Read.{TellsOfRead}
 
 -- The seat has seen the count that it found, which isn't below what it had seen; the editor's is the length of its
 -- log, which is that of its edits. The shorter log of its last join is a prefix of its own.
@@ -84,7 +84,7 @@ pub record EndedRead {S E : Type 0} (worth : S → List E → ℕ → ℕ) (touc
   pub within : length before.0.doing.view.log ≤ before.0.doing.view.seen
   pub tells :
       (place : ℕ) (subject : S) → step.word ≡ 3 * place + 1 → before.0.doing.subject ≡ Some subject
-      → Tells (worth subject) (touches subject) before.0.doing place found
+      → TellsOfRead (worth subject) (touches subject) before.0.doing place found
   pub editor : before.0.doing.editor ≡ true → before.0.doing.edits.pending ≡ None → found ≤ length before.0.doing.view.log
 
 -- the seat holds the place of the word where it found the word that it expected, and has noted the clean word where it
@@ -94,7 +94,7 @@ pub record TriedClaim {S E : Type 0} (step : Step E) (before : Me E (History S E
   pub rest : KeepsRest before.0.doing after.0.doing
   pub reads : KeepsReads before.0.doing after.0.doing
   pub one :
-      (place : ℕ) (seen : Clean) → step.word ≡ 3 * place + 2 → step.first ≡ code_of seen
+      (place : ℕ) (seen : Clean) → step.word ≡ 3 * place + 2 → step.first ≡ word_of_clean seen
       → OneMore before.0.steps after.0.steps (λ view. Claim view place seen)
   pub taken : (place : ℕ) → step.word ≡ 3 * place + 2 → found ≡ step.first → after.0.doing ≡ with_claim before.0.doing place
   pub refused :

@@ -51,8 +51,8 @@ Ends before place mark after =
     OfItsRead before place (λ half. EndsRead before.view half mark (read_of before.view.seen half mark) after.view)
 
 -- the begun read tells what it should
-abbrev pub Tells : {S E : Type 0} → (List E → ℕ → ℕ) → (List E → E → ℕ → Type 0) → Doing S E → ℕ → ℕ → Type 0
-Tells worth touches before place mark = OfItsRead before place (λ half. TellsOf worth touches before.view half mark)
+abbrev pub TellsOfRead : {S E : Type 0} → (List E → ℕ → ℕ) → (List E → E → ℕ → Type 0) → Doing S E → ℕ → ℕ → Type 0
+TellsOfRead worth touches before place mark = OfItsRead before place (λ half. TellsOf worth touches before.view half mark)
 
 -- where it read a word that was computed for the mark, and the mark is within the log, the seat knows the place as
 -- clean

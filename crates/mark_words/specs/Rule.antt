@@ -36,9 +36,9 @@ pub record IsSpent {S E : Type 0} (seats : List (Doing S E)) (seat : ℕ) : Type
   pub spent : doing.view.spent ≡ true
 
 -- no number stands twice
-abbrev pub AreApart : List ℕ → Type 0
-AreApart [] = Unit {0}
-AreApart (number ∷ numbers) = (Contains numbers number → ⊥) × AreApart numbers
+abbrev pub HaveNoRepeats : List ℕ → Type 0
+HaveNoRepeats [] = Unit {0}
+HaveNoRepeats (number ∷ numbers) = (Contains numbers number → ⊥) × HaveNoRepeats numbers
 
 -- what state and events have of a seat
 abbrev pub past_at : {E : Type 0} → State E → List (Event E) → ℕ → Past E
@@ -49,7 +49,7 @@ pub record AreGathered {S E : Type 0} (core : State E) (events : List (Event E))
   pub numbers : List ℕ
   pub same : map (past_at core events) numbers ≡ pasts
   pub spent : (seat : ℕ) → Contains numbers seat → IsSpent seats seat
-  pub apart : AreApart numbers
+  pub apart : HaveNoRepeats numbers
 
 -- The state has a view for each seat, which is the seat's own while it isn't spent, and each seat is right.
 pub record AreSeats {S E : Type 0} (core : State E) (events : List (Event E)) (seats : List (Doing S E)) : Type 0 where
@@ -74,7 +74,7 @@ doings_of seats = map (λ history. history.doing) seats
 -- The table is that of a run of the core: events have happened from the opening state on, each allowed where it
 -- happened, and have led to a state whose words are those of the table and whose views are its seats'. So that state
 -- is honest. The single steps of the run are those of the seats, each at its number.
-pub record IsKept {S E : Type 0} (subject : S) (places : ℕ) (worth : List E → ℕ → ℕ) (touches : List E → E → ℕ → Type 0) (opening : List (Option ℕ)) (t : TableState E (History S E)) : Type 0 where
+pub record IsKeptTable {S E : Type 0} (subject : S) (places : ℕ) (worth : List E → ℕ → ℕ) (touches : List E → E → ℕ → Type 0) (opening : List (Option ℕ)) (t : TableState E (History S E)) : Type 0 where
   pub right : IsOpening places worth opening
   pub core : State E
   pub events : List (Event E)
@@ -85,9 +85,9 @@ pub record IsKept {S E : Type 0} (subject : S) (places : ℕ) (worth : List E �
   pub subjects : NameSubject subject (doings_of t.views)
 
 -- the rule, for what the table is about
-abbrev pub Holds : {S E : Type 0} → (S → ℕ) → (S → List E → ℕ → ℕ) → (S → List E → E → ℕ → Type 0) → Topic S → TableState E (History S E) → Type 0
-Holds places worth touches topic =
-    IsKept topic.subject.value (places topic.subject.value) (worth topic.subject.value) (touches topic.subject.value)
+abbrev pub HoldsRule : {S E : Type 0} → (S → ℕ) → (S → List E → ℕ → ℕ) → (S → List E → E → ℕ → Type 0) → Topic S → TableState E (History S E) → Type 0
+HoldsRule places worth touches topic =
+    IsKeptTable topic.subject.value (places topic.subject.value) (worth topic.subject.value) (touches topic.subject.value)
     topic.opening.value.items
 
 -- how many places the table has

@@ -19,7 +19,7 @@ use Rattle.mark_words.specs.Read.{IsWorthAfter, TellsOf}
 use Rattle.mark_words.specs.Token.{IsSeatOf, places_of, is_editor, edits_of, log_of}
 
 -- the seat is the editor's one of a table with two places, with so many entries and none that is pending
-pub record IsReady {S E : Type 0} {G : Ghosts S E} (marks : Marks S E) (seat : Seat S E G) (count : ℕ) : Type 0 where
+pub record IsReadyEditor {S E : Type 0} {G : Ghosts S E} (marks : Marks S E) (seat : Seat S E G) (count : ℕ) : Type 0 where
   pub table : IsSeatOf marks seat
   pub editor : is_editor seat ≡ true
   pub two : places_of marks ≡ 2
@@ -38,13 +38,13 @@ pub record KnowsMany {S E : Type 0} {G : Ghosts S E} (marks : Marks S E) (seat :
   pub many : count ≤ length (log_of seat)
 
 -- of two seats, the first is one of the table, and the second knows at least so many entries
-pub record IsPair {S E : Type 0} {G : Ghosts S E} (marks : Marks S E) (pair : Seat S E G × Seat S E G) (count : ℕ) : Type 0 where
+pub record AreTwoSeats {S E : Type 0} {G : Ghosts S E} (marks : Marks S E) (pair : Seat S E G × Seat S E G) (count : ℕ) : Type 0 where
   pub viewer : IsSeatOf marks pair.0
   pub relay : KnowsMany marks pair.1 count
 
 -- The seat has read the place in three loads: the floor was above each mark for which it knew the place as computed,
 -- the read tells what it should, and nothing else of what the seat knew has gone.
-pub record HasRead {S E : Type 0} (worth : List E → ℕ → ℕ) (touches : List E → E → ℕ → Type 0) (before : Doing S E) (place : ℕ) (clean : Clean) (word mark : ℕ) (after : Doing S E) : Type 0 where
+pub record HasReadPlace {S E : Type 0} (worth : List E → ℕ → ℕ) (touches : List E → E → ℕ → Type 0) (before : Doing S E) (place : ℕ) (clean : Clean) (word mark : ℕ) (after : Doing S E) : Type 0 where
   pub half : Half
   pub same_place : half.place ≡ place
   pub same_clean : half.clean ≡ clean

@@ -5,8 +5,8 @@ use Rattle.mark_core.specs.declared.words.Place.{Place}
 use Rattle.mark_core.specs.State.{State}
 
 -- the word of a clean word
-abbrev pub code_of : Clean → ℕ
-code_of clean = if clean.held then 2 * clean.upto + 1 else 2 * clean.upto
+abbrev pub word_of_clean : Clean → ℕ
+word_of_clean clean = if clean.held then 2 * clean.upto + 1 else 2 * clean.upto
 
 -- the clean word of which this is the word
 abbrev pub clean_at : ℕ → Clean
@@ -15,7 +15,7 @@ clean_at word = record { upto = word / 2; held = word % 2 == 1 }
 -- three words for each place: its mark, its clean word and its value
 abbrev pub words_of_places : List Place → List ℕ
 words_of_places [] = []
-words_of_places (place ∷ places) = place.mark ∷ code_of place.clean ∷ place.value ∷ words_of_places places
+words_of_places (place ∷ places) = place.mark ∷ word_of_clean place.clean ∷ place.value ∷ words_of_places places
 
 -- the count of commits, and then the words of the places
 abbrev pub words_of_state : {E : Type 0} → State E → List ℕ

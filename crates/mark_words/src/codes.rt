@@ -1,7 +1,7 @@
 #![tactic(auto)]
 
 ghost use Rattle.std.specs.Prelude.{◌≡◌, ◌<◌, ◌^◌};
-ghost use Rattle.mark_words.specs.Words.{clean_at, code_of};
+ghost use Rattle.mark_words.specs.Words.{clean_at, word_of_clean};
 
 use mark_core::Clean;
 
@@ -18,7 +18,7 @@ pub(crate) fn clean_of(word: u64) -> Clean
 /// The word that stands for a clean word.
 pub(crate) fn word_of(clean: Clean) -> u64
     requires { clean.upto < 2 ^ 63 }
-    ensures { result ≡ code_of clean }
+    ensures { result ≡ word_of_clean clean }
 {
     if clean.held {
         2 * clean.upto + 1

@@ -9,7 +9,7 @@ ghost use Rattle.mark_words.specs.Token.{IsSeatOf, subject_of, places_of};
 ghost use Rattle.mark_core.specs.declared.events.Event.TheVariants.{ReadClean, ReadValue, ReadMark};
 ghost use Rattle.mark_words.specs.Steps.{OneMore};
 ghost use Rattle.mark_words.specs.Token.{doing_of, own_steps, view_of, log_of, edits_of, half_of, is_editor};
-ghost use Rattle.mark_words.specs.Read.{GoesOn, Ends, Tells, LearnsClean};
+ghost use Rattle.mark_words.specs.Read.{GoesOn, Ends, TellsOfRead, LearnsClean};
 
 use crate::codes::clean_of;
 use crate::marks::Marks;
@@ -59,7 +59,7 @@ impl<S: Subject> Marks<S> {
         ensures step { OneMore (own_steps seat.old) (own_steps seat.new)
             (λ view. ReadMark view place) }
         ensures ends { Ends (doing_of seat.old) place result (doing_of seat.new) }
-        ensures tells { Tells (S.worth (subject_of self.now)) (S.touches (subject_of self.now))
+        ensures tells { TellsOfRead (S.worth (subject_of self.now)) (S.touches (subject_of self.now))
             (doing_of seat.old) place result }
         ensures clean { LearnsClean (S.touches (subject_of self.now))
             (doing_of seat.old) place result (doing_of seat.new) }

@@ -3,7 +3,7 @@
 ghost use Rattle.std.specs.Prelude.{◌≡◌, ◌≤◌, ◌<◌, ◌+◌, length, true, All, IfOk, OnOk};
 ghost use Rattle.std.specs.Thread.{IsSync};
 ghost use Rattle.mark_words.specs.Token.{IsSeatOf, places_of, is_editor, log_of, closed_places};
-ghost use Rattle.mark_words.specs.Trial.{IsReady, IsBlank, KnowsMany, IsPair};
+ghost use Rattle.mark_words.specs.Trial.{IsReadyEditor, IsBlank, KnowsMany, AreTwoSeats};
 
 use crate::tests::uses::opens_and_closes;
 use crate::{Marks, Seat, Words};
@@ -25,10 +25,10 @@ type Cell = (u64, Clean, u64);
 
 /// Marks both cells for an entry with the next number and commits it.
 fn sets_both(marks: &Table, editor: &mut Token, count: u64) -> u64
-    requires ready { IsReady marks.now editor.old count }
+    requires ready { IsReadyEditor marks.now editor.old count }
     requires room { count < 1048576 }
     ensures count { result ≡ count + 1 }
-    ensures ready { IsReady marks.now editor.new (count + 1) }
+    ensures ready { IsReadyEditor marks.now editor.new (count + 1) }
 {
     marks.mark(editor, &7, 0, count + 1);
     marks.mark(editor, &7, 1, count + 1);
@@ -37,9 +37,9 @@ fn sets_both(marks: &Table, editor: &mut Token, count: u64) -> u64
 
 /// Commits entries, from this many on to so many.
 fn sets_often(marks: &Table, mut editor: Token, from: u64, entries: u64) -> Token
-    requires ready { IsReady marks.now editor from }
+    requires ready { IsReadyEditor marks.now editor from }
     requires room { (from ≤ entries) × (entries ≤ 1048576) }
-    ensures { IsReady marks.now result entries }
+    ensures { IsReadyEditor marks.now result entries }
 {
     let mut count = from;
     while count < entries {
@@ -68,16 +68,16 @@ fn race<R: Threads + Sync>(
     editor: Token,
     viewer: Token,
 ) -> (Token, (bool, Token))
-    requires ready { IsReady marks.now editor 0 }
+    requires ready { IsReadyEditor marks.now editor 0 }
     requires blank { IsBlank marks.now viewer }
-    ensures ready { IsReady marks.now result.0 1 }
+    ensures ready { IsReadyEditor marks.now result.0 1 }
     ensures blank { IsBlank marks.now result.1.1 }
 {
     join(
         rt,
         move || -> Token
-            requires { IsReady marks.now editor 0 }
-            ensures { IsReady marks.entry.now result 1 }
+            requires { IsReadyEditor marks.now editor 0 }
+            ensures { IsReadyEditor marks.entry.now result 1 }
         { sets_often(marks, editor, 0, 1) },
         move || -> (bool, Token)
             requires { IsBlank marks.now viewer }
@@ -89,8 +89,8 @@ fn race<R: Threads + Sync>(
 /// The viewer knows the one entry after it met the editor.
 fn learns(marks: &Table, viewer: &mut Token, editor: &mut Token)
     requires blank { IsBlank marks.now viewer.old }
-    requires ready { IsReady marks.now editor.old 1 }
-    ensures ready { IsReady marks.now editor.new 1 }
+    requires ready { IsReadyEditor marks.now editor.old 1 }
+    ensures ready { IsReadyEditor marks.now editor.new 1 }
     ensures table { IsSeatOf marks.now viewer.new }
     ensures log { length (log_of viewer.new) ≡ 1 }
 {
@@ -130,7 +130,7 @@ fn hears(marks: &Table, viewer: &mut Token, relay: &mut Token, _count: u64)
 
 /// The viewer sees and meets again and again, and knows the entries of the other seat at the end.
 fn listens(marks: &Table, pair: Pair, count: u64) -> Token
-    requires { IsPair marks.now pair count }
+    requires { AreTwoSeats marks.now pair count }
     ensures { KnowsMany marks.now result count }
 {
     let (mut viewer, mut relay) = pair;
@@ -148,7 +148,7 @@ fn listen_all<R: Threads + Sync>(
     pairs: Vec<Pair>,
     count: u64,
 ) -> Result<Vec<Token>, AllocError>
-    requires { All (λ pair. IsPair marks.now pair count) pairs.items }
+    requires { All (λ pair. AreTwoSeats marks.now pair count) pairs.items }
     ensures { IfOk result (λ all. All (λ seat. KnowsMany marks.now seat count) all.items) }
 {
     map_vec(rt, pairs, &|pair| listens(marks, pair, count))
@@ -162,20 +162,20 @@ fn round<R: Threads + Sync>(
     pairs: Vec<Pair>,
     count: u64,
 ) -> (Token, Result<Vec<Token>, AllocError>)
-    requires ready { IsReady marks.now editor count }
+    requires ready { IsReadyEditor marks.now editor count }
     requires room { count < 1000 }
-    requires pairs { All (λ pair. IsPair marks.now pair count) pairs.items }
-    ensures ready { IsReady marks.now result.0 (count + 100) }
+    requires pairs { All (λ pair. AreTwoSeats marks.now pair count) pairs.items }
+    ensures ready { IsReadyEditor marks.now result.0 (count + 100) }
     ensures heard { IfOk result.1 (λ all. All (λ seat. KnowsMany marks.now seat count) all.items) }
 {
     join(
         rt,
         move || -> Token
-            requires { IsReady marks.now editor count × (count < 1000) }
-            ensures { IsReady marks.entry.now result (count + 100) }
+            requires { IsReadyEditor marks.now editor count × (count < 1000) }
+            ensures { IsReadyEditor marks.entry.now result (count + 100) }
         { sets_often(marks, editor, count, count + 100) },
         move || -> Result<Vec<Token>, AllocError>
-            requires { IsSync R.row × All (λ pair. IsPair marks.now pair count) pairs.items }
+            requires { IsSync R.row × All (λ pair. AreTwoSeats marks.now pair count) pairs.items }
             ensures { IfOk result
                 (λ all. All (λ seat. KnowsMany marks.entry.now seat count) all.items) }
         { listen_all(rt, marks, pairs, count) },
@@ -184,10 +184,10 @@ fn round<R: Threads + Sync>(
 
 /// The viewer with a seat that was split from the editor's.
 fn pair(marks: &Table, editor: &mut Token, viewer: Token, _count: u64) -> Pair
-    requires ready { IsReady marks.now editor.old _count }
+    requires ready { IsReadyEditor marks.now editor.old _count }
     requires table { IsSeatOf marks.now viewer }
-    ensures ready { IsReady marks.now editor.new _count }
-    ensures pair { IsPair marks.now result _count }
+    ensures ready { IsReadyEditor marks.now editor.new _count }
+    ensures pair { AreTwoSeats marks.now result _count }
 {
     (viewer, marks.split(editor))
 }
@@ -200,10 +200,10 @@ fn pair_all(
     viewers: Vec<Token>,
     _count: u64,
 ) -> Result<Vec<Pair>, AllocError>
-    requires ready { IsReady marks.now editor.old _count }
+    requires ready { IsReadyEditor marks.now editor.old _count }
     requires tables { All (λ seat. IsSeatOf marks.now seat) viewers.items }
-    ensures ready { OnOk result (IsReady marks.now editor.new _count) }
-    ensures pairs { IfOk result (λ all. All (λ pair. IsPair marks.now pair _count) all.items) }
+    ensures ready { OnOk result (IsReadyEditor marks.now editor.new _count) }
+    ensures pairs { IfOk result (λ all. All (λ pair. AreTwoSeats marks.now pair _count) all.items) }
 {
     let mut pairs = Vec::new(alloc);
     for viewer in viewers {
@@ -220,9 +220,9 @@ fn rounds<R: Threads + Sync>(
     mut editor: Token,
     mut viewers: Vec<Token>,
 ) -> Result<(Token, Vec<Token>), AllocError>
-    requires ready { IsReady marks.now editor 0 }
+    requires ready { IsReadyEditor marks.now editor 0 }
     requires tables { All (λ seat. IsSeatOf marks.now seat) viewers.items }
-    ensures ready { IfOk result (λ r. IsReady marks.now r.0 1000) }
+    ensures ready { IfOk result (λ r. IsReadyEditor marks.now r.0 1000) }
     ensures heard { IfOk result (λ r. All (λ seat. KnowsMany marks.now seat 900) r.1.items) }
 {
     let mut count = 0;
@@ -241,8 +241,8 @@ fn rounds<R: Threads + Sync>(
 
 /// Four seats that were split from the editor's.
 fn viewers(alloc: Global, marks: &Table, editor: &mut Token) -> Result<Vec<Token>, AllocError>
-    requires ready { IsReady marks.now editor.old 0 }
-    ensures ready { OnOk result (IsReady marks.now editor.new 0) }
+    requires ready { IsReadyEditor marks.now editor.old 0 }
+    ensures ready { OnOk result (IsReadyEditor marks.now editor.new 0) }
     ensures tables { IfOk result (λ all. All (λ seat. IsSeatOf marks.now seat) all.items) }
 {
     let mut all = Vec::with_capacity(alloc, 4)?;
@@ -254,7 +254,7 @@ fn viewers(alloc: Global, marks: &Table, editor: &mut Token) -> Result<Vec<Token
 
 /// The first cell opens with the code of 1, and the second with none.
 fn opened(alloc: Global) -> Result<(Table, Token), Memory>
-    ensures { IfOk result (λ r. IsReady r.0 r.1 0) }
+    ensures { IfOk result (λ r. IsReadyEditor r.0 r.1 0) }
 {
     Marks::open(alloc, TwoCells, &[Some(TwoCells::code(1)), None])
 }

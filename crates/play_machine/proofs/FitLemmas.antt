@@ -18,7 +18,7 @@ use Rattle.edit_script.specs.declared.script.Command.{Command}
 use Rattle.edit_script.specs.declared.script.Mode.{Mode}
 use Rattle.edit_script.specs.declared.script.Step.{Step}
 use Rattle.edit_script.proofs.OneScript.{none_last, one_last}
-use Rattle.play_machine.specs.Playing.{AreFit, IsFit, IsWindow, is_put}
+use Rattle.play_machine.specs.Playing.{AreFit, IsCommandOfSheet, IsWindow, is_put}
 use Rattle.play_machine.proofs.MarkLemmas.{not_both}
 use Rattle.play_machine.proofs.PlayLemmas.{one_of}
 use Rattle.play_machine.proofs.TurnLemmas.{true_or_false}
@@ -80,10 +80,10 @@ module _ (sheet : SheetValue) where
   }
 
   -- a line that is allowed gives a command that fits, and its edits
-  command_fits : (now : Brought) (line : LineValue) (command : Command) → IsAllowed sheet.sizes now line → IsCommand sheet.labels line command → IsFit sheet command × (one_of (is_put command) ≡ edit_count line)
+  command_fits : (now : Brought) (line : LineValue) (command : Command) → IsAllowed sheet.sizes now line → IsCommand sheet.labels line command → IsCommandOfSheet sheet command × (one_of (is_put command) ≡ edit_count line)
   command_fits now line command allowed given = go line command allowed given
     where
-      go : (said : LineValue) (asked : Command) → IsAllowed sheet.sizes now said → IsCommand sheet.labels said asked → IsFit sheet asked × (one_of (is_put asked) ≡ edit_count said)
+      go : (said : LineValue) (asked : Command) → IsAllowed sheet.sizes now said → IsCommand sheet.labels said asked → IsCommandOfSheet sheet asked × (one_of (is_put asked) ≡ edit_count said)
       go said _ fine (set text edit named is content) =
           let ok = subst (IsAllowed sheet.sizes now) is fine in
           (record { inside = stable (is_inside sheet.sizes edit.change.cell) ok.inside; label = (held_content sheet.labels text edit.change.content content).label }, ap edit_count (sym is))
@@ -110,7 +110,7 @@ module _ (sheet : SheetValue) where
       rw (whole, part) (omega (arith, rest))
 
   record Fits (lines : List LineValue) (steps : List Step) : Type 0 where
-    each : All (λ step. IsFit sheet step.command) steps
+    each : All (λ step. IsCommandOfSheet sheet step.command) steps
     edits : count_by (λ s. is_put s.command) steps ≡ (brought_by lines).edits
     few : (brought_by lines).edits ≤ 1048576
 
@@ -137,7 +137,7 @@ module _ (sheet : SheetValue) where
       let counted = ap (count_by (λ (s : Step). is_put s.command)) steps_is ∙ count_last given step in
       let most = few_edits sheet.sizes (brought_by before) line allowed rest.few in
       record {
-        each = subst (All (λ (s : Step). IsFit sheet s.command)) (sym steps_is) (All-push (λ (s : Step). IsFit sheet s.command) given step rest.each fits.0);
+        each = subst (All (λ (s : Step). IsCommandOfSheet sheet s.command)) (sym steps_is) (All-push (λ (s : Step). IsCommandOfSheet sheet s.command) given step rest.each fits.0);
         edits = counted ∙ (let e = rest.edits in let o = fits.1 in omega (arith, now, e, o));
         few = omega (arith, now, most);
       }

@@ -11,7 +11,7 @@ use Rattle.sheet_refs.specs.declared.sizes.Sizes.{Sizes}
 use Rattle.sheet_refs.proofs.Places.{place-lt, place_same}
 use Rattle.edit_log.specs.Kept.{one_or_two}
 use Rattle.play_machine.specs.Machine.{mark_of}
-use Rattle.play_machine.specs.Marking.{Marks}
+use Rattle.play_machine.specs.Marking.{SetsMarks}
 
 -- a number as a mark
 pub marked_from : (mark : ℕ) → mark ≢ 0 → IsTrue (nat_lt 0 mark)
@@ -58,7 +58,7 @@ first_member : {A : Type 0} (x : A) → Contains (x ∷ []) x
 first_member x = (0, omega arith, refl)
 
 -- no cell is marked by none
-pub marks_none : (sizes : Sizes) (number : ℕ) (marks : List ℕ) → Marks sizes [] number marks marks
+pub marks_none : (sizes : Sizes) (number : ℕ) (marks : List ℕ) → SetsMarks sizes [] number marks marks
 marks_none sizes number marks = record {
   count = refl;
   listed = λ cell inside there. absurd (none cell there);
@@ -70,14 +70,14 @@ marks_none sizes number marks = record {
 
 -- one cell is marked, where it is in the rectangle
 module _ (sizes : Sizes) (cell : Position) (number : ℕ) (old : List ℕ) where
-  pub marks_one : length old ≡ cell_count sizes → IsTrue (is_inside sizes cell) → Marks sizes (cell ∷ []) number old (set old (place_of sizes cell) number)
+  pub marks_one : length old ≡ cell_count sizes → IsTrue (is_inside sizes cell) → SetsMarks sizes (cell ∷ []) number old (set old (place_of sizes cell) number)
   marks_one count inside = record {
     count = length-set old (place_of sizes cell) number;
     listed = λ c there listed. subst (λ (p : Position). mark_of sizes (set old (place_of sizes cell) number) p ≡ number) (sym (only_member cell c listed)) (set_here sizes old cell number count inside);
     others = λ c not. set_elsewhere sizes old cell c number inside (λ same. not (subst (λ (p : Position). Contains (cell ∷ []) p) (sym same) (first_member cell)));
   }
 
-  pub marks_skip : IsFalse (is_inside sizes cell) → Marks sizes (cell ∷ []) number old old
+  pub marks_skip : IsFalse (is_inside sizes cell) → SetsMarks sizes (cell ∷ []) number old old
   marks_skip outside = record {
     count = refl;
     listed = λ c there listed. absurd (not_both (is_inside sizes cell) (subst (λ (p : Position). IsTrue (is_inside sizes p)) (only_member cell c listed) there) outside);
@@ -85,7 +85,7 @@ module _ (sizes : Sizes) (cell : Position) (number : ℕ) (old : List ℕ) where
   }
 
 -- one cell more
-pub marks_more : (sizes : Sizes) (done : List Position) (cell : Position) (number : ℕ) (old mid new : List ℕ) → Marks sizes done number old mid → Marks sizes (cell ∷ []) number mid new → Marks sizes (done ++ cell ∷ []) number old new
+pub marks_more : (sizes : Sizes) (done : List Position) (cell : Position) (number : ℕ) (old mid new : List ℕ) → SetsMarks sizes done number old mid → SetsMarks sizes (cell ∷ []) number mid new → SetsMarks sizes (done ++ cell ∷ []) number old new
 marks_more sizes done cell number old mid new first second = record {
   count = second.count ∙ first.count;
   listed = λ c there listed. listed_at c there listed (one_or_two c cell);

@@ -9,16 +9,16 @@ use Rattle.sheet_refs.specs.declared.sizes.Sizes.{Sizes}
 use Rattle.sheet_refs.proofs.Places.{place_same}
 use Rattle.sheet_model.specs.Sheets.{SheetValue}
 use Rattle.sheet_model.specs.declared.change.Edit.{Edit}
-use Rattle.edit_log.specs.Books.{entry_of}
+use Rattle.edit_log.specs.Books.{client_entry}
 use Rattle.edit_log.specs.Touches.{Touches, cell_at}
 use Rattle.edit_script.specs.declared.script.Command.{Command}
 use Rattle.edit_script.specs.declared.script.Command.TheVariants.{Put, Look, Firm, Work}
 use Rattle.edit_script.specs.declared.script.Step.{Step}
 use Rattle.edit_script.proofs.OneScript.{none_last, one_last}
 use Rattle.window_text.specs.declared.report.Report.{Report}
-use Rattle.play_machine.specs.Machine.{AreTurns, Follows, IsFirst, IsMarked, IsReady, IsTurn, Machine, MarksTouched, OneList, Plays, after_put, mark_of, opening, report_of, with_marks, without_mark}
+use Rattle.play_machine.specs.Machine.{AreTurns, FollowsCommand, IsFirstCell, IsMarked, IsReady, IsTurn, Machine, MarksTouched, OneList, Plays, machine_after, mark_of, opening, report_of, with_marks, without_mark}
 use Rattle.play_machine.specs.Machine.AreTurns.{none as no_turns, more as more_turns}
-use Rattle.play_machine.specs.Machine.Follows.{puts, looks, settles, works}
+use Rattle.play_machine.specs.Machine.FollowsCommand.{puts, looks, settles, works}
 use Rattle.play_machine.specs.Machine.IsTurn.{clears_ready, clears_marked, clears_nothing}
 use Rattle.play_machine.specs.Machine.Plays.{more, none as no_steps}
 use Rattle.play_machine.proofs.MarkLemmas.{mark_inside}
@@ -26,7 +26,7 @@ use Rattle.play_machine.proofs.PlayLemmas.{follows_keeps}
 use Rattle.play_machine.proofs.TurnLemmas.{there, turns_length, zero_marks}
 
 -- there is one first cell
-first_one : (sizes : Sizes) (Such : Position → Type 0) (a b : Position) → IsFirst sizes Such a → IsFirst sizes Such b → a ≡ b
+first_one : (sizes : Sizes) (Such : Position → Type 0) (a b : Position) → IsFirstCell sizes Such a → IsFirstCell sizes Such b → a ≡ b
 first_one sizes Such a b x y = go (cases_eq (place_of sizes a) (place_of sizes b)) (cases_lt (place_of sizes a) (place_of sizes b))
   where
     go : (place_of sizes a ≡ place_of sizes b) ⊎ (place_of sizes a ≡ place_of sizes b → ⊥) → (place_of sizes a < place_of sizes b) ⊎ (place_of sizes b ≤ place_of sizes a) → a ≡ b
@@ -87,7 +87,7 @@ touched_one sheet client edit number old a b filled x y = same_number_lists a b 
         marks : (cell : Position) → IsTrue (is_inside sheet.sizes cell) → (mark_of sheet.sizes a cell ≡ mark_of sheet.sizes b cell → ⊥) → ⊥
         marks cell inside differs = differs (x.others cell spared ∙ sym (y.others cell spared))
           where
-            spared : ¬ Touches sheet [] (entry_of client edit) cell
+            spared : ¬ Touches sheet [] (client_entry client edit) cell
             spared touches = differs (x.touched cell inside touches ∙ sym (y.touched cell inside touches))
 
 -- the kinds of commands differ
@@ -123,22 +123,22 @@ turns_in (Work turns) other = turns
 abbrev pub HasMarks : Machine → Type 0
 HasMarks machine = length machine.marks ≡ cell_count machine.sheet.sizes
 
-follows_marks : (old new : Machine) (client : ℕ) (command : Command) (told : List Report) → HasMarks old → Follows old client command new told → length new.marks ≡ length old.marks
+follows_marks : (old new : Machine) (client : ℕ) (command : Command) (told : List Report) → HasMarks old → FollowsCommand old client command new told → length new.marks ≡ length old.marks
 follows_marks old new client command told filled (puts edit marks is touched new_is told_is) = ap (λ (m : Machine). length m.marks) new_is ∙ touched.count
 follows_marks old new client command told filled (looks window is new_is told_is) = ap (λ (m : Machine). length m.marks) new_is
 follows_marks old new client command told filled (settles window count marks is made nowhere new_is told_is) = ap (λ (m : Machine). length m.marks) new_is ∙ turns_length old.sheet count old.marks marks made
 follows_marks old new client command told filled (works count marks is made new_is told_is) = ap (λ (m : Machine). length m.marks) new_is ∙ turns_length old.sheet count old.marks marks made
 
-pub has_marks : (old new : Machine) (client : ℕ) (command : Command) (told : List Report) → HasMarks old → Follows old client command new told → HasMarks new
+pub has_marks : (old new : Machine) (client : ℕ) (command : Command) (told : List Report) → HasMarks old → FollowsCommand old client command new told → HasMarks new
 has_marks old new client command told filled follows =
     follows_marks old new client command told filled follows ∙ filled ∙ ap cell_count (sym (follows_keeps old new client command told follows).sizes)
 
 -- a command gives one machine and one list of reports
-follows_one : (old a b : Machine) (client : ℕ) (command : Command) (told others : List Report) → HasMarks old → Follows old client command a told → Follows old client command b others → (a ≡ b) × (told ≡ others)
+follows_one : (old a b : Machine) (client : ℕ) (command : Command) (told others : List Report) → HasMarks old → FollowsCommand old client command a told → FollowsCommand old client command b others → (a ≡ b) × (told ≡ others)
 follows_one old a b client command told others filled (puts edit marks is touched a_is told_is) (puts other also are same b_is others_is) =
     let edits : edit ≡ other = ap (λ c. edit_in c edit) (sym is ∙ are) in
     let lists : marks ≡ also = touched_one old.sheet client edit (old.number + 1) old.marks marks also filled touched (subst (λ e. MarksTouched old.sheet client e (old.number + 1) old.marks also) (sym edits) same) in
-    (a_is ∙ ap₂ (λ e ms. after_put old e ms) edits lists ∙ sym b_is, told_is ∙ sym others_is)
+    (a_is ∙ ap₂ (λ e ms. machine_after old e ms) edits lists ∙ sym b_is, told_is ∙ sym others_is)
 follows_one old a b client command told others filled (looks window is a_is told_is) (looks other are b_is others_is) =
     let windows : window ≡ other = ap (λ c. window_in c window) (sym is ∙ are) in
     (a_is ∙ sym b_is, told_is ∙ ap (λ w. report_of old false w ∷ []) windows ∙ sym others_is)
@@ -180,8 +180,8 @@ plays_one start a _ steps _ told _ filled (more before all step mid last said ne
 plays_one start a b steps others told also filled (more before all step mid last said news after plays follows is are) (more earlier whole other between end spoken new_told behind first then_follows is' are') same =
     let both = one_last before earlier step other (sym is ∙ same ∙ is') in
     let middle = plays_one start mid between before earlier said spoken filled plays first both.0 in
-    let also_follows : Follows mid step.client step.command b new_told =
-    subst (λ (s : Step). Follows mid s.client s.command b new_told) (sym both.1) (subst (λ m. Follows m other.client other.command b new_told) (sym middle.0) then_follows) in
+    let also_follows : FollowsCommand mid step.client step.command b new_told =
+    subst (λ (s : Step). FollowsCommand mid s.client s.command b new_told) (sym both.1) (subst (λ m. FollowsCommand m other.client other.command b new_told) (sym middle.0) then_follows) in
     let last_one = follows_one mid a b step.client step.command news new_told (plays_marks start mid before said filled plays) follows also_follows in
     (last_one.0, are ∙ ap₂ (λ x y. x ++ y) middle.1 last_one.1 ∙ sym are')
 

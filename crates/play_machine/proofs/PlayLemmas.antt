@@ -19,51 +19,51 @@ use Rattle.sheet_model.specs.Sheets.{SheetValue, HasLabel}
 use Rattle.sheet_model.specs.declared.change.Edit.{Edit}
 use Rattle.sheet_model.specs.declared.entry.Entry.{Entry}
 use Rattle.sheet_model.proofs.LogLemmas.{change-labels, change-sizes}
-use Rattle.edit_log.specs.Books.{entry_of}
-use Rattle.edit_log.specs.Touches.{AreTouched, IsChanged, IsStep, Touches}
+use Rattle.edit_log.specs.Books.{client_entry}
+use Rattle.edit_log.specs.Touches.{AreTouched, IsChanged, DependsDirectly, Touches}
 use Rattle.edit_script.specs.declared.script.Command.{Command}
 use Rattle.edit_script.specs.declared.script.Command.TheVariants.{Put, Look, Firm, Work}
 use Rattle.edit_script.specs.declared.script.Step.{Step}
 use Rattle.window_text.specs.Reports.{IsFull}
 use Rattle.window_text.specs.declared.report.Report.{Report}
-use Rattle.play_machine.specs.Machine.{AreTurns, Follows, IsMarked, IsNowhere, Machine, MarksTouched, Plays, after_put, opening, report_of, shown_of, with_marks}
-use Rattle.play_machine.specs.Machine.Follows.{puts, looks, settles, works}
+use Rattle.play_machine.specs.Machine.{AreTurns, FollowsCommand, IsMarked, IsNowhere, Machine, MarksTouched, Plays, machine_after, opening, report_of, shown_of, with_marks}
+use Rattle.play_machine.specs.Machine.FollowsCommand.{puts, looks, settles, works}
 use Rattle.play_machine.specs.Machine.Plays.{more, none as no_steps}
-use Rattle.play_machine.specs.Marking.{Marks}
-use Rattle.play_machine.specs.Playing.{IsFit, Tells, is_put}
+use Rattle.play_machine.specs.Marking.{SetsMarks}
+use Rattle.play_machine.specs.Playing.{IsCommandOfSheet, TellsReports, is_put}
 
 -- cells that an entry touches, marked with a number
-pub touched_marks : (opening sheet : SheetValue) (log : List Entry) (entry : Entry) (client : ℕ) (edit : Edit) (cells : List Position) (number : ℕ) (old new : List ℕ) → sheet ≡ after opening log → AreTouched opening log entry cells → entry ≡ entry_of client edit → Marks sheet.sizes cells number old new → MarksTouched sheet client edit number old new
+pub touched_marks : (opening sheet : SheetValue) (log : List Entry) (entry : Entry) (client : ℕ) (edit : Edit) (cells : List Position) (number : ℕ) (old new : List ℕ) → sheet ≡ after opening log → AreTouched opening log entry cells → entry ≡ client_entry client edit → SetsMarks sheet.sizes cells number old new → MarksTouched sheet client edit number old new
 touched_marks opening sheet log entry client edit cells number old new replayed are entry_is marks = record {
   count = marks.count;
   touched = λ cell inside touches. marks.listed cell inside ((are.exact cell).1 (to cell touches));
   others = λ cell spared. marks.others cell (λ listed. spared (from cell ((are.exact cell).0 listed)));
 }
   where
-    to : (cell : Position) → Touches sheet [] (entry_of client edit) cell → Touches opening log entry cell
+    to : (cell : Position) → Touches sheet [] (client_entry client edit) cell → Touches opening log entry cell
     to cell touches =
         subst (λ e. Touches opening log e cell) (sym entry_is)
-        (subst (λ s. IsReached (IsStep s) (IsChanged (entry_of client edit)) cell) replayed touches)
+        (subst (λ s. IsReached (DependsDirectly s) (IsChanged (client_entry client edit)) cell) replayed touches)
 
-    from : (cell : Position) → Touches opening log entry cell → Touches sheet [] (entry_of client edit) cell
+    from : (cell : Position) → Touches opening log entry cell → Touches sheet [] (client_entry client edit) cell
     from cell touches =
-        subst (λ s. IsReached (IsStep s) (IsChanged (entry_of client edit)) cell) (sym replayed)
+        subst (λ s. IsReached (DependsDirectly s) (IsChanged (client_entry client edit)) cell) (sym replayed)
         (subst (λ e. Touches opening log e cell) entry_is touches)
 
 -- the same from what the calls say
-pub put_marks : (opening sheet opened : SheetValue) (log kept : List Entry) (sizes : Sizes) (entry : Entry) (client : ℕ) (edit : Edit) (touched cells : List Position) (number : ℕ) (old new : List ℕ) → sheet ≡ after opening log → opened ≡ opening → kept ≡ log → AreTouched opened kept entry touched → entry ≡ entry_of client edit → sizes ≡ sheet.sizes → cells ≡ touched → number ≡ length kept + 1 → Marks sizes cells number old new → MarksTouched sheet client edit (length log + 1) old new
+pub put_marks : (opening sheet opened : SheetValue) (log kept : List Entry) (sizes : Sizes) (entry : Entry) (client : ℕ) (edit : Edit) (touched cells : List Position) (number : ℕ) (old new : List ℕ) → sheet ≡ after opening log → opened ≡ opening → kept ≡ log → AreTouched opened kept entry touched → entry ≡ client_entry client edit → sizes ≡ sheet.sizes → cells ≡ touched → number ≡ length kept + 1 → SetsMarks sizes cells number old new → MarksTouched sheet client edit (length log + 1) old new
 put_marks opening sheet opened log kept sizes entry client edit touched cells number old new replayed opened_is kept_is are entry_is sizes_is cells_are number_is marks =
     let are_of : AreTouched opening log entry cells =
     subst (λ cs. AreTouched opening log entry cs) (sym cells_are) (subst (λ o. AreTouched o log entry touched) opened_is (subst (λ l. AreTouched opened l entry touched) kept_is are)) in
     let numbered : number ≡ length log + 1 = number_is ∙ ap (λ (l : List Entry). length l + 1) kept_is in
     touched_marks opening sheet log entry client edit cells (length log + 1) old new replayed are_of entry_is
-    (subst (λ n. Marks sheet.sizes cells n old new) numbered (subst (λ s. Marks s cells number old new) sizes_is marks))
+    (subst (λ n. SetsMarks sheet.sizes cells n old new) numbered (subst (λ s. SetsMarks s cells number old new) sizes_is marks))
 
 -- the machine after an edit that was made
 abbrev pub machine_with : SheetValue → ℕ → List ℕ → Machine
 machine_with sheet number marks = record { sheet = sheet; number = number; marks = marks }
 
-pub put_machine : (sheet edited kept : SheetValue) (log before after : List Entry) (entry : Entry) (client : ℕ) (edit : Edit) (old marks : List ℕ) → kept ≡ sheet → before ≡ log → edited ≡ after_edit kept entry.edit → after ≡ before ++ entry ∷ [] → entry ≡ entry_of client edit → machine_with edited (length after) marks ≡ after_put (machine_with sheet (length log) old) edit marks
+pub put_machine : (sheet edited kept : SheetValue) (log before after : List Entry) (entry : Entry) (client : ℕ) (edit : Edit) (old marks : List ℕ) → kept ≡ sheet → before ≡ log → edited ≡ after_edit kept entry.edit → after ≡ before ++ entry ∷ [] → entry ≡ client_entry client edit → machine_with edited (length after) marks ≡ machine_after (machine_with sheet (length log) old) edit marks
 put_machine sheet edited kept log before after entry client edit old marks kept_is before_is edited_is after_is entry_is =
     let sheets : edited ≡ after_edit sheet edit = edited_is ∙ ap (λ (s : SheetValue). after_edit s entry.edit) kept_is ∙ ap (λ (e : Entry). after_edit sheet e.edit) entry_is in
     let number : length after ≡ length log + 1 = ap length after_is ∙ length-append before (entry ∷ []) ∙ ap (λ (l : List Entry). length l + 1) before_is in
@@ -92,13 +92,13 @@ board_more machine window place cell shown mid new mid_is at shown_is new_is =
 
 -- each kind of step, as the code follows it
 module _ (old new : Machine) (step : Step) (reports after : List Report) where
-  pub tells_put : (edit : Edit) (marks : List ℕ) → step.command ≡ Put edit → MarksTouched old.sheet step.client edit (old.number + 1) old.marks marks → new ≡ after_put old edit marks → after ≡ reports → Tells old new step reports after
+  pub tells_put : (edit : Edit) (marks : List ℕ) → step.command ≡ Put edit → MarksTouched old.sheet step.client edit (old.number + 1) old.marks marks → new ≡ machine_after old edit marks → after ≡ reports → TellsReports old new step reports after
   tells_put edit marks is touched new_is after_is = record { told = []; follows = puts edit marks is touched new_is refl; joined = after_is ∙ sym (append-nil reports) }
 
-  pub tells_look : (window : Corners) (report : Report) → step.command ≡ Look window → new ≡ old → report ≡ report_of old false window → after ≡ reports ++ report ∷ [] → Tells old new step reports after
+  pub tells_look : (window : Corners) (report : Report) → step.command ≡ Look window → new ≡ old → report ≡ report_of old false window → after ≡ reports ++ report ∷ [] → TellsReports old new step reports after
   tells_look window report is new_is report_is after_is = record { told = report ∷ []; follows = looks window is new_is (ap (λ r. r ∷ []) report_is); joined = after_is }
 
-  pub tells_firm : (window : Corners) (report : Report) (cleared : List ℕ) → step.command ≡ Firm window → length old.marks ≡ cell_count old.sheet.sizes → cleared ≡ replicate (length old.marks) 0 → new ≡ with_marks old cleared → report ≡ report_of (with_marks old cleared) true window → after ≡ reports ++ report ∷ [] → Tells old new step reports after
+  pub tells_firm : (window : Corners) (report : Report) (cleared : List ℕ) → step.command ≡ Firm window → length old.marks ≡ cell_count old.sheet.sizes → cleared ≡ replicate (length old.marks) 0 → new ≡ with_marks old cleared → report ≡ report_of (with_marks old cleared) true window → after ≡ reports ++ report ∷ [] → TellsReports old new step reports after
   tells_firm window report cleared is filled cleared_is new_is report_is after_is =
       let none : (count : ℕ) → IsNowhere old.sheet.sizes (IsMarked old.sheet.sizes (replicate count 0)) = none_marked old.sheet.sizes in
       record {
@@ -110,11 +110,11 @@ module _ (old new : Machine) (step : Step) (reports after : List Report) where
         joined = after_is;
       }
 
-  pub tells_work : (turns : ℕ) (marks : List ℕ) → step.command ≡ Work turns → AreTurns old.sheet turns old.marks marks → new ≡ with_marks old marks → after ≡ reports → Tells old new step reports after
+  pub tells_work : (turns : ℕ) (marks : List ℕ) → step.command ≡ Work turns → AreTurns old.sheet turns old.marks marks → new ≡ with_marks old marks → after ≡ reports → TellsReports old new step reports after
   tells_work turns marks is made new_is after_is = record { told = []; follows = works turns marks is made new_is refl; joined = after_is ∙ sym (append-nil reports) }
 
 -- one step more
-pub plays_more : (start mid now : Machine) (steps : List Step) (k : ℕ) (step : Step) (before after : List Report) → Plays start (take k steps) mid before → Tells mid now step before after → k < length steps → step ≡ get_or steps k step → Plays start (take (k + 1) steps) now after
+pub plays_more : (start mid now : Machine) (steps : List Step) (k : ℕ) (step : Step) (before after : List Report) → Plays start (take k steps) mid before → TellsReports mid now step before after → k < length steps → step ≡ get_or steps k step → Plays start (take (k + 1) steps) now after
 plays_more start mid now steps k step before after so_far tells below at =
     more (take k steps) (take (k + 1) steps) step mid now before tells.told after so_far tells.follows (taken_more steps k step below at) tells.joined
 
@@ -127,7 +127,7 @@ pub record Keeps (old new : Machine) (command : Command) : Type 0 where
   pub labels : new.sheet.labels ≡ old.sheet.labels
   pub number : new.number ≡ old.number + one_of (is_put command)
 
-pub follows_keeps : (old new : Machine) (client : ℕ) (command : Command) (told : List Report) → Follows old client command new told → Keeps old new command
+pub follows_keeps : (old new : Machine) (client : ℕ) (command : Command) (told : List Report) → FollowsCommand old client command new told → Keeps old new command
 follows_keeps old new client command told (puts edit marks is touched new_is told_is) = record {
   sizes = ap (λ (m : Machine). m.sheet.sizes) new_is ∙ change-sizes old.sheet edit.change;
   labels = ap (λ (m : Machine). m.sheet.labels) new_is ∙ change-labels old.sheet edit.change;
@@ -150,7 +150,7 @@ follows_keeps old new client command told (works count marks is made new_is told
 }
 
 -- a command that fits a sheet fits every sheet with its sizes and labels
-pub fit_moves : (a b : SheetValue) (command : Command) → b.sizes ≡ a.sizes → b.labels ≡ a.labels → IsFit a command → IsFit b command
+pub fit_moves : (a b : SheetValue) (command : Command) → b.sizes ≡ a.sizes → b.labels ≡ a.labels → IsCommandOfSheet a command → IsCommandOfSheet b command
 fit_moves a b (Put edit) sizes labels fit = record {
   inside = subst (λ s. IsTrue (is_inside s edit.change.cell)) (sym sizes) fit.inside;
   label = subst (λ (l : List (List ℕ)). HasLabel (length l) edit.change.content) (sym labels) fit.label;
@@ -199,7 +199,7 @@ one_full machine firm window zero d below = length-map (cells_of window) (shown_
 one_full machine firm window (suc k) d below = absurd (omega (arith, below))
 
 -- each report tells of all cells of its window
-pub full_told : (old new : Machine) (client : ℕ) (command : Command) (told : List Report) → Follows old client command new told → All (λ report. IsFull report.board) told
+pub full_told : (old new : Machine) (client : ℕ) (command : Command) (told : List Report) → FollowsCommand old client command new told → All (λ report. IsFull report.board) told
 full_told old new client command told (puts edit marks is touched new_is told_is) = subst AreFull (sym told_is) (λ k d below. absurd (omega (arith, below)))
 full_told old new client command told (looks window is new_is told_is) = subst AreFull (sym told_is) (one_full old false window)
 full_told old new client command told (settles window count marks is made nowhere new_is told_is) = subst AreFull (sym told_is) (one_full new true window)

@@ -16,8 +16,8 @@ use Rattle.sheet_refs.proofs.Places.{place-lt, place_same}
 use Rattle.sheet_refs.proofs.RunLemmas.{not_at}
 use Rattle.sheet_model.specs.Sheets.{SheetValue}
 use Rattle.edit_log.specs.Kept.{one_or_two}
-use Rattle.play_machine.specs.Machine.{IsFirst, IsMarked, IsNowhere, IsReady, is_marked, mark_of, without_mark}
-use Rattle.play_machine.specs.Marking.{Marks}
+use Rattle.play_machine.specs.Machine.{IsFirstCell, IsMarked, IsNowhere, IsReady, is_marked, mark_of, without_mark}
+use Rattle.play_machine.specs.Marking.{SetsMarks}
 use Rattle.play_machine.specs.Waiting.{AddsWaiter, AreWaiters, HasNoMarkedInput, IsKeptAt, IsMarkedInput, HasWaiter, IsQueue, IsUnplaced, IsWaiter, NoneMarked, Places, TakesWaiters, Unplaced, WaitAt, Waits, WaitsOn}
 use Rattle.play_machine.specs.Waiting.Unplaced.{nothing, one, waiting, from}
 use Rattle.play_machine.specs.declared.queue.Queue.{Queue}
@@ -61,7 +61,7 @@ module _ (sheet : SheetValue) (marks : List ℕ) where
       go (inr (inr none)) = absurd none
 
   -- the least place is that of the first ready cell
-  pub first_held : (queue : Queue) (place : ℕ) (cell : Position) → IsQueue sheet marks nothing queue → IsTrue (contains nat_cmp queue.ready place) → IsLowerBound nat_cmp queue.ready place → IsTrue (is_inside sheet.sizes cell) → place_of sheet.sizes cell ≡ place → IsFirst sheet.sizes (IsReady sheet marks) cell
+  pub first_held : (queue : Queue) (place : ℕ) (cell : Position) → IsQueue sheet marks nothing queue → IsTrue (contains nat_cmp queue.ready place) → IsLowerBound nat_cmp queue.ready place → IsTrue (is_inside sheet.sizes cell) → place_of sheet.sizes cell ≡ place → IsFirstCell sheet.sizes (IsReady sheet marks) cell
   first_held queue place cell are held least inside here = record {
     inside = inside;
     such = are.ready cell inside (subst (λ p. IsTrue (contains nat_cmp queue.ready p)) (sym here) held);
@@ -309,7 +309,7 @@ module _ (sheet : SheetValue) (old : List ℕ) (cell : Position) (count : length
 
   same_mark : (other : Position) → other ≢ cell → is_marked sheet.sizes new_marks other ≡ is_marked sheet.sizes old other
   same_mark other differs =
-      let both : Marks sheet.sizes (cell ∷ []) 0 old new_marks = marks_one sheet.sizes cell 0 old count inside in
+      let both : SetsMarks sheet.sizes (cell ∷ []) 0 old new_marks = marks_one sheet.sizes cell 0 old count inside in
       ap (nat_lt 0) (both.others other (λ there. differs (only_member cell other there)))
 
   no_mark : IsFalse (is_marked sheet.sizes new_marks cell)

@@ -12,7 +12,7 @@ use Rattle.formula_syntax.specs.Listing.{IsOnceEach}
 use Rattle.formula_syntax.proofs.Listings.{once_all}
 use Rattle.sheet_model.specs.Sheets.{SheetValue, content_of}
 use Rattle.edit_log.specs.Pairs.{ranges_in}
-use Rattle.play_machine.specs.Machine.{IsFirst, IsNowhere, IsReady, is_marked, mark_of}
+use Rattle.play_machine.specs.Machine.{IsFirstCell, IsNowhere, IsReady, is_marked, mark_of}
 use Rattle.play_machine.specs.Marking.{HasNoMark, NoneHasMark}
 use Rattle.play_machine.proofs.MarkLemmas.{mark_outside, not_both, only_member, unmarked_from}
 
@@ -74,7 +74,7 @@ module _ (sizes : Sizes) (Such : Position → Type 0) where
   pub none_at_all : (place : ℕ) → cell_count sizes ≤ place → NoneBefore place → IsNowhere sizes Such
   none_at_all place past none cell inside = none cell inside (let below = place-lt sizes cell inside in omega (arith, below, past))
 
-  pub first_here : (place : ℕ) (cell : Position) → NoneBefore place → IsTrue (is_inside sizes cell) → place_of sizes cell ≡ place → Such cell → IsFirst sizes Such cell
+  pub first_here : (place : ℕ) (cell : Position) → NoneBefore place → IsTrue (is_inside sizes cell) → place_of sizes cell ≡ place → Such cell → IsFirstCell sizes Such cell
   first_here place cell none inside here such = record {
     inside = inside;
     such = such;

@@ -14,7 +14,7 @@ use Rattle.sheet_model.proofs.ListLemmas.{count_by-set}
 use Rattle.edit_log.specs.Kept.{cell_at-place}
 use Rattle.edit_log.specs.Pairs.{ranges_in}
 use Rattle.edit_log.specs.Touches.{cell_at}
-use Rattle.play_machine.specs.Machine.{AreTurns, IsFirst, IsMarked, IsNowhere, IsReady, IsTurn, is_marked, mark_of, without_mark}
+use Rattle.play_machine.specs.Machine.{AreTurns, IsFirstCell, IsMarked, IsNowhere, IsReady, IsTurn, is_marked, mark_of, without_mark}
 use Rattle.play_machine.specs.Machine.AreTurns.{none as no_turns, more as more_turns}
 use Rattle.play_machine.specs.Machine.IsTurn.{clears_ready, clears_marked, clears_nothing}
 use Rattle.play_machine.specs.Marking.{HasNoMark, NoneHasMark, marked_count}
@@ -52,10 +52,10 @@ module _ (sizes : Sizes) (Such : Position → Type 0) (decide : (cell : Position
               at_most : (k : ℕ) → k < suc n → (k ≡ n → ⊥) → k < n
               at_most k below differs = omega (arith, below, differs)
 
-  pub first_or_none : ((cell : Position) × IsFirst sizes Such cell) ⊎ IsNowhere sizes Such
+  pub first_or_none : ((cell : Position) × IsFirstCell sizes Such cell) ⊎ IsNowhere sizes Such
   first_or_none = go (below_or_none (cell_count sizes))
     where
-      go : ((k : ℕ) × (k < cell_count sizes) × Such (cell_at sizes k) × ((j : ℕ) → j < k → ¬ Such (cell_at sizes j))) ⊎ ((k : ℕ) → k < cell_count sizes → ¬ Such (cell_at sizes k)) → ((cell : Position) × IsFirst sizes Such cell) ⊎ IsNowhere sizes Such
+      go : ((k : ℕ) × (k < cell_count sizes) × Such (cell_at sizes k) × ((j : ℕ) → j < k → ¬ Such (cell_at sizes j))) ⊎ ((k : ℕ) → k < cell_count sizes → ¬ Such (cell_at sizes k)) → ((cell : Position) × IsFirstCell sizes Such cell) ⊎ IsNowhere sizes Such
       go (inl (k, below, such, none)) = inl (
         cell_at sizes k,
         record {
@@ -113,7 +113,7 @@ module _ (sizes : Sizes) (marks : List ℕ) where
   has_or_none : (range : Corners) → HasMark sizes marks range ⊎ HasNoMark sizes marks range
   has_or_none range = go (first_or_none sizes (MarkedIn range) (marked_in range))
     where
-      go : ((cell : Position) × IsFirst sizes (MarkedIn range) cell) ⊎ IsNowhere sizes (MarkedIn range) → HasMark sizes marks range ⊎ HasNoMark sizes marks range
+      go : ((cell : Position) × IsFirstCell sizes (MarkedIn range) cell) ⊎ IsNowhere sizes (MarkedIn range) → HasMark sizes marks range ⊎ HasNoMark sizes marks range
       go (inl (cell, first)) = inl (cell, first.such.0, first.such.1)
       go (inr nowhere) = inr (λ cell is. at cell is (true_or_false (is_inside sizes cell)) (true_or_false (is_marked sizes marks cell)))
         where
@@ -181,7 +181,7 @@ turn_exists sheet old count =
       falls = inl (cell, inside, marked, cleared_count sheet.sizes old cell count inside marked);
     }
 
-    go : ((cell : Position) × IsFirst sheet.sizes (IsMarked sheet.sizes old) cell) ⊎ IsNowhere sheet.sizes (IsMarked sheet.sizes old) → ((cell : Position) × IsFirst sheet.sizes (IsReady sheet old) cell) ⊎ IsNowhere sheet.sizes (IsReady sheet old) → Turned sheet old
+    go : ((cell : Position) × IsFirstCell sheet.sizes (IsMarked sheet.sizes old) cell) ⊎ IsNowhere sheet.sizes (IsMarked sheet.sizes old) → ((cell : Position) × IsFirstCell sheet.sizes (IsReady sheet old) cell) ⊎ IsNowhere sheet.sizes (IsReady sheet old) → Turned sheet old
     go (inr nowhere) ready = record { new = old; turn = clears_nothing nowhere refl; count = refl; falls = inr (nowhere, refl) }
     go (inl (cell, first)) (inl (chosen, is)) = clear chosen is.inside is.such.marked (clears_ready chosen is refl)
     go (inl (cell, first)) (inr none) = clear cell first.inside first.such (clears_marked cell none first refl)

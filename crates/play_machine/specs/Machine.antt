@@ -9,8 +9,8 @@ use Rattle.sheet_model.specs.Values.{value_of}
 use Rattle.sheet_model.specs.declared.board.Shown.{Shown}
 use Rattle.sheet_model.specs.declared.board.Shown.TheVariants as shown
 use Rattle.sheet_model.specs.declared.change.Edit.{Edit}
-use Rattle.edit_log.specs.Books.{entry_of}
-use Rattle.edit_log.specs.Touches.{IsStep, Touches}
+use Rattle.edit_log.specs.Books.{client_entry}
+use Rattle.edit_log.specs.Touches.{DependsDirectly, Touches}
 use Rattle.edit_script.specs.declared.script.Command.{Command}
 use Rattle.edit_script.specs.declared.script.Command.TheVariants as asks
 use Rattle.edit_script.specs.declared.script.Step.{Step}
@@ -37,7 +37,7 @@ is_marked sizes marks cell = nat_lt 0 (mark_of sizes marks cell)
 -- a marked cell is ready where no cell in its references is marked
 pub record IsReady (sheet : SheetValue) (marks : List ℕ) (cell : Position) : Type 0 where
   pub marked : IsTrue (is_marked sheet.sizes marks cell)
-  pub inputs : (input : Position) → IsStep sheet input cell → IsFalse (is_marked sheet.sizes marks input)
+  pub inputs : (input : Position) → DependsDirectly sheet input cell → IsFalse (is_marked sheet.sizes marks input)
 
 abbrev pub IsMarked : Sizes → List ℕ → Position → Type 0
 IsMarked sizes marks cell = IsTrue (is_marked sizes marks cell)
@@ -47,7 +47,7 @@ abbrev pub IsNowhere : Sizes → (Position → Type 0) → Type 0
 IsNowhere sizes Such = (cell : Position) → IsTrue (is_inside sizes cell) → ¬ Such cell
 
 -- the first cell of the rectangle, row by row, that is
-pub record IsFirst (sizes : Sizes) (Such : Position → Type 0) (cell : Position) : Type 0 where
+pub record IsFirstCell (sizes : Sizes) (Such : Position → Type 0) (cell : Position) : Type 0 where
   pub inside : IsTrue (is_inside sizes cell)
   pub such : Such cell
   pub first : (other : Position) → IsTrue (is_inside sizes other) → place_of sizes other < place_of sizes cell → ¬ Such other
@@ -58,8 +58,8 @@ without_mark sizes marks cell = slice_set marks (place_of sizes cell) 0
 
 -- a turn clears the first ready cell; or the first marked one, where none is ready; or nothing, where none is marked
 pub data IsTurn (sheet : SheetValue) (old new : List ℕ) : Type 0 where
-  clears_ready : (cell : Position) → IsFirst sheet.sizes (IsReady sheet old) cell → new ≡ without_mark sheet.sizes old cell → IsTurn sheet old new
-  clears_marked : (cell : Position) → IsNowhere sheet.sizes (IsReady sheet old) → IsFirst sheet.sizes (IsMarked sheet.sizes old) cell → new ≡ without_mark sheet.sizes old cell → IsTurn sheet old new
+  clears_ready : (cell : Position) → IsFirstCell sheet.sizes (IsReady sheet old) cell → new ≡ without_mark sheet.sizes old cell → IsTurn sheet old new
+  clears_marked : (cell : Position) → IsNowhere sheet.sizes (IsReady sheet old) → IsFirstCell sheet.sizes (IsMarked sheet.sizes old) cell → new ≡ without_mark sheet.sizes old cell → IsTurn sheet old new
   clears_nothing : IsNowhere sheet.sizes (IsMarked sheet.sizes old) → new ≡ old → IsTurn sheet old new
 
 -- so many turns
@@ -70,12 +70,12 @@ pub data AreTurns (sheet : SheetValue) : ℕ → List ℕ → List ℕ → Type 
 -- an edit marks its cell and all that depend on it with its number, and no other cell
 pub record MarksTouched (sheet : SheetValue) (client : ℕ) (edit : Edit) (number : ℕ) (old new : List ℕ) : Type 0 where
   pub count : length new ≡ length old
-  pub touched : (cell : Position) → IsTrue (is_inside sheet.sizes cell) → Touches sheet [] (entry_of client edit) cell → mark_of sheet.sizes new cell ≡ number
-  pub others : (cell : Position) → ¬ Touches sheet [] (entry_of client edit) cell → mark_of sheet.sizes new cell ≡ mark_of sheet.sizes old cell
+  pub touched : (cell : Position) → IsTrue (is_inside sheet.sizes cell) → Touches sheet [] (client_entry client edit) cell → mark_of sheet.sizes new cell ≡ number
+  pub others : (cell : Position) → ¬ Touches sheet [] (client_entry client edit) cell → mark_of sheet.sizes new cell ≡ mark_of sheet.sizes old cell
 
 -- the machine after an edit, and with other marks
-abbrev pub after_put : Machine → Edit → List ℕ → Machine
-after_put machine edit marks = record { sheet = after_edit machine.sheet edit; number = machine.number + 1; marks = marks }
+abbrev pub machine_after : Machine → Edit → List ℕ → Machine
+machine_after machine edit marks = record { sheet = after_edit machine.sheet edit; number = machine.number + 1; marks = marks }
 
 abbrev pub with_marks : Machine → List ℕ → Machine
 with_marks machine marks = record { sheet = machine.sheet; number = machine.number; marks = marks }
@@ -94,28 +94,28 @@ report_of machine firm window = record {
 }
 
 -- a command of a client, the machine after it, and what is reported
-pub data Follows (old : Machine) (client : ℕ) (command : Command) (new : Machine) (told : List Report) : Type 0 where
+pub data FollowsCommand (old : Machine) (client : ℕ) (command : Command) (new : Machine) (told : List Report) : Type 0 where
   -- an edit
   puts : (edit : Edit) (marks : List ℕ) → command ≡ asks.Put edit
       → MarksTouched old.sheet client edit (old.number + 1) old.marks marks
-      → new ≡ after_put old edit marks → told ≡ [] → Follows old client command new told
+      → new ≡ machine_after old edit marks → told ≡ [] → FollowsCommand old client command new told
   -- a look
   looks : (window : Corners) → command ≡ asks.Look window
-      → new ≡ old → told ≡ report_of old false window ∷ [] → Follows old client command new told
+      → new ≡ old → told ≡ report_of old false window ∷ [] → FollowsCommand old client command new told
   -- turns until no cell is marked, and a look
   settles : (window : Corners) (count : ℕ) (marks : List ℕ) → command ≡ asks.Firm window
       → AreTurns old.sheet count old.marks marks → IsNowhere old.sheet.sizes (IsMarked old.sheet.sizes marks)
-      → new ≡ with_marks old marks → told ≡ report_of new true window ∷ [] → Follows old client command new told
+      → new ≡ with_marks old marks → told ≡ report_of new true window ∷ [] → FollowsCommand old client command new told
   -- so many turns
   works : (count : ℕ) (marks : List ℕ) → command ≡ asks.Work count
       → AreTurns old.sheet count old.marks marks
-      → new ≡ with_marks old marks → told ≡ [] → Follows old client command new told
+      → new ≡ with_marks old marks → told ≡ [] → FollowsCommand old client command new told
 
 -- the commands of steps, one after the other
 pub data Plays (start : Machine) : List Step → Machine → List Report → Type 0 where
   none : Plays start [] start []
   more : (steps all : List Step) (step : Step) (mid now : Machine) (before told after : List Report)
-      → Plays start steps mid before → Follows mid step.client step.command now told
+      → Plays start steps mid before → FollowsCommand mid step.client step.command now told
       → all ≡ steps ++ step ∷ [] → after ≡ before ++ told → Plays start all now after
 
 -- the reports of steps over a sheet

@@ -6,7 +6,7 @@ use Rattle.sheet_refs.specs.declared.sizes.Sizes.{Sizes}
 use Rattle.play_machine.specs.Machine.{is_marked, mark_of}
 
 -- the listed cells of the rectangle have a number as their mark, and all others the mark that they had
-pub record Marks (sizes : Sizes) (cells : List Position) (number : ℕ) (old new : List ℕ) : Type 0 where
+pub record SetsMarks (sizes : Sizes) (cells : List Position) (number : ℕ) (old new : List ℕ) : Type 0 where
   pub count : length new ≡ length old
   pub listed : (cell : Position) → IsTrue (is_inside sizes cell) → Contains cells cell → mark_of sizes new cell ≡ number
   pub others : (cell : Position) → ¬ Contains cells cell → mark_of sizes new cell ≡ mark_of sizes old cell

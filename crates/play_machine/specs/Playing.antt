@@ -10,7 +10,7 @@ use Rattle.edit_script.specs.declared.script.Command.TheVariants.{Put, Look, Fir
 use Rattle.edit_script.specs.declared.script.Step.{Step}
 use Rattle.window_text.specs.declared.report.Report.{Report}
 use Rattle.window_text.specs.Texts.{IsWithinSheet}
-use Rattle.play_machine.specs.Machine.{Machine, Follows}
+use Rattle.play_machine.specs.Machine.{Machine, FollowsCommand}
 
 -- an edit of a cell of the sheet, to a content whose label is in the table
 pub record FitsSheet (sheet : SheetValue) (edit : Edit) : Type 0 where
@@ -23,11 +23,11 @@ pub record IsWindow (sheet : SheetValue) (window : Corners) : Type 0 where
   pub few : length (cells_of window) ≤ 65536
 
 -- a command about cells of the sheet
-abbrev pub IsFit : SheetValue → Command → Type 0
-IsFit sheet (Put edit) = FitsSheet sheet edit
-IsFit sheet (Look window) = IsWindow sheet window
-IsFit sheet (Firm window) = IsWindow sheet window
-IsFit sheet (Work turns) = Unit {0}
+abbrev pub IsCommandOfSheet : SheetValue → Command → Type 0
+IsCommandOfSheet sheet (Put edit) = FitsSheet sheet edit
+IsCommandOfSheet sheet (Look window) = IsWindow sheet window
+IsCommandOfSheet sheet (Firm window) = IsWindow sheet window
+IsCommandOfSheet sheet (Work turns) = Unit {0}
 
 -- an edit
 abbrev pub is_put : Command → Bool
@@ -36,7 +36,7 @@ is_put _ = false
 
 -- steps about cells of the sheet, with no more edits than a log may have
 pub record AreFit (sheet : SheetValue) (steps : List Step) : Type 0 where
-  pub each : All (λ step. IsFit sheet step.command) steps
+  pub each : All (λ step. IsCommandOfSheet sheet step.command) steps
   pub few : count_by (λ step. is_put step.command) steps ≤ 1048576
 
 -- the machine of a book with marks for its cells
@@ -44,7 +44,7 @@ abbrev pub machine_of : {G : Type 0} → BookValue G → List ℕ → Machine
 machine_of book marks = record { sheet = book.sheet; number = length book.log; marks = marks }
 
 -- a step is followed, and what it reports joins the reports
-pub record Tells (old new : Machine) (step : Step) (before after : List Report) : Type 0 where
+pub record TellsReports (old new : Machine) (step : Step) (before after : List Report) : Type 0 where
   pub told : List Report
-  pub follows : Follows old step.client step.command new told
+  pub follows : FollowsCommand old step.client step.command new told
   pub joined : after ≡ before ++ told

@@ -10,7 +10,7 @@ use Rattle.sheet_refs.specs.declared.sizes.Sizes.{Sizes}
 use Rattle.formula_syntax.specs.Listing.{IsOnceEach}
 use Rattle.sheet_model.specs.Sheets.{SheetValue, content_of}
 use Rattle.edit_log.specs.Pairs.{ranges_in}
-use Rattle.edit_log.specs.Touches.{IsStep}
+use Rattle.edit_log.specs.Touches.{DependsDirectly}
 use Rattle.play_machine.specs.Machine.{IsMarked, IsReady, is_marked}
 use Rattle.play_machine.specs.Marking.{NoneHasMark, marked_count}
 use Rattle.play_machine.specs.declared.marked.MarkedCells.{MarkedCells}
@@ -30,10 +30,10 @@ pub record IsNextMarked (sizes : Sizes) (marks : List ℕ) (range : Corners) (fo
 -- a marked cell to which another refers; or it refers to none
 pub record IsMarkedInput (sheet : SheetValue) (marks : List ℕ) (cell input : Position) : Type 0 where
   pub marked : IsMarked sheet.sizes marks input
-  pub step : IsStep sheet input cell
+  pub step : DependsDirectly sheet input cell
 
 abbrev pub HasNoMarkedInput : SheetValue → List ℕ → Position → Type 0
-HasNoMarkedInput sheet marks cell = (input : Position) → IsStep sheet input cell → IsFalse (is_marked sheet.sizes marks input)
+HasNoMarkedInput sheet marks cell = (input : Position) → DependsDirectly sheet input cell → IsFalse (is_marked sheet.sizes marks input)
 
 -- no cell that a waiting one has looked at is marked
 pub record IsWaiter (sheet : SheetValue) (marks : List ℕ) (waiter : Waiter) : Type 0 where

@@ -1,7 +1,7 @@
 ghost use Rattle.std.specs.Prelude.{◌≡◌, ◌≤◌, None, length, replicate, IfOk, IfSome, OnOk};
 ghost use Rattle.sheet_refs.specs.Sizes.{cell_count};
 ghost use Rattle.play_machine.specs.Machine.{AreTurns};
-ghost use Rattle.play_machine.specs.Marking.{Marks, marked_count};
+ghost use Rattle.play_machine.specs.Marking.{SetsMarks, marked_count};
 ghost use Rattle.play_machine.specs.Waiting.{AreKept, IsQueue};
 ghost use Rattle.play_machine.specs.Waiting.Unplaced.{nothing};
 
@@ -55,12 +55,12 @@ impl MarkedCells {
         })
     }
 
-    /// Marks cells with a number, in a sheet that is edited.
+    /// SetsMarks cells with a number, in a sheet that is edited.
     pub(crate) fn mark(&mut self, sizes: Sizes, cells: &[Cell], number: u64)
         requires count { length self.old.marks.items ≡ cell_count sizes }
         requires left { self.old.left ≡ marked_count self.old.marks.items }
         requires number { 1 ≤ number }
-        ensures marks { Marks sizes cells.now number self.old.marks.items self.new.marks.items }
+        ensures marks { SetsMarks sizes cells.now number self.old.marks.items self.new.marks.items }
         ensures left { self.new.left ≡ marked_count self.new.marks.items }
         ensures queue { self.new.queue ≡ None }
     {

@@ -1,7 +1,7 @@
 ghost use Rattle.std.specs.Prelude.{◌≡◌, ◌∷◌, [], ◌+◌, ◌≤◌, length, replicate, IfOk};
 ghost use Rattle.sheet_refs.specs.Sizes.{cell_count};
 ghost use Rattle.play_machine.specs.Machine.{mark_of};
-ghost use Rattle.play_machine.specs.Marking.{Marks, marked_count};
+ghost use Rattle.play_machine.specs.Marking.{SetsMarks, marked_count};
 
 use sheet_refs::{Cell, Memory, Sizes};
 use std::alloc::Global;
@@ -29,11 +29,11 @@ pub(crate) fn mark_at(sizes: Sizes, marks: &[u64], cell: Cell) -> u64
     }
 }
 
-// Marks a cell with a number, where it is in the rectangle; answers 1 where it had no mark, and else 0.
+// SetsMarks a cell with a number, where it is in the rectangle; answers 1 where it had no mark, and else 0.
 fn mark_cell(sizes: Sizes, cell: Cell, number: u64, marks: &mut Vec<u64>) -> usize
     requires count { length marks.old.items ≡ cell_count sizes }
     requires number { 1 ≤ number }
-    ensures marks { Marks sizes (cell ∷ []) number marks.old.items marks.new.items }
+    ensures marks { SetsMarks sizes (cell ∷ []) number marks.old.items marks.new.items }
     ensures counted { marked_count marks.new.items ≡ marked_count marks.old.items + result }
     ensures one { result ≤ 1 }
 {
@@ -46,11 +46,11 @@ fn mark_cell(sizes: Sizes, cell: Cell, number: u64, marks: &mut Vec<u64>) -> usi
     if old == 0 { 1 } else { 0 }
 }
 
-/// Marks cells with a number; answers how many had no mark.
+/// SetsMarks cells with a number; answers how many had no mark.
 pub(crate) fn mark_all(sizes: Sizes, cells: &[Cell], number: u64, marks: &mut Vec<u64>) -> usize
     requires count { length marks.old.items ≡ cell_count sizes }
     requires number { 1 ≤ number }
-    ensures marks { Marks sizes cells.now number marks.old.items marks.new.items }
+    ensures marks { SetsMarks sizes cells.now number marks.old.items marks.new.items }
     ensures counted { marked_count marks.new.items ≡ marked_count marks.old.items + result }
 {
     let mut added = 0;

@@ -1,8 +1,8 @@
 ghost use Rattle.std.specs.Prelude.{◌≡◌, ◌+◌, ◌<◌, ◌≤◌, [], length, IfOk, IfSome, IsTrue, OnOk};
 ghost use Rattle.sheet_refs.specs.Sizes.{is_inside};
 ghost use Rattle.sheet_model.specs.Values.{AreValues, value_of};
-ghost use Rattle.edit_log.specs.Books.{IsPreparedFor, IsUnchanged, entry_of};
-ghost use Rattle.play_machine.specs.Machine.{MarksTouched, after_put, opening, report_of, shown_of};
+ghost use Rattle.edit_log.specs.Books.{IsPreparedFor, IsUnchanged, client_entry};
+ghost use Rattle.play_machine.specs.Machine.{MarksTouched, machine_after, opening, report_of, shown_of};
 ghost use Rattle.play_machine.specs.Playing.{FitsSheet, IsWindow, machine_of};
 ghost use Rattle.play_machine.specs.Waiting.{AreKept};
 
@@ -31,7 +31,7 @@ fn prepare_edit<G: Graph>(book: &mut Book<G>, client: u32, edit: &Edit) -> Resul
     requires fits { FitsSheet book.old.sheet edit.now }
     requires few { length book.old.log < 1048576 }
     ensures prepared { IfOk result (IsPreparedFor book.new.opening book.new.log) }
-    ensures entry { IfOk result (λ prepared. prepared.entry ≡ entry_of client edit.now) }
+    ensures entry { IfOk result (λ prepared. prepared.entry ≡ client_entry client edit.now) }
     ensures room { OnOk result (1 ≤ book.new.spare) }
     ensures same { IsUnchanged G.pairs book.old book.new }
 {
@@ -81,7 +81,7 @@ impl<G: Graph> Player<G> {
         ensures marks { OnOk result (MarksTouched self.old.book.sheet client edit.now
             (length self.old.book.log + 1) self.old.cells.marks.items self.new.cells.marks.items) }
         ensures machine { OnOk result (machine_of self.new.book self.new.cells.marks.items
-            ≡ after_put (machine_of self.old.book self.old.cells.marks.items)
+            ≡ machine_after (machine_of self.old.book self.old.cells.marks.items)
             edit.now self.new.cells.marks.items) }
         ensures kept { OnOk result (AreKept self.new.book.sheet self.new.cells) }
         ensures values { OnOk result

@@ -2,7 +2,7 @@ ghost use Rattle.std.specs.Prelude.{◌≡◌, ◌<◌, [], length, All, IfOk, I
 ghost use Rattle.sheet_model.specs.Values.{AreValues};
 ghost use Rattle.window_text.specs.Reports.{IsFull};
 ghost use Rattle.play_machine.specs.Machine.{ArePlayed};
-ghost use Rattle.play_machine.specs.Playing.{AreFit, IsFit, Tells, is_put, machine_of};
+ghost use Rattle.play_machine.specs.Playing.{AreFit, IsCommandOfSheet, TellsReports, is_put, machine_of};
 ghost use Rattle.play_machine.specs.Waiting.{AreKept};
 
 use crate::player::Player;
@@ -16,11 +16,11 @@ use window_text::Report;
 impl<G: Graph> Player<G> {
     // Does what a step asks for, and adds its report, where it makes one.
     fn follow(&mut self, step: &Step, reports: &mut Vec<Report>) -> Result<(), Memory>
-        requires fit { IsFit self.old.book.sheet step.now.command }
+        requires fit { IsCommandOfSheet self.old.book.sheet step.now.command }
         requires few { IsTrue (is_put step.now.command) → length self.old.book.log < 1048576 }
         requires kept { AreKept self.old.book.sheet self.old.cells }
         requires values { IfSome self.old.values (λ v. AreValues self.old.book.sheet v.items) }
-        ensures follows { OnOk result (Tells (machine_of self.old.book self.old.cells.marks.items)
+        ensures follows { OnOk result (TellsReports (machine_of self.old.book self.old.cells.marks.items)
             (machine_of self.new.book self.new.cells.marks.items) step.now
             reports.old.items reports.new.items) }
         ensures kept { OnOk result (AreKept self.new.book.sheet self.new.cells) }

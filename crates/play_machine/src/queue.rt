@@ -2,7 +2,7 @@ ghost use Rattle.std.specs.Prelude.{◌≡◌, length, false, IfOk, OnOk, MatchO
 ghost use Rattle.std.specs.BTreeSet.{IsEmpty, contains};
 ghost use Rattle.std.specs.Ordering.{nat_cmp};
 ghost use Rattle.sheet_refs.specs.Sizes.{cell_count, is_inside, place_of};
-ghost use Rattle.play_machine.specs.Machine.{IsFirst, IsMarked, IsNowhere, IsTurn, without_mark};
+ghost use Rattle.play_machine.specs.Machine.{IsFirstCell, IsMarked, IsNowhere, IsTurn, without_mark};
 ghost use Rattle.play_machine.specs.Waiting.{AddsWaiter, AreWaiters, IsQueue, IsWaiter};
 ghost use Rattle.play_machine.specs.Waiting.{NoneMarked, Places, TakesWaiters};
 ghost use Rattle.play_machine.specs.Waiting.Unplaced.{nothing, one, waiting};
@@ -59,7 +59,7 @@ fn first_marked(sheet: &Sheet, marks: &[u64], from: usize) -> Option<Cell>
     requires before { NoneMarked sheet.now.sizes marks.now from }
     ensures { MatchOption result
         (IsNowhere sheet.now.sizes (IsMarked sheet.now.sizes marks.now))
-        (IsFirst sheet.now.sizes (IsMarked sheet.now.sizes marks.now)) }
+        (IsFirstCell sheet.now.sizes (IsMarked sheet.now.sizes marks.now)) }
 {
     let sizes = sheet.sizes();
     for place in from..marks.len() {

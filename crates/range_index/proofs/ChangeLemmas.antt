@@ -5,8 +5,8 @@ use Rattle.sheet_refs.specs.Cells.{Corners}
 use Rattle.range_index.specs.declared.tiles.Home.{Home}
 use Rattle.range_index.specs.declared.tiles.Slot.{Slot}
 use Rattle.range_index.specs.Entries.{Entry, entry_of}
-use Rattle.range_index.specs.Grids.{IsGrid, IsReached, FitsNames, home_of, slot_of, same_home, same_slot}
-use Rattle.range_index.specs.Changes.{Sets}
+use Rattle.range_index.specs.Grids.{IsGrid, IsReachedKind, FitsNames, home_of, slot_of, same_home, same_slot}
+use Rattle.range_index.specs.Changes.{SetsKey}
 use Rattle.range_index.proofs.GridLemmas.{HasOnePlace, one_place, slot_is}
 use Rattle.range_index.proofs.SlotLemmas.{home_same, home_self, slot_same, slot_self}
 
@@ -42,7 +42,7 @@ own_place a home place is = ap (λ (s : Slot). s.place) is
 
 -- an entry more
 
-pub grid_with : (at new_at : Slot → Option Entry) (count new_count : Home → ℕ) (stands new_stands : ℕ → Option Slot) (tallest widest new_tallest new_widest id : ℕ) (range : Corners) → IsGrid at count stands tallest widest → FitsNames range → ((s : Slot) (e : Entry) → at s ≡ Some e → e.id ≢ id) → Sets at new_at (slot_of (home_of range) (count (home_of range))) (Some (entry_of id range)) → Sets count new_count (home_of range) (count (home_of range) + 1) → Sets stands new_stands id (Some (slot_of (home_of range) (count (home_of range)))) → tallest ≤ new_tallest → widest ≤ new_widest → IsReached new_tallest new_widest (home_of range) → IsGrid new_at new_count new_stands new_tallest new_widest
+pub grid_with : (at new_at : Slot → Option Entry) (count new_count : Home → ℕ) (stands new_stands : ℕ → Option Slot) (tallest widest new_tallest new_widest id : ℕ) (range : Corners) → IsGrid at count stands tallest widest → FitsNames range → ((s : Slot) (e : Entry) → at s ≡ Some e → e.id ≢ id) → SetsKey at new_at (slot_of (home_of range) (count (home_of range))) (Some (entry_of id range)) → SetsKey count new_count (home_of range) (count (home_of range) + 1) → SetsKey stands new_stands id (Some (slot_of (home_of range) (count (home_of range)))) → tallest ≤ new_tallest → widest ≤ new_widest → IsReachedKind new_tallest new_widest (home_of range) → IsGrid new_at new_count new_stands new_tallest new_widest
 grid_with at new_at count new_count stands new_stands tallest widest new_tallest new_widest id range grid fits absent items counts slots higher wider reached = record {
   full = full;
   counted = λ s e is. counted s e (stood s e is);
@@ -100,8 +100,8 @@ grid_with at new_at count new_count stands new_stands tallest widest new_tallest
     fits_names s e (inl (same, is)) = subst (λ (x : Entry). FitsNames x.range) (sym is) fits
     fits_names s e (inr before) = grid.fits s e before
 
-    is_reached : (s : Slot) (e : Entry) → Stood s e → IsReached new_tallest new_widest s.home
-    is_reached s e (inl (same, is)) = subst (λ (x : Slot). IsReached new_tallest new_widest x.home) (sym same) reached
+    is_reached : (s : Slot) (e : Entry) → Stood s e → IsReachedKind new_tallest new_widest s.home
+    is_reached s e (inl (same, is)) = subst (λ (x : Slot). IsReachedKind new_tallest new_widest x.home) (sym same) reached
     is_reached s e (inr before) =
         let was = grid.reached s e before in record { high = omega (arith, was.high, higher); wide = omega (arith, was.wide, wider) }
 
@@ -114,7 +114,7 @@ abbrev pub Stands : (Slot → Option Entry) → Entry → Type 0
 Stands at entry = (slot : Slot) × (at slot ≡ Some entry)
 
 -- what stands after that stood before, or is the entry
-pub stands_with : (at new_at : Slot → Option Entry) (slot : Slot) (added entry : Entry) → at slot ≡ None → Sets at new_at slot (Some added) → Stands new_at entry ↔ (Stands at entry ⊎ (entry ≡ added))
+pub stands_with : (at new_at : Slot → Option Entry) (slot : Slot) (added entry : Entry) → at slot ≡ None → SetsKey at new_at slot (Some added) → Stands new_at entry ↔ (Stands at entry ⊎ (entry ≡ added))
 stands_with at new_at slot added entry free items = (to, from)
   where
     to : Stands new_at entry → Stands at entry ⊎ (entry ≡ added)
@@ -144,7 +144,7 @@ pub record TakesOut (at new_at : Slot → Option Entry) (count new_count : Home 
   pub gone : new_at last ≡ None
   pub in_place : slot ≢ last → new_at slot ≡ Some moved
   pub stayed : (s : Slot) → s ≢ last → s ≢ slot → new_at s ≡ at s
-  pub counts : Sets count new_count slot.home (count slot.home - 1)
+  pub counts : SetsKey count new_count slot.home (count slot.home - 1)
   pub renoted : slot ≢ last → new_stands moved.id ≡ Some slot
   pub others : (i : ℕ) → i ≢ out.id → i ≢ moved.id → new_stands i ≡ stands i
 
@@ -217,8 +217,8 @@ grid_without at new_at count new_count stands new_stands tallest widest slot las
     fits_names s e (inl (same, apart, is)) = subst (λ (x : Entry). FitsNames x.range) (sym is) (grid.fits last moved takes.at_last)
     fits_names s e (inr (before, _, _)) = grid.fits s e before
 
-    is_reached : (s : Slot) (e : Entry) → Stays at slot last moved s e → IsReached tallest widest s.home
-    is_reached s e (inl (same, apart, is)) = subst (λ (x : Slot). IsReached tallest widest x.home) (sym same) (grid.reached slot out takes.there)
+    is_reached : (s : Slot) (e : Entry) → Stays at slot last moved s e → IsReachedKind tallest widest s.home
+    is_reached s e (inl (same, apart, is)) = subst (λ (x : Slot). IsReachedKind tallest widest x.home) (sym same) (grid.reached slot out takes.there)
     is_reached s e (inr (before, _, _)) = grid.reached s e before
 
     noted : (s : Slot) (e : Entry) → Stays at slot last moved s e → new_stands e.id ≡ Some s

@@ -4,7 +4,7 @@ use Rattle.std.specs.List.{Contains, slice_get}
 use Rattle.std.proofs.Math.Nat.{eq-or-lt_of_le}
 use Rattle.sheet_refs.specs.Cells.{Corners}
 use Rattle.range_index.specs.Entries.{Entry, entry_of, HasNoId, Inserts, Removes, SameEntries}
-use Rattle.range_index.specs.Listed.{AreListed, IsListed}
+use Rattle.range_index.specs.Listed.{AreListed, IsListedRange}
 
 pub none_listed : (old new : List Entry) (ranges : List Corners) → old ≡ [] → SameEntries old new → AreListed new ranges 0 0
 none_listed old new ranges none same entry = (
@@ -21,12 +21,12 @@ entry_is entry place range i r = ap (λ n. entry_of n entry.range) i ∙ ap (λ 
 pub one_listed : (old new : List Entry) (ranges : List Corners) (place : ℕ) (range : Corners) → AreListed old ranges 0 place → slice_get ranges place ≡ Some range → Inserts old new place range → AreListed new ranges 0 (place + 1)
 one_listed old new ranges place range listed here inserted entry = (λ there. to ((inserted entry).0 there), λ is. (inserted entry).1 (from is))
   where
-    to : Contains old entry ⊎ (entry ≡ entry_of place range) → IsListed ranges 0 (place + 1) entry
+    to : Contains old entry ⊎ (entry ≡ entry_of place range) → IsListedRange ranges 0 (place + 1) entry
     to (inl before) = let is = (listed entry).0 before in record { from = is.from; below = omega (arith, is.below); range_is = is.range_is }
     to (inr same) =
-        subst (λ (e : Entry). IsListed ranges 0 (place + 1) e) (sym same) (record { from = omega arith; below = omega arith; range_is = here })
+        subst (λ (e : Entry). IsListedRange ranges 0 (place + 1) e) (sym same) (record { from = omega arith; below = omega arith; range_is = here })
 
-    from : IsListed ranges 0 (place + 1) entry → Contains old entry ⊎ (entry ≡ entry_of place range)
+    from : IsListedRange ranges 0 (place + 1) entry → Contains old entry ⊎ (entry ≡ entry_of place range)
     from is = elim (eq-or-lt_of_le (omega (arith, is.below))) [
       | inl same ↦
           let both : Some entry.range ≡ Some range = sym is.range_is ∙ ap (λ n. slice_get ranges n) same ∙ here in

@@ -7,8 +7,8 @@ use Rattle.sheet_refs.specs.Cells.{Corners}
 use Rattle.range_index.specs.declared.tiles.Home.{Home}
 use Rattle.range_index.specs.declared.tiles.Slot.{Slot}
 use Rattle.range_index.specs.Entries.{Entry, entry_of, HasId, HasNoId, ChangesRange, Inserts, Removes}
-use Rattle.range_index.specs.Grids.{AreGrid, FitsNames, IsGrid, IsReached, home_of, or_none, slot_of, same_home, same_slot}
-use Rattle.range_index.specs.Changes.{Sets}
+use Rattle.range_index.specs.Grids.{AreGrid, FitsNames, IsGrid, IsReachedKind, home_of, or_none, slot_of, same_home, same_slot}
+use Rattle.range_index.specs.Changes.{SetsKey}
 use Rattle.range_index.proofs.ChangeLemmas.{Stands, slot_cases, some_is, some_same}
 use Rattle.range_index.proofs.GridLemmas.{HasOnePlace, places_of}
 use Rattle.range_index.proofs.SlotLemmas.{stands_somewhere}
@@ -26,7 +26,7 @@ changes_by old less new id range removes inserts entry = (
 )
 
 -- an entry whose range changes at its place
-module _ (at new_at : Slot → Option Entry) (slot : Slot) (id : ℕ) (was range : Corners) (there : at slot ≡ Some (entry_of id was)) (items : Sets at new_at slot (Some (entry_of id range))) where
+module _ (at new_at : Slot → Option Entry) (slot : Slot) (id : ℕ) (was range : Corners) (there : at slot ≡ Some (entry_of id was)) (items : SetsKey at new_at slot (Some (entry_of id range))) where
   -- what stands at a place is the entry, or stood there before
   abbrev Stood : Slot → Entry → Type 0
   Stood s e = ((s ≡ slot) × (e ≡ entry_of id range)) ⊎ ((s ≢ slot) × (at s ≡ Some e))
@@ -65,8 +65,8 @@ module _ (at new_at : Slot → Option Entry) (slot : Slot) (id : ℕ) (was range
       fits_names s e (inl (same, is)) = subst (λ (x : Entry). FitsNames x.range) (sym is) fits
       fits_names s e (inr (_, before)) = grid.fits s e before
 
-      is_reached : (s : Slot) (e : Entry) → Stood s e → IsReached tallest widest s.home
-      is_reached s e (inl (same, is)) = subst (λ (x : Slot). IsReached tallest widest x.home) (sym same) (grid.reached slot (entry_of id was) there)
+      is_reached : (s : Slot) (e : Entry) → Stood s e → IsReachedKind tallest widest s.home
+      is_reached s e (inl (same, is)) = subst (λ (x : Slot). IsReachedKind tallest widest x.home) (sym same) (grid.reached slot (entry_of id was) there)
       is_reached s e (inr (_, before)) = grid.reached s e before
 
       noted : (s : Slot) (e : Entry) → Stood s e → stands e.id ≡ Some s
@@ -97,7 +97,7 @@ module _ {items : List (Slot × Entry)} {counts : List (Home × ℕ)} {slots : L
   there : at slot ≡ Some (entry_of id is.range)
   there = noted_there id slot are is noted
 
-  sets : Sets at new_at slot (Some (entry_of id range))
+  sets : SetsKey at new_at slot (Some (entry_of id range))
   sets = sets_slot at new_at slot (Some (entry_of id range)) with_item
 
   pub are_changed : slot.home ≡ home_of range → FitsNames range → AreGrid new_items counts slots tallest widest

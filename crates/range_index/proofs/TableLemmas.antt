@@ -16,8 +16,8 @@ use Rattle.range_index.specs.declared.tiles.Slot.{Slot}
 use Rattle.sheet_refs.specs.Cells.{Corners}
 use Rattle.range_index.specs.declared.tables.Tables.{Tables}
 use Rattle.range_index.specs.Entries.{Entry, entry_of, HasId, HasNoId, HaveOneRange, Inserts, Removes, SameEntries}
-use Rattle.range_index.specs.Grids.{AreGrid, FitsNames, HoldGrid, IsGrid, IsReached, count_at, entries_of, entry_at, home_of, or_none, slot_of, same_home, same_slot, stands_at}
-use Rattle.range_index.specs.Changes.{HaveOneKey, Sets}
+use Rattle.range_index.specs.Grids.{AreGrid, FitsNames, HoldGrid, IsGrid, IsReachedKind, count_at, entries_in, entry_at, home_of, or_none, slot_of, same_home, same_slot, stands_at}
+use Rattle.range_index.specs.Changes.{HaveOneKey, SetsKey}
 use Rattle.range_index.proofs.ChangeLemmas.{Stands, TakesOut, free_place, grid_with, grid_without, stands_with, stands_without}
 use Rattle.range_index.proofs.GridLemmas.{places_of}
 use Rattle.range_index.proofs.SlotLemmas.{stands_somewhere, slots_equal, slot_same, slot_self, home_same, home_self}
@@ -28,7 +28,7 @@ on_ok (Ok x) ok p = p
 on_ok (Err e) ok p = absurd (true≢false (sym ok))
 
 -- one look-up has changed
-pub sets_by : {K X : Type 0} (eq : K → K → Bool) → ((a b : K) → eq a b ≡ true → a ≡ b) → ((a : K) → eq a a ≡ true) → (old new : K → Option X) (key : K) (value : Option X) → ((q : K) → new q ≡ cond (eq key q) value (old q)) → Sets old new key value
+pub sets_by : {K X : Type 0} (eq : K → K → Bool) → ((a b : K) → eq a b ≡ true → a ≡ b) → ((a : K) → eq a a ≡ true) → (old new : K → Option X) (key : K) (value : Option X) → ((q : K) → new q ≡ cond (eq key q) value (old q)) → SetsKey old new key value
 sets_by {K} {X} eq same self old new key value step = record {
   here = step key ∙ ap (λ v. cond v value (old key)) (self key);
   others = λ q other. step q ∙ ap (λ v. cond v value (old q)) (is_false q other (eq key q) refl);
@@ -38,13 +38,13 @@ sets_by {K} {X} eq same self old new key value step = record {
     is_false q other true e = absurd (other (sym (same key q e)))
     is_false q other false e = e
 
-pub sets_slot : {X : Type 0} (old new : Slot → Option X) (key : Slot) (value : Option X) → ((q : Slot) → new q ≡ cond (same_slot key q) value (old q)) → Sets old new key value
+pub sets_slot : {X : Type 0} (old new : Slot → Option X) (key : Slot) (value : Option X) → ((q : Slot) → new q ≡ cond (same_slot key q) value (old q)) → SetsKey old new key value
 sets_slot = sets_by same_slot slot_same slot_self
 
-sets_home : {X : Type 0} (old new : Home → Option X) (key : Home) (value : Option X) → ((q : Home) → new q ≡ cond (same_home key q) value (old q)) → Sets old new key value
+sets_home : {X : Type 0} (old new : Home → Option X) (key : Home) (value : Option X) → ((q : Home) → new q ≡ cond (same_home key q) value (old q)) → SetsKey old new key value
 sets_home = sets_by same_home home_same home_self
 
-pub sets_count : (old new : Home → Option ℕ) (key : Home) (value : Option ℕ) → ((q : Home) → new q ≡ cond (same_home key q) value (old q)) → Sets (λ h. or_none (old h)) (λ h. or_none (new h)) key (or_none value)
+pub sets_count : (old new : Home → Option ℕ) (key : Home) (value : Option ℕ) → ((q : Home) → new q ≡ cond (same_home key q) value (old q)) → SetsKey (λ h. or_none (old h)) (λ h. or_none (new h)) key (or_none value)
 sets_count old new key value step =
     let sets = sets_home old new key value step in record { here = ap or_none sets.here; others = λ h other. ap or_none (sets.others h other) }
 
@@ -54,7 +54,7 @@ number_is a b e = grind (arith, nat_tests, e)
 number_self : (a : ℕ) → nat_eq a a ≡ true
 number_self a = grind (arith, nat_tests)
 
-pub sets_id : {X : Type 0} (old new : ℕ → Option X) (key : ℕ) (value : Option X) → ((q : ℕ) → new q ≡ cond (nat_eq key q) value (old q)) → Sets old new key value
+pub sets_id : {X : Type 0} (old new : ℕ → Option X) (key : ℕ) (value : Option X) → ((q : ℕ) → new q ≡ cond (nat_eq key q) value (old q)) → SetsKey old new key value
 sets_id = sets_by nat_eq number_is number_self
 
 -- a home has at most as many entries as there are in all
@@ -138,7 +138,7 @@ entries_same items new_items unique new_unique same entry = (
 )
 
 -- a map that had the same at each key before
-pub sets_before : {K V : Type 0} (first old new : K → V) (key : K) (value : V) → ((k : K) → old k ≡ first k) → Sets old new key value → Sets first new key value
+pub sets_before : {K V : Type 0} (first old new : K → V) (key : K) (value : V) → ((k : K) → old k ≡ first k) → SetsKey old new key value → SetsKey first new key value
 sets_before first old new key value same sets = record { here = sets.here; others = λ k other. sets.others k other ∙ same k }
 
 -- an entry more
@@ -149,11 +149,11 @@ added {items} {counts} {slots} {tallest} {widest} new_items new_counts new_slots
   grid =
       grid_with at new_at count new_count stands new_stands tallest widest new_tallest new_widest id range are.grid fits
       (λ s e is. absent e ((stands_somewhere items are.unique e).1 (s, is)))
-      (subst (λ (s : Slot). Sets at new_at s (Some (entry_of id range))) slot_same_as (sets_slot at new_at (slot_of home place) (Some (entry_of id range)) with_item))
-      (subst (λ n. Sets count new_count (home_of range) (n + 1)) place_same (subst (λ (h : Home). Sets count new_count h (place + 1)) home_is (sets_count (λ h. lookup (same_home h) counts) (λ h. lookup (same_home h) new_counts) home (Some (place + 1)) with_count)))
-      (subst (λ (s : Slot). Sets stands new_stands id (Some s)) slot_same_as (sets_id stands new_stands id (Some (slot_of home place)) with_slot))
+      (subst (λ (s : Slot). SetsKey at new_at s (Some (entry_of id range))) slot_same_as (sets_slot at new_at (slot_of home place) (Some (entry_of id range)) with_item))
+      (subst (λ n. SetsKey count new_count (home_of range) (n + 1)) place_same (subst (λ (h : Home). SetsKey count new_count h (place + 1)) home_is (sets_count (λ h. lookup (same_home h) counts) (λ h. lookup (same_home h) new_counts) home (Some (place + 1)) with_count)))
+      (subst (λ (s : Slot). SetsKey stands new_stands id (Some s)) slot_same_as (sets_id stands new_stands id (Some (slot_of home place)) with_slot))
       (omega (arith, high)) (omega (arith, wide))
-      (subst (λ (h : Home). IsReached new_tallest new_widest h) home_is (record { high = omega (arith, high); wide = omega (arith, wide) }));
+      (subst (λ (h : Home). IsReachedKind new_tallest new_widest h) home_is (record { high = omega (arith, high); wide = omega (arith, wide) }));
 }
   where
     at : Slot → Option Entry
@@ -236,7 +236,7 @@ grid_after old new slot last out moved are one_key tallest widest takes = record
       (grid_without (entry_at old) (entry_at new) (count_at old) (count_at new) (stands_at old) (stands_at new) old.tallest old.widest slot last out moved are.grid takes));
 }
 
-pub removed_after : (old new : Tables) (slot last : Slot) (out moved : Entry) → HoldGrid old → HaveOneKey new → TakesOut (entry_at old) (entry_at new) (count_at old) (count_at new) (stands_at old) (stands_at new) slot last out moved → Removes (entries_of old) (entries_of new) out.id
+pub removed_after : (old new : Tables) (slot last : Slot) (out moved : Entry) → HoldGrid old → HaveOneKey new → TakesOut (entry_at old) (entry_at new) (count_at old) (count_at new) (stands_at old) (stands_at new) slot last out moved → Removes (entries_in old) (entries_in new) out.id
 removed_after old new slot last out moved are one_key takes entry = (
   λ there. let both = without.0 ((stands_somewhere new.items.entries one_key entry).0 there) in (both.0, (stands_somewhere old.items.entries are.unique entry).1 both.1),
   λ both. (stands_somewhere new.items.entries one_key entry).1 (without.1 (both.0, (stands_somewhere old.items.entries are.unique entry).0 both.1)),

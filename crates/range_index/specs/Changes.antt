@@ -10,7 +10,7 @@ use Rattle.range_index.specs.Entries.{Entry}
 use Rattle.range_index.specs.Grids.{entry_at, count_at, stands_at, slot_of, same_slot}
 
 -- one key has another value, and each other key has what it had
-pub record Sets {K V : Type 0} (old new : K → V) (key : K) (value : V) : Type 0 where
+pub record SetsKey {K V : Type 0} (old new : K → V) (key : K) (value : V) : Type 0 where
   pub here : new key ≡ value
   pub others : (k : K) → k ≢ key → new k ≡ old k
 
@@ -20,7 +20,7 @@ HaveOneKey tables = IsDistinct same_slot (keys_of tables.items.entries)
 
 -- a home has another count, and nothing else has changed
 pub record SetsCount (old new : Tables) (home : Home) (count : ℕ) : Type 0 where
-  pub counts : Sets (count_at old) (count_at new) home count
+  pub counts : SetsKey (count_at old) (count_at new) home count
   pub items : new.items ≡ old.items
   pub slots : new.slots ≡ old.slots
   pub tallest : new.tallest ≡ old.tallest
@@ -28,13 +28,13 @@ pub record SetsCount (old new : Tables) (home : Home) (count : ℕ) : Type 0 whe
   pub room : spare old.counts ≤ spare new.counts
 
 -- the last place of a home. it has one where its count isn't 0
-abbrev pub last_of : Tables → Home → Slot
-last_of tables home = slot_of home (count_at tables home - 1)
+abbrev pub last_slot : Tables → Home → Slot
+last_slot tables home = slot_of home (count_at tables home - 1)
 
 -- nothing stands at the last place of a home now, which has one entry less
 pub record TakesLast (old new : Tables) (home : Home) : Type 0 where
-  pub items : Sets (entry_at old) (entry_at new) (last_of old home) None
-  pub counts : Sets (count_at old) (count_at new) home (count_at old home - 1)
+  pub items : SetsKey (entry_at old) (entry_at new) (last_slot old home) None
+  pub counts : SetsKey (count_at old) (count_at new) home (count_at old home - 1)
   pub slots : new.slots ≡ old.slots
   pub tallest : new.tallest ≡ old.tallest
   pub widest : new.widest ≡ old.widest
@@ -44,8 +44,8 @@ pub record TakesLast (old new : Tables) (home : Home) : Type 0 where
 
 -- another entry stands at a place now, as is noted for its id
 pub record PutsAt (old new : Tables) (slot : Slot) (entry : Entry) : Type 0 where
-  pub items : Sets (entry_at old) (entry_at new) slot (Some entry)
-  pub slots : Sets (stands_at old) (stands_at new) entry.id (Some slot)
+  pub items : SetsKey (entry_at old) (entry_at new) slot (Some entry)
+  pub slots : SetsKey (stands_at old) (stands_at new) entry.id (Some slot)
   pub counts : new.counts ≡ old.counts
   pub tallest : new.tallest ≡ old.tallest
   pub widest : new.widest ≡ old.widest

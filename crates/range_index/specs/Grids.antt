@@ -59,7 +59,7 @@ abbrev pub stands_at : Tables → ℕ → Option Slot
 stands_at tables id = get nat_eq tables.slots id
 
 -- a home of a kind that is no higher and no wider
-pub record IsReached (tallest widest : ℕ) (home : Home) : Type 0 where
+pub record IsReachedKind (tallest widest : ℕ) (home : Home) : Type 0 where
   pub high : home.height ≤ tallest
   pub wide : home.width ≤ widest
 
@@ -70,7 +70,7 @@ pub record IsGrid (at : Slot → Option Entry) (count : Home → ℕ) (stands : 
   pub counted : (slot : Slot) (entry : Entry) → at slot ≡ Some entry → slot.place < count slot.home
   pub at_home : (slot : Slot) (entry : Entry) → at slot ≡ Some entry → slot.home ≡ home_of entry.range
   pub fits : (slot : Slot) (entry : Entry) → at slot ≡ Some entry → FitsNames entry.range
-  pub reached : (slot : Slot) (entry : Entry) → at slot ≡ Some entry → IsReached tallest widest slot.home
+  pub reached : (slot : Slot) (entry : Entry) → at slot ≡ Some entry → IsReachedKind tallest widest slot.home
   pub noted : (slot : Slot) (entry : Entry) → at slot ≡ Some entry → stands entry.id ≡ Some slot
 
 -- the same of the entries of three maps
@@ -83,8 +83,8 @@ abbrev pub HoldGrid : Tables → Type 0
 HoldGrid tables = AreGrid tables.items.entries tables.counts.entries tables.slots.entries tables.tallest tables.widest
 
 -- the entries of tables
-abbrev pub entries_of : Tables → List Entry
-entries_of tables = values tables.items
+abbrev pub entries_in : Tables → List Entry
+entries_in tables = values tables.items
 
 -- an id stands at one of some places, with a range that overlaps a query
 pub record IsFound (at : Slot → Option Entry) (Visited : Slot → Type 0) (query : Corners) (id : ℕ) : Type 0 where
@@ -136,4 +136,4 @@ pub record GridValue : Type 0 where
   pub spare : ℕ
 
 abbrev pub grid_value : Tables → GridValue
-grid_value tables = record { entries = entries_of tables; spare = room_of tables }
+grid_value tables = record { entries = entries_in tables; spare = room_of tables }

@@ -1,8 +1,8 @@
 // How entries come and go.
 ghost use Rattle.std.specs.Prelude.{◌≡◌, ◌+◌, ◌-◌, ◌<◌, ◌≤◌, IsSome, OnOk, Some};
 ghost use Rattle.std.specs.HashMap.{ContainsKey, IsUnique, Updates, spare};
-ghost use Rattle.range_index.specs.Grids.{HoldGrid, count_at, entry_at, entries_of, room_of, stands_at};
-ghost use Rattle.range_index.specs.Changes.{PutsAt, SetsCount, TakesLast, last_of};
+ghost use Rattle.range_index.specs.Grids.{HoldGrid, count_at, entry_at, entries_in, room_of, stands_at};
+ghost use Rattle.range_index.specs.Changes.{PutsAt, SetsCount, TakesLast, last_slot};
 ghost use Rattle.range_index.specs.Entries.{HasId, HasNoId, Inserts, Removes, ChangesRange, SameEntries};
 
 use crate::item::Item;
@@ -28,10 +28,10 @@ impl Tables {
     /// Adds an entry at the place behind those of its home. It takes no memory.
     pub(crate) fn add(&mut self, id: usize, range: Range)
         requires grid { HoldGrid self.old }
-        requires absent { HasNoId (entries_of self.old) id }
+        requires absent { HasNoId (entries_in self.old) id }
         requires room { 1 ≤ room_of self.old }
         ensures grid { HoldGrid self.new }
-        ensures inserted { Inserts (entries_of self.old) (entries_of self.new) id range }
+        ensures inserted { Inserts (entries_in self.old) (entries_in self.new) id range }
         ensures room { room_of self.old ≤ room_of self.new + 1 }
     {
         let home = home_of(range);
@@ -62,7 +62,7 @@ impl Tables {
     // Takes out what stands at the last place of a home.
     fn take_last(&mut self, home: Home) -> Option<Item>
         requires { 0 < count_at self.old home }
-        ensures item { result ≡ entry_at self.old (last_of self.old home) }
+        ensures item { result ≡ entry_at self.old (last_slot self.old home) }
         ensures taken { TakesLast self.old self.new home }
     {
         let place = self.count(home) - 1;
@@ -83,9 +83,9 @@ impl Tables {
     /// Takes an id out, in the place of which the last entry of its home goes. It takes no memory.
     pub(crate) fn take_out(&mut self, id: usize)
         requires grid { HoldGrid self.old }
-        requires there { HasId (entries_of self.old) id }
+        requires there { HasId (entries_in self.old) id }
         ensures grid { HoldGrid self.new }
-        ensures removed { Removes (entries_of self.old) (entries_of self.new) id }
+        ensures removed { Removes (entries_in self.old) (entries_in self.new) id }
         ensures room { room_of self.old ≤ room_of self.new }
     {
         let Some(slot) = self.slots.remove(&id) else {
@@ -112,10 +112,10 @@ impl Tables {
     /// Gives an id another range. At the home where the id stands it takes one look-up and one write.
     pub(crate) fn change(&mut self, id: usize, range: Range)
         requires grid { HoldGrid self.old }
-        requires there { HasId (entries_of self.old) id }
+        requires there { HasId (entries_in self.old) id }
         requires room { 1 ≤ room_of self.old }
         ensures grid { HoldGrid self.new }
-        ensures changed { ChangesRange (entries_of self.old) (entries_of self.new) id range }
+        ensures changed { ChangesRange (entries_in self.old) (entries_in self.new) id range }
         ensures room { room_of self.old ≤ room_of self.new + 1 }
     {
         let Some(slot) = self.stands(id) else {
@@ -135,7 +135,7 @@ impl Tables {
         ensures grid { HoldGrid self.new }
         ensures room { OnOk result (inserts ≤ room_of self.new) }
         ensures kept { room_of self.old ≤ room_of self.new }
-        ensures same { SameEntries (entries_of self.old) (entries_of self.new) }
+        ensures same { SameEntries (entries_in self.old) (entries_in self.new) }
     {
         self.items.reserve(inserts)?;
         self.counts.reserve(inserts)?;

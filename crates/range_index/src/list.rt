@@ -27,7 +27,7 @@ impl Model for ListIndex {
 }
 
 // Where an id stands.
-fn place_of(slots: &[Item], id: usize) -> Option<usize>
+fn entry_place(slots: &[Item], id: usize) -> Option<usize>
     ensures { MatchOption result (HasNoId slots.now id) (IsPlaceOf slots.now id) }
 {
     for place in 0..slots.len() {
@@ -60,7 +60,7 @@ impl RangeIndex for ListIndex {
     }
 
     fn remove(&mut self, id: usize, range: Range) {
-        if let Some(place) = place_of(&self.slots, id) {
+        if let Some(place) = entry_place(&self.slots, id) {
             self.slots.swap_remove(place);
         }
     }

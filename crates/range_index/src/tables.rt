@@ -1,6 +1,6 @@
 // What a query does by tiles.
 ghost use Rattle.std.specs.Prelude.{◌≡◌, ◌<◌, [], OnOk};
-ghost use Rattle.range_index.specs.Grids.{count_at, entry_at, entries_of, HoldGrid};
+ghost use Rattle.range_index.specs.Grids.{count_at, entry_at, entries_in, HoldGrid};
 ghost use Rattle.range_index.specs.Entries.{KeepsIds, AddsOverlapping};
 ghost use Rattle.range_index.specs.Grids.{AddsAt, IsInRow, IsNear, IsNearAt};
 
@@ -25,7 +25,7 @@ impl Tables {
     /// The tables without entries.
     pub(crate) fn empty(alloc: Global) -> Tables
         ensures grid { HoldGrid result }
-        ensures none { entries_of result ≡ [] }
+        ensures none { entries_in result ≡ [] }
     {
         Tables {
             items: HashMap::new(alloc),
@@ -155,7 +155,7 @@ impl Tables {
     fn visit_near(&self, q: Range, out: &mut Vec<usize>) -> Result<(), Memory>
         requires { HoldGrid self.now }
         ensures found { OnOk result
-            (AddsOverlapping (entries_of self.now) q out.old.items out.new.items) }
+            (AddsOverlapping (entries_in self.now) q out.old.items out.new.items) }
         ensures kept { KeepsIds out.old.items out.new.items }
     {
         self.visit_height(q, HEIGHTS[0], out)?;
@@ -168,7 +168,7 @@ impl Tables {
     fn visit_all(&self, q: Range, out: &mut Vec<usize>) -> Result<(), Memory>
         requires { HoldGrid self.now }
         ensures found { OnOk result
-            (AddsOverlapping (entries_of self.now) q out.old.items out.new.items) }
+            (AddsOverlapping (entries_in self.now) q out.old.items out.new.items) }
         ensures kept { KeepsIds out.old.items out.new.items }
     {
         for item in self.items.values() {
@@ -191,7 +191,7 @@ impl Tables {
     pub(crate) fn visit(&self, q: Range, out: &mut Vec<usize>) -> Result<(), Memory>
         requires { HoldGrid self.now }
         ensures found { OnOk result
-            (AddsOverlapping (entries_of self.now) q out.old.items out.new.items) }
+            (AddsOverlapping (entries_in self.now) q out.old.items out.new.items) }
         ensures kept { KeepsIds out.old.items out.new.items }
     {
         if self.has_few(q) {

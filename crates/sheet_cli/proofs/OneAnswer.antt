@@ -5,20 +5,20 @@ use Rattle.std.proofs.lemmas.Option.{MatchOption-at_some}
 use Rattle.sheet_refs.specs.Cells.{Corners}
 use Rattle.sheet_refs.proofs.NameLemmas.{one_range}
 use Rattle.sheet_model.specs.Sheets.{SheetValue, with_labels}
-use Rattle.edit_script.specs.Scripts.{ScriptValue, IsResult as IsScriptResult}
+use Rattle.edit_script.specs.Scripts.{ScriptValue, IsScriptResult}
 use Rattle.edit_script.specs.declared.refused.ScriptRefused.{ScriptRefused}
 use Rattle.edit_script.specs.declared.script.Mode.TheVariants.{Play}
 use Rattle.edit_script.proofs.OneResult.{one_result as one_script_result}
 use Rattle.play_machine.proofs.OnePlay.{one_list}
 use Rattle.window_text.specs.Reports.{play_text}
 use Rattle.csv_sheet.specs.declared.refused.SheetRefused.{SheetRefused}
-use Rattle.csv_sheet.specs.Results.{IsResult}
+use Rattle.csv_sheet.specs.Results.{IsSheetResult}
 use Rattle.csv_sheet.proofs.ResultLemmas.{one_result}
 use Rattle.taco_graph.specs.Pairs.{pairs_of}
 use Rattle.range_index.proofs.DistinctLemmas.{no_longer}
 use Rattle.window_text.specs.Texts.{IsWithinSheet, check_text, runs_text}
 use Rattle.sheet_cli.specs.Graphs.{ListsEdges}
-use Rattle.sheet_cli.specs.Answers.{Answer, Answers, AnswersWindow, AnswersCheck, AnswersPlay, AreOfCheck, Gives, GivesScript, HasNoScript, HasNoSheet, IsPlayed, IsTextOf, Owes, Tells, Writes, OneAnswer, WordsAskForOne, status_of}
+use Rattle.sheet_cli.specs.Answers.{Answer, AnswersRequest, AnswersWindow, AnswersCheck, AnswersPlay, AreOfCheck, GivesSheet, GivesScript, HasNoScript, HasNoSheet, IsPlayed, IsTextOf, Owes, TellsTexts, Writes, OneAnswer, WordsAskForOne, status_of}
 use Rattle.sheet_cli.specs.Answers.Answer.{output, refusal}
 use Rattle.sheet_cli.specs.Answers.AnswersWindow.{written, outside, no_sheet}
 use Rattle.sheet_cli.specs.Answers.AnswersCheck.{listed, unlisted}
@@ -132,17 +132,17 @@ module _ (holds : List ℕ → Option (List ℕ)) (name told : List ℕ) (here :
   is_told : (text : List ℕ) → IsTextOf holds name text → text ≡ told
   is_told text stands = MatchOption-at_some _ _ told here stands.told
 
-  gives_one : (a b : Result SheetValue SheetRefused) → Gives holds name a → Gives holds name b → a ≡ b
+  gives_one : (a b : Result SheetValue SheetRefused) → GivesSheet holds name a → GivesSheet holds name b → a ≡ b
   gives_one a b one other =
-      one_result other.text a b (subst (λ t. IsResult t a) (is_told one.text one.stands ∙ sym (is_told other.text other.stands)) one.gives) other.gives
+      one_result other.text a b (subst (λ t. IsSheetResult t a) (is_told one.text one.stands ∙ sym (is_told other.text other.stands)) one.gives) other.gives
 
-  short_or_long : (a : Result SheetValue SheetRefused) → Gives holds name a → IfSome (holds name) (λ t. 16777216 < length t) → ⊥
+  short_or_long : (a : Result SheetValue SheetRefused) → GivesSheet holds name a → IfSome (holds name) (λ t. 16777216 < length t) → ⊥
   short_or_long a given long =
       let short = MatchOption-at_some _ _ told here given.stands.short in
       let past = MatchOption-at_some _ _ told here long in
       omega (arith, short, past)
 
-  sheet_or_none : (sheet : SheetValue) (status : ℕ) (line : List ℕ) → Gives holds name (Ok sheet) → HasNoSheet holds name status line → ⊥
+  sheet_or_none : (sheet : SheetValue) (status : ℕ) (line : List ℕ) → GivesSheet holds name (Ok sheet) → HasNoSheet holds name status line → ⊥
   sheet_or_none sheet _ _ given (too_long long) = short_or_long (Ok sheet) given long
   sheet_or_none sheet _ _ given (refused why gives) =
       let both : Ok sheet ≡ Err why = gives_one (Ok sheet) (Err why) given gives in
@@ -156,7 +156,7 @@ module _ (holds : List ℕ → Option (List ℕ)) (name told : List ℕ) (here :
       let same : why ≡ also = cc (gives_one (Err why) (Err also) gives regives) in
       ap (λ w. refusal 3 (refused_line w)) same
 
-  one_sheet : (sheet other : SheetValue) → Gives holds name (Ok sheet) → Gives holds name (Ok other) → sheet ≡ other
+  one_sheet : (sheet other : SheetValue) → GivesSheet holds name (Ok sheet) → GivesSheet holds name (Ok other) → sheet ≡ other
   one_sheet sheet other one again = cc (gives_one (Ok sheet) (Ok other) one again)
 
   -- so is a command about a window
@@ -244,7 +244,7 @@ module _ (holds : List ℕ → Option (List ℕ)) (name told script_name spoken 
   one_play _ _ (unplayed status line none) (unplayed other reline renone) = one_cause holds name told here status other line reline none renone
 
 -- a request is answered in one way, where the shelf tells the texts that it names
-one_reply : (words : List (List ℕ)) (holds : List ℕ → Option (List ℕ)) (request : Request) (a b : Answer) → Asks words request → All (λ name. (text : List ℕ) × (holds name ≡ Some text)) (texts_named request) → Answers holds request a → Answers holds request b → (a ≡ b) ⊎ AreOfCheck words a b
+one_reply : (words : List (List ℕ)) (holds : List ℕ → Option (List ℕ)) (request : Request) (a b : Answer) → Asks words request → All (λ name. (text : List ℕ) × (holds name ≡ Some text)) (texts_named request) → AnswersRequest holds request a → AnswersRequest holds request b → (a ≡ b) ⊎ AreOfCheck words a b
 one_reply words holds (of_window command name window) a b asked tells given regiven =
     let (told, here) = tells 0 [] (omega arith) in
     inl (one_window holds name told here command window a b given regiven)
@@ -261,17 +261,17 @@ one_answer words holds _ _ tells (usage none) (usage _) = inl refl
 one_answer words holds _ _ tells (usage none) (answers request answer asked _) = absurd (none request asked)
 one_answer words holds _ _ tells (answers request answer asked _) (usage none) = absurd (none request asked)
 one_answer words holds _ _ tells (answers request a asked given) (answers other b re regiven) =
-    one_reply words holds request a b asked (tells request asked) given (subst (λ r. Answers holds r b) (one_request words other request re asked) regiven)
+    one_reply words holds request a b asked (tells request asked) given (subst (λ r. AnswersRequest holds r b) (one_request words other request re asked) regiven)
 
 -- and with one status
-pub one_status : (words : List (List ℕ)) (holds : List ℕ → Option (List ℕ)) (a b : Answer) → Tells words holds → Owes words holds a → Owes words holds b → status_of a ≡ status_of b
+pub one_status : (words : List (List ℕ)) (holds : List ℕ → Option (List ℕ)) (a b : Answer) → TellsTexts words holds → Owes words holds a → Owes words holds b → status_of a ≡ status_of b
 one_status words holds a b tells owed again = elim (one_answer words holds a b tells owed again) [
   | inl same ↦ ap status_of same
   | inr checks ↦ ap status_of checks.one ∙ sym (ap status_of checks.other)
 ]
 
 -- a text isn't refused
-pub not_refused : (words : List (List ℕ)) (holds : List ℕ → Option (List ℕ)) (text line : List ℕ) (status : ℕ) → Tells words holds → Owes words holds (output text) → Owes words holds (refusal status line) → ⊥
+pub not_refused : (words : List (List ℕ)) (holds : List ℕ → Option (List ℕ)) (text line : List ℕ) (status : ℕ) → TellsTexts words holds → Owes words holds (output text) → Owes words holds (refusal status line) → ⊥
 not_refused words holds text line status tells owed again = elim (one_answer words holds (output text) (refusal status line) tells owed again) [
   | inl same ↦ no same
   | inr checks ↦ no (sym checks.other)

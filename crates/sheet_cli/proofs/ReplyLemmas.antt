@@ -2,18 +2,18 @@
 use Rattle.std.proofs.Common.{◌≡◌, ◌≢◌, ℕ, suc, ◌+◌, ◌*◌, ◌<◌, ◌≤◌, inl, inr, List, [], ◌∷◌, ◌++◌, length, length-append, refl, sym, subst, ap, arith}
 use Rattle.std.specs.Prelude.{max, fold, Option, IfSome, Result, Ok, Err, IfOk, Some, None, string_bytes}
 use Rattle.sheet_refs.specs.Cells.{Corners}
-use Rattle.csv_sheet.specs.Results.{IsResult}
+use Rattle.csv_sheet.specs.Results.{IsSheetResult}
 use Rattle.csv_sheet.specs.declared.refused.SheetRefused.{SheetRefused}
 use Rattle.csv_sheet.specs.declared.refused.SheetRefused.TheVariants as why
 use Rattle.csv_sheet.specs.Records.{Rows, all_fields, longest}
 use Rattle.sheet_model.specs.Labels.{IsTable}
 use Rattle.sheet_model.specs.Sheets.{SheetValue, with_labels}
 use Rattle.sheet_model.proofs.TableLemmas.{adds_few}
-use Rattle.edit_script.specs.Scripts.{ScriptValue, IsResult as IsScriptResult}
+use Rattle.edit_script.specs.Scripts.{ScriptValue, IsScriptResult}
 use Rattle.edit_script.specs.declared.refused.ScriptRefused.{ScriptRefused}
 use Rattle.edit_script.specs.declared.script.Mode.TheVariants.{Play}
 use Rattle.edit_script.specs.declared.refused.ScriptRefused.TheVariants as script_why
-use Rattle.sheet_cli.specs.Answers.{Answer, Answers, AnswersWindow, AnswersCheck, AnswersPlay, Gives, HasNoScript, IsDue, IsPlayed, Owes, HasNoSheet, status_of}
+use Rattle.sheet_cli.specs.Answers.{Answer, AnswersRequest, AnswersWindow, AnswersCheck, AnswersPlay, GivesSheet, HasNoScript, IsDue, IsPlayed, Owes, HasNoSheet, status_of}
 use Rattle.sheet_cli.specs.Answers.Answer.{output, refusal}
 use Rattle.sheet_cli.specs.Answers.AnswersWindow.{written, outside, no_sheet}
 use Rattle.sheet_cli.specs.Answers.AnswersCheck.{listed, unlisted}
@@ -74,7 +74,7 @@ long_sheet text reply past is holds name stands = record {
   reply_is = is;
 }
 
-pub unread_sheet : (text : List ℕ) (cause : SheetRefused) (reply : Reply) → answer_of reply ≡ refusal 3 (refused_line cause) → cause ≢ why.Memory → (no_sheet_for cause ≢ no_sheet_for why.Memory → IsResult text (no_sheet_for cause)) → HasSheet text (Err reply)
+pub unread_sheet : (text : List ℕ) (cause : SheetRefused) (reply : Reply) → answer_of reply ≡ refusal 3 (refused_line cause) → cause ≢ why.Memory → (no_sheet_for cause ≢ no_sheet_for why.Memory → IsSheetResult text (no_sheet_for cause)) → HasSheet text (Err reply)
 unread_sheet text cause reply is known gives holds name stands = record {
   status = 3;
   line = refused_line cause;
@@ -138,12 +138,12 @@ rose_from before mid after grown (inl more) = inl (omega (arith, grown, more))
 rose_from before mid after grown (inr most) = inr most
 
 -- the reply over a sheet is one to the words
-pub play_replies : (holds : List ℕ → Option (List ℕ)) (name script : List ℕ) (sheet : SheetValue) (before mid after : ℕ) (reply : Reply) → before ≤ mid → Gives holds name (Ok sheet) → RepliesScript holds sheet script mid after reply → RepliesTo (of_play name script) holds before after reply
+pub play_replies : (holds : List ℕ → Option (List ℕ)) (name script : List ℕ) (sheet : SheetValue) (before mid after : ℕ) (reply : Reply) → before ≤ mid → GivesSheet holds name (Ok sheet) → RepliesScript holds sheet script mid after reply → RepliesTo (of_play name script) holds before after reply
 play_replies holds name script sheet before mid after reply grown gives (inl miss) = inl (record { name = script; due = inr (refl, record { sheet = sheet; gives = gives }); rose = rose_from before mid after grown miss.rose; reply_is = miss.reply_is })
 play_replies holds name script sheet before mid after reply grown gives (inr plays) = inr (plays name gives)
 
 -- a sheet that was read has no more labels than cells
-labels_few : (holds : List ℕ → Option (List ℕ)) (name : List ℕ) (sheet : SheetValue) → Gives holds name (Ok sheet) → length sheet.labels ≤ 1048576
+labels_few : (holds : List ℕ → Option (List ℕ)) (name : List ℕ) (sheet : SheetValue) → GivesSheet holds name (Ok sheet) → length sheet.labels ≤ 1048576
 labels_few holds name sheet gives =
     let is = gives.gives.answer in
     let added = adds_few (all_fields gives.gives.rows) [] sheet.labels is.labels in
@@ -155,7 +155,7 @@ labels_few holds name sheet gives =
     at_most : (n : ℕ) → ((1048576 < n) → ⊥) → n ≤ 1048576
     at_most n not = omega (arith, not)
 
-pub room_for_labels : (holds : List ℕ → Option (List ℕ)) (name : List ℕ) (sheet : SheetValue) → Gives holds name (Ok sheet) → length sheet.labels ≤ 3000000000
+pub room_for_labels : (holds : List ℕ → Option (List ℕ)) (name : List ℕ) (sheet : SheetValue) → GivesSheet holds name (Ok sheet) → length sheet.labels ≤ 3000000000
 room_for_labels holds name sheet gives = (let few = labels_few holds name sheet gives in omega (arith, few))
 
 -- ---- of words
@@ -192,7 +192,7 @@ check_status : (holds : List ℕ → Option (List ℕ)) (name : List ℕ) (answe
 check_status holds name _ status line is (listed _ _ _ _) = absurd (no_output is)
 check_status holds name _ status line is (unlisted given said none) = subst IsRefusedStatus (same_status is) (cause_status holds name given said none)
 
-refusal_of_request : (holds : List ℕ → Option (List ℕ)) (request : Request) (status : ℕ) (line : List ℕ) → Answers holds request (refusal status line) → IsRefusedStatus status
+refusal_of_request : (holds : List ℕ → Option (List ℕ)) (request : Request) (status : ℕ) (line : List ℕ) → AnswersRequest holds request (refusal status line) → IsRefusedStatus status
 refusal_of_request holds (of_window command name window) status line given = window_status holds command name window (refusal status line) status line refl given
 refusal_of_request holds (of_check name) status line given = check_status holds name (refusal status line) status line refl given
 refusal_of_request holds (of_play name script) status line given = play_status holds name script (refusal status line) status line refl given

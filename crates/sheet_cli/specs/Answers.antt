@@ -4,9 +4,9 @@ use Rattle.std.specs.declared.option.Option.{Option}
 use Rattle.sheet_refs.specs.Cells.{Corners}
 use Rattle.sheet_model.specs.Labels.{IsTable}
 use Rattle.sheet_model.specs.Sheets.{SheetValue, with_labels}
-use Rattle.csv_sheet.specs.Results.{IsResult}
+use Rattle.csv_sheet.specs.Results.{IsSheetResult}
 use Rattle.csv_sheet.specs.declared.refused.SheetRefused.{SheetRefused}
-use Rattle.edit_script.specs.Scripts.{ScriptValue, IsResult as IsScriptResult}
+use Rattle.edit_script.specs.Scripts.{ScriptValue, IsScriptResult}
 use Rattle.edit_script.specs.declared.refused.ScriptRefused.{ScriptRefused}
 use Rattle.edit_script.specs.declared.script.Mode.TheVariants.{Play}
 use Rattle.edit_script.specs.declared.script.Step.{Step}
@@ -43,17 +43,17 @@ pub record IsTextOf (holds : Texts) (name text : List ℕ) : Type 0 where
   pub short : IfSome (holds name) (λ t. length t ≤ 16777216)
 
 -- what the text under a name gives: a sheet, or why there is none
-pub record Gives (holds : Texts) (name : List ℕ) (result : Result SheetValue SheetRefused) : Type 0 where
+pub record GivesSheet (holds : Texts) (name : List ℕ) (result : Result SheetValue SheetRefused) : Type 0 where
   pub text : List ℕ
   pub stands : IsTextOf holds name text
-  pub gives : IsResult text result
+  pub gives : IsSheetResult text result
 
 -- there is no sheet under a name, and this says why
 pub data HasNoSheet (holds : Texts) (name : List ℕ) : ℕ → List ℕ → Type 0 where
   -- its text is past the limit
   too_long : IfSome (holds name) (λ t. 16777216 < length t) → HasNoSheet holds name 3 too_long_line
   -- its text is no sheet
-  refused : (why : SheetRefused) → Gives holds name (Err why) → HasNoSheet holds name 3 (refused_line why)
+  refused : (why : SheetRefused) → GivesSheet holds name (Err why) → HasNoSheet holds name 3 (refused_line why)
 
 -- what a command writes of a window of a sheet
 pub data Writes (sheet : SheetValue) (window : Corners) : WindowCommand → List ℕ → Type 0 where
@@ -67,10 +67,10 @@ pub data Writes (sheet : SheetValue) (window : Corners) : WindowCommand → List
 -- what a command about a window of the sheet under a name is answered
 pub data AnswersWindow (holds : Texts) (command : WindowCommand) (name : List ℕ) (window : Corners) : Answer → Type 0 where
   -- it writes what it writes of the sheet
-  written : (sheet : SheetValue) (text : List ℕ) → Gives holds name (Ok sheet) → IsWithinSheet window sheet
+  written : (sheet : SheetValue) (text : List ℕ) → GivesSheet holds name (Ok sheet) → IsWithinSheet window sheet
       → Writes sheet window command text → AnswersWindow holds command name window (output text)
   -- unless the window is not wholly in the sheet
-  outside : (sheet : SheetValue) → Gives holds name (Ok sheet) → ¬ IsWithinSheet window sheet
+  outside : (sheet : SheetValue) → GivesSheet holds name (Ok sheet) → ¬ IsWithinSheet window sheet
       → AnswersWindow holds command name window (refusal 2 outside_line)
   -- or there is no sheet
   no_sheet : (status : ℕ) (line : List ℕ) → HasNoSheet holds name status line
@@ -79,7 +79,7 @@ pub data AnswersWindow (holds : Texts) (command : WindowCommand) (name : List �
 -- what `check` is answered
 pub data AnswersCheck (holds : Texts) (name : List ℕ) : Answer → Type 0 where
   -- it lists edges that stand for the sheet's pairs
-  listed : (sheet : SheetValue) (text : List ℕ) → Gives holds name (Ok sheet) → ListsEdges sheet text
+  listed : (sheet : SheetValue) (text : List ℕ) → GivesSheet holds name (Ok sheet) → ListsEdges sheet text
       → AnswersCheck holds name (output text)
   -- or there is no sheet
   unlisted : (status : ℕ) (line : List ℕ) → HasNoSheet holds name status line
@@ -110,33 +110,33 @@ pub record IsPlayed (sheet : SheetValue) (steps : List Step) (text : List ℕ) :
 pub data AnswersPlay (holds : Texts) (name script_name : List ℕ) : Answer → Type 0 where
   -- it writes the reports of the script
   reported : (sheet : SheetValue) (labels : List (List ℕ)) (script : ScriptValue) (text : List ℕ)
-      → Gives holds name (Ok sheet) → GivesScript holds script_name sheet labels (Ok script)
+      → GivesSheet holds name (Ok sheet) → GivesScript holds script_name sheet labels (Ok script)
       → IsPlayed (with_labels sheet labels) script.steps text → AnswersPlay holds name script_name (output text)
   -- or there is no script
-  unscripted : (sheet : SheetValue) (status : ℕ) (line : List ℕ) → Gives holds name (Ok sheet)
+  unscripted : (sheet : SheetValue) (status : ℕ) (line : List ℕ) → GivesSheet holds name (Ok sheet)
       → HasNoScript holds script_name sheet status line → AnswersPlay holds name script_name (refusal status line)
   -- or there is no sheet
   unplayed : (status : ℕ) (line : List ℕ) → HasNoSheet holds name status line
       → AnswersPlay holds name script_name (refusal status line)
 
 -- what a request is answered
-abbrev pub Answers : Texts → Request → Answer → Type 0
-Answers holds (of_window command name window) = AnswersWindow holds command name window
-Answers holds (of_check name) = AnswersCheck holds name
-Answers holds (of_play name script) = AnswersPlay holds name script
+abbrev pub AnswersRequest : Texts → Request → Answer → Type 0
+AnswersRequest holds (of_window command name window) = AnswersWindow holds command name window
+AnswersRequest holds (of_check name) = AnswersCheck holds name
+AnswersRequest holds (of_play name script) = AnswersPlay holds name script
 
 -- what words are answered, over the texts of a shelf
 pub data Owes (words : List (List ℕ)) (holds : Texts) : Answer → Type 0 where
   -- words that are no command
   usage : AsksNothing words → Owes words holds (refusal 2 usage_line)
   -- words that ask for something
-  answers : (request : Request) (answer : Answer) → Asks words request → Answers holds request answer
+  answers : (request : Request) (answer : Answer) → Asks words request → AnswersRequest holds request answer
       → Owes words holds answer
 
 -- the text under a name is a sheet
 pub record HasGivenSheet (holds : Texts) (name : List ℕ) : Type 0 where
   pub sheet : SheetValue
-  pub gives : Gives holds name (Ok sheet)
+  pub gives : GivesSheet holds name (Ok sheet)
 
 -- the text under a name is due for a request: that of its sheet, or that of its script once the sheet is there
 abbrev pub IsDue : Texts → Request → List ℕ → Type 0
@@ -145,8 +145,8 @@ IsDue holds (of_check sheet) name = name ≡ sheet
 IsDue holds (of_play sheet script) name = (name ≡ sheet) ⊎ ((name ≡ script) × HasGivenSheet holds sheet)
 
 -- the shelf tells each text that the words name
-abbrev pub Tells : List (List ℕ) → Texts → Type 0
-Tells words holds =
+abbrev pub TellsTexts : List (List ℕ) → Texts → Type 0
+TellsTexts words holds =
     (request : Request) → Asks words request
     → All (λ name. (text : List ℕ) × (holds name ≡ Some text)) (texts_named request)
 
@@ -168,4 +168,4 @@ pub record AreOfCheck (words : List (List ℕ)) (a b : Answer) : Type 0 where
 abbrev pub OneAnswer : Type 0
 OneAnswer =
     (words : List (List ℕ)) (holds : Texts) (a b : Answer)
-    → Tells words holds → Owes words holds a → Owes words holds b → (a ≡ b) ⊎ AreOfCheck words a b
+    → TellsTexts words holds → Owes words holds a → Owes words holds b → (a ≡ b) ⊎ AreOfCheck words a b

@@ -1,8 +1,8 @@
 -- The lines that say why a run was refused. Each begins with the program's name and ends with a line feed.
 use Rattle.std.specs.Prelude.{ℕ, List, [], ◌∷◌, ◌++◌, codes}
-use Rattle.csv_sheet.specs.Results.{refusal_text}
+use Rattle.csv_sheet.specs.Results.{sheet_refusal_text}
 use Rattle.csv_sheet.specs.declared.refused.SheetRefused.{SheetRefused}
-use Rattle.edit_script.specs.Scripts.{refusal_text as script_refusal_text}
+use Rattle.edit_script.specs.Scripts.{script_refusal_text}
 use Rattle.edit_script.specs.declared.refused.ScriptRefused.{ScriptRefused}
 
 abbrev pub line_end : List ℕ
@@ -21,7 +21,7 @@ too_long_line = codes "antifreeze: sheet: text too long" ++ line_end
 
 -- why the text is no sheet
 abbrev pub refused_line : SheetRefused → List ℕ
-refused_line why = codes "antifreeze: " ++ (refusal_text why ++ line_end)
+refused_line why = codes "antifreeze: " ++ (sheet_refusal_text why ++ line_end)
 
 abbrev pub long_script_line : List ℕ
 long_script_line = codes "antifreeze: script: text too long" ++ line_end

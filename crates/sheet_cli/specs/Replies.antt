@@ -3,7 +3,7 @@ use Rattle.std.specs.Prelude.{◌≡◌, ℕ, List, ◌⊎◌, Result, Ok, Err, 
 use Rattle.sheet_refs.specs.Cells.{Corners}
 use Rattle.sheet_model.specs.Sheets.{SheetValue}
 use Rattle.sheet_io.specs.Faults.{Rose}
-use Rattle.sheet_cli.specs.Answers.{Answer, Answers, AnswersPlay, AnswersWindow, Gives, HasNoSheet, IsDue, IsTextOf, Owes, Texts}
+use Rattle.sheet_cli.specs.Answers.{Answer, AnswersRequest, AnswersPlay, AnswersWindow, GivesSheet, HasNoSheet, IsDue, IsTextOf, Owes, Texts}
 use Rattle.sheet_cli.specs.Answers.Answer.{output, refusal}
 use Rattle.sheet_cli.specs.Lines.{read_failed_line}
 use Rattle.sheet_cli.specs.Requests.{Request}
@@ -26,7 +26,7 @@ pub record LacksSheet (holds : Texts) (name : List ℕ) (reply : Reply) : Type 0
 
 -- the sheet that the text under a name gives, or the reply that says why it gives none
 abbrev pub HasFound : Texts → List ℕ → Result SheetValue Reply → Type 0
-HasFound holds name (Ok sheet) = Gives holds name (Ok sheet)
+HasFound holds name (Ok sheet) = GivesSheet holds name (Ok sheet)
 HasFound holds name (Err reply) = LacksSheet holds name reply
 
 -- the same of a text, under whatever name it stands
@@ -36,13 +36,13 @@ HasSheet text found = (holds : Texts) (name : List ℕ) → IsTextOf holds name 
 -- a reply to a command about a window of a sheet, under whatever name the sheet's text stands
 abbrev pub RepliesWindow : SheetValue → WindowCommand → Corners → Reply → Type 0
 RepliesWindow sheet command window reply =
-    (holds : Texts) (name : List ℕ) → Gives holds name (Ok sheet)
+    (holds : Texts) (name : List ℕ) → GivesSheet holds name (Ok sheet)
     → AnswersWindow holds command name window (answer_of reply)
 
 -- a reply to `play` over a sheet and a script's text, under whatever names these stand
 abbrev pub RepliesPlay : SheetValue → List ℕ → Reply → Type 0
 RepliesPlay sheet text reply =
-    (holds : Texts) (name script : List ℕ) → Gives holds name (Ok sheet) → IsTextOf holds script text
+    (holds : Texts) (name script : List ℕ) → GivesSheet holds name (Ok sheet) → IsTextOf holds script text
     → AnswersPlay holds name script (answer_of reply)
 
 -- a text that is due for a request was not fetched
@@ -61,17 +61,17 @@ pub record IsMissed (name : List ℕ) (before after : ℕ) (reply : Reply) : Typ
 abbrev pub RepliesScript : Texts → SheetValue → List ℕ → ℕ → ℕ → Reply → Type 0
 RepliesScript holds sheet script before after reply =
     IsMissed script before after reply
-    ⊎ ((name : List ℕ) → Gives holds name (Ok sheet) → AnswersPlay holds name script (answer_of reply))
+    ⊎ ((name : List ℕ) → GivesSheet holds name (Ok sheet) → AnswersPlay holds name script (answer_of reply))
 
 -- the sheet under a name on a shelf whose faults went from a number to another, or the reply that says why there is none
 abbrev pub HasFetched : Texts → List ℕ → ℕ → ℕ → Result SheetValue Reply → Type 0
-HasFetched holds name before after (Ok sheet) = Gives holds name (Ok sheet)
+HasFetched holds name before after (Ok sheet) = GivesSheet holds name (Ok sheet)
 HasFetched holds name before after (Err reply) = IsMissed name before after reply ⊎ LacksSheet holds name reply
 
 -- a reply to a request over a shelf, whose faults went from a number to another
 abbrev pub RepliesTo : Request → Texts → ℕ → ℕ → Reply → Type 0
 RepliesTo request holds before after reply =
-    IsReadFailure request holds before after reply ⊎ Answers holds request (answer_of reply)
+    IsReadFailure request holds before after reply ⊎ AnswersRequest holds request (answer_of reply)
 
 -- the words ask for something of which a text was not fetched
 pub record IsUnread (words : List (List ℕ)) (holds : Texts) (before after status : ℕ) (line : List ℕ) : Type 0 where

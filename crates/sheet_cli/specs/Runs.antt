@@ -4,7 +4,7 @@ use Rattle.std.specs.declared.option.Option.{Option}
 use Rattle.std.specs.Io.KnownBytes.{Appends}
 use Rattle.sheet_io.specs.Faults.{Rose}
 use Rattle.sheet_io.specs.Sink.{AppendsPrefix}
-use Rattle.sheet_cli.specs.Answers.{Answer, IsDue, Owes, Tells, Texts, status_of}
+use Rattle.sheet_cli.specs.Answers.{Answer, IsDue, Owes, TellsTexts, Texts, status_of}
 use Rattle.sheet_cli.specs.Answers.Answer.{output, refusal}
 use Rattle.sheet_cli.specs.Lines.{read_failed_line}
 use Rattle.sheet_cli.specs.Requests.{Request}
@@ -53,10 +53,10 @@ pub record IsUnfetched (words : List (List ℕ)) (holds : Texts) (Noted : List �
 -- where the shelf tells the texts that the words name, the status is that of what is owed, or memory ran out
 abbrev pub IsComplete : List (List ℕ) → Texts → ℕ → Type 0
 IsComplete words holds status =
-    (answer : Answer) → Tells words holds → Owes words holds answer → (status ≡ status_of answer) ⊎ (status ≡ 7)
+    (answer : Answer) → TellsTexts words holds → Owes words holds answer → (status ≡ status_of answer) ⊎ (status ≡ 7)
 
 -- the same of refusals alone
 abbrev pub RefusesAll : List (List ℕ) → Texts → ℕ → Type 0
 RefusesAll words holds status =
-    (given : ℕ) (line : List ℕ) → Tells words holds → Owes words holds (refusal given line)
+    (given : ℕ) (line : List ℕ) → TellsTexts words holds → Owes words holds (refusal given line)
     → (status ≡ given) ⊎ (status ≡ 7)

@@ -1,6 +1,6 @@
 ghost use Rattle.std.specs.Prelude.{◌≡◌, ◌≢◌, ◌≤◌, length, All, Err, IfOk};
 ghost use Rattle.edit_script.specs.declared.refused.ScriptRefused.TheVariants as script_refused;
-ghost use Rattle.edit_script.specs.Scripts.{IsResult};
+ghost use Rattle.edit_script.specs.Scripts.{IsScriptResult};
 ghost use Rattle.edit_script.specs.declared.script.Mode.TheVariants.{Play};
 ghost use Rattle.sheet_model.specs.Labels.{IsTable};
 ghost use Rattle.sheet_model.specs.Sheets.{with_labels};
@@ -69,7 +69,7 @@ fn script_of(alloc: Global, text: &[u8], sheet: &mut Sheet) -> Result<Script, Sc
     requires short { length text.now ≤ 16777216 }
     requires few { length sheet.old.labels ≤ 3000000000 }
     ensures result { result ≢ Err script_refused.Memory
-        → IsResult Play sheet.old.sizes sheet.old.labels sheet.new.labels text.now result }
+        → IsScriptResult Play sheet.old.sizes sheet.old.labels sheet.new.labels text.now result }
     ensures kept { sheet.new ≡ with_labels sheet.old sheet.new.labels }
     ensures table { IsTable sheet.new.labels }
 {

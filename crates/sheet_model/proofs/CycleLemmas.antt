@@ -11,9 +11,9 @@ use Rattle.sheet_refs.specs.Sizes.{is_inside, place_of, cell_count}
 use Rattle.sheet_model.specs.Sheets.{SheetValue}
 use Rattle.formula_eval.specs.Meaning.{is_circular}
 use Rattle.sheet_model.specs.Values.{step, IsInput}
-use Rattle.sheet_model.specs.Words.{State, Unseen, Open, Known, is_plain_state}
+use Rattle.sheet_model.specs.Words.{CellState, Unseen, Open, Known, is_plain_state}
 use Rattle.sheet_model.specs.declared.walk.Frame.{Frame}
-use Rattle.sheet_model.specs.Walks.{is_known, is_unseen, known_count, work_left, closed_state, IsWalk, KeepsSeen, IsWaiting, IsClosing}
+use Rattle.sheet_model.specs.Walks.{is_known, is_unseen, known_count, work_left, closed_state, IsWalkOf, KeepsSeen, IsWaiting, IsClosing}
 use Rattle.sheet_model.proofs.BudgetLemmas.{circular_closed, circular_always}
 use Rattle.sheet_model.proofs.ListLemmas.{slice_get-append, slice_get-push, slice_get-pushed, count_by-map, count_by-map-le, set_same, map_same}
 use Rattle.sheet_refs.proofs.Places.{place-lt, place_same}
@@ -22,23 +22,23 @@ use Rattle.sheet_model.proofs.WalkLemmas.{settles_later}
 use Rattle.sheet_model.proofs.TurnLemmas.{read_set}
 
 -- the state of a cell of the rectangle
-state_at : (states : List State) (p n : ℕ) → length states ≡ n → p < n → (s : State) × (slice_get states p ≡ Some s)
+state_at : (states : List CellState) (p n : ℕ) → length states ≡ n → p < n → (s : CellState) × (slice_get states p ≡ Some s)
 state_at states p n count lt = elim (slice_get_cases states p).1 [ inl there ↦ (there.0, there.2) | inr past ↦ absurd (let le : length states ≤ p = past.0 in omega arith) ]
 
 -- where a state stands after closing, it came from one
-closed_read : (states : List State) (p : ℕ) (t : State) → slice_get (map closed_state states) p ≡ Some t → (s : State) × (slice_get states p ≡ Some s) × (closed_state s ≡ t)
+closed_read : (states : List CellState) (p : ℕ) (t : CellState) → slice_get (map closed_state states) p ≡ Some t → (s : CellState) × (slice_get states p ≡ Some s) × (closed_state s ≡ t)
 closed_read states p t at =
     elim (slice_get_cases states p).1 [
       | inl there ↦ (there.0, there.2, (let e = sym (slice_get-map closed_state states p) ∙ at in let f = ap (option_map closed_state) there.2 in cc))
       | inr past ↦ absurd (let e = sym (slice_get-map closed_state states p) ∙ at in let f = ap (option_map closed_state) past.1 in cc)
     ]
 
-closed-not_open : (s : State) → closed_state s ≡ Open → ⊥
+closed-not_open : (s : CellState) → closed_state s ≡ Open → ⊥
 closed-not_open Unseen e = cc
 closed-not_open Open e = cc
 closed-not_open (Known v) e = cc
 
-module _ (sheet : SheetValue) (states : List State) (frames : List Frame) (walk : IsWalk sheet states frames) where
+module _ (sheet : SheetValue) (states : List CellState) (frames : List Frame) (walk : IsWalkOf sheet states frames) where
   -- an open cell has an open input, or a circular one
   next_open : (cell : Position) → IsWaiting sheet states frames cell → slice_get states (place_of sheet.sizes cell) ≢ Some Unseen → (c : Position) → IsTrue (is_inside sheet.sizes c) × (slice_get states (place_of sheet.sizes c) ≡ Some Open) → (d : Position) × IsInput sheet c d × ((IsTrue (is_inside sheet.sizes d) × (slice_get states (place_of sheet.sizes d) ≡ Some Open)) ⊎ IsCircular (Error Circ) (step sheet) d)
   next_open cell waiting seen c is_open =
@@ -53,10 +53,10 @@ module _ (sheet : SheetValue) (states : List State) (frames : List Frame) (walk 
       same_cell : place.1.cell ≡ c
       same_cell = place_same sheet.sizes place.1.cell c (walk.inside place.0 place.1 place.2) is_open.0 place.3
 
-      state : (s : State) × (slice_get states (place_of sheet.sizes cell) ≡ Some s)
+      state : (s : CellState) × (slice_get states (place_of sheet.sizes cell) ≡ Some s)
       state = state_at states (place_of sheet.sizes cell) (cell_count sheet.sizes) walk.count (place-lt sheet.sizes cell waiting.inside)
 
-      stop_here : (s : State) → slice_get states (place_of sheet.sizes cell) ≡ Some s → is_plain_state s ≡ false
+      stop_here : (s : CellState) → slice_get states (place_of sheet.sizes cell) ≡ Some s → is_plain_state s ≡ false
       stop_here s at = ap is_plain_state (sym (get_or_from_slice_get states (place_of sheet.sizes cell) s Unseen at)) ∙ waiting.stop
 
       circular : (v : Value) → not (is_circular v) ≡ false → v ≡ Error Circ
@@ -66,7 +66,7 @@ module _ (sheet : SheetValue) (states : List State) (frames : List Frame) (walk 
           go true h = refl
           go false h = cc
 
-      go : (s : State) → slice_get states (place_of sheet.sizes cell) ≡ Some s → is_plain_state s ≡ false → (IsTrue (is_inside sheet.sizes cell) × (slice_get states (place_of sheet.sizes cell) ≡ Some Open)) ⊎ IsCircular (Error Circ) (step sheet) cell
+      go : (s : CellState) → slice_get states (place_of sheet.sizes cell) ≡ Some s → is_plain_state s ≡ false → (IsTrue (is_inside sheet.sizes cell) × (slice_get states (place_of sheet.sizes cell) ≡ Some Open)) ⊎ IsCircular (Error Circ) (step sheet) cell
       go Unseen at stop = absurd (seen at)
       go Open at stop = inl (waiting.inside, at)
       go (Known v) at stop =
@@ -84,7 +84,7 @@ module _ (sheet : SheetValue) (states : List State) (frames : List Frame) (walk 
       (next_open cell waiting seen) c (inside, at)
 
   -- the walk goes on with all open cells known to be circular
-  pub walk_close : (cell : Position) → IsWaiting sheet states frames cell → slice_get states (place_of sheet.sizes cell) ≢ Some Unseen → IsWalk sheet (map closed_state states) []
+  pub walk_close : (cell : Position) → IsWaiting sheet states frames cell → slice_get states (place_of sheet.sizes cell) ≢ Some Unseen → IsWalkOf sheet (map closed_state states) []
   walk_close cell waiting seen = record {
     count = length-map states closed_state ∙ walk.count;
     settled = λ c v inside at.
@@ -100,12 +100,12 @@ module _ (sheet : SheetValue) (states : List State) (frames : List Frame) (walk 
       more_known : known_count states ≤ known_count (map closed_state states)
       more_known = count_by-map-le is_known closed_state states keeps
         where
-          keeps : (s : State) → is_known s ≡ true → is_known (closed_state s) ≡ true
+          keeps : (s : CellState) → is_known s ≡ true → is_known (closed_state s) ≡ true
           keeps Unseen e = e
           keeps Open e = refl
           keeps (Known v) e = refl
 
-      settled_before : (c : Position) (v : Value) → IsTrue (is_inside sheet.sizes c) → (s : State) → slice_get states (place_of sheet.sizes c) ≡ Some s → closed_state s ≡ Known v → SettlesAt (Error Circ) (step sheet) (known_count (map closed_state states)) c v
+      settled_before : (c : Position) (v : Value) → IsTrue (is_inside sheet.sizes c) → (s : CellState) → slice_get states (place_of sheet.sizes c) ≡ Some s → closed_state s ≡ Known v → SettlesAt (Error Circ) (step sheet) (known_count (map closed_state states)) c v
       settled_before c v inside Unseen at e = absurd (cc)
       settled_before c v inside Open at e = let same : Error Circ ≡ v = cc in λ n le. open_circular cell waiting seen c inside at n ∙ same
       settled_before c v inside (Known u) at e =
@@ -125,7 +125,7 @@ module _ (sheet : SheetValue) (states : List State) (frames : List Frame) (walk 
   work_close some =
       let same = count_by-map is_unseen closed_state states unseen_same in omega arith
     where
-      unseen_same : (s : State) → is_unseen (closed_state s) ≡ is_unseen s
+      unseen_same : (s : CellState) → is_unseen (closed_state s) ≡ is_unseen s
       unseen_same Unseen = refl
       unseen_same Open = refl
       unseen_same (Known v) = refl
@@ -133,14 +133,14 @@ module _ (sheet : SheetValue) (states : List State) (frames : List Frame) (walk 
   pub seen_close : KeepsSeen states (map closed_state states)
   seen_close p unseen = let was = closed_read states p Unseen unseen in go was.0 was.1 was.2
     where
-      go : (s : State) → slice_get states p ≡ Some s → closed_state s ≡ Unseen → slice_get states p ≡ Some Unseen
+      go : (s : CellState) → slice_get states p ≡ Some s → closed_state s ≡ Unseen → slice_get states p ≡ Some Unseen
       go Unseen at e = at
       go Open at e = absurd (cc)
       go (Known v) at e = absurd (cc)
 
 -- closing goes on with the cell of one frame closed
-module _ (sheet : SheetValue) (states : List State) (rest : List Frame) (f : Frame) (closing : IsClosing sheet states (rest ++ f ∷ [])) where
-  here : (s : State) × (slice_get states (place_of sheet.sizes f.cell) ≡ Some s) × (closed_state s ≡ Known (Error Circ))
+module _ (sheet : SheetValue) (states : List CellState) (rest : List Frame) (f : Frame) (closing : IsClosing sheet states (rest ++ f ∷ [])) where
+  here : (s : CellState) × (slice_get states (place_of sheet.sizes f.cell) ≡ Some s) × (closed_state s ≡ Known (Error Circ))
   here = closed_read states (place_of sheet.sizes f.cell) (Known (Error Circ)) (closing.closes (length rest) f (slice_get-push rest f))
 
   pub closing_same : map closed_state (set states (place_of sheet.sizes f.cell) (Known (Error Circ))) ≡ map closed_state states
@@ -164,10 +164,10 @@ module _ (sheet : SheetValue) (states : List State) (rest : List Frame) (f : Fra
     closes = λ i g at. ap (λ states. slice_get states (place_of sheet.sizes g.cell)) closing_same ∙ closing.closes i g (slice_get-append rest (f ∷ []) i g at);
   }
 
-pub closing_end : (sheet : SheetValue) (states : List State) → IsClosing sheet states [] → states ≡ map closed_state states
+pub closing_end : (sheet : SheetValue) (states : List CellState) → IsClosing sheet states [] → states ≡ map closed_state states
 closing_end sheet states closing = sym (map_same closed_state states go)
   where
-    go : (i : ℕ) (s : State) → slice_get states i ≡ Some s → closed_state s ≡ s
+    go : (i : ℕ) (s : CellState) → slice_get states i ≡ Some s → closed_state s ≡ s
     go i Unseen at = refl
     go i Open at = absurd (let l = closing.listed i at in let no = l.2 in cc)
     go i (Known v) at = refl

@@ -14,7 +14,7 @@ use Rattle.value_core.specs.Conversions.{never_empty}
 use Rattle.formula_syntax.specs.Tree.{references_of}
 use Rattle.formula_eval.specs.Inputs.{within}
 use Rattle.formula_eval.specs.Meaning.{is_circular, has_circular, meaning, IsNamedBy}
-use Rattle.sheet_model.specs.Budget.{IsHonest, StandsIn}
+use Rattle.sheet_model.specs.Budget.{HandsOnCircular, StandsIn}
 use Rattle.sheet_model.specs.Sheets.{SheetValue, ContentValue, Constant, Computed, IsWritten, IsSheet, content_of}
 use Rattle.sheet_model.specs.Values.{step_content, step, content_references, IsInput}
 use Rattle.formula_eval.proofs.CircularMeaning.{value_plain}
@@ -71,7 +71,7 @@ module _ (sizes : Sizes) (values : Position → Value) where
           absurd (let no : is_circular (Error Circ) ≡ false = ap is_circular (sym here) ∙ value_plain (within sizes values) formula fits none in cc)
 
 module _ (sheet : SheetValue) where
-  pub step_honest : IsSheet sheet → IsHonest (IsInput sheet) (Error Circ) (step sheet)
+  pub step_honest : IsSheet sheet → HandsOnCircular (IsInput sheet) (Error Circ) (step sheet)
   step_honest is c values same =
       let (cell, named, inside, circular) = content_honest sheet.sizes values (content_of sheet c) (written_at sheet is c) same in
       (cell, record { named = named; inside = inside }, circular)

@@ -3,18 +3,18 @@ use Rattle.std.proofs.Common.{◌≡◌, ℕ, suc, ◌+◌, ◌<◌, ◌≤◌, 
 use Rattle.std.proofs.lemmas.Option.{slice_get_within}
 use Rattle.sheet_refs.specs.Cells.{Position, IsIn}
 use Rattle.formula_eval.specs.Meaning.{IsNamedBy}
-use Rattle.sheet_model.specs.Parts.{IsAt, IsLeft, IsPartOf, IsPart, AddsParts, IsStop, LooksOn}
+use Rattle.sheet_model.specs.Parts.{IsAt, IsLeftInParts, IsPartOf, IsPartOfRectangle, AddsParts, IsStopInParts, LooksOn}
 use Rattle.sheet_model.specs.Sheets.{SheetValue, content_of}
 use Rattle.sheet_model.specs.Values.{content_references, IsInput}
 use Rattle.sheet_model.specs.Walks.{BelowLater, HasParts, IsWaiting}
-use Rattle.sheet_model.specs.Words.{State, is_plain_state, is_plain}
+use Rattle.sheet_model.specs.Words.{CellState, is_plain_state, is_plain}
 use Rattle.sheet_model.specs.declared.parts.Part.{Part}
 use Rattle.sheet_model.specs.declared.walk.Frame.{Frame}
 use Rattle.sheet_model.proofs.ListLemmas.{slice_get-append, slice_get-push, slice_get-pushed}
 use Rattle.sheet_model.proofs.PartLemmas.{slice_get-either, left_before, left_behind}
 use Rattle.sheet_model.proofs.WalkLemmas.{plain_kept}
 
-module _ (sheet : SheetValue) (states : List State) where
+module _ (sheet : SheetValue) (states : List CellState) where
   -- nothing is left where no cell is open
   pub parts_none : HasParts sheet states [] []
   parts_none = record {
@@ -24,7 +24,7 @@ module _ (sheet : SheetValue) (states : List State) where
   }
 
   -- a write to a cell that evaluation couldn't read past
-  pub parts_set : (frames : List Frame) (parts : List Part) (p : ℕ) (s t : State) → slice_get states p ≡ Some s → is_plain_state s ≡ false → HasParts sheet states frames parts → HasParts sheet (set states p t) frames parts
+  pub parts_set : (frames : List Frame) (parts : List Part) (p : ℕ) (s t : CellState) → slice_get states p ≡ Some s → is_plain_state s ≡ false → HasParts sheet states frames parts → HasParts sheet (set states p t) frames parts
   parts_set frames parts p s t at not_plain has = record {
     are_parts = λ k part at_k. (let is = has.are_parts k part at_k in record { inside = is.inside; passed = λ j cell less at_j. kept cell (is.passed j cell less at_j) });
     passed = λ i f input at_i is_input. elim (has.passed i f input at_i is_input) [ inl plain ↦ inl (kept input plain) | inr left ↦ inr left ];
@@ -59,7 +59,7 @@ module _ (sheet : SheetValue) (states : List State) where
     are_parts = λ k part at. elim (slice_get-either old adds.added k part (rw adds.behind at at)) [ inl here ↦ has.are_parts k part here | inr there ↦ new_part part (adds.parts there.0 part there.2) ];
     passed = λ i f input at is_input. elim (slice_get-pushed frames opened i f at) [
       | inl before ↦ elim (has.passed i f input before is_input) [ inl plain ↦ inl plain | inr left ↦ inr (rw adds.behind (left_before old adds.added f.first input left)) ]
-      | inr last ↦ inr (subst (λ (g : Frame). IsLeft new g.first input) last.1 (rw adds.behind (left_behind old adds.added (length old) input (omega arith) (adds.complete input (here last.1 is_input).named is_input.inside))))
+      | inr last ↦ inr (subst (λ (g : Frame). IsLeftInParts new g.first input) last.1 (rw adds.behind (left_behind old adds.added (length old) input (omega arith) (adds.complete input (here last.1 is_input).named is_input.inside))))
     ];
     named = λ i f k input at from below is_at.
         elim (slice_get-either old adds.added k is_at.part (rw adds.behind at is_at.listed)) [
@@ -80,7 +80,7 @@ module _ (sheet : SheetValue) (states : List State) where
       here : {f : Frame} {input : Position} → opened ≡ f → IsInput sheet f.cell input → IsInput sheet cell input
       here {f} {input} same is_input = subst (λ (c : Position). IsInput sheet c input) (ap (λ (g : Frame). g.cell) (sym same)) is_input
 
-      new_part : (part : Part) → IsPartOf sheet.sizes (λ c. IsNamedBy (content_references (content_of sheet cell)) c) part → IsPart sheet.sizes states part
+      new_part : (part : Part) → IsPartOf sheet.sizes (λ c. IsNamedBy (content_references (content_of sheet cell)) c) part → IsPartOfRectangle sheet.sizes states part
       new_part part is = record { inside = is.inside; passed = λ k c less at. absurd (let none = is.next in omega arith) }
 
       added : (input : Position) (part : Part) (j : ℕ) → slice_get adds.added j ≡ Some part → IsIn input part.range → IsInput sheet cell input
@@ -110,7 +110,7 @@ module _ (sheet : SheetValue) (states : List State) where
   ]
 
   -- the newest open cell waits for the cell at which a look stops
-  pub waits_for : (frames : List Frame) (parts : List Part) (i : ℕ) (f : Frame) (cell : Position) → slice_get frames i ≡ Some f → suc i ≡ length frames → HasParts sheet states frames parts → IsStop sheet.sizes states parts f.first cell → IsWaiting sheet states frames cell
+  pub waits_for : (frames : List Frame) (parts : List Part) (i : ℕ) (f : Frame) (cell : Position) → slice_get frames i ≡ Some f → suc i ≡ length frames → HasParts sheet states frames parts → IsStopInParts sheet.sizes states parts f.first cell → IsWaiting sheet states frames cell
   waits_for frames parts i f cell at end has stop = record {
     newest = λ j g at_j end_j.
         let same_place : j ≡ i = omega (arith, end, end_j) in

@@ -6,16 +6,16 @@ use Rattle.std.proofs.lemmas.Option.{slice_get_within, slice_get_read}
 use Rattle.sheet_refs.specs.Cells.{Position, IsIn, cells_of}
 use Rattle.sheet_refs.specs.declared.sizes.Sizes.{Sizes}
 use Rattle.sheet_model.specs.declared.parts.Part.{Part}
-use Rattle.sheet_model.specs.Parts.{IsAt, IsPart, AreParts, part_at, IsStop, WasPart, LooksOn}
-use Rattle.sheet_model.specs.Words.{State, is_plain}
+use Rattle.sheet_model.specs.Parts.{IsAt, IsPartOfRectangle, AreParts, part_at, IsStopInParts, WasPart, LooksOn}
+use Rattle.sheet_model.specs.Words.{CellState, is_plain}
 use Rattle.sheet_model.proofs.ListLemmas.{slice_get-append, slice_get-push, slice_get-pushed}
 
-module _ (sizes : Sizes) (states : List State) where
+module _ (sizes : Sizes) (states : List CellState) where
   pub looks_init : (parts : List Part) → AreParts sizes states parts → LooksOn sizes states parts parts
   looks_init parts are = record { are_parts = are; same = λ k part at. record { before = part; listed = at; range = refl }; left = λ k cell at. inr at }
 
   -- one more cell of a part can be read past
-  pub part_more : (part : Part) (place : ℕ) (cell : Position) → IsPart sizes states (part_at part place) → slice_get (cells_of part.range) place ≡ Some cell → IsTrue (is_plain sizes states cell) → IsPart sizes states (part_at part (place + 1))
+  pub part_more : (part : Part) (place : ℕ) (cell : Position) → IsPartOfRectangle sizes states (part_at part place) → slice_get (cells_of part.range) place ≡ Some cell → IsTrue (is_plain sizes states cell) → IsPartOfRectangle sizes states (part_at part (place + 1))
   part_more part place cell is at plain = record {
     inside = is.inside;
     passed = λ k c less at_k.
@@ -39,7 +39,7 @@ module _ (sizes : Sizes) (states : List State) where
     in_rest : (k : ℕ) (p : Part) → slice_get rest k ≡ Some p → slice_get (rest ++ part ∷ []) k ≡ Some p
     in_rest k p at = slice_get-append rest (part ∷ []) k p at
 
-    pub last_part : IsPart sizes states part
+    pub last_part : IsPartOfRectangle sizes states part
     last_part = looks.are_parts (length rest) part (slice_get-push rest part)
 
     -- what was left is so before the last part, or in it
@@ -53,7 +53,7 @@ module _ (sizes : Sizes) (states : List State) where
         ]
 
     -- the last part is done with: evaluation can read past each of its cells
-    pub looks_past : (next : ℕ) → IsPart sizes states (part_at part next) → length (cells_of part.range) ≤ next → ((cell : Position) → Contains (cells_of part.range) cell ↔ IsIn cell part.range) → LooksOn sizes states old rest
+    pub looks_past : (next : ℕ) → IsPartOfRectangle sizes states (part_at part next) → length (cells_of part.range) ≤ next → ((cell : Position) → Contains (cells_of part.range) cell ↔ IsIn cell part.range) → LooksOn sizes states old rest
     looks_past next is end listed = record {
       are_parts = λ k p at. looks.are_parts k p (in_rest k p at);
       same = λ k p at. looks.same k p (in_rest k p at);
@@ -67,9 +67,9 @@ module _ (sizes : Sizes) (states : List State) where
             is.passed found.0 cell (omega (arith, less, end)) (slice_get_read (cells_of part.range) (length (cells_of part.range)) found.0 cell refl found.1 (sym found.2))
 
     -- the last part is left with a later next place
-    pub looks_stop : (next : ℕ) → IsPart sizes states (part_at part next) → LooksOn sizes states old (rest ++ part_at part next ∷ [])
+    pub looks_stop : (next : ℕ) → IsPartOfRectangle sizes states (part_at part next) → LooksOn sizes states old (rest ++ part_at part next ∷ [])
     looks_stop next is = record {
-      are_parts = λ k p at. elim (slice_get-pushed rest (part_at part next) k p at) [ inl here ↦ looks.are_parts k p (in_rest k p here) | inr last ↦ subst (λ (q : Part). IsPart sizes states q) last.1 is ];
+      are_parts = λ k p at. elim (slice_get-pushed rest (part_at part next) k p at) [ inl here ↦ looks.are_parts k p (in_rest k p here) | inr last ↦ subst (λ (q : Part). IsPartOfRectangle sizes states q) last.1 is ];
       same = λ k p at. elim (slice_get-pushed rest (part_at part next) k p at) [ inl here ↦ looks.same k p (in_rest k p here) | inr last ↦ was_last k p last.0 last.1 ];
       left = λ k cell at. elim (left_or_last k cell at) [ inl plain ↦ inl plain | inr still ↦ elim still [ inl here ↦ inr (before k cell here) | inr last ↦ inr (behind k cell last.0 last.1) ] ];
     }
@@ -89,7 +89,7 @@ module _ (sizes : Sizes) (states : List State) where
         behind : (k : ℕ) (cell : Position) → k ≡ length rest → IsIn cell part.range → IsAt (rest ++ new ∷ []) k cell
         behind k cell here inside = rw here (record { part = new; listed = slice_get-push rest new; inside = inside })
 
-    pub stop_at : (first next : ℕ) (cell : Position) → first ≤ length rest → slice_get (cells_of part.range) next ≡ Some cell → IsIn cell part.range → ((c : Position) → slice_get (cells_of part.range) next ≡ Some c → IsFalse (is_plain sizes states c)) → IsStop sizes states (rest ++ part_at part next ∷ []) first cell
+    pub stop_at : (first next : ℕ) (cell : Position) → first ≤ length rest → slice_get (cells_of part.range) next ≡ Some cell → IsIn cell part.range → ((c : Position) → slice_get (cells_of part.range) next ≡ Some c → IsFalse (is_plain sizes states c)) → IsStopInParts sizes states (rest ++ part_at part next ∷ []) first cell
     stop_at first next cell below at inside stop = record {
       left = record { place = length rest; from = below; at = record { part = part_at part next; listed = slice_get-push rest (part_at part next); inside = inside } };
       stop = stop cell at;

@@ -2,7 +2,7 @@
 use Rattle.std.proofs.Common.{◌≡◌, ◌≢◌, ℕ, zero, suc, ◌+◌, ◌<◌, ◌⊎◌, inl, inr, List, [], ◌∷◌, ◌++◌, length, slice_get, Some, refl, sym, subst, arith, length-append}
 use Rattle.std.specs.Prelude.{Bool, true, false, ◌==◌}
 use Rattle.std.proofs.lemmas.Bool.Decides.{nat_tests}
-use Rattle.sheet_model.specs.Budget.{IsLocal, IsStrict, IsHonest, ev, IsCircular, Leads, LeadsIntoCycle, AgreeOn}
+use Rattle.sheet_model.specs.Budget.{IsLocal, IsStrict, HandsOnCircular, ev, IsCircular, Leads, LeadsIntoCycle, AgreeOn}
 use Rattle.sheet_model.specs.Budget.Leads.{one_step, and_on}
 use Rattle.std.proofs.lemmas.Option.{slice_get_within}
 use Rattle.sheet_model.proofs.BudgetLemmas.{circular_closed, length-le-count}
@@ -60,7 +60,7 @@ find_number {C} number (cell ∷ cells) n = by_test (number cell == n) refl (fin
     by_test false same rest = later rest (let differs : number cell ≢ n = grind (arith, nat_tests) in differs)
 
 -- over inputs with numbers below a count, which tell them apart, each cell that is circular with one more step leads into a cycle
-module _ {C V : Type 0} (Input : C → C → Type 0) (circ : V) (step : C → (C → V) → V) (honest : IsHonest Input circ step) (number : C → ℕ) (count : ℕ) (below : (c d : C) → Input c d → number d < count) (apart : (c d e f : C) → Input c d → Input e f → number d ≡ number f → d ≡ f) where
+module _ {C V : Type 0} (Input : C → C → Type 0) (circ : V) (step : C → (C → V) → V) (honest : HandsOnCircular Input circ step) (number : C → ℕ) (count : ℕ) (below : (c d : C) → Input c d → number d < count) (apart : (c d e f : C) → Input c d → Input e f → number d ≡ number f → d ≡ f) where
   -- what is known of a cell to which steps have led
   record Passed (start now v : C) : Type 0 where
     pub from : C

@@ -11,7 +11,7 @@ use Rattle.value_core.specs.declared.operators.BinaryOp.{BinaryOp}
 use Rattle.formula_syntax.specs.Tree.{Tree, binary, references_of, node_count}
 use Rattle.formula_eval.specs.Meaning.{IsNamedBy}
 use Rattle.sheet_model.specs.declared.parts.Part.{Part}
-use Rattle.sheet_model.specs.Parts.{IsAt, IsLeft, IsPartOf, Adds, AddsRange, AddsParts}
+use Rattle.sheet_model.specs.Parts.{IsAt, IsLeftInParts, IsPartOf, GainsParts, AddsRange, AddsParts}
 use Rattle.sheet_model.proofs.ListLemmas.{slice_get-append}
 
 -- what stands in two lists joined stands in one of them
@@ -43,10 +43,10 @@ at_before xs ys k cell at = record { part = at.part; listed = slice_get-append x
 pub at_behind : (xs ys : List Part) (k : ℕ) (cell : Position) → IsAt ys k cell → IsAt (xs ++ ys) (length xs + k) cell
 at_behind xs ys k cell at = record { part = at.part; listed = slice_get-behind xs ys k at.part at.listed; inside = at.inside }
 
-pub left_before : (xs ys : List Part) (first : ℕ) (cell : Position) → IsLeft xs first cell → IsLeft (xs ++ ys) first cell
+pub left_before : (xs ys : List Part) (first : ℕ) (cell : Position) → IsLeftInParts xs first cell → IsLeftInParts (xs ++ ys) first cell
 left_before xs ys first cell left = record { place = left.place; from = left.from; at = at_before xs ys left.place cell left.at }
 
-pub left_behind : (xs ys : List Part) (first : ℕ) (cell : Position) → first ≤ length xs → IsLeft ys 0 cell → IsLeft (xs ++ ys) first cell
+pub left_behind : (xs ys : List Part) (first : ℕ) (cell : Position) → first ≤ length xs → IsLeftInParts ys 0 cell → IsLeftInParts (xs ++ ys) first cell
 left_behind xs ys first cell low left = record { place = length xs + left.place; from = omega arith; at = at_behind xs ys left.place cell left.at }
 
 module _ (sizes : Sizes) (P Q : Position → Type 0) (forth : (cell : Position) → P cell → Q cell) (back : (cell : Position) → Q cell → P cell) where
@@ -54,7 +54,7 @@ module _ (sizes : Sizes) (P Q : Position → Type 0) (forth : (cell : Position) 
   part_same part is = record { next = is.next; named = λ cell inside. forth cell (is.named cell inside); inside = is.inside }
 
   -- the same cells named in another way
-  pub adds_same : (old new : List Part) → Adds sizes P old new → Adds sizes Q old new
+  pub adds_same : (old new : List Part) → GainsParts sizes P old new → GainsParts sizes Q old new
   adds_same old new adds = record {
     added = adds.added;
     behind = adds.behind;
@@ -62,7 +62,7 @@ module _ (sizes : Sizes) (P Q : Position → Type 0) (forth : (cell : Position) 
     complete = λ cell named inside. adds.complete cell (back cell named) inside;
   }
 
-pub adds_nothing : (sizes : Sizes) (P : Position → Type 0) (old : List Part) → ((cell : Position) → P cell → ⊥) → Adds sizes P old old
+pub adds_nothing : (sizes : Sizes) (P : Position → Type 0) (old : List Part) → ((cell : Position) → P cell → ⊥) → GainsParts sizes P old old
 adds_nothing sizes P old none = record {
   added = [];
   behind = sym (append-nil old);
@@ -78,7 +78,7 @@ module _ (sizes : Sizes) (P Q : Position → Type 0) where
   part_right part is = record { next = is.next; named = λ cell inside. inr (is.named cell inside); inside = is.inside }
 
   -- parts for more cells behind those for some
-  pub adds_both : (old mid new : List Part) → Adds sizes P old mid → Adds sizes Q mid new → Adds sizes (λ cell. P cell ⊎ Q cell) old new
+  pub adds_both : (old mid new : List Part) → GainsParts sizes P old mid → GainsParts sizes Q mid new → GainsParts sizes (λ cell. P cell ⊎ Q cell) old new
   adds_both old mid new first second = record {
     added = first.added ++ second.added;
     behind = second.behind ∙ ap (λ parts. parts ++ second.added) first.behind ∙ append_assoc old first.added second.added;
@@ -139,7 +139,7 @@ module _ (sizes : Sizes) where
   adds_none old = adds_nothing sizes (λ cell. IsNamedBy [] cell) old (λ cell named. (let no = named.listed in cc))
 
   -- one reference
-  pub adds_one : (r : Reference) (old new : List Part) → Adds sizes (λ cell. IsIn cell (corners_of r)) old new → AddsParts sizes (r ∷ []) old new
+  pub adds_one : (r : Reference) (old new : List Part) → GainsParts sizes (λ cell. IsIn cell (corners_of r)) old new → AddsParts sizes (r ∷ []) old new
   adds_one r old new adds =
       adds_same sizes (λ cell. IsIn cell (corners_of r)) (λ cell. IsNamedBy (r ∷ []) cell)
       (λ cell inside. record { through = r; place = 0; listed = refl; inside = inside }) (λ cell named. only named) old new adds
@@ -175,7 +175,7 @@ module _ (sizes : Sizes) where
   }
 
 -- new parts are new parts in any order: also turned round
-pub adds_reversed : (sizes : Sizes) (Named : Position → Type 0) (old new : List Part) (first : ℕ) → first ≡ length old → Adds sizes Named old new → Adds sizes Named old (take first new ++ reverse (drop first new))
+pub adds_reversed : (sizes : Sizes) (Named : Position → Type 0) (old new : List Part) (first : ℕ) → first ≡ length old → GainsParts sizes Named old new → GainsParts sizes Named old (take first new ++ reverse (drop first new))
 adds_reversed sizes Named old new first here adds = record {
   added = reverse adds.added;
   behind = rw (here, adds.behind) (λ i. take-append_seam old adds.added i ++ reverse (drop-append_seam old adds.added i));

@@ -10,10 +10,10 @@ use Rattle.value_core.specs.declared.value.Value.{Value}
 use Rattle.value_core.specs.Values.{IsValue, code_of}
 use Rattle.sheet_model.specs.Sheets.{SheetValue}
 use Rattle.sheet_model.specs.Values.{value_of, AreValues}
-use Rattle.sheet_model.specs.Walks.{is_known, known_count, IsWalk, SeenBelow}
-use Rattle.sheet_model.specs.Words.{State, Unseen, Open, Known, state_of, states_of, AreWords}
+use Rattle.sheet_model.specs.Walks.{is_known, known_count, IsWalkOf, SeenBelow}
+use Rattle.sheet_model.specs.Words.{CellState, Unseen, Open, Known, cell_state, states_of, AreWords}
 
-module _ (sheet : SheetValue) (states : List State) (walk : IsWalk sheet states []) (seen : SeenBelow states (cell_count sheet.sizes)) where
+module _ (sheet : SheetValue) (states : List CellState) (walk : IsWalkOf sheet states []) (seen : SeenBelow states (cell_count sheet.sizes)) where
   -- a seen cell is known where none is open, and its value is what the sheet gives
   pub value_known : (cell : Position) → IsTrue (is_inside sheet.sizes cell) → (v : Value) × (slice_get states (place_of sheet.sizes cell) ≡ Some (Known v)) × (value_of sheet cell ≡ v)
   unfolding value_of
@@ -26,18 +26,18 @@ module _ (sheet : SheetValue) (states : List State) (walk : IsWalk sheet states 
       enough : known_count states ≤ suc (cell_count sheet.sizes)
       enough = let most = count_by-le-length is_known states in let e = walk.count in omega arith
 
-      go : (s : State) → slice_get states (place_of sheet.sizes cell) ≡ Some s → (v : Value) × (slice_get states (place_of sheet.sizes cell) ≡ Some (Known v)) × (value_of sheet cell ≡ v)
+      go : (s : CellState) → slice_get states (place_of sheet.sizes cell) ≡ Some s → (v : Value) × (slice_get states (place_of sheet.sizes cell) ≡ Some (Known v)) × (value_of sheet cell ≡ v)
       go Unseen at = absurd (seen (place_of sheet.sizes cell) (place-lt sheet.sizes cell inside) at)
       go Open at = absurd (let l = walk.listed (place_of sheet.sizes cell) at in let no = l.2 in cc)
       go (Known v) at = (v, at, walk.settled cell v inside at (suc (cell_count sheet.sizes)) enough)
 
 -- so the words are the codes of the sheet's values
-module _ (sheet : SheetValue) (words : List ℕ) (are : AreWords words) (walk : IsWalk sheet (states_of words) []) (seen : SeenBelow (states_of words) (cell_count sheet.sizes)) where
+module _ (sheet : SheetValue) (words : List ℕ) (are : AreWords words) (walk : IsWalkOf sheet (states_of words) []) (seen : SeenBelow (states_of words) (cell_count sheet.sizes)) where
   word_known : (cell : Position) → IsTrue (is_inside sheet.sizes cell) → IsValue (value_of sheet cell) × (slice_get words (place_of sheet.sizes cell) ≡ Some (code_of (value_of sheet cell)))
   word_known cell inside =
       elim (slice_get_cases words place).1 [
         | inl there ↦ by_word there.0 there.2
-        | inr past ↦ absurd (let lt = place-lt sheet.sizes cell inside in let e = walk.count in let m = length-map words state_of in let le : length words ≤ place = past.0 in omega arith)
+        | inr past ↦ absurd (let lt = place-lt sheet.sizes cell inside in let e = walk.count in let m = length-map words cell_state in let le : length words ≤ place = past.0 in omega arith)
       ]
     where
       place : ℕ
@@ -48,14 +48,14 @@ module _ (sheet : SheetValue) (words : List ℕ) (are : AreWords words) (walk : 
 
       by_word : (word : ℕ) → slice_get words place ≡ Some word → IsValue (value_of sheet cell) × (slice_get words place ≡ Some (code_of (value_of sheet cell)))
       by_word word at =
-          let state : Some (state_of word) ≡ Some (Known known.0) = sym (slice_get-map state_of words place ∙ ap (option_map state_of) at) ∙ known.1 in
-          let same : state_of word ≡ Known known.0 = cc in
+          let state : Some (cell_state word) ≡ Some (Known known.0) = sym (slice_get-map cell_state words place ∙ ap (option_map cell_state) at) ∙ known.1 in
+          let same : cell_state word ≡ Known known.0 = cc in
           let is = are place word at known.0 same in
           (subst IsValue (sym known.2) is.0, at ∙ ap Some (sym is.1) ∙ ap (λ v. Some (code_of v)) (sym known.2))
 
   pub words_are_values : AreValues sheet words
   words_are_values = record {
-    count = sym (length-map words state_of) ∙ walk.count;
+    count = sym (length-map words cell_state) ∙ walk.count;
     each = λ cell inside. (word_known cell inside).1;
     values = λ cell inside. (word_known cell inside).0;
   }

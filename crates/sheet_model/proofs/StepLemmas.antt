@@ -9,8 +9,8 @@ use Rattle.formula_eval.specs.Meaning.{IsNamedBy}
 use Rattle.sheet_model.specs.Parts.{AddsParts, LooksOn}
 use Rattle.sheet_model.specs.Sheets.{SheetValue, content_of}
 use Rattle.sheet_model.specs.Values.{content_references, step}
-use Rattle.sheet_model.specs.Walks.{known_values, closed_state, work_left, IsWalkState, KeepsSeen, IsWaiting, IsClosing, IsOpening}
-use Rattle.sheet_model.specs.Words.{Unseen, Open, Known, state_of, IsWord, AreWords, states_of, is_plain}
+use Rattle.sheet_model.specs.Walks.{known_values, closed_state, work_left, IsWalkState, KeepsSeen, IsWaiting, IsClosing, IsNextToOpen}
+use Rattle.sheet_model.specs.Words.{Unseen, Open, Known, cell_state, IsCodeWord, AreWords, states_of, is_plain}
 use Rattle.sheet_model.specs.declared.parts.Part.{Part}
 use Rattle.sheet_model.specs.declared.walk.Frame.{Frame}
 use Rattle.sheet_model.proofs.CycleLemmas.{walk_close, closing_step, closing_same}
@@ -20,24 +20,24 @@ use Rattle.sheet_model.proofs.TurnLemmas.{walk_open, work_open, walk_finish, wor
 use Rattle.sheet_model.proofs.WordLemmas.{state_of_code, code_is_word, open_is_word, words_set, states_set, states_at}
 
 -- the word of a circular cell
-circular_state : state_of 59 ≡ Known (Error Circ)
+circular_state : cell_state 59 ≡ Known (Error Circ)
 circular_state = state_of_code (Error Circ) tt
 
-pub circular_is_word : IsWord 59
+pub circular_is_word : IsCodeWord 59
 circular_is_word = code_is_word (Error Circ) tt
 
 module _ (sheet : SheetValue) (words : List ℕ) (frames : List Frame) (parts : List Part) (state : IsWalkState sheet words frames parts) where
   pub words_count : length words ≡ cell_count sheet.sizes
-  words_count = sym (length-map words state_of) ∙ state.walk.count
+  words_count = sym (length-map words cell_state) ∙ state.walk.count
 
   -- what is known of a cell of the rectangle, by its word
-  pub state_there : (cell : Position) (place : ℕ) → place ≡ place_of sheet.sizes cell → place < cell_count sheet.sizes → slice_get (states_of words) (place_of sheet.sizes cell) ≡ Some (state_of (get_or words place 0))
+  pub state_there : (cell : Position) (place : ℕ) → place ≡ place_of sheet.sizes cell → place < cell_count sheet.sizes → slice_get (states_of words) (place_of sheet.sizes cell) ≡ Some (cell_state (get_or words place 0))
   state_there cell place is below = rw (← is) (states_at words place 0 (omega (arith, words_count, below)))
 
   pub state_look : (new : List Part) → LooksOn sheet.sizes (states_of words) parts new → IsWalkState sheet words frames new
   state_look new looks = record { coded = state.coded; walk = state.walk; left = parts_look sheet (states_of words) frames parts new looks state.left }
 
-  module _ (cell : Position) (opening : IsOpening sheet (states_of words) frames cell) where
+  module _ (cell : Position) (opening : IsNextToOpen sheet (states_of words) frames cell) where
     abbrev place : ℕ
     place = place_of sheet.sizes cell
 
@@ -90,17 +90,17 @@ module _ (sheet : SheetValue) (words : List ℕ) (rest : List Frame) (f : Frame)
   pub finish_inside : IsTrue (is_inside sheet.sizes f.cell)
   finish_inside = state.walk.inside (length rest) f newest
 
-  pub state_finish : (word : ℕ) → length parts ≤ f.first → IsWord word → state_of word ≡ Known (step sheet f.cell (known_values sheet.sizes (states_of words))) → IsWalkState sheet (set words there word) rest parts
+  pub state_finish : (word : ℕ) → length parts ≤ f.first → IsCodeWord word → cell_state word ≡ Known (step sheet f.cell (known_values sheet.sizes (states_of words))) → IsWalkState sheet (set words there word) rest parts
   state_finish word done is known = record {
     coded = words_set words there word state.coded is;
     walk = rw (states_set words there word, known) (walk_finish sheet (states_of words) rest f state.walk (inputs_plain sheet (states_of words) (rest ++ f ∷ []) parts (length rest) f newest done state.left));
-    left = rw (states_set words there word) (parts_set sheet (states_of words) rest parts there Open (state_of word) is_open refl (parts_finish sheet (states_of words) rest f parts done state.left));
+    left = rw (states_set words there word) (parts_set sheet (states_of words) rest parts there Open (cell_state word) is_open refl (parts_finish sheet (states_of words) rest f parts done state.left));
   }
 
-  pub less_finish : (word : ℕ) → state_of word ≡ Known (step sheet f.cell (known_values sheet.sizes (states_of words))) → work_left (states_of (set words there word)) rest < work_left (states_of words) (rest ++ f ∷ [])
+  pub less_finish : (word : ℕ) → cell_state word ≡ Known (step sheet f.cell (known_values sheet.sizes (states_of words))) → work_left (states_of (set words there word)) rest < work_left (states_of words) (rest ++ f ∷ [])
   less_finish word known = rw (states_set words there word, known) (work_finish sheet (states_of words) rest f there (step sheet f.cell (known_values sheet.sizes (states_of words))) is_open)
 
-  pub seen_finish : (word : ℕ) → state_of word ≡ Known (step sheet f.cell (known_values sheet.sizes (states_of words))) → KeepsSeen (states_of words) (states_of (set words there word))
+  pub seen_finish : (word : ℕ) → cell_state word ≡ Known (step sheet f.cell (known_values sheet.sizes (states_of words))) → KeepsSeen (states_of words) (states_of (set words there word))
   seen_finish word known = rw (states_set words there word, known) (seen_set (states_of words) there Open (Known (step sheet f.cell (known_values sheet.sizes (states_of words)))) is_open (λ same. cc))
 
 -- closing goes on with the cell of one frame closed

@@ -10,9 +10,9 @@ use Rattle.sheet_model.specs.Budget.{SettlesAt}
 use Rattle.sheet_refs.specs.Sizes.{is_inside, place_of}
 use Rattle.sheet_model.specs.Sheets.{SheetValue}
 use Rattle.sheet_model.specs.Values.{step, IsInput}
-use Rattle.sheet_model.specs.Words.{State, Unseen, Open, Known, is_plain}
+use Rattle.sheet_model.specs.Words.{CellState, Unseen, Open, Known, is_plain}
 use Rattle.sheet_model.specs.declared.walk.Frame.{Frame}
-use Rattle.sheet_model.specs.Walks.{known_value, known_values, is_known, is_unseen, known_count, work_left, IsWalk, KeepsSeen}
+use Rattle.sheet_model.specs.Walks.{known_value, known_values, is_known, is_unseen, known_count, work_left, IsWalkOf, KeepsSeen}
 use Rattle.sheet_model.proofs.BudgetLemmas.{settles_next}
 use Rattle.sheet_model.proofs.ListLemmas.{slice_get-append, slice_get-push, slice_get-pushed, slice_get-set_same, slice_get-set_other, count_by-set}
 use Rattle.sheet_refs.proofs.Places.{place_same}
@@ -20,16 +20,16 @@ use Rattle.sheet_model.proofs.ValueLemmas.{step_local, step_strict}
 use Rattle.sheet_model.proofs.WalkLemmas.{settles_later, differ, known_plain}
 
 -- a write at one place, read at another or at that one
-pub read_set : (states : List State) (p q : ℕ) (s t u : State) → slice_get states p ≡ Some s → slice_get (set states p t) q ≡ Some u → ((q ≡ p) × (t ≡ u)) ⊎ ((q ≢ p) × (slice_get states q ≡ Some u))
+pub read_set : (states : List CellState) (p q : ℕ) (s t u : CellState) → slice_get states p ≡ Some s → slice_get (set states p t) q ≡ Some u → ((q ≡ p) × (t ≡ u)) ⊎ ((q ≢ p) × (slice_get states q ≡ Some u))
 read_set states p q s t u at at_set =
     elim (eqb_tells q p) [
       | inl same ↦ inl (same.1, let e = slice_get-set_same states p s t at in let f = ap (slice_get (set states p t)) same.1 in cc)
       | inr other ↦ inr (other.1, sym (slice_get-set_other states p q t other.1) ∙ at_set)
     ]
 
-module _ (sheet : SheetValue) (states : List State) where
+module _ (sheet : SheetValue) (states : List CellState) where
   -- one more cell is open
-  pub walk_open : (frames : List Frame) (cell : Position) → IsWalk sheet states frames → IsTrue (is_inside sheet.sizes cell) → slice_get states (place_of sheet.sizes cell) ≡ Some Unseen → ((i : ℕ) (f : Frame) → slice_get frames i ≡ Some f → suc i ≡ length frames → IsInput sheet f.cell cell) → (first : ℕ) → IsWalk sheet (set states (place_of sheet.sizes cell) Open) (frames ++ record { cell = cell; first = first } ∷ [])
+  pub walk_open : (frames : List Frame) (cell : Position) → IsWalkOf sheet states frames → IsTrue (is_inside sheet.sizes cell) → slice_get states (place_of sheet.sizes cell) ≡ Some Unseen → ((i : ℕ) (f : Frame) → slice_get frames i ≡ Some f → suc i ≡ length frames → IsInput sheet f.cell cell) → (first : ℕ) → IsWalkOf sheet (set states (place_of sheet.sizes cell) Open) (frames ++ record { cell = cell; first = first } ∷ [])
   walk_open frames cell walk inside unseen waiting first = record {
     count = length-set states p Open ∙ walk.count;
     settled = λ c v c_inside at.
@@ -87,7 +87,7 @@ module _ (sheet : SheetValue) (states : List State) where
   work_open frames frame p unseen = let fewer = count_by-set is_unseen states p Unseen Open unseen in let longer = length-append frames (frame ∷ []) in omega arith
 
   -- the newest open cell, whose references can all be read past, has the value of one step over the known values
-  pub walk_finish : (rest : List Frame) (f : Frame) → IsWalk sheet states (rest ++ f ∷ []) → ((c : Position) → IsInput sheet f.cell c → IsTrue (is_plain sheet.sizes states c)) → IsWalk sheet (set states (place_of sheet.sizes f.cell) (Known (step sheet f.cell (known_values sheet.sizes states)))) rest
+  pub walk_finish : (rest : List Frame) (f : Frame) → IsWalkOf sheet states (rest ++ f ∷ []) → ((c : Position) → IsInput sheet f.cell c → IsTrue (is_plain sheet.sizes states c)) → IsWalkOf sheet (set states (place_of sheet.sizes f.cell) (Known (step sheet f.cell (known_values sheet.sizes states)))) rest
   walk_finish rest f walk plain = record {
     count = length-set states p (Known value) ∙ walk.count;
     settled = λ c v c_inside at.
@@ -150,6 +150,6 @@ module _ (sheet : SheetValue) (states : List State) where
   work_finish rest f p v open_here = let same = count_by-set is_unseen states p Open (Known v) open_here in let longer = length-append rest (f ∷ []) in omega arith
 
 -- a write to a cell that was seen, or of a state that is no longer unseen, keeps what was seen
-pub seen_set : (states : List State) (p : ℕ) (s t : State) → slice_get states p ≡ Some s → t ≢ Unseen → KeepsSeen states (set states p t)
+pub seen_set : (states : List CellState) (p : ℕ) (s t : CellState) → slice_get states p ≡ Some s → t ≢ Unseen → KeepsSeen states (set states p t)
 seen_set states p s t at seen q unseen =
     elim (read_set states p q s t Unseen at unseen) [ inl here ↦ absurd (seen here.1) | inr other ↦ other.1 ]

@@ -15,8 +15,8 @@ use Rattle.formula_eval.specs.Meaning.{IsNamedBy}
 use Rattle.sheet_model.specs.Budget.{SettlesAt}
 use Rattle.sheet_model.specs.Sheets.{SheetValue, ContentValue, Constant, Computed, IsSheet, content_value, content_of}
 use Rattle.sheet_model.specs.Values.{step_content, step, content_references, IsInput}
-use Rattle.sheet_model.specs.Walks.{first_state, is_known, known_count, IsWalk}
-use Rattle.sheet_model.specs.Words.{State, Unseen, Open, Known, state_of, states_of, is_plain_state, is_plain}
+use Rattle.sheet_model.specs.Walks.{first_state, is_known, known_count, IsWalkOf}
+use Rattle.sheet_model.specs.Words.{CellState, Unseen, Open, Known, cell_state, states_of, is_plain_state, is_plain}
 use Rattle.sheet_model.specs.declared.content.Content.{Content}
 use Rattle.sheet_model.proofs.BudgetLemmas.{settles_next}
 use Rattle.sheet_model.proofs.ListLemmas.{count_by-pos}
@@ -28,10 +28,10 @@ pub settles_later : (sheet : SheetValue) (k m : ℕ) (c : Position) (v : Value) 
 settles_later sheet k m c v le settles n from = settles n (omega arith)
 
 -- a place other than that of a state which is no such one
-pub differ : (states : List State) (p q : ℕ) (s t : State) → slice_get states p ≡ Some s → slice_get states q ≡ Some t → s ≢ t → p ≢ q
+pub differ : (states : List CellState) (p q : ℕ) (s t : CellState) → slice_get states p ≡ Some s → slice_get states q ≡ Some t → s ≢ t → p ≢ q
 differ states p q s t at_p at_q differs same = differs (let e = ap (slice_get states) same in cc)
 
-module _ (sizes : Sizes) (states : List State) where
+module _ (sizes : Sizes) (states : List CellState) where
   -- a cell of the rectangle that can be read past has a known value
   pub known_plain : length states ≡ cell_count sizes → (cell : Position) → IsTrue (is_inside sizes cell) → IsTrue (is_plain sizes states cell) → (v : Value) × (slice_get states (place_of sizes cell) ≡ Some (Known v))
   known_plain count cell inside plain =
@@ -40,13 +40,13 @@ module _ (sizes : Sizes) (states : List State) where
         | inr past ↦ absurd (let lt = place-lt sizes cell inside in let le : length states ≤ place_of sizes cell = past.0 in omega (arith, count))
       ]
     where
-      by_state : (s : State) → slice_get states (place_of sizes cell) ≡ Some s → is_plain_state s ≡ true → (v : Value) × (slice_get states (place_of sizes cell) ≡ Some (Known v))
+      by_state : (s : CellState) → slice_get states (place_of sizes cell) ≡ Some s → is_plain_state s ≡ true → (v : Value) × (slice_get states (place_of sizes cell) ≡ Some (Known v))
       by_state Unseen at plain = absurd (cc)
       by_state Open at plain = absurd (cc)
       by_state (Known v) at plain = (v, at)
 
   -- what can be read past can be so after a write elsewhere
-  pub plain_kept : (p : ℕ) (s t : State) → slice_get states p ≡ Some s → is_plain_state s ≡ false → (cell : Position) → IsTrue (is_plain sizes states cell) → IsTrue (is_plain sizes (set states p t) cell)
+  pub plain_kept : (p : ℕ) (s t : CellState) → slice_get states p ≡ Some s → is_plain_state s ≡ false → (cell : Position) → IsTrue (is_plain sizes states cell) → IsTrue (is_plain sizes (set states p t) cell)
   plain_kept p s t at not_plain cell plain =
       elim (eqb_tells (place_of sizes cell) p) [
         | inl same ↦ absurd (let e : get_or states p Unseen ≡ s = get_or_from_slice_get states p s Unseen at in let f = ap (λ q. is_plain_state (get_or states q Unseen)) same.1 in let g = ap is_plain_state e in cc)
@@ -54,10 +54,10 @@ module _ (sizes : Sizes) (states : List State) where
       ]
 
 -- the first states of some contents, and of one more
-pub states_more : (contents : List Content) (words : List ℕ) (i : ℕ) (content : Content) (word : ℕ) → states_of words ≡ map (λ c. first_state (content_value c)) (take i contents) → i < length contents → content ≡ get_or contents i content → state_of word ≡ first_state (content_value content) → states_of (words ++ word ∷ []) ≡ map (λ c. first_state (content_value c)) (take (i + 1) contents)
+pub states_more : (contents : List Content) (words : List ℕ) (i : ℕ) (content : Content) (word : ℕ) → states_of words ≡ map (λ c. first_state (content_value c)) (take i contents) → i < length contents → content ≡ get_or contents i content → cell_state word ≡ first_state (content_value content) → states_of (words ++ word ∷ []) ≡ map (λ c. first_state (content_value c)) (take (i + 1) contents)
 states_more contents words i content word so_far below at state =
     let more : i + 1 ≡ suc i = omega arith in
-    states_push words word ∙ ap (λ states. states ++ state_of word ∷ []) so_far ∙ ap (λ s. map (λ c. first_state (content_value c)) (take i contents) ++ s ∷ []) state
+    states_push words word ∙ ap (λ states. states ++ cell_state word ∷ []) so_far ∙ ap (λ s. map (λ c. first_state (content_value c)) (take i contents) ++ s ∷ []) state
     ∙ sym (rw (more, take-suc contents i content below, ← at) (map-append (λ c. first_state (content_value c)) (take i contents) (content ∷ [])))
 
 -- the content of a cell whose first state is known
@@ -74,7 +74,7 @@ constant_known sheet cell v inside at =
     constant (Computed formula) e = absurd (cc)
 
 -- before the walk the constants are known, and no cell is open
-pub walk_new : (sheet : SheetValue) → IsSheet sheet → IsWalk sheet (map first_state sheet.contents) []
+pub walk_new : (sheet : SheetValue) → IsSheet sheet → IsWalkOf sheet (map first_state sheet.contents) []
 walk_new sheet is_sheet = record {
   count = length-map sheet.contents first_state ∙ is_sheet.filled;
   settled = λ cell v inside at.

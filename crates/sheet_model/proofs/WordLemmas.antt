@@ -18,7 +18,7 @@ use Rattle.formula_eval.specs.Inputs.{IsCode, IsKnownPlain, IsPlainRange, ArePla
 use Rattle.formula_eval.specs.Meaning.{is_circular, formula_value, IsNamedBy, IsFormulaValue}
 use Rattle.formula_syntax.specs.Tree.{Tree}
 use Rattle.sheet_model.specs.Walks.{known_value, known_values}
-use Rattle.sheet_model.specs.Words.{Unseen, Open, Known, state_of, IsWord, AreWords, states_of, known_code, known_codes, is_plain_state, is_plain}
+use Rattle.sheet_model.specs.Words.{Unseen, Open, Known, cell_state, IsCodeWord, AreWords, states_of, known_code, known_codes, is_plain_state, is_plain}
 use Rattle.sheet_model.proofs.ListLemmas.{slice_get-pushed}
 
 -- no value has the code of a word of no value
@@ -31,7 +31,7 @@ code_not_free (Error kind) = (λ e. omega arith, λ e. omega arith)
 code_not_free (Label place) = (λ e. omega arith, λ e. omega arith)
 
 -- a word of neither is that of a value
-state_known : (word : ℕ) → word ≢ 5 → word ≢ 6 → state_of word ≡ Known (value_of_word word)
+state_known : (word : ℕ) → word ≢ 5 → word ≢ 6 → cell_state word ≡ Known (value_of_word word)
 state_known word a b = by_tests (word == 5) (word == 6) refl refl
   where
     by_tests : (p q : Bool) → (word == 5) ≡ p → (word == 6) ≡ q → cond p Unseen (cond q Open (Known (value_of_word word))) ≡ Known (value_of_word word)
@@ -39,25 +39,25 @@ state_known word a b = by_tests (word == 5) (word == 6) refl refl
     by_tests false true is_p is_q = absurd (b (grind (arith, nat_tests)))
     by_tests false false is_p is_q = refl
 
-pub state_of_code : (v : Value) → IsValue v → state_of (code_of v) ≡ Known v
+pub state_of_code : (v : Value) → IsValue v → cell_state (code_of v) ≡ Known v
 state_of_code v is =
     let free = code_not_free v in
     state_known (code_of v) free.0 free.1 ∙ ap Known (value_of_its_code v is)
 
-pub code_is_word : (v : Value) → IsValue v → IsWord (code_of v)
+pub code_is_word : (v : Value) → IsValue v → IsCodeWord (code_of v)
 code_is_word v is u same =
     let known : v ≡ u = (let e = sym (state_of_code v is) ∙ same in cc) in
     let both : IsValue v × (code_of v ≡ code_of v) = (is, refl) in
     subst (λ (u : Value). IsValue u × (code_of u ≡ code_of v)) known both
 
-pub unseen_is_word : IsWord 5
+pub unseen_is_word : IsCodeWord 5
 unseen_is_word v same = absurd (cc)
 
-pub open_is_word : IsWord 6
+pub open_is_word : IsCodeWord 6
 open_is_word v same = absurd (cc)
 
 -- a known value other than #CIRC!, by its word
-pub plain_known : (word : ℕ) → IsWord word → word ≢ 5 → word ≢ 6 → not (word == 59) ≡ is_plain_state (state_of word)
+pub plain_known : (word : ℕ) → IsCodeWord word → word ≢ 5 → word ≢ 6 → not (word == 59) ≡ is_plain_state (cell_state word)
 plain_known word is a b =
     let known = state_known word a b in
     let code = is (value_of_word word) known in
@@ -79,18 +79,18 @@ plain_known word is a b =
     by_value (Label place) w e = let no : w ≢ 59 = λ same. omega (arith, e, same) in grind (arith, nat_tests)
 
 -- the word at a place, and the state for which it stands
-pub word_at : (words : List ℕ) (place d : ℕ) → AreWords words → place < length words → IsWord (get_or words place d)
+pub word_at : (words : List ℕ) (place d : ℕ) → AreWords words → place < length words → IsCodeWord (get_or words place d)
 word_at words place d are below = are place (get_or words place d) (slice_get-get_or words place d below)
 
-pub states_at : (words : List ℕ) (place d : ℕ) → place < length words → slice_get (states_of words) place ≡ Some (state_of (get_or words place d))
-states_at words place d below = slice_get-map state_of words place ∙ ap (option_map state_of) (slice_get-get_or words place d below)
+pub states_at : (words : List ℕ) (place d : ℕ) → place < length words → slice_get (states_of words) place ≡ Some (cell_state (get_or words place d))
+states_at words place d below = slice_get-map cell_state words place ∙ ap (option_map cell_state) (slice_get-get_or words place d below)
 
-pub plain_at : (sizes : Sizes) (words : List ℕ) (cell : Position) (place d : ℕ) → place ≡ place_of sizes cell → place < length words → is_plain_state (state_of (get_or words place d)) ≡ is_plain sizes (states_of words) cell
+pub plain_at : (sizes : Sizes) (words : List ℕ) (cell : Position) (place d : ℕ) → place ≡ place_of sizes cell → place < length words → is_plain_state (cell_state (get_or words place d)) ≡ is_plain sizes (states_of words) cell
 plain_at sizes words cell place d is below =
-    rw (← is) (ap is_plain_state (sym (get_or_from_slice_get (states_of words) place (state_of (get_or words place d)) Unseen (states_at words place d below))))
+    rw (← is) (ap is_plain_state (sym (get_or_from_slice_get (states_of words) place (cell_state (get_or words place d)) Unseen (states_at words place d below))))
 
 -- a word that is a code
-pub known_is_code : (word : ℕ) → IsWord word → word ≢ 5 → word ≢ 6 → IsCode word
+pub known_is_code : (word : ℕ) → IsCodeWord word → word ≢ 5 → word ≢ 6 → IsCode word
 known_is_code word is a b = let code = is (value_of_word word) (state_known word a b) in (value_of_word word, code.0, code.1)
 
 -- the code that is held of a cell is that of its known value
@@ -98,46 +98,46 @@ pub held_value : (sizes : Sizes) (words : List ℕ) (cell : Position) (word : �
 held_value sizes words cell word are below held =
     let here = get_or words (place_of sizes cell) 0 in
     let is = word_at words (place_of sizes cell) 0 are below in
-    let state = get_or_from_slice_get (states_of words) (place_of sizes cell) (state_of here) Unseen (states_at words (place_of sizes cell) 0 below) in
+    let state = get_or_from_slice_get (states_of words) (place_of sizes cell) (cell_state here) Unseen (states_at words (place_of sizes cell) 0 below) in
     rw state (by_tests here is (here == 5) (here == 6) refl refl held)
   where
-    by_tests : (here : ℕ) → IsWord here → (p q : Bool) → (here == 5) ≡ p → (here == 6) ≡ q → cond p None (cond q None (Some here)) ≡ Some word → IsValue (known_value (cond p Unseen (cond q Open (Known (value_of_word here))))) × (code_of (known_value (cond p Unseen (cond q Open (Known (value_of_word here))))) ≡ word)
+    by_tests : (here : ℕ) → IsCodeWord here → (p q : Bool) → (here == 5) ≡ p → (here == 6) ≡ q → cond p None (cond q None (Some here)) ≡ Some word → IsValue (known_value (cond p Unseen (cond q Open (Known (value_of_word here))))) × (code_of (known_value (cond p Unseen (cond q Open (Known (value_of_word here))))) ≡ word)
     by_tests here is true q is_p is_q held = absurd (cc)
     by_tests here is false true is_p is_q held = absurd (cc)
     by_tests here is false false is_p is_q held =
-        let known : state_of here ≡ Known (value_of_word here) = rw (is_p, is_q) refl in
+        let known : cell_state here ≡ Known (value_of_word here) = rw (is_p, is_q) refl in
         let code = is (value_of_word here) known in
         let same : here ≡ word = cc in
         (code.0, code.1 ∙ same)
 
 -- a write of a word
-pub words_set : (words : List ℕ) (place word : ℕ) → AreWords words → IsWord word → AreWords (set words place word)
+pub words_set : (words : List ℕ) (place word : ℕ) → AreWords words → IsCodeWord word → AreWords (set words place word)
 words_set [] place word are is i w at = absurd (cc)
-words_set (x ∷ xs) zero word are is zero w at = let same : word ≡ w = cc in subst IsWord same is
+words_set (x ∷ xs) zero word are is zero w at = let same : word ≡ w = cc in subst IsCodeWord same is
 words_set (x ∷ xs) zero word are is (suc i) w at = are (suc i) w at
 words_set (x ∷ xs) (suc place) word are is zero w at = are zero w at
 words_set (x ∷ xs) (suc place) word are is (suc i) w at = words_set xs place word (λ j v at_j. are (suc j) v at_j) is i w at
 
-pub states_set : (words : List ℕ) (place word : ℕ) → states_of (set words place word) ≡ set (states_of words) place (state_of word)
-states_set words place word = map-set state_of words place word
+pub states_set : (words : List ℕ) (place word : ℕ) → states_of (set words place word) ≡ set (states_of words) place (cell_state word)
+states_set words place word = map-set cell_state words place word
 
 -- the words of a list, and one more
 pub words_none : AreWords []
 words_none i w at = absurd (cc)
 
-pub words_push : (words : List ℕ) (word : ℕ) → AreWords words → IsWord word → AreWords (words ++ word ∷ [])
+pub words_push : (words : List ℕ) (word : ℕ) → AreWords words → IsCodeWord word → AreWords (words ++ word ∷ [])
 words_push words word are is i w at =
-    elim (slice_get-pushed words word i w at) [ inl before ↦ are i w before | inr last ↦ subst IsWord last.1 is ]
+    elim (slice_get-pushed words word i w at) [ inl before ↦ are i w before | inr last ↦ subst IsCodeWord last.1 is ]
 
-pub states_push : (words : List ℕ) (word : ℕ) → states_of (words ++ word ∷ []) ≡ states_of words ++ state_of word ∷ []
+pub states_push : (words : List ℕ) (word : ℕ) → states_of (words ++ word ∷ []) ≡ states_of words ++ cell_state word ∷ []
 states_push [] word = refl
-states_push (x ∷ xs) word = ap (λ states. state_of x ∷ states) (states_push xs word)
+states_push (x ∷ xs) word = ap (λ states. cell_state x ∷ states) (states_push xs word)
 
 -- whether a word is the one of a cell that wasn't looked at
-pub unseen_state : (word : ℕ) → word ≡ 5 → state_of word ≡ Unseen
+pub unseen_state : (word : ℕ) → word ≡ 5 → cell_state word ≡ Unseen
 unseen_state word is = rw is refl
 
-pub seen_state : (word : ℕ) → word ≢ 5 → state_of word ≢ Unseen
+pub seen_state : (word : ℕ) → word ≢ 5 → cell_state word ≢ Unseen
 seen_state word differs = by_tests (word == 5) (word == 6) refl
   where
     by_tests : (p q : Bool) → (word == 5) ≡ p → cond p Unseen (cond q Open (Known (value_of_word word))) ≢ Unseen
@@ -161,13 +161,13 @@ passes_known sizes words cell are below plain =
         let circular = ap (λ v. not (is_circular v)) (ap value_of_word is ∙ value_of_its_code (Error error.Circ) tt) in
         cc
 
-    by_tests : (word : ℕ) → IsWord word → (p q : Bool) → (word == 5) ≡ p → (word == 6) ≡ q → is_plain_state (cond p Unseen (cond q Open (Known (value_of_word word)))) ≡ true → (known : ℕ) × IsCode known × (cond p None (cond q None (Some word)) ≡ Some known) × (known ≢ code_of (Error error.Circ))
+    by_tests : (word : ℕ) → IsCodeWord word → (p q : Bool) → (word == 5) ≡ p → (word == 6) ≡ q → is_plain_state (cond p Unseen (cond q Open (Known (value_of_word word)))) ≡ true → (known : ℕ) × IsCode known × (cond p None (cond q None (Some word)) ≡ Some known) × (known ≢ code_of (Error error.Circ))
     by_tests word is true q is_p is_q plain = absurd (cc)
     by_tests word is false true is_p is_q plain = absurd (cc)
     by_tests word is false false is_p is_q plain =
         (word, known_is_code word is (grind (arith, nat_tests)) (grind (arith, nat_tests)), refl, not_circular word plain)
 
-    by_word : (word : ℕ) → IsWord word → is_plain_state (state_of word) ≡ true → (known : ℕ) × IsCode known × (known_code word ≡ Some known) × (known ≢ code_of (Error error.Circ))
+    by_word : (word : ℕ) → IsCodeWord word → is_plain_state (cell_state word) ≡ true → (known : ℕ) × IsCode known × (known_code word ≡ Some known) × (known ≢ code_of (Error error.Circ))
     by_word word is plain = by_tests word is (word == 5) (word == 6) refl refl plain
 
 -- and so past the ranges of references of all whose cells in the rectangle they tell so

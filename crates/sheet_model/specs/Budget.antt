@@ -47,8 +47,8 @@ pub record LeadsIntoCycle {C : Type 0} (Input : C → C → Type 0) (c : C) : Ty
   pub back : Leads Input turn turn
 
 -- a step gives the circular value only where an input has it
-abbrev pub IsHonest : {C V : Type 0} (Input : C → C → Type 0) (circ : V) (step : C → (C → V) → V) → Type 0
-IsHonest {C} {V} Input circ step = (c : C) (f : C → V) → step c f ≡ circ → (d : C) × Input c d × (f d ≡ circ)
+abbrev pub HandsOnCircular : {C V : Type 0} (Input : C → C → Type 0) (circ : V) (step : C → (C → V) → V) → Type 0
+HandsOnCircular {C} {V} Input circ step = (c : C) (f : C → V) → step c f ≡ circ → (d : C) × Input c d × (f d ≡ circ)
 
 -- two steps give the cells of a set the same values from the same values of their inputs, which are in the set too
 pub record AgreeOn {C V : Type 0} (Input : C → C → Type 0) (Kept : C → Type 0) (a b : C → (C → V) → V) : Type 0 where

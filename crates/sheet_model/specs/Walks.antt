@@ -7,61 +7,61 @@ use Rattle.value_core.specs.declared.value.ErrorKind.TheVariants.{Circ}
 use Rattle.value_core.specs.declared.value.Value.{Value}
 use Rattle.value_core.specs.declared.value.Value.TheVariants as value
 use Rattle.sheet_model.specs.Budget.{SettlesAt}
-use Rattle.sheet_model.specs.Parts.{IsAt, IsLeft, AreParts}
+use Rattle.sheet_model.specs.Parts.{IsAt, IsLeftInParts, AreParts}
 use Rattle.sheet_model.specs.Sheets.{SheetValue, ContentValue, Constant, Computed}
 use Rattle.formula_eval.specs.Meaning.{IsNamedBy}
 use Rattle.sheet_model.specs.Values.{content_references, step, IsInput}
-use Rattle.sheet_model.specs.Words.{State, Unseen, Open, Known, AreWords, states_of, is_plain}
+use Rattle.sheet_model.specs.Words.{CellState, Unseen, Open, Known, AreWords, states_of, is_plain}
 use Rattle.sheet_model.specs.declared.parts.Part.{Part}
 use Rattle.sheet_model.specs.declared.walk.Frame.{Frame}
 use Rattle.sheet_model.specs.declared.walk.Walk.{Walk}
 
 -- what is known of a cell before the walk: the value of a constant
-abbrev pub first_state : ContentValue → State
+abbrev pub first_state : ContentValue → CellState
 first_state (Constant value) = Known value
 first_state (Computed formula) = Unseen
 
 -- the value that is known of a cell
-abbrev pub known_value : State → Value
+abbrev pub known_value : CellState → Value
 known_value Unseen = value.Empty
 known_value Open = value.Empty
 known_value (Known value) = value
 
 -- the values of the cells as far as they are known
-abbrev pub known_values : Sizes → List State → Position → Value
+abbrev pub known_values : Sizes → List CellState → Position → Value
 known_values sizes states cell = known_value (slice_index_or states (place_of sizes cell) Unseen)
 
 -- evaluation can read past each cell of the rectangle that a content names
-abbrev pub ArePlainInputs : Sizes → List State → ContentValue → Type 0
+abbrev pub ArePlainInputs : Sizes → List CellState → ContentValue → Type 0
 ArePlainInputs sizes states content = (cell : Position) → IsNamedBy (content_references content) cell → IsTrue (is_inside sizes cell) → IsTrue (is_plain sizes states cell)
 
-abbrev pub is_known : State → Bool
+abbrev pub is_known : CellState → Bool
 is_known Unseen = false
 is_known Open = false
 is_known (Known value) = true
 
-abbrev pub is_unseen : State → Bool
+abbrev pub is_unseen : CellState → Bool
 is_unseen Unseen = true
 is_unseen Open = false
 is_unseen (Known value) = false
 
 -- how many cells have a known value
-abbrev pub known_count : List State → ℕ
+abbrev pub known_count : List CellState → ℕ
 known_count states = count_by is_known states
 
 -- what is left to do: each cell that is not seen is opened and settled, and each open one settled
-abbrev pub work_left : List State → List Frame → ℕ
+abbrev pub work_left : List CellState → List Frame → ℕ
 work_left states frames = 2 * count_by is_unseen states + length frames
 
 -- an open cell that leads into a cycle is known to be circular
-abbrev pub closed_state : State → State
+abbrev pub closed_state : CellState → CellState
 closed_state Unseen = Unseen
 closed_state Open = Known (value.Error Circ)
 closed_state (Known value) = Known value
 
 -- each known value is what evaluation settles at, within a budget of as many steps as values are known;
 -- the open cells are those of the frames, and each frame waits for the next one's cell
-pub record IsWalk (sheet : SheetValue) (states : List State) (frames : List Frame) : Type 0 where
+pub record IsWalkOf (sheet : SheetValue) (states : List CellState) (frames : List Frame) : Type 0 where
   pub count : length states ≡ cell_count sheet.sizes
   pub settled : (cell : Position) (v : Value) → IsTrue (is_inside sheet.sizes cell) → slice_get states (place_of sheet.sizes cell) ≡ Some (Known v) → SettlesAt (value.Error Circ) (step sheet) (known_count states) cell v
   pub listed : (p : ℕ) → slice_get states p ≡ Some Open → (i : ℕ) × (frame : Frame) × (slice_get frames i ≡ Some frame) × (place_of sheet.sizes frame.cell ≡ p)
@@ -76,49 +76,49 @@ BelowLater frames i place = (j : ℕ) (g : Frame) → i < j → slice_get frames
 
 -- evaluation can read past each input of an open cell, or the input is left to look at;
 -- and what is left behind an open cell's first part, and before the next one's, are its inputs
-pub record HasParts (sheet : SheetValue) (states : List State) (frames : List Frame) (parts : List Part) : Type 0 where
+pub record HasParts (sheet : SheetValue) (states : List CellState) (frames : List Frame) (parts : List Part) : Type 0 where
   pub are_parts : AreParts sheet.sizes states parts
-  pub passed : (i : ℕ) (frame : Frame) (input : Position) → slice_get frames i ≡ Some frame → IsInput sheet frame.cell input → IsTrue (is_plain sheet.sizes states input) ⊎ IsLeft parts frame.first input
+  pub passed : (i : ℕ) (frame : Frame) (input : Position) → slice_get frames i ≡ Some frame → IsInput sheet frame.cell input → IsTrue (is_plain sheet.sizes states input) ⊎ IsLeftInParts parts frame.first input
   pub named : (i : ℕ) (frame : Frame) (k : ℕ) (input : Position) → slice_get frames i ≡ Some frame → frame.first ≤ k → BelowLater frames i k → IsAt parts k input → IsInput sheet frame.cell input
 
 -- no cell that was seen is unseen afterwards
-abbrev pub KeepsSeen : List State → List State → Type 0
+abbrev pub KeepsSeen : List CellState → List CellState → Type 0
 KeepsSeen old new = (p : ℕ) → slice_get new p ≡ Some Unseen → slice_get old p ≡ Some Unseen
 
 -- every cell before the place has been seen
-abbrev pub SeenBelow : List State → ℕ → Type 0
+abbrev pub SeenBelow : List CellState → ℕ → Type 0
 SeenBelow states end = (p : ℕ) → p < end → slice_get states p ≢ Some Unseen
 
 -- the newest open cell waits for this one, which evaluation can't read past
-pub record IsWaiting (sheet : SheetValue) (states : List State) (frames : List Frame) (cell : Position) : Type 0 where
+pub record IsWaiting (sheet : SheetValue) (states : List CellState) (frames : List Frame) (cell : Position) : Type 0 where
   pub newest : (i : ℕ) (frame : Frame) → slice_get frames i ≡ Some frame → suc i ≡ length frames → IsInput sheet frame.cell cell
   pub some : 0 < length frames
   pub inside : IsTrue (is_inside sheet.sizes cell)
   pub stop : IsFalse (is_plain sheet.sizes states cell)
 
 -- the frames have all open cells, and each of their cells is open or closed already
-pub record IsClosing (sheet : SheetValue) (states : List State) (frames : List Frame) : Type 0 where
+pub record IsClosing (sheet : SheetValue) (states : List CellState) (frames : List Frame) : Type 0 where
   pub count : length states ≡ cell_count sheet.sizes
   pub inside : (i : ℕ) (frame : Frame) → slice_get frames i ≡ Some frame → IsTrue (is_inside sheet.sizes frame.cell)
   pub listed : (p : ℕ) → slice_get states p ≡ Some Open → (i : ℕ) × (frame : Frame) × (slice_get frames i ≡ Some frame) × (place_of sheet.sizes frame.cell ≡ p)
   pub closes : (i : ℕ) (frame : Frame) → slice_get frames i ≡ Some frame → slice_get (map closed_state states) (place_of sheet.sizes frame.cell) ≡ Some (Known (value.Error Circ))
 
 -- the states that a walk knows
-abbrev pub walk_states : Walk → List State
+abbrev pub walk_states : Walk → List CellState
 walk_states walk = states_of walk.words.items
 
 -- words that are codes of values or stand for none, as a walk has them with these open cells and with these parts left
 pub record IsWalkState (sheet : SheetValue) (words : List ℕ) (frames : List Frame) (parts : List Part) : Type 0 where
   pub coded : AreWords words
-  pub walk : IsWalk sheet (states_of words) frames
+  pub walk : IsWalkOf sheet (states_of words) frames
   pub left : HasParts sheet (states_of words) frames parts
 
 -- the same of a walk in memory
-abbrev pub IsSound : SheetValue → Walk → Type 0
-IsSound sheet walk = IsWalkState sheet walk.words.items walk.frames.items walk.parts.items
+abbrev pub IsStoredWalk : SheetValue → Walk → Type 0
+IsStoredWalk sheet walk = IsWalkState sheet walk.words.items walk.frames.items walk.parts.items
 
 -- a cell of the rectangle that was not looked at, for which the newest open cell waits
-pub record IsOpening (sheet : SheetValue) (states : List State) (frames : List Frame) (cell : Position) : Type 0 where
+pub record IsNextToOpen (sheet : SheetValue) (states : List CellState) (frames : List Frame) (cell : Position) : Type 0 where
   pub inside : IsTrue (is_inside sheet.sizes cell)
   pub unseen : slice_get states (place_of sheet.sizes cell) ≡ Some Unseen
   pub newest : (i : ℕ) (frame : Frame) → slice_get frames i ≡ Some frame → suc i ≡ length frames → IsInput sheet frame.cell cell

@@ -11,14 +11,14 @@ use Rattle.value_core.specs.Values.{IsValue, code_of}
 use Rattle.formula_eval.specs.Meaning.{is_circular}
 
 -- what is known of a cell: it wasn't looked at, or waits for another one, or has this value
-pub data State : Type 0 where
-  Unseen : State
-  Open : State
-  Known : Value → State
+pub data CellState : Type 0 where
+  Unseen : CellState
+  Open : CellState
+  Known : Value → CellState
 
 -- the state for which a word stands
-abbrev pub state_of : ℕ → State
-state_of word = if word == 5 then Unseen else (if word == 6 then Open else Known (value_of_word word))
+abbrev pub cell_state : ℕ → CellState
+cell_state word = if word == 5 then Unseen else (if word == 6 then Open else Known (value_of_word word))
 
 -- that a value is in range has one proof at most
 pub value_prop : (v : Value) → IsProp (IsValue v)
@@ -32,15 +32,15 @@ value_prop (Error kind) = hlevel props
 value_prop (Label place) = hlevel props
 
 -- a word that is the code of the value for which it stands, if it stands for one
-abbrev pub IsWord : ℕ → Type 0
-IsWord word = (v : Value) → state_of word ≡ Known v → IsValue v × (code_of v ≡ word)
+abbrev pub IsCodeWord : ℕ → Type 0
+IsCodeWord word = (v : Value) → cell_state word ≡ Known v → IsValue v × (code_of v ≡ word)
 
 abbrev pub AreWords : List ℕ → Type 0
-AreWords words = (i : ℕ) (word : ℕ) → slice_get words i ≡ Some word → IsWord word
+AreWords words = (i : ℕ) (word : ℕ) → slice_get words i ≡ Some word → IsCodeWord word
 
 -- the states of all cells
-abbrev pub states_of : List ℕ → List State
-states_of words = map state_of words
+abbrev pub states_of : List ℕ → List CellState
+states_of words = map cell_state words
 
 -- the code that is known by a word
 abbrev pub known_code : ℕ → Option ℕ
@@ -51,11 +51,11 @@ abbrev pub known_codes : Sizes → List ℕ → Position → Option ℕ
 known_codes sizes words cell = known_code (slice_index_or words (place_of sizes cell) 0)
 
 -- a known value other than #CIRC!
-abbrev pub is_plain_state : State → Bool
+abbrev pub is_plain_state : CellState → Bool
 is_plain_state Unseen = false
 is_plain_state Open = false
 is_plain_state (Known value) = not (is_circular value)
 
 -- a cell of the rectangle that evaluation can read past: its value is known to be other than #CIRC!
-abbrev pub is_plain : Sizes → List State → Position → Bool
+abbrev pub is_plain : Sizes → List CellState → Position → Bool
 is_plain sizes states cell = is_plain_state (slice_index_or states (place_of sizes cell) Unseen)

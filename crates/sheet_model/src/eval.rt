@@ -6,8 +6,8 @@ ghost use Rattle.sheet_model.specs.Parts.{AddsParts};
 ghost use Rattle.sheet_model.specs.Sheets.{content_value};
 ghost use Rattle.sheet_model.specs.Values.{content_references, step_content};
 ghost use Rattle.sheet_model.specs.Walks.{ArePlainInputs, first_state, known_values};
-ghost use Rattle.sheet_model.specs.Words.{AreWords, IsWord, Known as KnownState, is_plain};
-ghost use Rattle.sheet_model.specs.Words.{state_of, states_of};
+ghost use Rattle.sheet_model.specs.Words.{AreWords, IsCodeWord, Known as KnownState, is_plain};
+ghost use Rattle.sheet_model.specs.Words.{cell_state, states_of};
 
 use crate::content::Content;
 use crate::known::Known;
@@ -20,8 +20,8 @@ use value_core::{Value, code};
 
 // The word of a cell before the walk: constants are known, and formulas not looked at.
 fn first_word(content: &Content) -> u64
-    ensures state { state_of result ≡ first_state (content_value content.now) }
-    ensures word { IsWord result }
+    ensures state { cell_state result ≡ first_state (content_value content.now) }
+    ensures word { IsCodeWord result }
 {
     match content {
         Content::Empty => code(Value::Empty),
@@ -67,9 +67,9 @@ pub(crate) fn evaluate(sizes: Sizes, words: &[u64], content: &Content, stack: &m
     requires count { length words.now ≡ cell_count sizes }
     requires words { AreWords words.now }
     requires plain { ArePlainInputs sizes (states_of words.now) (content_value content.now) }
-    ensures state { state_of result ≡ KnownState (step_content sizes
+    ensures state { cell_state result ≡ KnownState (step_content sizes
         (known_values sizes (states_of words.now)) (content_value content.now)) }
-    ensures word { IsWord result }
+    ensures word { IsCodeWord result }
 {
     let Content::Formula(formula) = content else {
         return first_word(content);

@@ -1,7 +1,7 @@
 ghost use Rattle.std.specs.Prelude.{◌≡◌, length, IfSome};
 ghost use Rattle.sheet_refs.specs.Sizes.{cell_count};
 ghost use Rattle.formula_eval.specs.Inputs.{IsCode};
-ghost use Rattle.sheet_model.specs.Words.{AreWords, IsWord, known_code, value_prop};
+ghost use Rattle.sheet_model.specs.Words.{AreWords, IsCodeWord, known_code, value_prop};
 ghost use Rattle.std.proofs.Props.{props};
 
 use crate::words::{OPEN, UNSEEN};
@@ -51,7 +51,7 @@ impl<'a> Inputs for Known<'a> {
 
 // The code that a word is, where it is one.
 fn code_of_word(word: u64) -> Option<u64>
-    requires { IsWord word }
+    requires { IsCodeWord word }
     ensures held { result ≡ known_code word }
     ensures code { IfSome result IsCode }
 {

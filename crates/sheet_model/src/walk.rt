@@ -2,8 +2,8 @@ ghost use Rattle.std.specs.Prelude.{◌≡◌, ◌≢◌, ◌<◌, ◌≤◌, �
 ghost use Rattle.std.specs.Prelude.{OnOk, Some};
 ghost use Rattle.sheet_refs.specs.Sizes.{place_of, cell_count};
 ghost use Rattle.sheet_model.specs.Values.{AreValues};
-ghost use Rattle.sheet_model.specs.Walks.{IsSound, IsIdle, StaysSeen, SeenBelow, IsWaiting};
-ghost use Rattle.sheet_model.specs.Walks.{IsClosing, IsOpening, IsDone, cells_left, closed_state};
+ghost use Rattle.sheet_model.specs.Walks.{IsStoredWalk, IsIdle, StaysSeen, SeenBelow, IsWaiting};
+ghost use Rattle.sheet_model.specs.Walks.{IsClosing, IsNextToOpen, IsDone, cells_left, closed_state};
 ghost use Rattle.sheet_model.specs.Walks.{walk_states};
 ghost use Rattle.sheet_model.specs.Words.{AreWords, Open, Unseen};
 
@@ -35,7 +35,7 @@ struct Walk {
 
 impl Walk {
     fn new(alloc: Global, sheet: &Sheet) -> Result<Walk, Memory>
-        ensures walk { IfOk result (λ walk. IsSound sheet.now walk) }
+        ensures walk { IfOk result (λ walk. IsStoredWalk sheet.now walk) }
         ensures idle { IfOk result (λ walk. IsIdle walk) }
     {
         let words = first_words(alloc, sheet.contents())?;
@@ -63,9 +63,9 @@ impl Walk {
 
     /// Opens a cell: all that it names in the rectangle is left to look at.
     fn open(&mut self, sheet: &Sheet, cell: Cell) -> Result<(), AllocError>
-        requires sound { IsSound sheet.now self.old }
-        requires opening { IsOpening sheet.now (walk_states self.old) self.old.frames.items cell }
-        ensures sound { OnOk result (IsSound sheet.now self.new) }
+        requires sound { IsStoredWalk sheet.now self.old }
+        requires opening { IsNextToOpen sheet.now (walk_states self.old) self.old.frames.items cell }
+        ensures sound { OnOk result (IsStoredWalk sheet.now self.new) }
         ensures states { walk_states self.new
             ≡ set (walk_states self.old) (place_of sheet.now.sizes cell) Open }
         ensures less { OnOk result (cells_left self.new < cells_left self.old) }
@@ -79,9 +79,9 @@ impl Walk {
     /// Opens the cell for which the newest open cell waits; where it is open or circular, all open
     /// cells lead into a cycle, and are closed.
     fn enter(&mut self, sheet: &Sheet, cell: Cell) -> Result<(), AllocError>
-        requires sound { IsSound sheet.now self.old }
+        requires sound { IsStoredWalk sheet.now self.old }
         requires waiting { IsWaiting sheet.now (walk_states self.old) self.old.frames.items cell }
-        ensures sound { OnOk result (IsSound sheet.now self.new) }
+        ensures sound { OnOk result (IsStoredWalk sheet.now self.new) }
         ensures seen { OnOk result (StaysSeen self.old self.new) }
         ensures less { OnOk result (cells_left self.new < cells_left self.old) }
     {
@@ -95,9 +95,9 @@ impl Walk {
 
     /// Settles the newest open cell, of which nothing is left to look at.
     fn finish(&mut self, sheet: &Sheet)
-        requires sound { IsSound sheet.now self.old }
+        requires sound { IsStoredWalk sheet.now self.old }
         requires done { IsDone self.old }
-        ensures sound { IsSound sheet.now self.new }
+        ensures sound { IsStoredWalk sheet.now self.new }
         ensures seen { StaysSeen self.old self.new }
         ensures less { ¬ IsIdle self.old → cells_left self.new < cells_left self.old }
     {
@@ -112,8 +112,8 @@ impl Walk {
     /// Looks on at what is left of the newest open cell: settles it, or opens one more cell, or
     /// finds that all open cells lead into a cycle.
     fn turn(&mut self, sheet: &Sheet) -> Result<(), AllocError>
-        requires sound { IsSound sheet.now self.old }
-        ensures sound { OnOk result (IsSound sheet.now self.new) }
+        requires sound { IsStoredWalk sheet.now self.old }
+        ensures sound { OnOk result (IsStoredWalk sheet.now self.new) }
         ensures seen { OnOk result (StaysSeen self.old self.new) }
         ensures less { OnOk result (¬ IsIdle self.old → cells_left self.new < cells_left self.old) }
     {
@@ -133,10 +133,10 @@ impl Walk {
 
     /// Settles the cell at a place, and every cell that it leads to.
     fn settle(&mut self, sheet: &Sheet, place: usize) -> Result<(), AllocError>
-        requires sound { IsSound sheet.now self.old }
+        requires sound { IsStoredWalk sheet.now self.old }
         requires idle { IsIdle self.old }
         requires place { place < cell_count sheet.now.sizes }
-        ensures sound { OnOk result (IsSound sheet.now self.new) }
+        ensures sound { OnOk result (IsStoredWalk sheet.now self.new) }
         ensures idle { OnOk result (IsIdle self.new) }
         ensures seen { OnOk result (StaysSeen self.old self.new) }
         ensures known { OnOk result (slice_get (walk_states self.new) place ≢ Some Unseen) }
@@ -153,9 +153,9 @@ impl Walk {
 
     /// Settles every cell.
     fn run(&mut self, sheet: &Sheet) -> Result<(), AllocError>
-        requires sound { IsSound sheet.now self.old }
+        requires sound { IsStoredWalk sheet.now self.old }
         requires idle { IsIdle self.old }
-        ensures sound { OnOk result (IsSound sheet.now self.new) }
+        ensures sound { OnOk result (IsStoredWalk sheet.now self.new) }
         ensures idle { OnOk result (IsIdle self.new) }
         ensures known { OnOk result
             (SeenBelow (walk_states self.new) (cell_count sheet.now.sizes)) }

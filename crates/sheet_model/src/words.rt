@@ -2,9 +2,9 @@ ghost use Rattle.std.specs.Prelude.{◌≡◌, ◌<◌, ◌≤◌, ℕ, length, 
 ghost use Rattle.std.specs.Prelude.{MatchOption};
 ghost use Rattle.sheet_refs.specs.Cells.{Position, IsIn, cells_of};
 ghost use Rattle.sheet_refs.specs.Sizes.{is_inside, cell_count};
-ghost use Rattle.sheet_model.specs.Parts.{AreParts, IsPart, IsStop, LooksOn, part_at};
-ghost use Rattle.sheet_model.specs.Words.{AreWords, IsWord, is_plain as plain, is_plain_state};
-ghost use Rattle.sheet_model.specs.Words.{state_of, states_of};
+ghost use Rattle.sheet_model.specs.Parts.{AreParts, IsPartOfRectangle, IsStopInParts, LooksOn, part_at};
+ghost use Rattle.sheet_model.specs.Words.{AreWords, IsCodeWord, is_plain as plain, is_plain_state};
+ghost use Rattle.sheet_model.specs.Words.{cell_state, states_of};
 
 use crate::parts::Part;
 use sheet_refs::{Cell, Sizes};
@@ -19,8 +19,8 @@ pub(crate) const OPEN: u64 = 6;
 pub(crate) const CIRCULAR: u64 = 59;
 
 fn is_plain_word(word: u64) -> bool
-    requires { IsWord word }
-    ensures { result ≡ is_plain_state (state_of word) }
+    requires { IsCodeWord word }
+    ensures { result ≡ is_plain_state (cell_state word) }
 {
     if word == UNSEEN || word == OPEN {
         return false;
@@ -43,8 +43,8 @@ fn is_plain(sizes: Sizes, words: &[u64], cell: Cell) -> bool
 fn first_stop(sizes: Sizes, words: &[u64], part: Part) -> u64
     requires count { length words.now ≡ cell_count sizes }
     requires words { AreWords words.now }
-    requires part { IsPart sizes (states_of words.now) part }
-    ensures part { IsPart sizes (states_of words.now) (part_at part result) }
+    requires part { IsPartOfRectangle sizes (states_of words.now) part }
+    ensures part { IsPartOfRectangle sizes (states_of words.now) (part_at part result) }
     ensures stop { (cell : Position) → slice_get (cells_of part.range) result ≡ Some cell
         → IsFalse (plain sizes (states_of words.now) cell) }
 {
@@ -73,7 +73,7 @@ pub(crate) fn look(sizes: Sizes, words: &[u64], parts: &mut Vec<Part>, first: us
     requires parts { AreParts sizes (states_of words.now) parts.old.items }
     ensures looks { LooksOn sizes (states_of words.now) parts.old.items parts.new.items }
     ensures stop { MatchOption result (length parts.new.items ≤ first)
-        (IsStop sizes (states_of words.now) parts.new.items first) }
+        (IsStopInParts sizes (states_of words.now) parts.new.items first) }
 {
     while parts.len() > first {
         let Some(part) = parts.pop() else {

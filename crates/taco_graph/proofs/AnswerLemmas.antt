@@ -17,7 +17,7 @@ use Rattle.edge_patterns.specs.declared.edge.Pattern.{Pattern}
 use Rattle.edge_patterns.specs.declared.edge.Pattern.TheVariants.{Single, Rr, Rf, Fr, Ff, Chain}
 use Rattle.range_index.specs.Entries.{Entry, AddsOverlapping}
 use Rattle.taco_graph.specs.Stores.{edge_at, edges_of, AreStored, EdgesDiffer}
-use Rattle.taco_graph.specs.Answers.{IsMeant, ByPattern, IsMeantAt, IsAnswered, EdgeAnswer, answer_of, ranges_of, HasAnswer, IsAnswerAt, NamesAnswering, AddsAnswersOf, AddsAnswers, AddsOneEach}
+use Rattle.taco_graph.specs.Answers.{IsMeant, ByPattern, IsMeantAt, IsAnswered, EdgeAnswer, edge_answer, answer_ranges, HasAnswer, IsAnswerAt, NamesAnswering, AddsAnswersOf, AddsAnswers, AddsOneEach}
 use Rattle.taco_graph.specs.declared.answers.Question.{Question}
 use Rattle.taco_graph.specs.declared.answers.Question.TheVariants.{Dependents, Precedents, Ahead, Behind}
 use Rattle.slab.proofs.SlabLemmas.{Contains-cons}
@@ -87,14 +87,14 @@ edges_differ slots runs rectangles stored key other a b differ here there same =
 
 -- ---- the ranges of some edges
 
-range_listed : (answers : List EdgeAnswer) (answer : EdgeAnswer) → Contains answers answer → Contains (ranges_of answers) answer.range
+range_listed : (answers : List EdgeAnswer) (answer : EdgeAnswer) → Contains answers answer → Contains (answer_ranges answers) answer.range
 range_listed answers answer (k, below, is) = (
   k,
   omega (arith, below, length-map answers (λ (a : EdgeAnswer). a.range)),
   get_or-map (λ (a : EdgeAnswer). a.range) answers k answer answer.range below ∙ ap (λ (a : EdgeAnswer). a.range) is,
 )
 
-answer_listed : (answers : List EdgeAnswer) (range : Corners) → Contains (ranges_of answers) range → (answer : EdgeAnswer) × Contains answers answer × (answer.range ≡ range)
+answer_listed : (answers : List EdgeAnswer) (range : Corners) → Contains (answer_ranges answers) range → (answer : EdgeAnswer) × Contains answers answer × (answer.range ≡ range)
 answer_listed [] range listed = absurd (omega (arith, listed.1))
 answer_listed (first ∷ answers) range (zero, below, is) = (first, (0, omega arith, refl), is)
 answer_listed (first ∷ answers) range (suc k, below, is) =
@@ -102,7 +102,7 @@ answer_listed (first ∷ answers) range (suc k, below, is) =
     (answer, Contains-cons first answer answers there, same)
 
 still_answered : (answers : List EdgeAnswer) (one : EdgeAnswer) (edge : EdgeValue) → HasAnswer answers edge → HasAnswer (answers ++ one ∷ []) edge
-still_answered answers one edge has = record { range = has.range; listed = Contains-append_left answers (one ∷ []) (answer_of edge has.range) has.listed }
+still_answered answers one edge has = record { range = has.range; listed = Contains-append_left answers (one ∷ []) (edge_answer edge has.range) has.listed }
 
 -- ---- one key after another
 
@@ -132,11 +132,11 @@ module _ (slots : List (Option EdgeValue)) (question : Question) (query : Corner
     ];
   }
 
-  pub adds_range : (keys : List ℕ) (key : ℕ) (old new newer : List Corners) (edge : EdgeValue) (range : Corners) → newer ≡ new ++ range ∷ [] → IsAnswerAt slots question query key (answer_of edge range) → ¬ Contains keys key → EdgesDiffer slots → AddsAnswersOf slots question query keys old new → AddsAnswersOf slots question query (keys ++ key ∷ []) old newer
+  pub adds_range : (keys : List ℕ) (key : ℕ) (old new newer : List Corners) (edge : EdgeValue) (range : Corners) → newer ≡ new ++ range ∷ [] → IsAnswerAt slots question query key (edge_answer edge range) → ¬ Contains keys key → EdgesDiffer slots → AddsAnswersOf slots question query keys old new → AddsAnswersOf slots question query (keys ++ key ∷ []) old newer
   adds_range keys key old new newer edge range pushed is absent differ adds = record {
     answers = adds.answers ++ one ∷ [];
     whole =
-        pushed ∙ (ap (λ (n : List Corners). n ++ range ∷ []) adds.whole ∙ (append_assoc old (ranges_of adds.answers) (range ∷ []) ∙ ap (λ (n : List Corners). old ++ n) (sym (map-append (λ (a : EdgeAnswer). a.range) adds.answers (one ∷ [])))));
+        pushed ∙ (ap (λ (n : List Corners). n ++ range ∷ []) adds.whole ∙ (append_assoc old (answer_ranges adds.answers) (range ∷ []) ∙ ap (λ (n : List Corners). old ++ n) (sym (map-append (λ (a : EdgeAnswer). a.range) adds.answers (one ∷ [])))));
     once = all_pairs_push (λ (a b : EdgeAnswer). a.edge ≢ b.edge) adds.answers one adds.once (λ k d within. other (get_or adds.answers k d) (Contains-get_or adds.answers k d within));
     exact = λ answer listed. elim (Contains-push_cases adds.answers one answer listed) [
       | inl before ↦ let (k, among, at) = adds.exact answer before in (k, Contains-append_left keys (key ∷ []) k among, at)
@@ -149,7 +149,7 @@ module _ (slots : List (Option EdgeValue)) (question : Question) (query : Corner
   }
     where
       one : EdgeAnswer
-      one = answer_of edge range
+      one = edge_answer edge range
 
       other : (answer : EdgeAnswer) → Contains adds.answers answer → answer.edge ≢ edge
       other answer listed =
@@ -157,15 +157,15 @@ module _ (slots : List (Option EdgeValue)) (question : Question) (query : Corner
           differ k key answer.edge edge (λ same. absent (subst (λ (i : ℕ). Contains keys i) same among)) at.here is.here
 
   pub adds_all : (keys : List ℕ) (old new : List Corners) → NamesAnswering slots question query keys → AddsAnswersOf slots question query keys old new → AddsAnswers slots question query old new
-  adds_all keys old new named adds = record { added = ranges_of adds.answers; whole = adds.whole; all = all; only = only }
+  adds_all keys old new named adds = record { added = answer_ranges adds.answers; whole = adds.whole; all = all; only = only }
     where
-      all : (cell : Position) → IsAnswered slots question query cell → IsAmong (ranges_of adds.answers) cell
+      all : (cell : Position) → IsAnswered slots question query cell → IsAmong (answer_ranges adds.answers) cell
       all cell (key, at) =
           let has = adds.all key at.edge cell (named key cell at) at.here at.meant in
-          let (k, among, is) = adds.exact (answer_of at.edge has.range) has.listed in
-          record { range = has.range; listed = range_listed adds.answers (answer_of at.edge has.range) has.listed; inside = (is.exact cell).1 at.meant }
+          let (k, among, is) = adds.exact (edge_answer at.edge has.range) has.listed in
+          record { range = has.range; listed = range_listed adds.answers (edge_answer at.edge has.range) has.listed; inside = (is.exact cell).1 at.meant }
 
-      only : (cell : Position) → IsAmong (ranges_of adds.answers) cell → IsAnswered slots question query cell
+      only : (cell : Position) → IsAmong (answer_ranges adds.answers) cell → IsAnswered slots question query cell
       only cell among =
           let (answer, listed, same) = answer_listed adds.answers among.range among.listed in
           let (key, there, is) = adds.exact answer listed in
@@ -183,7 +183,7 @@ module _ (slots : List (Option EdgeValue)) (question : Question) (query : Corner
   }
 
   pub adds_keep : (keys : List ℕ) (old new : List Corners) → AddsAnswersOf slots question query keys old new → Keeps old new
-  adds_keep keys old new adds = record { added = ranges_of adds.answers; whole = adds.whole }
+  adds_keep keys old new adds = record { added = answer_ranges adds.answers; whole = adds.whole }
 
 pub take_next : (keys : List ℕ) (place key : ℕ) → place < length keys → key ≡ get_or keys place key → take (place + 1) keys ≡ take place keys ++ key ∷ []
 take_next keys place key within here = take_more keys place key within ∙ ap (λ (k : ℕ). take place keys ++ k ∷ []) (sym here)

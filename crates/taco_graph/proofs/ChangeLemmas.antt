@@ -8,7 +8,7 @@ use Rattle.sheet_refs.specs.Cells.{Position, Corners, IsIn}
 use Rattle.edge_patterns.specs.Edges.{EdgeValue, IsEdge, IsPair}
 use Rattle.edge_patterns.specs.Joins.{HasPair, LeaveOut, IsJoin, IsPartOrNone, StandsBefore}
 use Rattle.edge_patterns.proofs.UnionLemmas.{run_has_ranges}
-use Rattle.taco_graph.specs.Stores.{edge_at, IsKeptPair, IsApart, Puts, Gains, LeavesApart}
+use Rattle.taco_graph.specs.Stores.{edge_at, IsKeptPair, IsApart, PutsEdge, Gains, LeavesApart}
 use Rattle.taco_graph.specs.Changes.{LacksCell, GainsPairs, MovesPairs, IsJoinedAt, HoldNoMore, HoldElsewhere, KeepsOthers, HasAtMost, HasRoomForParts, KeepsRoomForParts, IsPartApart, GainsPartPairs, PartLacksCell}
 use Rattle.std.proofs.lemmas.Bool.{cases_eq}
 use Rattle.range_index.proofs.DistinctLemmas.{without, length_without, still_listed}
@@ -16,14 +16,14 @@ use Rattle.taco_graph.proofs.StoreLemmas.{still_here, here_more, not_free}
 
 -- ---- an edge is taken out
 
-pub kept_still : (old new : List (Option EdgeValue)) (key : ℕ) (range : Corners) (cell : Position) → Puts old new key None → IsKeptPair new range cell → IsKeptPair old range cell
+pub kept_still : (old new : List (Option EdgeValue)) (key : ℕ) (range : Corners) (cell : Position) → PutsEdge old new key None → IsKeptPair new range cell → IsKeptPair old range cell
 kept_still old new key range cell puts kept = record {
   edge = kept.edge;
   kept = record { key = kept.kept.key; here = (still_here old new key kept.kept.key kept.edge puts kept.kept.here).1 };
   pair = kept.pair;
 }
 
-pub kept_or_gone : (old new : List (Option EdgeValue)) (key : ℕ) (gone : EdgeValue) (range : Corners) (cell : Position) → Puts old new key None → edge_at old key ≡ Some gone → IsKeptPair old range cell → IsPair gone range cell ⊎ IsKeptPair new range cell
+pub kept_or_gone : (old new : List (Option EdgeValue)) (key : ℕ) (gone : EdgeValue) (range : Corners) (cell : Position) → PutsEdge old new key None → edge_at old key ≡ Some gone → IsKeptPair old range cell → IsPair gone range cell ⊎ IsKeptPair new range cell
 kept_or_gone old new key gone range cell puts here kept = elim (cases_eq kept.kept.key key) [
   | inl same ↦ inl (subst (λ (e : EdgeValue). IsPair e range cell) (same_Some kept.edge gone (sym kept.kept.here ∙ (ap (edge_at old) same ∙ here))) kept.pair)
   | inr other ↦ inr (record { edge = kept.edge; kept = record { key = kept.kept.key; here = puts.others kept.kept.key other ∙ kept.kept.here }; pair = kept.pair })
@@ -31,7 +31,7 @@ kept_or_gone old new key gone range cell puts here kept = elim (cases_eq kept.ke
 
 -- ---- an edge is joined with one that is taken out
 
-module _ (old new : List (Option EdgeValue)) (key : ℕ) (edge joined : EdgeValue) (cell : Position) (union : IsJoinedAt old key edge cell joined) (puts : Puts old new key None) where
+module _ (old new : List (Option EdgeValue)) (key : ℕ) (edge joined : EdgeValue) (cell : Position) (union : IsJoinedAt old key edge cell joined) (puts : PutsEdge old new key None) where
   pub moves : MovesPairs old new edge joined
   moves range at = (to, from)
     where
@@ -61,7 +61,7 @@ module _ (old new : List (Option EdgeValue)) (key : ℕ) (edge joined : EdgeValu
     | inr of_other ↦ union.lacks range of_other
   ]
 
-pub hold_less : (old new : List (Option EdgeValue)) (key : ℕ) (cell : Position) → Puts old new key None → HoldNoMore old new cell
+pub hold_less : (old new : List (Option EdgeValue)) (key : ℕ) (cell : Position) → PutsEdge old new key None → HoldNoMore old new cell
 hold_less old new key cell puts k edge range here pair = (still_here old new key k edge puts here).1
 
 pub moves_none : (slots : List (Option EdgeValue)) (edge : EdgeValue) → MovesPairs slots slots edge edge
@@ -109,7 +109,7 @@ keeps_same slots cell range other differ = (λ kept. kept, λ kept. kept)
 pub lacks_outside : (edge : EdgeValue) (cell : Position) → IsEdge edge → ¬ IsIn cell edge.dep → LacksCell edge cell
 lacks_outside edge cell is outside range pair = outside ((run_has_ranges edge is cell).1 (range, pair))
 
-module _ (old rest first new : List (Option EdgeValue)) (key : ℕ) (edge : EdgeValue) (before after : Option EdgeValue) (cell : Position) (here : edge_at old key ≡ Some edge) (puts : Puts old rest key None) (away : IsApart rest edge) (parts : LeaveOut before after edge cell) where
+module _ (old rest first new : List (Option EdgeValue)) (key : ℕ) (edge : EdgeValue) (before after : Option EdgeValue) (cell : Position) (here : edge_at old key ≡ Some edge) (puts : PutsEdge old rest key None) (away : IsApart rest edge) (parts : LeaveOut before after edge cell) where
   pub before_apart : IsPartApart rest before
   before_apart range at pair kept = away range at ((parts range at).0 (inl pair)).0 kept
 
@@ -200,7 +200,7 @@ pub gains_some : (old new : List (Option EdgeValue)) (part : Option EdgeValue) (
 gains_some old new part edge is gains = subst (λ (o : Option EdgeValue). GainsPartPairs old new o) (sym is) gains
 
 -- a cell's part is taken out of an edge, and what is left is put back
-module _ (old rest first new : List (Option EdgeValue)) (key : ℕ) (edge : EdgeValue) (before after : Option EdgeValue) (cell : Position) (here : edge_at old key ≡ Some edge) (puts : Puts old rest key None) (parts : LeaveOut before after edge cell) (one : PartLacksCell before cell → HoldNoMore rest first cell) (two : PartLacksCell after cell → HoldNoMore first new cell) where
+module _ (old rest first new : List (Option EdgeValue)) (key : ℕ) (edge : EdgeValue) (before after : Option EdgeValue) (cell : Position) (here : edge_at old key ≡ Some edge) (puts : PutsEdge old rest key None) (parts : LeaveOut before after edge cell) (one : PartLacksCell before cell → HoldNoMore rest first cell) (two : PartLacksCell after cell → HoldNoMore first new cell) where
   pub held_elsewhere : HoldElsewhere old new cell key
   held_elsewhere k e range at pair =
       let after_lacks : PartLacksCell after cell = λ r p. ((parts r cell).0 (inr p)).1 refl in

@@ -18,7 +18,7 @@ use Rattle.edge_patterns.specs.Queries.IsLedTo.{at_once as led_at_once, onward a
 use Rattle.edge_patterns.specs.declared.edge.Pattern.{Pattern}
 use Rattle.edge_patterns.specs.declared.edge.Pattern.TheVariants.{Single, Rr, Rf, Fr, Ff, Chain}
 use Rattle.taco_graph.specs.Pairs.{pair_at, pairs_of_edge, pairs_of}
-use Rattle.taco_graph.specs.Stores.{edge_at, IsKept, IsKeptPair, edges_of}
+use Rattle.taco_graph.specs.Stores.{edge_at, IsKeptEdge, IsKeptPair, edges_of}
 use Rattle.taco_graph.specs.Answers.{IsMeant, ByPattern, IsAnswered, AddsAnswers}
 use Rattle.taco_graph.specs.declared.answers.Question.TheVariants.{Dependents, Precedents, Ahead, Behind}
 
@@ -93,7 +93,7 @@ kept_listed (None ∷ slots) (suc key) edge here = kept_listed slots key edge he
 kept_listed (Some first ∷ slots) zero edge here = (0, omega arith, same_Some first edge here)
 kept_listed (Some first ∷ slots) (suc key) edge here = Contains-cons first edge (edges_of slots) (kept_listed slots key edge here)
 
-pub listed_kept : (slots : List (Option EdgeValue)) (edge : EdgeValue) → Contains (edges_of slots) edge → IsKept slots edge
+pub listed_kept : (slots : List (Option EdgeValue)) (edge : EdgeValue) → Contains (edges_of slots) edge → IsKeptEdge slots edge
 listed_kept [] edge listed = absurd (omega (arith, listed.1))
 listed_kept (None ∷ slots) edge listed = let later = listed_kept slots edge listed in record { key = suc later.key; here = later.here }
 listed_kept (Some first ∷ slots) edge listed = elim (Contains-cons_cases first edge (edges_of slots) listed) [

@@ -4,7 +4,7 @@ use Rattle.std.proofs.lemmas.Bool.{cases_eq}
 use Rattle.std.proofs.lemmas.Option.{same_Some}
 use Rattle.sheet_refs.specs.Cells.{Position}
 use Rattle.edge_patterns.specs.Edges.{EdgeValue, IsPair}
-use Rattle.taco_graph.specs.Stores.{edge_at, IsKeptPair, IsApart, IsApartBeside, Puts, Gains}
+use Rattle.taco_graph.specs.Stores.{edge_at, IsKeptPair, IsApart, IsApartBeside, PutsEdge, Gains}
 use Rattle.taco_graph.specs.Changes.{LacksCell, GainsPairs, HoldNoMore, IsJoinedAt}
 use Rattle.taco_graph.proofs.StoreLemmas.{here_more}
 
@@ -15,7 +15,7 @@ module _ (old : List (Option EdgeValue)) (key : ℕ) (edge joined : EdgeValue) (
     | inr of_other ↦ record { edge = union.other; here = union.here; pair = of_other }
   ]
 
-  module _ (new : List (Option EdgeValue)) (puts : Puts old new key (Some joined)) where
+  module _ (new : List (Option EdgeValue)) (puts : PutsEdge old new key (Some joined)) where
     pub grown_pairs : GainsPairs old new edge
     grown_pairs range at = (to, from)
       where

@@ -13,7 +13,7 @@ use Rattle.sheet_refs.specs.Cells.{Position, Corners, IsIn}
 use Rattle.graph_walk.specs.Graphs.{Pair}
 use Rattle.edge_patterns.specs.Edges.{EdgeValue, IsEdge}
 use Rattle.range_index.proofs.DistinctLemmas.{no_longer}
-use Rattle.taco_graph.specs.Answers.{EdgeAnswer, ranges_of, HaveOneAnswer, HasAnswer, IsAnswerOf, AddsOneEach}
+use Rattle.taco_graph.specs.Answers.{EdgeAnswer, answer_ranges, HaveOneAnswer, HasAnswer, IsAnswerOf, AddsOneEach}
 use Rattle.taco_graph.specs.Laws.{GainsOne}
 use Rattle.taco_graph.specs.Pairs.{StandFor, pairs_of, pairs_of_edge}
 use Rattle.taco_graph.proofs.GraphLemmas.{first_pair, pairs_long}
@@ -43,7 +43,7 @@ edge_listed edges (first ∷ answers) each edge (k, below, is) =
 pub answers_few : (edges : List EdgeValue) (meant : EdgeValue → Position → Type 0) (old new : List Corners) → AddsOneEach edges meant old new → length new ≤ length old + length edges
 answers_few edges meant old new adds =
     let fewer = no_longer (edges_of_answers adds.answers) edges (distinct_edges adds.answers adds.once) (edge_listed edges adds.answers (λ answer listed. (adds.exact answer listed).listed)) in
-    omega (arith, fewer, ap length adds.whole, length-append old (ranges_of adds.answers), length-map adds.answers (λ (a : EdgeAnswer). a.range), length-map adds.answers (λ (a : EdgeAnswer). a.edge))
+    omega (arith, fewer, ap length adds.whole, length-append old (answer_ranges adds.answers), length-map adds.answers (λ (a : EdgeAnswer). a.range), length-map adds.answers (λ (a : EdgeAnswer). a.edge))
 
 only_edge : (edge other : EdgeValue) → Contains (edge ∷ []) other → edge ≡ other
 only_edge edge other (zero, below, is) = is
@@ -52,7 +52,7 @@ only_edge edge other (suc k, below, is) = absurd (omega arith)
 pub one_gives : (edge : EdgeValue) (meant : EdgeValue → Position → Type 0) (old new : List Corners) (cell : Position) → AddsOneEach (edge ∷ []) meant old new → meant edge cell → GainsOne old new (meant edge)
 one_gives edge meant old new cell adds is_meant = by_answers adds.answers adds.whole adds.once adds.exact (adds.all edge cell (0, omega arith, refl) is_meant)
   where
-    by_answers : (answers : List EdgeAnswer) → new ≡ old ++ ranges_of answers → HaveOneAnswer answers → ((answer : EdgeAnswer) → Contains answers answer → IsAnswerOf (edge ∷ []) meant answer) → HasAnswer answers edge → GainsOne old new (meant edge)
+    by_answers : (answers : List EdgeAnswer) → new ≡ old ++ answer_ranges answers → HaveOneAnswer answers → ((answer : EdgeAnswer) → Contains answers answer → IsAnswerOf (edge ∷ []) meant answer) → HasAnswer answers edge → GainsOne old new (meant edge)
     by_answers [] whole once exact has = absurd (omega (arith, has.listed.1))
     by_answers (answer ∷ []) whole once exact has =
         let is = exact answer (0, omega arith, refl) in

@@ -11,17 +11,17 @@ use Rattle.sheet_refs.specs.Rectangles.{Overlap}
 use Rattle.edge_patterns.specs.Edges.{EdgeValue, IsEdge, IsPair}
 use Rattle.range_index.specs.Entries.{Entry, entry_of, HasNoId, SameEntries, Inserts, Removes, ChangesRange, AddsOverlapping}
 use Rattle.taco_graph.specs.Pairs.{AreApart}
-use Rattle.taco_graph.specs.Stores.{edge_at, IsKept, IsKeptPair, IsApart, IsApartBeside, IsFiled, FilesAll, AreStored, Puts, NamesOverlapping, LeavesApart}
+use Rattle.taco_graph.specs.Stores.{edge_at, IsKeptEdge, IsKeptPair, IsApart, IsApartBeside, IsFiled, FilesAll, AreStored, PutsEdge, NamesOverlapping, LeavesApart}
 
 -- an edge that is there after one was taken out was there before, under another key
-pub still_here : (old new : List (Option EdgeValue)) (taken key : ℕ) (edge : EdgeValue) → Puts old new taken None → edge_at new key ≡ Some edge → (key ≢ taken) × (edge_at old key ≡ Some edge)
+pub still_here : (old new : List (Option EdgeValue)) (taken key : ℕ) (edge : EdgeValue) → PutsEdge old new taken None → edge_at new key ≡ Some edge → (key ≢ taken) × (edge_at old key ≡ Some edge)
 still_here old new taken key edge puts here = elim (cases_eq key taken) [
   | inl same ↦ absurd (none-some edge (sym puts.changed ∙ (ap (edge_at new) (sym same) ∙ here)))
   | inr other ↦ (other, sym (puts.others key other) ∙ here)
 ]
 
 -- an edge that is there after one has come is that one, or was there before under another key
-pub here_more : (old new : List (Option EdgeValue)) (came key : ℕ) (one edge : EdgeValue) → Puts old new came (Some one) → edge_at new key ≡ Some edge → ((key ≡ came) × (edge ≡ one)) ⊎ ((key ≢ came) × (edge_at old key ≡ Some edge))
+pub here_more : (old new : List (Option EdgeValue)) (came key : ℕ) (one edge : EdgeValue) → PutsEdge old new came (Some one) → edge_at new key ≡ Some edge → ((key ≡ came) × (edge ≡ one)) ⊎ ((key ≢ came) × (edge_at old key ≡ Some edge))
 here_more old new came key one edge puts here = elim (cases_eq key came) [
   | inl same ↦ inl (same, same_Some edge one (sym here ∙ (ap (edge_at new) same ∙ puts.changed)))
   | inr other ↦ inr (other, sym (puts.others key other) ∙ here)
@@ -62,7 +62,7 @@ same_stored slots runs new_runs rectangles new_rectangles same_runs same_rectang
 
 -- ---- one edge less
 
-filed_less : (old new : List (Option EdgeValue)) (side : EdgeValue → Corners) (entries less : List Entry) (key : ℕ) → Puts old new key None → Removes entries less key → FilesAll old side entries → FilesAll new side less
+filed_less : (old new : List (Option EdgeValue)) (side : EdgeValue → Corners) (entries less : List Entry) (key : ℕ) → PutsEdge old new key None → Removes entries less key → FilesAll old side entries → FilesAll new side less
 filed_less old new side entries less key puts removes files entry = (to, from)
   where
     to : Contains less entry → IsFiled new side entry
@@ -76,7 +76,7 @@ filed_less old new side entries less key puts removes files entry = (to, from)
         let was = still_here old new key entry.id filed.edge puts filed.here in
         (removes entry).1 (was.0, (files entry).1 (record { edge = filed.edge; here = was.1; range_is = filed.range_is }))
 
-pub stored_less : (old new : List (Option EdgeValue)) (runs less_runs rectangles less_rectangles : List Entry) (key : ℕ) → Puts old new key None → Removes runs less_runs key → Removes rectangles less_rectangles key → AreStored old runs rectangles → AreStored new less_runs less_rectangles
+pub stored_less : (old new : List (Option EdgeValue)) (runs less_runs rectangles less_rectangles : List Entry) (key : ℕ) → PutsEdge old new key None → Removes runs less_runs key → Removes rectangles less_rectangles key → AreStored old runs rectangles → AreStored new less_runs less_rectangles
 stored_less old new runs less_runs rectangles less_rectangles key puts run_gone rectangle_gone stored = record {
   edges = λ edge kept. stored.edges edge (record { key = kept.key; here = (still_here old new key kept.key edge puts kept.here).1 });
   apart = λ k other a b differ here there. stored.apart k other a b differ (still_here old new key k a puts here).1 (still_here old new key other b puts there).1;
@@ -86,7 +86,7 @@ stored_less old new runs less_runs rectangles less_rectangles key puts run_gone 
 
 -- ---- one edge more
 
-filed_more : (old new : List (Option EdgeValue)) (side : EdgeValue → Corners) (entries more : List Entry) (key : ℕ) (one : EdgeValue) → edge_at old key ≡ None → Puts old new key (Some one) → Inserts entries more key (side one) → FilesAll old side entries → FilesAll new side more
+filed_more : (old new : List (Option EdgeValue)) (side : EdgeValue → Corners) (entries more : List Entry) (key : ℕ) (one : EdgeValue) → edge_at old key ≡ None → PutsEdge old new key (Some one) → Inserts entries more key (side one) → FilesAll old side entries → FilesAll new side more
 filed_more old new side entries more key one free puts inserts files entry = (to, from)
   where
     to : Contains more entry → IsFiled new side entry
@@ -103,7 +103,7 @@ filed_more old new side entries more key one free puts inserts files entry = (to
       | inr (other, was) ↦ inl ((files entry).1 (record { edge = filed.edge; here = was; range_is = filed.range_is }))
     ])
 
-pub stored_more : (old new : List (Option EdgeValue)) (runs more_runs rectangles more_rectangles : List Entry) (key : ℕ) (one : EdgeValue) → edge_at old key ≡ None → Puts old new key (Some one) → IsEdge one → IsApart old one → Inserts runs more_runs key one.dep → Inserts rectangles more_rectangles key one.prec → AreStored old runs rectangles → AreStored new more_runs more_rectangles
+pub stored_more : (old new : List (Option EdgeValue)) (runs more_runs rectangles more_rectangles : List Entry) (key : ℕ) (one : EdgeValue) → edge_at old key ≡ None → PutsEdge old new key (Some one) → IsEdge one → IsApart old one → Inserts runs more_runs key one.dep → Inserts rectangles more_rectangles key one.prec → AreStored old runs rectangles → AreStored new more_runs more_rectangles
 stored_more old new runs more_runs rectangles more_rectangles key one free puts is_edge away run_came rectangle_came stored = record {
   edges = edges;
   apart = apart;
@@ -111,7 +111,7 @@ stored_more old new runs more_runs rectangles more_rectangles key one free puts 
   rectangles_filed = filed_more old new (λ edge. edge.prec) rectangles more_rectangles key one free puts rectangle_came stored.rectangles_filed;
 }
   where
-    edges : (edge : EdgeValue) → IsKept new edge → IsEdge edge
+    edges : (edge : EdgeValue) → IsKeptEdge new edge → IsEdge edge
     edges edge kept = elim (here_more old new key kept.key one edge puts kept.here) [
       | inl (same, is) ↦ subst IsEdge (sym is) is_edge
       | inr (other, was) ↦ stored.edges edge (record { key = kept.key; here = was })
@@ -134,7 +134,7 @@ stored_more old new runs more_runs rectangles more_rectangles key one free puts 
 
 -- ---- another edge under a key
 
-filed_changed : (old new : List (Option EdgeValue)) (side : EdgeValue → Corners) (entries changed : List Entry) (key : ℕ) (one : EdgeValue) → Puts old new key (Some one) → ChangesRange entries changed key (side one) → FilesAll old side entries → FilesAll new side changed
+filed_changed : (old new : List (Option EdgeValue)) (side : EdgeValue → Corners) (entries changed : List Entry) (key : ℕ) (one : EdgeValue) → PutsEdge old new key (Some one) → ChangesRange entries changed key (side one) → FilesAll old side entries → FilesAll new side changed
 filed_changed old new side entries changed key one puts changes files entry = (to, from)
   where
     to : Contains changed entry → IsFiled new side entry
@@ -152,7 +152,7 @@ filed_changed old new side entries changed key one puts changes files entry = (t
     ])
 
 -- what a write under a key does
-pub puts_by_write : (slots : List (Option EdgeValue)) (key : ℕ) (was one : EdgeValue) → edge_at slots key ≡ Some was → Puts slots (slice_set slots key (Some one)) key (Some one)
+pub puts_by_write : (slots : List (Option EdgeValue)) (key : ℕ) (was one : EdgeValue) → edge_at slots key ≡ Some was → PutsEdge slots (slice_set slots key (Some one)) key (Some one)
 puts_by_write slots key was one here = record {
   changed = get_or-set_same slots key (Some one) None within;
   others = λ other differ. get_or-set_other slots key other (Some one) None differ;
@@ -164,7 +164,7 @@ puts_by_write slots key was one here = record {
       | inr past ↦ absurd (none-some was (sym (get_or_past slots key None past) ∙ here))
     ]
 
-pub stored_changed : (old new : List (Option EdgeValue)) (runs changed_runs rectangles changed_rectangles : List Entry) (key : ℕ) (one : EdgeValue) → Puts old new key (Some one) → IsEdge one → IsApartBeside old key one → ChangesRange runs changed_runs key one.dep → ChangesRange rectangles changed_rectangles key one.prec → AreStored old runs rectangles → AreStored new changed_runs changed_rectangles
+pub stored_changed : (old new : List (Option EdgeValue)) (runs changed_runs rectangles changed_rectangles : List Entry) (key : ℕ) (one : EdgeValue) → PutsEdge old new key (Some one) → IsEdge one → IsApartBeside old key one → ChangesRange runs changed_runs key one.dep → ChangesRange rectangles changed_rectangles key one.prec → AreStored old runs rectangles → AreStored new changed_runs changed_rectangles
 stored_changed old new runs changed_runs rectangles changed_rectangles key one puts is_edge away run_changed rectangle_changed stored = record {
   edges = edges;
   apart = apart;
@@ -172,7 +172,7 @@ stored_changed old new runs changed_runs rectangles changed_rectangles key one p
   rectangles_filed = filed_changed old new (λ edge. edge.prec) rectangles changed_rectangles key one puts rectangle_changed stored.rectangles_filed;
 }
   where
-    edges : (edge : EdgeValue) → IsKept new edge → IsEdge edge
+    edges : (edge : EdgeValue) → IsKeptEdge new edge → IsEdge edge
     edges edge kept = elim (here_more old new key kept.key one edge puts kept.here) [
       | inl (same, is) ↦ subst IsEdge (sym is) is_edge
       | inr (other, was) ↦ stored.edges edge (record { key = kept.key; here = was })
@@ -213,7 +213,7 @@ pub names_runs : {E : Type 0} (result : Result (Unit {0}) E) (slots : List (Opti
 names_runs (Ok x) slots runs rectangles query old new stored adds = names slots (λ edge. edge.dep) runs query old new stored.runs_filed adds
 names_runs (Err e) slots runs rectangles query old new stored adds = adds
 
-pub leaves_apart : (old new : List (Option EdgeValue)) (runs rectangles : List Entry) (key : ℕ) → AreStored old runs rectangles → Puts old new key None → LeavesApart old new key
+pub leaves_apart : (old new : List (Option EdgeValue)) (runs rectangles : List Entry) (key : ℕ) → AreStored old runs rectangles → PutsEdge old new key None → LeavesApart old new key
 leaves_apart old new runs rectangles key stored puts edge here range cell pair kept =
     let was = still_here old new key kept.kept.key kept.edge puts kept.kept.here in
     stored.apart kept.kept.key key kept.edge edge was.0 was.1 here range cell kept.pair pair

@@ -47,11 +47,11 @@ pub record EdgeAnswer : Type 0 where
   pub edge : EdgeValue
   pub range : Corners
 
-abbrev pub answer_of : EdgeValue → Corners → EdgeAnswer
-answer_of edge range = record { edge = edge; range = range }
+abbrev pub edge_answer : EdgeValue → Corners → EdgeAnswer
+edge_answer edge range = record { edge = edge; range = range }
 
-abbrev pub ranges_of : List EdgeAnswer → List Corners
-ranges_of answers = map (λ answer. answer.range) answers
+abbrev pub answer_ranges : List EdgeAnswer → List Corners
+answer_ranges answers = map (λ answer. answer.range) answers
 
 -- no edge stands twice, so that each has one range
 abbrev pub HaveOneAnswer : List EdgeAnswer → Type 0
@@ -65,13 +65,13 @@ pub record IsAnswerOf (edges : List EdgeValue) (meant : EdgeValue → Position �
 -- an edge is there, with a range
 pub record HasAnswer (answers : List EdgeAnswer) (edge : EdgeValue) : Type 0 where
   pub range : Corners
-  pub listed : Contains answers (answer_of edge range)
+  pub listed : Contains answers (edge_answer edge range)
 
 -- at most one range was added for each edge, with exactly its cells: what was added are the ranges of edges of which none stands
 -- twice, and each edge of which any cell is meant is there
 pub record AddsOneEach (edges : List EdgeValue) (meant : EdgeValue → Position → Type 0) (old new : List Corners) : Type 0 where
   pub answers : List EdgeAnswer
-  pub whole : new ≡ old ++ ranges_of answers
+  pub whole : new ≡ old ++ answer_ranges answers
   pub once : HaveOneAnswer answers
   pub exact : (answer : EdgeAnswer) → Contains answers answer → IsAnswerOf edges meant answer
   pub all : (edge : EdgeValue) (cell : Position) → Contains edges edge → meant edge cell → HasAnswer answers edge
@@ -85,12 +85,12 @@ pub record IsAnswerAt (slots : List (Option EdgeValue)) (question : Question) (q
 abbrev pub AnswersAt : List (Option EdgeValue) → Question → Corners → ℕ → Option Corners → Type 0
 AnswersAt slots question query key result =
     MatchOption result ((cell : Position) → ¬ IsMeantAt slots question query key cell)
-    (λ range. (edge : EdgeValue) × IsAnswerAt slots question query key (answer_of edge range))
+    (λ range. (edge : EdgeValue) × IsAnswerAt slots question query key (edge_answer edge range))
 
 -- the ranges of edges of which none stands twice were added: those of the edges under some keys that have an answer
 pub record AddsAnswersOf (slots : List (Option EdgeValue)) (question : Question) (query : Corners) (keys : List ℕ) (old new : List Corners) : Type 0 where
   pub answers : List EdgeAnswer
-  pub whole : new ≡ old ++ ranges_of answers
+  pub whole : new ≡ old ++ answer_ranges answers
   pub once : HaveOneAnswer answers
   pub exact : (answer : EdgeAnswer) → Contains answers answer → (key : ℕ) × Contains keys key × IsAnswerAt slots question query key answer
   pub all : (key : ℕ) (edge : EdgeValue) (cell : Position) → Contains keys key → edge_at slots key ≡ Some edge → IsMeant question edge query cell → HasAnswer answers edge

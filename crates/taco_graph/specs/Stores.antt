@@ -26,18 +26,18 @@ edges_of (None ∷ slots) = edges_of slots
 edges_of (Some edge ∷ slots) = edge ∷ edges_of slots
 
 -- an edge that stands under a key
-pub record IsKept (slots : List (Option EdgeValue)) (edge : EdgeValue) : Type 0 where
+pub record IsKeptEdge (slots : List (Option EdgeValue)) (edge : EdgeValue) : Type 0 where
   pub key : ℕ
   pub here : edge_at slots key ≡ Some edge
 
 -- what is kept are edges of the table of patterns
 abbrev pub AreEdges : List (Option EdgeValue) → Type 0
-AreEdges slots = (edge : EdgeValue) → IsKept slots edge → IsEdge edge
+AreEdges slots = (edge : EdgeValue) → IsKeptEdge slots edge → IsEdge edge
 
 -- a pair of an edge that is kept
 pub record IsKeptPair (slots : List (Option EdgeValue)) (range : Corners) (cell : Position) : Type 0 where
   pub edge : EdgeValue
-  pub kept : IsKept slots edge
+  pub kept : IsKeptEdge slots edge
   pub pair : IsPair edge range cell
 
 -- some edges are edges of the table of patterns, and no two of them share a pair
@@ -83,7 +83,7 @@ IsApartBeside slots key edge =
     (range : Corners) (cell : Position) → IsPair edge range cell → IsKeptPair slots range cell → IsPairAt slots key range cell
 
 -- one key has something else, and every other key keeps what it had
-pub record Puts (old new : List (Option EdgeValue)) (key : ℕ) (slot : Option EdgeValue) : Type 0 where
+pub record PutsEdge (old new : List (Option EdgeValue)) (key : ℕ) (slot : Option EdgeValue) : Type 0 where
   pub changed : edge_at new key ≡ slot
   pub others : (other : ℕ) → other ≢ key → edge_at new other ≡ edge_at old other
 
@@ -91,7 +91,7 @@ pub record Puts (old new : List (Option EdgeValue)) (key : ℕ) (slot : Option E
 pub record Gains (old new : List (Option EdgeValue)) (edge : EdgeValue) : Type 0 where
   pub key : ℕ
   pub free : edge_at old key ≡ None
-  pub puts : Puts old new key (Some edge)
+  pub puts : PutsEdge old new key (Some edge)
 
 -- the keys of all edges whose runs overlap a query are in a list
 abbrev pub NamesOverlapping : List (Option EdgeValue) → Corners → List ℕ → Type 0

@@ -1,7 +1,7 @@
 // The edges of a graph, and the two indexes of them.
 ghost use Rattle.std.specs.Prelude.{◌≡◌, ◌≢◌, ◌+◌, ◌≤◌, None, Some, IsSome, IfSome, IfOk, OnOk, AllPairs};
 ghost use Rattle.taco_graph.specs.Stores.{edge_at, edges_of, AreEdges, IsApart, IsApartBeside, EdgesDiffer};
-ghost use Rattle.taco_graph.specs.Stores.{Puts, Gains, LeavesApart};
+ghost use Rattle.taco_graph.specs.Stores.{PutsEdge, Gains, LeavesApart};
 ghost use Rattle.taco_graph.specs.Answers.{NamesAnswering, IsMeant, AnswersAt, AddsAnswers, AddsOneEach};
 ghost use Rattle.graph_walk.specs.Graphs.{Keeps};
 
@@ -75,7 +75,7 @@ impl<I: RangeIndex> EdgeStore<I> {
     /// Takes the edge under a key out.
     pub(crate) fn remove(&mut self, key: usize)
         requires there { IsSome (edge_at self.old.slots key) }
-        ensures removed { Puts self.old.slots self.new.slots key None }
+        ensures removed { PutsEdge self.old.slots self.new.slots key None }
         ensures apart { LeavesApart self.old.slots self.new.slots key }
         ensures room { self.old.room ≤ self.new.room }
     {
@@ -96,12 +96,12 @@ impl<I: RangeIndex> EdgeStore<I> {
         self.rectangles.insert(key, edge.prec());
     }
 
-    /// Puts an edge in the place of the one under a key, which takes no memory.
+    /// PutsEdge an edge in the place of the one under a key, which takes no memory.
     pub(crate) fn change(&mut self, key: usize, edge: Edge)
         requires there { IsSome (edge_at self.old.slots key) }
         requires apart { IsApartBeside self.old.slots key edge }
         requires room { 1 ≤ self.old.room }
-        ensures changed { Puts self.old.slots self.new.slots key (Some edge) }
+        ensures changed { PutsEdge self.old.slots self.new.slots key (Some edge) }
         ensures room { self.old.room ≤ self.new.room + 1 }
     {
         let Some(slot) = self.edges.get_mut(key) else {

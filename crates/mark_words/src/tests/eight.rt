@@ -2,7 +2,7 @@
 
 ghost use Rattle.std.specs.Prelude.{◌≡◌, ◌≤◌, ◌<◌, ◌+◌, true, All, IfOk};
 ghost use Rattle.mark_words.specs.Token.{IsSeatOf, closed_places};
-ghost use Rattle.mark_words.specs.EightCells.{last_of, Sets, last_stays, script, IsScripted, IsEditing, IsReading};
+ghost use Rattle.mark_words.specs.EightCells.{last_setting, SetsPlace, last_stays, script, IsScripted, IsEditing, IsReadingPlace};
 
 use crate::closing::Words;
 use crate::marks::Marks;
@@ -20,9 +20,9 @@ impl Subject for EightCells {
 
     ghost places = { λ _. 8 };
 
-    ghost worth = { λ _ log place. last_of place 0 log };
+    ghost worth = { λ _ log place. last_setting place 0 log };
 
-    ghost touches = { λ _ _ entry place. Sets entry place };
+    ghost touches = { λ _ _ entry place. SetsPlace entry place };
 
     ghost untouched = { λ _ log entry place _ spared. last_stays place 0 log entry spared };
 }
@@ -34,7 +34,7 @@ pub(super) type Token = Seat<EightCells>;
 /// The worth of the place after the first entries of the script, found by going through them.
 fn worth_after(number: u32, place: u32) -> u32
     requires { number ≤ 1048576 }
-    ensures { result ≡ last_of place 0 (script number) }
+    ensures { result ≡ last_setting place 0 (script number) }
 {
     let mut last = 0;
     let mut next = 0;
@@ -105,9 +105,9 @@ fn works_at(marks: &Table, worker: &mut Token, number: u32, place: u32) -> (Look
 
 /// Works on the places in turn, and keeps what it saw.
 pub(super) fn works_on(marks: &Table, worker: Reader, number: u32) -> Reader
-    requires worker { IsReading marks.now worker number }
+    requires worker { IsReadingPlace marks.now worker number }
     requires room { number ≤ 1048576 }
-    ensures { IsReading marks.now result number }
+    ensures { IsReadingPlace marks.now result number }
 {
     let (mut seat, mut kept) = worker;
     for turn in 0..160 {
@@ -141,8 +141,8 @@ pub(super) fn is_right(look: Look) -> bool {
 
 /// Looks at the places in turn, and keeps what it saw.
 pub(super) fn views(marks: &Table, viewer: Reader) -> Reader
-    requires { IsReading marks.now viewer 0 }
-    ensures { IsReading marks.now result 0 }
+    requires { IsReadingPlace marks.now viewer 0 }
+    ensures { IsReadingPlace marks.now result 0 }
 {
     let (mut seat, mut kept) = viewer;
     for turn in 0..200 {

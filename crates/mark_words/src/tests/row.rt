@@ -3,7 +3,7 @@
 ghost use Rattle.std.specs.Prelude.{◌≡◌, ◌<◌, ◌+◌};
 ghost use Rattle.mark_core.specs.TwoCells.{code_of};
 ghost use Rattle.mark_words.specs.Token.{IsSeatOf};
-ghost use Rattle.mark_words.specs.Trial.{IsReady, KnowsLast};
+ghost use Rattle.mark_words.specs.Trial.{IsReadyEditor, KnowsLast};
 
 use crate::tests::uses::{Loads, reads, recomputes};
 use crate::tests::{Table, Token, opened};
@@ -12,10 +12,10 @@ use std::test::Fail;
 
 /// Marks both cells for the entry and commits it. The viewer reads the first one in between, and answers what it found.
 fn sets(marks: &Table, editor: &mut Token, viewer: &mut Token, count: u64, entry: u32) -> Loads
-    requires ready { IsReady marks.now editor.old count }
+    requires ready { IsReadyEditor marks.now editor.old count }
     requires viewer { IsSeatOf marks.now viewer.old }
     requires room { count < 1048576 }
-    ensures ready { IsReady marks.now editor.new (count + 1) }
+    ensures ready { IsReadyEditor marks.now editor.new (count + 1) }
     ensures last { KnowsLast marks.now editor.new (count + 1) entry }
     ensures viewer { IsSeatOf marks.now viewer.new }
 {
@@ -28,9 +28,9 @@ fn sets(marks: &Table, editor: &mut Token, viewer: &mut Token, count: u64, entry
 
 /// A worker's seat that knows what the editor's does.
 fn hires(marks: &Table, editor: &mut Token, _count: u64, _last: u32) -> Token
-    requires ready { IsReady marks.now editor.old _count }
+    requires ready { IsReadyEditor marks.now editor.old _count }
     requires last { KnowsLast marks.now editor.old _count _last }
-    ensures ready { IsReady marks.now editor.new _count }
+    ensures ready { IsReadyEditor marks.now editor.new _count }
     ensures last { KnowsLast marks.now editor.new _count _last }
     ensures worker { KnowsLast marks.now result _count _last }
 {

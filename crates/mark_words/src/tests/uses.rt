@@ -8,7 +8,7 @@ ghost use Rattle.mark_core.specs.Permission.{MayClaim};
 ghost use Rattle.mark_core.specs.Run.{IsOpening};
 ghost use Rattle.mark_words.specs.Token.{IsSeatOf, subject_of, places_of, doing_of, view_of, log_of, seen_of};
 ghost use Rattle.mark_words.specs.Token.{closed_places, closed_place};
-ghost use Rattle.mark_words.specs.Trial.{HasRead, IsWorthOf, IsStaleAfter, AreLedTo};
+ghost use Rattle.mark_words.specs.Trial.{HasReadPlace, IsWorthOf, IsStaleAfter, AreLedTo};
 
 use crate::closing::Words;
 use crate::marks::Marks;
@@ -29,7 +29,7 @@ pub(super) fn reads<S: Subject>(marks: &Marks<S>, seat: &mut Seat<S>, place: u32
     requires table { IsSeatOf marks.now seat.old }
     requires there { place < places_of marks.now }
     ensures same { IsSeatOf marks.now seat.new }
-    ensures read { HasRead (S.worth (subject_of marks.now)) (S.touches (subject_of marks.now))
+    ensures read { HasReadPlace (S.worth (subject_of marks.now)) (S.touches (subject_of marks.now))
         (doing_of seat.old) place result.clean result.word result.mark (doing_of seat.new) }
 {
     let clean = marks.read_clean(seat, place);

@@ -1,7 +1,7 @@
 use Rattle.std.proofs.Common.{ℕ, ◌≡◌, ◌≤◌, Some}
 use Rattle.csv_sheet.specs.Records.{Rows}
-use Rattle.csv_sheet.specs.Reading.{HasRead, Measures}
+use Rattle.csv_sheet.specs.Reading.{HasReadRecords, Measures}
 use Rattle.csv_sheet.proofs.extent.measure.Given as goal
 
 abbrev pub invariant-loop : goal.invariant-loop
-invariant-loop l = (rows : Rows) × HasRead (λ s. Some s.now) l.fn.text rows l.reader × Measures rows l.extent × (l.extent.rows ≤ l.counter)
+invariant-loop l = (rows : Rows) × HasReadRecords (λ s. Some s.now) l.fn.text rows l.reader × Measures rows l.extent × (l.extent.rows ≤ l.counter)

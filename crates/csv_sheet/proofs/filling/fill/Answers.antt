@@ -1,7 +1,7 @@
 use Rattle.std.proofs.Common.{◌≡◌, ◌≢◌, ◌<◌, ℕ, List, Bor, length, Some, sym, ap, subst, arith}
 use Rattle.csv.specs.Records.{fields_of}
 use Rattle.csv_sheet.proofs.WayLemmas.{way_begins, way_ends, way_goes, way_fits, way_refused, not_ended}
-use Rattle.csv_sheet.specs.Filling.{IsUnderWay, IsRowRefusal}
+use Rattle.csv_sheet.specs.Filling.{HasFilled, IsRowRefusal}
 use Rattle.csv_sheet.proofs.RecordLemmas.{err_handed}
 use Rattle.csv_sheet.proofs.filling.fill.Goals as goal
 
@@ -37,7 +37,7 @@ pub returns-clause-filled : goal.returns-clause-filled
 returns-clause-filled c =
     let all = c.requires.blank in
     let at_end : c.loop-row.row ≡ c.args.sheet.now.sizes.rows = (let t = c.loop-row-test.false in let e = c.rows-row-end.ensures.rows in let m = c.loop-row.auto.row-end in omega (arith, t, e, m)) in
-    let way = subst (λ row. IsUnderWay (λ s. Some s.now) c.args.text.now row c.args.sheet.now c.loop-row.sheet c.loop-row.reader) at_end c.loop-row.invariant in
+    let way = subst (λ row. HasFilled (λ s. Some s.now) c.args.text.now row c.args.sheet.now c.loop-row.sheet c.loop-row.reader) at_end c.loop-row.invariant in
     (all.0, all.1, way_ends (λ s. Some s.now) c.args.text.now all.0 all.1 all.2 c.args.sheet.now all.3 c.loop-row.sheet c.loop-row.reader way)
 
 pub returns-in_err-fill_row-clause-why : goal.returns-in_err-fill_row-clause-why

@@ -3,7 +3,7 @@ use Rattle.std.specs.Option.{option_map}
 use Rattle.std.proofs.lemmas.Bool.{eqb-true, eqb-false}
 use Rattle.std.proofs.lemmas.Str.Pattern.{split_parts}
 use Rattle.edit_script.specs.Lines.{Says, IsSpaced, IsOrder}
-use Rattle.edit_script.specs.Lines.IsLine.{order}
+use Rattle.edit_script.specs.Lines.IsLineOf.{order}
 use Rattle.edit_script.specs.Saying.{line_value, Orders}
 use Rattle.edit_script.proofs.FindLemmas.{finds_same}
 use Rattle.edit_script.proofs.SpaceLemmas.{split_there}

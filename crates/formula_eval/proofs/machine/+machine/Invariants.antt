@@ -4,7 +4,7 @@ use Rattle.formula_syntax.specs.Tree.{tree_of, trees_of, node_count, all_nodes}
 use Rattle.formula_eval.specs.Inputs.{seen_values}
 use Rattle.formula_eval.specs.Items.{items_of}
 use Rattle.formula_eval.specs.Meaning.{parameter_values}
-use Rattle.formula_eval.specs.Tallies.{Adds}
+use Rattle.formula_eval.specs.Tallies.{AddsItems}
 use Rattle.formula_eval.proofs.MachineLemmas.{HasLeft}
 use Rattle.formula_eval.proofs.machine.+machine.Given as goal
 
@@ -31,7 +31,7 @@ decreases-value-loop-node g l = node_count (tree_of l.node)
 
 abbrev pub invariant-sequence-loop-parameter : goal.invariant-sequence-loop-parameter
 invariant-sequence-loop-parameter g l = record {
-  adds : Adds l.fn.function l.initial.tally l.tally (items_of (parameter_values (seen_values (g.I.Inputs.sizes l.inputs) (g.I.Inputs.codes l.inputs)) (trees_of (take l.parameter-index l.parameters))));
+  adds : AddsItems l.fn.function l.initial.tally l.tally (items_of (parameter_values (seen_values (g.I.Inputs.sizes l.inputs) (g.I.Inputs.codes l.inputs)) (trees_of (take l.parameter-index l.parameters))));
   few : l.tally.count ≤ l.parameter-index * 17179869184;
   items : l.pending.items ≡ l.fn.pending.items;
   capacity : vec_capacity l.pending ≡ vec_capacity l.fn.pending;

@@ -1,10 +1,10 @@
 -- The editor's seat has so many entries.
 use Rattle.std.proofs.Common.{◌≤◌, ◌-◌}
-use Rattle.mark_words.specs.Trial.{IsReady}
+use Rattle.mark_words.specs.Trial.{IsReadyEditor}
 use Rattle.mark_words.proofs.tests.sets_often.Given as goal
 
 abbrev pub invariant-loop-count : goal.invariant-loop-count
-invariant-loop-count l = (l.count ≤ l.entries) × IsReady l.marks l.editor l.count
+invariant-loop-count l = (l.count ≤ l.entries) × IsReadyEditor l.marks l.editor l.count
 
 abbrev pub decreases-loop-count : goal.decreases-loop-count
 decreases-loop-count l = l.entries - l.count

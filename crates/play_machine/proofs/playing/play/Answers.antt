@@ -2,7 +2,7 @@ use Rattle.std.proofs.Common.{◌≡◌, ◌+◌, arith, ap, sym, subst, ◌∙�
 use Rattle.std.proofs.lemmas.List.{take_all}
 use Rattle.edit_script.specs.declared.script.Step.{Step}
 use Rattle.play_machine.specs.Machine.{Plays, opening}
-use Rattle.play_machine.specs.Playing.{IsFit, is_put, machine_of}
+use Rattle.play_machine.specs.Playing.{IsCommandOfSheet, is_put, machine_of}
 use Rattle.play_machine.proofs.PlayLemmas.{count_more, count_taken, fit_moves, follows_keeps, one_of, opened, plays_full, plays_more, plays_none}
 use Rattle.play_machine.proofs.playing.play.Goals as goal
 
@@ -15,7 +15,7 @@ loop-step-init g c =
 pub follow-requires-clause-fit : goal.follow-requires-clause-fit
 follow-requires-clause-fit g c =
     fit_moves c.args.book.sheet c.loop-step.player.book.sheet c.step-item.result.command c.loop-step.invariant.3 c.loop-step.invariant.4
-    (subst (λ (s : Step). IsFit c.args.book.sheet s.command) (sym c.step-item.is) (c.requires.fit.each c.loop-step.step-index c.step-item.result c.loop-step-test.true))
+    (subst (λ (s : Step). IsCommandOfSheet c.args.book.sheet s.command) (sym c.step-item.is) (c.requires.fit.each c.loop-step.step-index c.step-item.result c.loop-step-test.true))
 
 pub follow-requires-clause-few : goal.follow-requires-clause-few
 follow-requires-clause-few g c = λ is.

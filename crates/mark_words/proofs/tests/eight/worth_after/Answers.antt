@@ -2,7 +2,7 @@
 use Rattle.std.proofs.Common.{◌≡◌, ◌+◌, ◌%◌, suc, sym, ◌∙◌, ap, arith}
 use Rattle.std.specs.Prelude.{if◌then◌else◌}
 use Rattle.std.proofs.lemmas.Bool.{eq-eqb, ne_eqb}
-use Rattle.mark_words.specs.EightCells.{last_of, script}
+use Rattle.mark_words.specs.EightCells.{last_setting, script}
 use Rattle.mark_words.proofs.TrialLemmas.{last_next}
 use Rattle.mark_words.proofs.tests.eight.worth_after.Goals as goal
 
@@ -11,9 +11,9 @@ loop-next-preserved-then-next-place c =
     let next : suc c.loop-next.next ≡ c.loop-next.next + 1 = omega arith in (
       omega arith,
       sym (
-          ap (λ n. last_of c.args.place 0 (script n)) (sym next)
+          ap (λ n. last_setting c.args.place 0 (script n)) (sym next)
           ∙ last_next c.args.place 0 (script c.loop-next.next) (suc c.loop-next.next)
-          ∙ ap (λ b. if b then suc c.loop-next.next else last_of c.args.place 0 (script c.loop-next.next)) (eq-eqb (suc c.loop-next.next % 8) c.args.place (ap (λ n. n % 8) next ∙ c.if-next-place.true))
+          ∙ ap (λ b. if b then suc c.loop-next.next else last_setting c.args.place 0 (script c.loop-next.next)) (eq-eqb (suc c.loop-next.next % 8) c.args.place (ap (λ n. n % 8) next ∙ c.if-next-place.true))
           ∙ next),
       omega arith,
     )
@@ -23,9 +23,9 @@ loop-next-preserved c =
     let next : suc c.loop-next.next ≡ c.loop-next.next + 1 = omega arith in (
       omega arith,
       sym (
-          ap (λ n. last_of c.args.place 0 (script n)) (sym next)
+          ap (λ n. last_setting c.args.place 0 (script n)) (sym next)
           ∙ last_next c.args.place 0 (script c.loop-next.next) (suc c.loop-next.next)
-          ∙ ap (λ b. if b then suc c.loop-next.next else last_of c.args.place 0 (script c.loop-next.next))
+          ∙ ap (λ b. if b then suc c.loop-next.next else last_setting c.args.place 0 (script c.loop-next.next))
           (ne_eqb (suc c.loop-next.next % 8) c.args.place (λ e. c.if-next-place.false (ap (λ n. n % 8) (sym next) ∙ e)))
           ∙ sym c.loop-next.invariant.1),
       omega (arith, c.loop-next.invariant.2),

@@ -1,14 +1,14 @@
 use Rattle.std.proofs.Common.{◌≡◌, List, ap, sym, subst}
 use Rattle.range_index.specs.Entries.{Entry, HasNoId, Inserts}
-use Rattle.range_index.specs.Grids.{GridValue, entries_of}
+use Rattle.range_index.specs.Grids.{GridValue, entries_in}
 use Rattle.range_index.proofs.grid.GridIndexRangeIndex.insert.Goals as goal
 
 pub add-requires-clause-absent : goal.add-requires-clause-absent
 add-requires-clause-absent c =
-    let same : entries_of c.self.inside.tables ≡ c.args.self.now.entries = ap (λ (v : GridValue). v.entries) c.self.view_is in
+    let same : entries_in c.self.inside.tables ≡ c.args.self.now.entries = ap (λ (v : GridValue). v.entries) c.self.view_is in
     subst (λ (l : List Entry). HasNoId l c.args.id) (sym same) c.requires.absent
 
 pub returns-clause-inserted : goal.returns-clause-inserted
 returns-clause-inserted c =
-    let same : entries_of c.self.inside.tables ≡ c.args.self.now.entries = ap (λ (v : GridValue). v.entries) c.self.view_is in
-    subst (λ (l : List Entry). Inserts l (entries_of c.add.new.self) c.args.id c.args.range) same c.add.ensures.inserted
+    let same : entries_in c.self.inside.tables ≡ c.args.self.now.entries = ap (λ (v : GridValue). v.entries) c.self.view_is in
+    subst (λ (l : List Entry). Inserts l (entries_in c.add.new.self) c.args.id c.args.range) same c.add.ensures.inserted

@@ -1,6 +1,6 @@
 use Rattle.std.proofs.Common.{sym, ◌∙◌}
 use Rattle.range_index.specs.Entries.{entry_of}
-use Rattle.range_index.specs.Grids.{entries_of, entry_at}
+use Rattle.range_index.specs.Grids.{entries_in, entry_at}
 use Rattle.range_index.proofs.ChangeLemmas.{some_is}
 use Rattle.range_index.proofs.SlotLemmas.{home_same}
 use Rattle.range_index.proofs.RangeLemmas.{absent_after, are_changed, changes_by, entries_changed}
@@ -26,8 +26,8 @@ returns-then-eq-clause-changed c =
     c.write.ensures.unique c.write.ensures.written.0
 
 pub add-requires-clause-absent : goal.add-requires-clause-absent
-add-requires-clause-absent c = absent_after (entries_of c.args.self.now) (entries_of c.take_out.new.self) c.args.id c.take_out.ensures.removed
+add-requires-clause-absent c = absent_after (entries_in c.args.self.now) (entries_in c.take_out.new.self) c.args.id c.take_out.ensures.removed
 
 pub returns-else-eq-clause-changed : goal.returns-else-eq-clause-changed
 returns-else-eq-clause-changed c =
-    changes_by (entries_of c.args.self.now) (entries_of c.take_out.new.self) (entries_of c.add.new.self) c.args.id c.args.range c.take_out.ensures.removed c.add.ensures.inserted
+    changes_by (entries_in c.args.self.now) (entries_in c.take_out.new.self) (entries_in c.add.new.self) c.args.id c.args.range c.take_out.ensures.removed c.add.ensures.inserted

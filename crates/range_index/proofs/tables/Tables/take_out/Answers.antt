@@ -3,7 +3,7 @@ use Rattle.range_index.specs.declared.tables.Tables.{Tables}
 use Rattle.range_index.specs.declared.tiles.Slot.{Slot}
 use Rattle.range_index.specs.Entries.{Entry, entry_of}
 use Rattle.range_index.specs.Grids.{count_at, entry_at, stands_at}
-use Rattle.range_index.specs.Changes.{last_of}
+use Rattle.range_index.specs.Changes.{last_slot}
 use Rattle.range_index.proofs.ChangeLemmas.{TakesOut, some_is}
 use Rattle.range_index.proofs.TableLemmas.{grid_after, is_noted, last_there, noted_there, removed_after, sets_id}
 use Rattle.range_index.proofs.TakeLemmas.{Forgets, moved_last, still_there, took_last}
@@ -44,7 +44,7 @@ put_at-requires-clause-slot c =
     (still_there old mid c.take_last.new.self slot out c.in-Some-take_last.last there forgets c.take_last.ensures.taken (sym c.take_last.ensures.item ∙ c.in-Some-take_last.is) other)
 
 -- where another entry has taken the place
-others_take : (c : goal.After-put_at) → let old = c.args.self.now in TakesOut (entry_at old) (entry_at c.put_at.new.self) (count_at old) (count_at c.put_at.new.self) (stands_at old) (stands_at c.put_at.new.self) c.in-Some.slot (last_of old c.in-Some.slot.home) (entry_of c.args.id c.requires.there.range) c.in-Some-take_last.last
+others_take : (c : goal.After-put_at) → let old = c.args.self.now in TakesOut (entry_at old) (entry_at c.put_at.new.self) (count_at old) (count_at c.put_at.new.self) (stands_at old) (stands_at c.put_at.new.self) c.in-Some.slot (last_slot old c.in-Some.slot.home) (entry_of c.args.id c.requires.there.range) c.in-Some-take_last.last
 others_take c =
     let old : Tables = c.args.self.now in
     let slot : Slot = c.in-Some.slot in
@@ -57,15 +57,15 @@ others_take c =
 
 pub returns-then-last-id-clause-grid : goal.returns-then-last-id-clause-grid
 returns-then-last-id-clause-grid c =
-    grid_after c.args.self.now c.put_at.new.self c.in-Some.slot (last_of c.args.self.now c.in-Some.slot.home) (entry_of c.args.id c.requires.there.range) c.in-Some-take_last.last c.requires.grid c.put_at.ensures.one_key
+    grid_after c.args.self.now c.put_at.new.self c.in-Some.slot (last_slot c.args.self.now c.in-Some.slot.home) (entry_of c.args.id c.requires.there.range) c.in-Some-take_last.last c.requires.grid c.put_at.ensures.one_key
     (c.put_at.ensures.tallest ∙ c.take_last.ensures.taken.tallest) (c.put_at.ensures.widest ∙ c.take_last.ensures.taken.widest) (others_take c)
 
 pub returns-then-last-id-clause-removed : goal.returns-then-last-id-clause-removed
 returns-then-last-id-clause-removed c =
-    removed_after c.args.self.now c.put_at.new.self c.in-Some.slot (last_of c.args.self.now c.in-Some.slot.home) (entry_of c.args.id c.requires.there.range) c.in-Some-take_last.last c.requires.grid c.put_at.ensures.one_key (others_take c)
+    removed_after c.args.self.now c.put_at.new.self c.in-Some.slot (last_slot c.args.self.now c.in-Some.slot.home) (entry_of c.args.id c.requires.there.range) c.in-Some-take_last.last c.requires.grid c.put_at.ensures.one_key (others_take c)
 
 -- where it stood at the last place
-itself_last : (c : goal.Else-last-id) → let old = c.args.self.now in TakesOut (entry_at old) (entry_at c.take_last.new.self) (count_at old) (count_at c.take_last.new.self) (stands_at old) (stands_at c.take_last.new.self) c.in-Some.slot (last_of old c.in-Some.slot.home) (entry_of c.args.id c.requires.there.range) c.in-Some-take_last.last
+itself_last : (c : goal.Else-last-id) → let old = c.args.self.now in TakesOut (entry_at old) (entry_at c.take_last.new.self) (count_at old) (count_at c.take_last.new.self) (stands_at old) (stands_at c.take_last.new.self) c.in-Some.slot (last_slot old c.in-Some.slot.home) (entry_of c.args.id c.requires.there.range) c.in-Some-take_last.last
 itself_last c =
     let old : Tables = c.args.self.now in
     let slot : Slot = c.in-Some.slot in
@@ -78,9 +78,9 @@ itself_last c =
 
 pub returns-else-last-id-clause-grid : goal.returns-else-last-id-clause-grid
 returns-else-last-id-clause-grid c =
-    grid_after c.args.self.now c.take_last.new.self c.in-Some.slot (last_of c.args.self.now c.in-Some.slot.home) (entry_of c.args.id c.requires.there.range) c.in-Some-take_last.last c.requires.grid c.take_last.ensures.taken.one_key
+    grid_after c.args.self.now c.take_last.new.self c.in-Some.slot (last_slot c.args.self.now c.in-Some.slot.home) (entry_of c.args.id c.requires.there.range) c.in-Some-take_last.last c.requires.grid c.take_last.ensures.taken.one_key
     c.take_last.ensures.taken.tallest c.take_last.ensures.taken.widest (itself_last c)
 
 pub returns-else-last-id-clause-removed : goal.returns-else-last-id-clause-removed
 returns-else-last-id-clause-removed c =
-    removed_after c.args.self.now c.take_last.new.self c.in-Some.slot (last_of c.args.self.now c.in-Some.slot.home) (entry_of c.args.id c.requires.there.range) c.in-Some-take_last.last c.requires.grid c.take_last.ensures.taken.one_key (itself_last c)
+    removed_after c.args.self.now c.take_last.new.self c.in-Some.slot (last_slot c.args.self.now c.in-Some.slot.home) (entry_of c.args.id c.requires.there.range) c.in-Some-take_last.last c.requires.grid c.take_last.ensures.taken.one_key (itself_last c)

@@ -5,14 +5,14 @@ use Rattle.std.proofs.lemmas.Map.Iter.{iter_turn}
 use Rattle.sheet_refs.specs.Cells.{Corners}
 use Rattle.sheet_refs.specs.Rectangles.{Overlap}
 use Rattle.range_index.specs.Entries.{Entry}
-use Rattle.range_index.specs.Grids.{entries_of}
+use Rattle.range_index.specs.Grids.{entries_in}
 use Rattle.range_index.proofs.EntryLemmas.{passes_by, adds_next}
 use Rattle.range_index.proofs.TableLemmas.{one_range}
 use Rattle.range_index.proofs.tables.Tables.visit_all.Goals as goal
 
 pub loop-item-preserved : goal.loop-item-preserved
 loop-item-preserved c =
-    let entries : List Entry = entries_of c.args.self.now in
+    let entries : List Entry = entries_in c.args.self.now in
     let entry : Entry = c.in-Some.item.now in
     let turn = iter_turn deref entries c.loop-item.yielded _ _ _ _ (c.into_iter-item-iterator.ensures.into_iter_gives ∙ c.values-item-items.ensures.rest) c.loop-item.yielded_by c.in-Some.item c.in-Some.is c.next.ensures.steps in
     let range : c.item.inside.range ≡ entry.range = ap (λ (e : Entry). e.range) c.item.view_is in
@@ -23,7 +23,7 @@ loop-item-preserved c =
 
 pub loop-item-preserved-in-Continue-1 : goal.loop-item-preserved-in-Continue-1
 loop-item-preserved-in-Continue-1 c =
-    let entries : List Entry = entries_of c.args.self.now in
+    let entries : List Entry = entries_in c.args.self.now in
     let entry : Entry = c.in-Some.item.now in
     let turn = iter_turn deref entries c.loop-item.yielded _ _ _ _ (c.into_iter-item-iterator.ensures.into_iter_gives ∙ c.values-item-items.ensures.rest) c.loop-item.yielded_by c.in-Some.item c.in-Some.is c.next.ensures.steps in
     let range : c.item.inside.range ≡ entry.range = ap (λ (e : Entry). e.range) c.item.view_is in

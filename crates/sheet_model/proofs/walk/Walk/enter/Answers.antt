@@ -2,7 +2,7 @@ use Rattle.std.proofs.Common.{◌≡◌, ◌≢◌, ◌<◌, slice_get, Some, op
 use Rattle.std.proofs.lemmas.Option.{slice_get-map, slice_get_read}
 use Rattle.sheet_refs.specs.Sizes.{cell_count, place_of}
 use Rattle.sheet_model.specs.Walks.{cells_left}
-use Rattle.sheet_model.specs.Words.{Unseen, Open, state_of, states_of}
+use Rattle.sheet_model.specs.Words.{Unseen, Open, cell_state, states_of}
 use Rattle.sheet_model.proofs.CycleLemmas.{closing_begin, seen_close, work_close}
 use Rattle.sheet_model.proofs.ListLemmas.{on_ok}
 use Rattle.sheet_model.proofs.StepLemmas.{words_count, state_close}
@@ -12,13 +12,13 @@ use Rattle.sheet_model.proofs.walk.Walk.enter.Goals as goal
 use Rattle.sheet_model.proofs.walk.Walk.enter.Goals.{After-index}
 
 -- what is known of the cell
-state : (c : After-index) → slice_get (states_of c.args.self.now.words.items) (place_of c.args.sheet.now.sizes c.args.cell) ≡ Some (state_of c.index.result.now)
+state : (c : After-index) → slice_get (states_of c.args.self.now.words.items) (place_of c.args.sheet.now.sizes c.args.cell) ≡ Some (cell_state c.index.result.now)
 state c =
     let self = c.args.self.now in
     let count = words_count c.args.sheet.now self.words.items self.frames.items self.parts.items c.requires.sound in
     rw (← c.place.ensures.place)
-    (slice_get-map state_of self.words.items c.place.result
-    ∙ ap (option_map state_of) (slice_get_read self.words.items (cell_count c.args.sheet.now.sizes) c.place.result c.index.result.now (sym count) c.place.ensures.within c.index.ensures))
+    (slice_get-map cell_state self.words.items c.place.result
+    ∙ ap (option_map cell_state) (slice_get_read self.words.items (cell_count c.args.sheet.now.sizes) c.place.result c.index.result.now (sym count) c.place.ensures.within c.index.ensures))
 
 pub open-requires-clause-opening : goal.open-requires-clause-opening
 open-requires-clause-opening c = record {
@@ -42,7 +42,7 @@ pub returns-clause-sound : goal.returns-clause-sound
 returns-clause-sound c =
     let self = c.args.self.now in
     let at = state (goal.at.returns-clause-sound c).After-index in
-    let differs : state_of c.index.result.now ≢ Unseen = seen_state c.index.result.now (search rules) in
+    let differs : cell_state c.index.result.now ≢ Unseen = seen_state c.index.result.now (search rules) in
     let seen : slice_get (states_of self.words.items) (place_of c.args.sheet.now.sizes c.args.cell) ≢ Some Unseen = λ e. differs (cc (at, e)) in
     rw (c.close.ensures.frames, c.clear.ensures.items)
     (state_close c.args.sheet.now self.words.items self.frames.items self.parts.items c.requires.sound c.args.cell c.close.new.self.words.items c.requires.waiting seen c.close.ensures.words c.close.ensures.states)

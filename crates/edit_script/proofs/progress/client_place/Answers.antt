@@ -3,7 +3,7 @@ use Rattle.std.proofs.lemmas.List.{length-map}
 use Rattle.std.specs.Prelude.{string_bytes}
 use Rattle.std.proofs.lemmas.Slice.Eq.{bytes_eq-Decides}
 use Rattle.edit_script.proofs.NameLemmas.{name_at, name_not, no_name, names_differ}
-use Rattle.edit_script.proofs.progress.place_of.Goals as goal
+use Rattle.edit_script.proofs.progress.client_place.Goals as goal
 
 pub returns-then-eq : goal.returns-then-eq
 returns-then-eq c =
