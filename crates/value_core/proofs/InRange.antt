@@ -94,7 +94,7 @@ binary_result op a b = comparison_result op a b
 pub whole_negative : (n : ℤ) → IsWhole n → IsWhole (neg_ℤ n)
 whole_negative n h = whole_by_size (neg_ℤ n) (omega (arith, size_of_neg n, size_of_whole n h))
 
-whole_truth : (b : Bool) → IsWhole (truth_number b)
+pub whole_truth : (b : Bool) → IsWhole (truth_number b)
 whole_truth false = record { least = omega (arith, ints); most = omega (arith, ints) }
 whole_truth true = record { least = omega (arith, ints); most = omega (arith, ints) }
 
