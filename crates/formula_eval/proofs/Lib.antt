@@ -1,6 +1,7 @@
 pub mod CircularFunctions
 pub mod CircularMeaning
 pub mod ClipLemmas
+pub mod Divisions
 pub mod FormulaInRange
 pub mod InRange
 pub mod MachineLemmas

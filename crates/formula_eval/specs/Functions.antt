@@ -8,7 +8,7 @@ use Rattle.value_core.specs.declared.value.Value.{Value}
 use Rattle.value_core.specs.declared.value.Value.TheVariants.{Number, Truth, Error, Label}
 use Rattle.value_core.specs.Conversions.{as_number, as_truth, truth_number, in_range}
 use Rattle.formula_syntax.specs.declared.functions.Function.{Function}
-use Rattle.formula_syntax.specs.declared.functions.Function.TheVariants.{Sum, Product, Min, Max, Count, Counta, If, Iferror, And, Or, Not, Abs, Sign, Mod, Quotient, Iserror, Isnumber, Islogical, Istext, Isblank}
+use Rattle.formula_syntax.specs.declared.functions.Function.TheVariants.{Sum, Product, Min, Max, Count, Counta, Countblank, If, Iferror, And, Or, Not, Abs, Sign, Mod, Quotient, Iserror, Isnumber, Islogical, Istext, Isblank, Na}
 use Rattle.formula_syntax.specs.declared.functions.Place.{Place}
 use Rattle.formula_syntax.specs.declared.functions.Place.TheVariants.{Sequence, Scalar, OnlyReference}
 use Rattle.formula_syntax.specs.Functions.{shape_of}
@@ -48,13 +48,30 @@ abbrev pub count_in : Item → Contribution
 count_in (Cell value) = if_number value
 count_in (Alone value) = if_number value
 
--- what an item adds for a function
+-- what an item adds for a function; the last lines are of functions that take no sequence
 abbrev pub contribution : Function → Item → Contribution
+contribution Sum item = number_in item
+contribution Product item = number_in item
+contribution Min item = number_in item
+contribution Max item = number_in item
 contribution Count item = count_in item
 contribution Counta item = Ok (Some (pos 1))
 contribution And item = truth_in item
 contribution Or item = truth_in item
-contribution _ item = number_in item
+contribution Countblank item = number_in item
+contribution If item = number_in item
+contribution Iferror item = number_in item
+contribution Not item = number_in item
+contribution Abs item = number_in item
+contribution Sign item = number_in item
+contribution Mod item = number_in item
+contribution Quotient item = number_in item
+contribution Iserror item = number_in item
+contribution Isnumber item = number_in item
+contribution Islogical item = number_in item
+contribution Istext item = number_in item
+contribution Isblank item = number_in item
+contribution Na item = number_in item
 
 -- all that items add, or the first error
 abbrev pub add_contribution : Contribution → Result (List ℤ) ErrorKind → Result (List ℤ) ErrorKind
@@ -81,7 +98,7 @@ abbrev pub truth_of_some : List ℤ → ℤ → Value
 truth_of_some [] n = Error error.Value
 truth_of_some (_ ∷ _) n = Truth (not (int_eq n (pos 0)))
 
--- the result of a function of a sequence: AND is the least of the truths, and OR the greatest
+-- the result of a function of a sequence: AND is the least of the truths, and OR the greatest; the last lines are of functions that take none
 abbrev pub total_of : Function → List ℤ → Value
 total_of Sum numbers = in_range (fold ◌+ℤ◌ (pos 0) numbers)
 total_of Product numbers = in_range (fold ◌*ℤ◌ (pos 1) numbers)
@@ -89,7 +106,22 @@ total_of Min numbers = Number (least numbers)
 total_of Max numbers = Number (greatest numbers)
 total_of And numbers = truth_of_some numbers (least numbers)
 total_of Or numbers = truth_of_some numbers (greatest numbers)
-total_of _ numbers = Number (pos (length numbers))
+total_of Count numbers = Number (pos (length numbers))
+total_of Counta numbers = Number (pos (length numbers))
+total_of Countblank numbers = Number (pos (length numbers))
+total_of If numbers = Number (pos (length numbers))
+total_of Iferror numbers = Number (pos (length numbers))
+total_of Not numbers = Number (pos (length numbers))
+total_of Abs numbers = Number (pos (length numbers))
+total_of Sign numbers = Number (pos (length numbers))
+total_of Mod numbers = Number (pos (length numbers))
+total_of Quotient numbers = Number (pos (length numbers))
+total_of Iserror numbers = Number (pos (length numbers))
+total_of Isnumber numbers = Number (pos (length numbers))
+total_of Islogical numbers = Number (pos (length numbers))
+total_of Istext numbers = Number (pos (length numbers))
+total_of Isblank numbers = Number (pos (length numbers))
+total_of Na numbers = Number (pos (length numbers))
 
 abbrev pub or_error : {A : Type 0} → Result A ErrorKind → (A → Value) → Value
 or_error (Err kind) value = Error kind
@@ -147,7 +179,7 @@ abbrev pub is_label : Value → Bool
 is_label (Label place) = true
 is_label _ = false
 
--- the result of a function of scalars, of which there are up to three; one that isn't written is FALSE
+-- the result of a function of scalars, of which there are up to three; one that isn't written is FALSE; the last lines are of functions that take ranges
 abbrev pub scalar_value : Function → Value → Value → Value → Value
 scalar_value If a b c = or_error (as_truth a) (λ truth. choice truth b c)
 scalar_value Iferror a b c = unless_error a b
@@ -161,7 +193,16 @@ scalar_value Isnumber a b c = Truth (is_number a)
 scalar_value Islogical a b c = Truth (is_truth a)
 scalar_value Istext a b c = Truth (is_label a)
 scalar_value Isblank a b c = Truth (is_empty a)
-scalar_value _ a b c = Error error.Na
+scalar_value Na a b c = Error error.Na
+scalar_value Sum a b c = Error error.Na
+scalar_value Product a b c = Error error.Na
+scalar_value Min a b c = Error error.Na
+scalar_value Max a b c = Error error.Na
+scalar_value Count a b c = Error error.Na
+scalar_value Counta a b c = Error error.Na
+scalar_value And a b c = Error error.Na
+scalar_value Or a b c = Error error.Na
+scalar_value Countblank a b c = Error error.Na
 
 abbrev pub scalar_at : List Parameter → ℕ → Value
 scalar_at parameters i = slice_index_or (map (λ (p : Parameter). p.scalar) parameters) i (Truth false)

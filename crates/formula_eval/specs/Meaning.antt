@@ -1,5 +1,5 @@
 -- What a formula means over the values of cells, and its value.
-use Rattle.std.specs.Prelude.{◌≡◌, ℕ, ◌==◌, Bool, true, false, ◌&&◌, if◌then◌else◌, IsTrue, List, [], ◌∷◌, map, Option, Some, None, slice_get}
+use Rattle.std.specs.Prelude.{◌≡◌, ℕ, ◌==◌, Bool, true, false, ◌&&◌, if◌then◌else◌, IsTrue, List, [], ◌∷◌, map, Option, Some, None, IsSome, slice_get}
 use Rattle.std.specs.List.{list_any}
 use Rattle.sheet_refs.specs.Cells.{Position, Corners, IsIn, cells_of}
 use Rattle.sheet_refs.specs.declared.sizes.Sizes.{Sizes}
@@ -76,6 +76,10 @@ pub record IsNamedBy (references : List Reference) (cell : Position) : Type 0 wh
 -- a cell that a formula names
 abbrev pub IsReferenced : Tree → Position → Type 0
 IsReferenced tree cell = IsNamedBy (references_of tree) cell
+
+-- something is held of each cell of the rectangle that a formula names
+abbrev pub IsKnown : Sizes → (Position → Option ℕ) → Tree → Type 0
+IsKnown sizes codes tree = (cell : Position) → IsReferenced tree cell → IsTrue (is_inside sizes cell) → IsSome (codes cell)
 
 -- values that have the codes which are held of cells of the rectangle that a formula names
 abbrev pub Agrees : Sizes → (Position → Option ℕ) → Tree → (Position → Value) → Type 0

@@ -7,8 +7,7 @@ use Rattle.value_core.specs.declared.value.ErrorKind.TheVariants.{Circ}
 use Rattle.value_core.specs.declared.value.Value.TheVariants.{Error}
 use Rattle.value_core.specs.Values.{code_of}
 use Rattle.sheet_refs.specs.Ends.{Reference}
-use Rattle.formula_syntax.specs.Tree.{Tree}
-use Rattle.formula_eval.specs.Meaning.{IsNamedBy, IsReferenced}
+use Rattle.formula_eval.specs.Meaning.{IsNamedBy}
 use Rattle.formula_eval.specs.declared.scan.Stop.{Stop}
 use Rattle.formula_eval.specs.declared.scan.Stop.TheVariants.{Missing, Circular}
 
@@ -34,9 +33,3 @@ pub record StopsIn (sizes : Sizes) (codes : Position → Option ℕ) (range : Co
 pub record StopsAt (sizes : Sizes) (codes : Position → Option ℕ) (references : List Reference) (stop : Stop) : Type 0 where
   pub is_stop : IsStop sizes codes stop
   pub named : IsNamedBy references (stop_cell stop)
-
--- a cell of the rectangle that a formula names and of which nothing is held
-pub record IsMissing (sizes : Sizes) (codes : Position → Option ℕ) (tree : Tree) (cell : Position) : Type 0 where
-  pub referenced : IsReferenced tree cell
-  pub inside : IsTrue (is_inside sizes cell)
-  pub unknown : codes cell ≡ None

@@ -1,5 +1,5 @@
 -- What a tally keeps of the numbers of a sequence.
-use Rattle.std.specs.Prelude.{◌≡◌, ℕ, ℤ, pos, ◌+ℤ◌, ◌*ℤ◌, nat_abs, ◌+◌, ◌*◌, ◌^◌, ◌≤◌, Bool, true, false, List, [], ◌∷◌, ◌++◌, length, fold, Option, Some, None, Ok}
+use Rattle.std.specs.Prelude.{◌≡◌, ◌⊎◌, ℕ, ℤ, pos, ◌+ℤ◌, ◌*ℤ◌, nat_abs, ◌+◌, ◌*◌, ◌^◌, ◌≤◌, Bool, true, false, List, [], ◌∷◌, ◌++◌, length, fold, Option, Some, None, Ok}
 use Rattle.value_core.specs.Wholes.{IsWhole}
 use Rattle.value_core.specs.declared.value.Value.{Value}
 use Rattle.formula_syntax.specs.declared.functions.Function.{Function}
@@ -14,11 +14,6 @@ use Rattle.formula_eval.specs.Functions.{least, greatest, contributions, total_o
 abbrev pub sum_size : Running → ℕ
 sum_size (Sum total) = nat_abs total
 sum_size _ = 0
-
-abbrev pub is_counting : Function → Bool
-is_counting function.Count = true
-is_counting function.Counta = true
-is_counting _ = false
 
 -- whether there are no numbers
 abbrev pub are_none : List ℤ → Bool
@@ -38,7 +33,7 @@ KeepsNumbers f (Least m) numbers = (f ≡ function.Min) × (m ≡ least numbers)
 KeepsNumbers f (Greatest m) numbers = (f ≡ function.Max) × (m ≡ greatest numbers)
 KeepsNumbers f (All m) numbers = (f ≡ function.And) × (m ≡ least numbers)
 KeepsNumbers f (Any m) numbers = (f ≡ function.Or) × (m ≡ greatest numbers)
-KeepsNumbers f Count numbers = is_counting f ≡ true
+KeepsNumbers f Count numbers = (f ≡ function.Count) ⊎ (f ≡ function.Counta)
 
 -- a tally of numbers
 pub record Tallies (f : Function) (tally : Tally) (numbers : List ℤ) : Type 0 where

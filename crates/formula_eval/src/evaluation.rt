@@ -1,9 +1,10 @@
-ghost use Rattle.std.specs.Prelude.{◌≡◌, ◌↔◌, None, IfOk, IfErr, IsErr};
+ghost use Rattle.std.specs.Prelude.{◌≡◌, ◌↔◌, None, IfOk, IfErr, IsOk, IsErr, IsTrue};
+ghost use Rattle.sheet_refs.specs.Sizes.{is_inside};
 ghost use Rattle.value_core.specs.declared.value.Value.TheVariants.{Error};
 ghost use Rattle.value_core.specs.declared.value.ErrorKind.TheVariants.{Circ};
-ghost use Rattle.formula_eval.specs.Meaning.{IsFormulaValue};
+ghost use Rattle.formula_eval.specs.Meaning.{IsFormulaValue, IsKnown, IsReferenced};
 ghost use Rattle.formula_eval.specs.Seen.{IsPlainTree};
-ghost use Rattle.formula_eval.specs.Stops.{IsMissing, stop_cell, stop_code};
+ghost use Rattle.formula_eval.specs.Stops.{stop_cell, stop_code};
 
 use crate::inputs::{Inputs, Missing};
 use crate::machine::value;
@@ -17,15 +18,19 @@ use value_core::{ErrorKind, Value, never_empty};
 /// cell past the rectangle is empty.
 ///
 /// Refuses only with a cell that the formula names, that lies in the rectangle and whose value isn't
-/// known: so it answers a value wherever all such cells are known. It takes no memory, and looks at each
+/// known, and answers a value wherever all such cells are known. It takes no memory, and looks at each
 /// cell at most twice each time that the formula names it; cells past the rectangle take no time. Left
 /// operands and signs are walked by loops; right operands and parameters by calls, which nest no deeper
 /// than parentheses and the levels of operators do.
 pub fn eval<I: Inputs>(formula: &Formula, inputs: &I, stack: &mut Stack) -> Result<Value, Missing>
     ensures value { IfOk result
         (IsFormulaValue (I.sizes inputs.now) (I.codes inputs.now) formula.now) }
-    ensures missing { IfErr result
-        (λ missing. IsMissing (I.sizes inputs.now) (I.codes inputs.now) formula.now missing.cell) }
+    ensures known { IsKnown (I.sizes inputs.now) (I.codes inputs.now) formula.now → IsOk result }
+    ensures missing_referenced { IfErr result
+        (λ missing. IsReferenced formula.now missing.cell) }
+    ensures missing_inside { IfErr result
+        (λ missing. IsTrue (is_inside (I.sizes inputs.now) missing.cell)) }
+    ensures missing_unknown { IfErr result (λ missing. I.codes inputs.now missing.cell ≡ None) }
 {
     if let Err(stop) = scan(inputs, formula.root()) {
         return answer_at(stop);

@@ -14,7 +14,8 @@ pub(crate) enum Item {
     Alone(Value),
 }
 
-/// What an item adds to the sequence of a function: a number, nothing or an error. A truth adds 0 or 1.
+/// What an item adds to the sequence of a function: a number, nothing or an error. A truth adds 0 or 1. The
+/// functions of the last line take no sequence.
 ///
 /// It is a part of the loop over the cells of a range.
 #[inline(always)]
@@ -22,10 +23,24 @@ pub(crate) fn contribution(function: Function, item: Item) -> Result<Option<Whol
     ensures { result ≡ contribution_of function item }
 {
     match function {
+        Function::Sum | Function::Product | Function::Min | Function::Max => number_in(item),
         Function::Count => count_in(item),
         Function::Counta => Ok(Some(Whole::ONE)),
         Function::And | Function::Or => truth_in(item),
-        _ => number_in(item),
+        Function::Countblank
+        | Function::If
+        | Function::Iferror
+        | Function::Not
+        | Function::Abs
+        | Function::Sign
+        | Function::Mod
+        | Function::Quotient
+        | Function::Iserror
+        | Function::Isnumber
+        | Function::Islogical
+        | Function::Istext
+        | Function::Isblank
+        | Function::Na => number_in(item),
     }
 }
 

@@ -9,7 +9,8 @@ ghost use Rattle.formula_eval.specs.Functions.{division_value, sign_number};
 use formula_syntax::Function;
 use value_core::{ErrorKind, Value, Whole, as_number, as_truth, in_range};
 
-/// What a function of scalars gives, of which one that isn't written is FALSE.
+/// What a function of scalars gives, of which one that isn't written is FALSE. The functions of the last
+/// line take ranges.
 pub(crate) fn scalar_value(function: Function, first: Value, second: Value, third: Value) -> Value
     ensures { result ≡ scalar_value_of function first second third }
 {
@@ -26,7 +27,16 @@ pub(crate) fn scalar_value(function: Function, first: Value, second: Value, thir
         Function::Islogical => Value::Truth(matches!(&first, Value::Truth(_))),
         Function::Istext => Value::Truth(matches!(&first, Value::Label(_))),
         Function::Isblank => Value::Truth(matches!(&first, Value::Empty)),
-        _ => Value::Error(ErrorKind::Na),
+        Function::Na => Value::Error(ErrorKind::Na),
+        Function::Sum
+        | Function::Product
+        | Function::Min
+        | Function::Max
+        | Function::Count
+        | Function::Counta
+        | Function::And
+        | Function::Or
+        | Function::Countblank => Value::Error(ErrorKind::Na),
     }
 }
 

@@ -36,7 +36,7 @@ pub(crate) struct Tally {
 }
 
 impl Tally {
-    /// The tally of no numbers.
+    /// The tally of no numbers. The functions of the last line take no sequence.
     pub(crate) fn new(function: Function) -> Tally
         requires { (shape_of function).place ≡ Sequence }
         ensures tallies { Tallies function result [] }
@@ -50,7 +50,21 @@ impl Tally {
             Function::Max => Running::Greatest(Whole::ZERO),
             Function::And => Running::All(Whole::ZERO),
             Function::Or => Running::Any(Whole::ZERO),
-            _ => Running::Count,
+            Function::Count | Function::Counta => Running::Count,
+            Function::Countblank
+            | Function::If
+            | Function::Iferror
+            | Function::Not
+            | Function::Abs
+            | Function::Sign
+            | Function::Mod
+            | Function::Quotient
+            | Function::Iserror
+            | Function::Isnumber
+            | Function::Islogical
+            | Function::Istext
+            | Function::Isblank
+            | Function::Na => Running::Count,
         };
         Tally { count: 0, running }
     }

@@ -124,8 +124,24 @@ impl Function {
     {
         match self {
             Function::Na => 0,
+            Function::Sum
+            | Function::Product
+            | Function::Min
+            | Function::Max
+            | Function::Count
+            | Function::Counta
+            | Function::Countblank
+            | Function::And
+            | Function::Or
+            | Function::Not
+            | Function::Abs
+            | Function::Sign
+            | Function::Iserror
+            | Function::Isnumber
+            | Function::Islogical
+            | Function::Istext
+            | Function::Isblank => 1,
             Function::If | Function::Iferror | Function::Mod | Function::Quotient => 2,
-            _ => 1,
         }
     }
 
@@ -135,10 +151,25 @@ impl Function {
     {
         match self {
             Function::Na => Some(0),
-            Function::If => Some(3),
+            Function::Countblank
+            | Function::Not
+            | Function::Abs
+            | Function::Sign
+            | Function::Iserror
+            | Function::Isnumber
+            | Function::Islogical
+            | Function::Istext
+            | Function::Isblank => Some(1),
             Function::Iferror | Function::Mod | Function::Quotient => Some(2),
-            _ if self.place() == Place::Sequence => None,
-            _ => Some(1),
+            Function::If => Some(3),
+            Function::Sum
+            | Function::Product
+            | Function::Min
+            | Function::Max
+            | Function::Count
+            | Function::Counta
+            | Function::And
+            | Function::Or => None,
         }
     }
 
@@ -156,7 +187,19 @@ impl Function {
             | Function::And
             | Function::Or => Place::Sequence,
             Function::Countblank => Place::OnlyReference,
-            _ => Place::Scalar,
+            Function::If
+            | Function::Iferror
+            | Function::Not
+            | Function::Abs
+            | Function::Sign
+            | Function::Mod
+            | Function::Quotient
+            | Function::Iserror
+            | Function::Isnumber
+            | Function::Islogical
+            | Function::Istext
+            | Function::Isblank
+            | Function::Na => Place::Scalar,
         }
     }
 }
