@@ -33,14 +33,14 @@ use Rattle.formula_syntax.proofs.WordLemmas.{word_some}
 use Rattle.formula_syntax.proofs.PrintedWords.{number_word, truth_word, function_word, reference_word}
 
 -- the tokens that are printed of a tree
-abbrev enclosed : List Token → List Token
+abbrev pub enclosed : List Token → List Token
 enclosed ts = token.Open ∷ (ts ++ token.Close ∷ [])
 
-abbrev at_tokens : ℕ → Tree → List Token → List Token
+abbrev pub at_tokens : ℕ → Tree → List Token → List Token
 at_tokens level t ts = if nat_lt (top_level t) level then enclosed ts else ts
 
 abbrev mutual
-  tree_tokens : Tree → List Token
+  pub tree_tokens : Tree → List Token
   tree_tokens (number n) = token.Number n ∷ []
   tree_tokens (truth b) = token.Truth b ∷ []
   tree_tokens (error k) = token.Error k ∷ []
@@ -49,11 +49,11 @@ abbrev mutual
   tree_tokens (binary op l r) = at_tokens (level_of op) l (tree_tokens l) ++ token.Operator op ∷ at_tokens (suc (level_of op)) r (tree_tokens r)
   tree_tokens (call f ps) = token.Function f ∷ enclosed (all_tokens ps)
 
-  all_tokens : Trees → List Token
+  pub all_tokens : Trees → List Token
   all_tokens no_trees = []
   all_tokens (and_trees t rest) = tree_tokens t ++ other_tokens rest
 
-  other_tokens : Trees → List Token
+  pub other_tokens : Trees → List Token
   other_tokens no_trees = []
   other_tokens (and_trees t rest) = token.Separator ∷ (tree_tokens t ++ other_tokens rest)
 
@@ -289,13 +289,17 @@ mutual
       (joined (tree_text t) (others_text ps) rest (tree_tokens t) (other_tokens ps) us
       (lexed t a (others_text ps ++ rest) (other_tokens ps ++ us) (others_end ps rest ended) (lexed_others ps fits rest us ended h)))
 
+-- the tokens of what is printed of a tree
+pub printed_tokens : (t : Tree) → IsFitting t → HasTokens (tree_text t) (tree_tokens t)
+printed_tokens t fits = rw (append-nil (tree_text t), append-nil (tree_tokens t)) at (lexed t fits [] [] tt (nothing [] refl))
+
 -- the plain text of a tree that a formula can have spells it
 pub plain_spells : (t : Tree) → IsFitting t → Spells (plain t) t
 plain_spells t fits = record {
   rest = tree_text t;
   introduced = introduced_plain (plain t) (tree_text t) refl;
   tokens = tree_tokens t;
-  has_tokens = rw (append-nil (tree_text t), append-nil (tree_tokens t)) at (lexed t fits [] [] tt (nothing [] refl));
+  has_tokens = printed_tokens t fits;
   derived = loosest (tree_tokens t) t (derives t fits);
 }
 

@@ -118,6 +118,13 @@ exactly_many text (Err TooDeep) m a = (λ e. absurd (cc), λ many. absurd (many.
 exactly_many text (Err TooManyRefs) m a = (λ _. a, λ _. refl)
 exactly_many text (Err Memory) m a = absurd (m refl)
 
+pub surely_read : (text : List ℕ) (r : Result Tree ReadRefused) → r ≢ Err Memory → IsAnswer text r → (t : Tree) → IsRead text t → r ≡ Ok t
+surely_read text (Ok u) m a t is = ap Ok (spells_unique text u t a.spelt is.spelt)
+surely_read text (Err NotFormula) m a t is = absurd (a.1 t is.spelt)
+surely_read text (Err TooDeep) m a t is = absurd (is.shallow a)
+surely_read text (Err TooManyRefs) m (shallow, u, spells, many) t is = absurd (omega (arith, many, is.few, ap (λ (v : Tree). length (references_of v)) (spells_unique text u t spells is.spelt)))
+surely_read text (Err Memory) m a t is = absurd (m refl)
+
 -- counting parentheses byte by byte
 pub count_step : (p : ℕ → Bool) (xs : List ℕ) (i x : ℕ) → i < length xs → x ≡ get_or xs i x → count_by p (take (i + 1) xs) ≡ count_by p (take i xs) + cond (p x) 1 0
 count_step p xs i x below is = by_test (p x) refl

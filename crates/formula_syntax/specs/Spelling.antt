@@ -71,3 +71,14 @@ SpellsOneTree = (text : List ℕ) (a b : Tree) → Spells text a → Spells text
 -- the plain text of each tree that a text spells, spells it too
 abbrev pub PlainSpells : Type 0
 PlainSpells = (text : List ℕ) (tree : Tree) → Spells text tree → Spells (plain_text tree) tree
+
+-- the plain text of each tree that a text spells is no longer than that text, and no deeper
+abbrev pub PlainIsShortest : Type 0
+PlainIsShortest = (text : List ℕ) (tree : Tree) → Spells text tree → length (plain_text tree) ≤ length text
+
+abbrev pub PlainIsShallowest : Type 0
+PlainIsShallowest = (text : List ℕ) (tree : Tree) → Spells text tree → IsTooDeep (plain_text tree) → IsTooDeep text
+
+-- so it is read where that text is
+abbrev pub PlainIsRead : Type 0
+PlainIsRead = (text : List ℕ) (tree : Tree) → IsRead text tree → IsRead (plain_text tree) tree
