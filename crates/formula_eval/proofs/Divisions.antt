@@ -1,5 +1,5 @@
 -- MOD and QUOTIENT by the equations that define them, and how COUNTA and COUNTBLANK share the cells of a range.
-use Rattle.std.proofs.Common.{◌≡◌, ◌≢◌, ◌⊎◌, ℕ, zero, suc, ◌+◌, ◌-◌, ◌*◌, ◌/◌, ◌%◌, ◌<◌, ◌≤◌, ℤ, pos, negsuc, nat_abs, ◌+ℤ◌, ◌*ℤ◌, ◌≤ℤ◌, ◌<ℤ◌, Bool, true, false, List, [], ◌∷◌, map, length, filter, Ok, refl, sym, ◌∙◌, ap, ap₂, subst, arith, inl, inr}
+use Rattle.std.proofs.Common.{◌≡◌, ◌≢◌, ℕ, zero, suc, ◌+◌, ◌*◌, ◌/◌, ◌%◌, ◌<◌, ◌≤◌, ℤ, pos, negsuc, nat_abs, ◌+ℤ◌, ◌*ℤ◌, ◌≤ℤ◌, Bool, true, false, map, length, filter, refl, sym, ◌∙◌, ap, arith, inl, inr}
 use Rattle.std.specs.Prelude.{neg_ℤ, int_lt, int_div, int_rem}
 use Rattle.std.specs.Int.{int_rem_euclid}
 use Rattle.std.specs.Ordering.{int_eq}
@@ -7,20 +7,16 @@ use Rattle.std.proofs.Math.IntN.{*ℤ-negsuc, neg_ℤ-+ℤ, neg_ℤ-neg_ℤ}
 use Rattle.std.proofs.lemmas.Bool.Decides.{nat_tests, Decides-int_eq}
 use Rattle.std.proofs.lemmas.Int.{ints, quot-rem}
 use Rattle.std.proofs.lemmas.List.{append-nil}
-use Rattle.sheet_refs.specs.Cells.{Position, cells_of}
-use Rattle.sheet_refs.specs.Ends.{Reference, corners_of}
-use Rattle.value_core.specs.declared.value.ErrorKind.TheVariants.{Div0}
-use Rattle.value_core.specs.declared.value.Value.{Value}
-use Rattle.value_core.specs.declared.value.Value.TheVariants.{Number, Error}
-use Rattle.value_core.specs.Conversions.{in_range, never_empty}
+use Rattle.sheet_refs.specs.Cells.{cells_of}
+use Rattle.sheet_refs.specs.Ends.{corners_of}
+use Rattle.value_core.specs.declared.value.Value.TheVariants.{Number}
+use Rattle.value_core.specs.Conversions.{never_empty}
 use Rattle.value_core.specs.Wholes.{IsWhole}
 use Rattle.value_core.proofs.ArithmeticLemmas.{whole_by_size, size_of_whole, size_of_neg, in_range-in, whole_quotient}
-use Rattle.formula_syntax.specs.declared.functions.Function.TheVariants.{Counta, Countblank, Mod, Quotient}
-use Rattle.formula_syntax.specs.Tree.{Tree}
-use Rattle.formula_eval.specs.Functions.{floor_remainder, division_value, on_both, or_error, total_of}
+use Rattle.formula_syntax.specs.declared.functions.Function.TheVariants.{Mod, Quotient}
+use Rattle.formula_eval.specs.Functions.{floor_remainder, division_value}
 use Rattle.formula_eval.specs.Items.{is_empty, items_of_cells}
-use Rattle.formula_eval.specs.Laws.{of_range, of_two, IsBetweenZeroAnd, IsRemainder, IsCutQuotient, CountsAreAllCells, GivesOfTwo, RefusesZero}
-use Rattle.formula_eval.specs.Meaning.{meaning}
+use Rattle.formula_eval.specs.Laws.{IsBetweenZeroAnd, IsRemainder, IsCutQuotient, CountsAreAllCells, GivesOfTwo, RefusesZero}
 use Rattle.formula_eval.proofs.ClipLemmas.{items_and_empty, mapped_length}
 use Rattle.formula_eval.proofs.TallyLemmas.{counta_ok}
 

@@ -10,7 +10,7 @@ use Rattle.value_core.specs.declared.value.Value.TheVariants.{Empty, Number, Err
 use Rattle.value_core.specs.Values.{IsValue}
 use Rattle.value_core.specs.Wholes.{IsWhole}
 use Rattle.formula_syntax.specs.declared.functions.Function.{Function}
-use Rattle.formula_syntax.specs.declared.functions.Function.TheVariants.{Counta, Countblank, Mod, Quotient}
+use Rattle.formula_syntax.specs.declared.functions.Function.TheVariants.{Counta, Countblank}
 use Rattle.formula_syntax.specs.Formula.{IsFormula}
 use Rattle.formula_syntax.specs.Tree.{Tree, reference, call, no_trees, and_trees}
 use Rattle.formula_eval.specs.Meaning.{meaning, formula_value, IsReferenced}
