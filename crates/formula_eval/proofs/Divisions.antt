@@ -16,7 +16,7 @@ use Rattle.value_core.proofs.ArithmeticLemmas.{whole_by_size, size_of_whole, siz
 use Rattle.formula_syntax.specs.declared.functions.Function.TheVariants.{Mod, Quotient}
 use Rattle.formula_eval.specs.Functions.{floor_remainder, division_value}
 use Rattle.formula_eval.specs.Items.{is_empty, items_of_cells}
-use Rattle.formula_eval.specs.Laws.{IsBetweenZeroAnd, IsRemainder, IsCutQuotient, CountsAreAllCells, GivesOfTwo, RefusesZero}
+use Rattle.formula_eval.specs.Laws.{IsBetweenZeroAnd, IsRemainder, IsCutQuotient, CountsAreAllCells, GivesOfTwo, RefusesZero, RemainderRows, QuotientRows}
 use Rattle.formula_eval.proofs.ClipLemmas.{items_and_empty, mapped_length}
 use Rattle.formula_eval.proofs.TallyLemmas.{counta_ok}
 
@@ -111,3 +111,38 @@ counts_law values r =
       refl,
       omega (arith, counted.2, items_and_empty cells, mapped_length values (cells_of (corners_of r))),
     )
+
+row_below : (q r : ℤ) (m : ℤ) → m ≡ negsuc 6 → q *ℤ pos 3 +ℤ r ≡ m → IsBetweenZeroAnd (pos 3) r → r ≡ pos 2
+row_below q r m is e (inl (low, high)) = omega (arith, ints, low, high, e, is)
+row_below q r m is e (inr (low, high)) = absurd (omega (arith, ints, low, high))
+
+row_above : (q r : ℤ) → q *ℤ negsuc 2 +ℤ r ≡ pos 7 → IsBetweenZeroAnd (negsuc 2) r → r ≡ negsuc 1
+row_above q r e (inl (low, high)) = absurd (omega (arith, ints, low, high))
+row_above q r e (inr (low, high)) = omega (arith, ints, low, high, e)
+
+row_both : (q r : ℤ) → q *ℤ negsuc 2 +ℤ r ≡ negsuc 6 → IsBetweenZeroAnd (negsuc 2) r → r ≡ negsuc 0
+row_both q r e (inl (low, high)) = absurd (omega (arith, ints, low, high))
+row_both q r e (inr (low, high)) = omega (arith, ints, low, high, e)
+
+pub remainder_rows : RemainderRows
+remainder_rows = (
+  (λ r (q, e, between). row_below q r (negsuc 6) refl e between),
+  (λ r (q, e, between). row_above q r e between),
+  (λ r (q, e, between). row_both q r e between),
+)
+
+cut_below : (q r : ℤ) → q *ℤ pos 3 +ℤ r ≡ negsuc 6 → nat_abs r < 3 → r ≤ℤ pos 0 → q ≡ negsuc 1
+cut_below q r e small sign = omega (arith, ints, e, small, sign)
+
+cut_above : (q r : ℤ) → q *ℤ negsuc 2 +ℤ r ≡ pos 7 → nat_abs r < 3 → pos 0 ≤ℤ r → q ≡ negsuc 1
+cut_above q r e small sign = omega (arith, ints, e, small, sign)
+
+cut_both : (q r : ℤ) → q *ℤ negsuc 2 +ℤ r ≡ negsuc 6 → nat_abs r < 3 → r ≤ℤ pos 0 → q ≡ pos 2
+cut_both q r e small sign = omega (arith, ints, e, small, sign)
+
+pub quotient_rows : QuotientRows
+quotient_rows = (
+  (λ q (r, e, small, above, below). cut_below q r e small (below (omega (arith, ints)))),
+  (λ q (r, e, small, above, below). cut_above q r e small (above (omega (arith, ints)))),
+  (λ q (r, e, small, above, below). cut_both q r e small (below (omega (arith, ints)))),
+)

@@ -6,6 +6,7 @@ pub mod FormulaInRange
 pub mod InRange
 pub mod MachineLemmas
 pub mod MeaningLemmas
+pub mod Named
 pub mod NodeLemmas
 pub mod PendingLemmas
 pub mod ScanLemmas

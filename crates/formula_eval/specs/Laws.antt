@@ -1,6 +1,6 @@
 -- What holds of the values of all formulas, and of some functions.
-use Rattle.std.specs.Prelude.{◌≡◌, ◌≢◌, ◌⊎◌, ℕ, ◌+◌, ◌<◌, ℤ, pos, ◌+ℤ◌, ◌*ℤ◌, ◌≤ℤ◌, ◌<ℤ◌, nat_abs, length, IsTrue}
-use Rattle.sheet_refs.specs.Cells.{Position, cells_of}
+use Rattle.std.specs.Prelude.{◌≡◌, ◌≢◌, ◌⊎◌, ◌↔◌, Option, IsSome, Contains, negsuc, ℕ, ◌+◌, ◌<◌, ℤ, pos, ◌+ℤ◌, ◌*ℤ◌, ◌≤ℤ◌, ◌<ℤ◌, nat_abs, length, IsTrue}
+use Rattle.sheet_refs.specs.Cells.{Position, IsIn, cells_of}
 use Rattle.sheet_refs.specs.Ends.{Reference, corners_of}
 use Rattle.sheet_refs.specs.declared.sizes.Sizes.{Sizes}
 use Rattle.sheet_refs.specs.Sizes.{is_inside}
@@ -12,8 +12,8 @@ use Rattle.value_core.specs.Wholes.{IsWhole}
 use Rattle.formula_syntax.specs.declared.functions.Function.{Function}
 use Rattle.formula_syntax.specs.declared.functions.Function.TheVariants.{Counta, Countblank}
 use Rattle.formula_syntax.specs.Formula.{IsFormula}
-use Rattle.formula_syntax.specs.Tree.{Tree, reference, call, no_trees, and_trees}
-use Rattle.formula_eval.specs.Meaning.{meaning, formula_value, IsReferenced}
+use Rattle.formula_syntax.specs.Tree.{Tree, reference, call, no_trees, and_trees, references_of}
+use Rattle.formula_eval.specs.Meaning.{meaning, formula_value, IsReferenced, IsKnown}
 
 -- each cell of the rectangle that a formula names has a value in range
 abbrev pub HasValues : Sizes → Tree → (Position → Value) → Type 0
@@ -59,3 +59,24 @@ IsRemainder m n r = (q : ℤ) × (q *ℤ n +ℤ r ≡ m) × IsBetweenZeroAnd n r
 -- the multiple of n from which to m a part is left that is smaller than n, and 0 or of the sign of m
 abbrev pub IsCutQuotient : ℤ → ℤ → ℤ → Type 0
 IsCutQuotient m n q = (r : ℤ) × (q *ℤ n +ℤ r ≡ m) × (nat_abs r < nat_abs n) × (pos 0 ≤ℤ m → pos 0 ≤ℤ r) × (m ≤ℤ pos 0 → r ≤ℤ pos 0)
+
+-- worked rows: of -7 and 3, of 7 and -3, and of both negative, there is no other remainder and no other quotient
+abbrev pub RemainderRows : Type 0
+RemainderRows =
+    ((r : ℤ) → IsRemainder (negsuc 6) (pos 3) r → r ≡ pos 2)
+    × ((r : ℤ) → IsRemainder (pos 7) (negsuc 2) r → r ≡ negsuc 1)
+    × ((r : ℤ) → IsRemainder (negsuc 6) (negsuc 2) r → r ≡ negsuc 0)
+
+abbrev pub QuotientRows : Type 0
+QuotientRows =
+    ((q : ℤ) → IsCutQuotient (negsuc 6) (pos 3) q → q ≡ negsuc 1)
+    × ((q : ℤ) → IsCutQuotient (pos 7) (negsuc 2) q → q ≡ negsuc 1)
+    × ((q : ℤ) → IsCutQuotient (negsuc 6) (negsuc 2) q → q ≡ pos 2)
+
+-- a formula names the cells in the ranges of its references
+abbrev pub ReferencedByRanges : Type 0
+ReferencedByRanges = (tree : Tree) (cell : Position) → IsReferenced tree cell ↔ ((r : Reference) × Contains (references_of tree) r × IsIn cell (corners_of r))
+
+-- where something is held of all cells of the rectangle, all that a formula needs is known
+abbrev pub KnownWhereAllAreHeld : Type 0
+KnownWhereAllAreHeld = (sizes : Sizes) (codes : Position → Option ℕ) (tree : Tree) → ((cell : Position) → IsTrue (is_inside sizes cell) → IsSome (codes cell)) → IsKnown sizes codes tree
