@@ -4,7 +4,8 @@
 //! spells two (`formula_laws`). The grammar has two halves: which tokens a text has (`specs/Lexing.antt`), and
 //! which tokens derive which tree, at which level (`specs/Grammar.antt`). The reader gives the tree, or a
 //! refusal, each exactly where its cause holds. `print` gives a tree's plain text, which spells the same tree
-//! (`specs/Printing.antt`), and `refs` its ranges, each once (`specs/Listing.antt`).
+//! (`specs/Printing.antt`) and is read again wherever a text of the tree is, and `refs` its ranges, each once
+//! (`specs/Listing.antt`).
 //!
 //! A formula is a tree of at most 8,192 nodes with at most 255 references (`specs/Formula.antt`). Contracts
 //! see it as a tree of the specs (`specs/Tree.antt`), without where its nodes lie in memory. One table says
