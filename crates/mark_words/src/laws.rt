@@ -21,8 +21,8 @@ pub fn is_honest_between_steps<S: Subject>(_marks: &Marks<S>)
 /// A single step is one event: where a seat has one step more, and the other seats have what they had, the events that
 /// lead to the words then have the single steps of those before, and this one at their end. It happens on the words as
 /// they stood, and leaves them as they stand then. The word that the step notes is the one that stood where it loads or
-/// claims, and the one that stands there then where it stores; by the calls' clauses it is the word of what they answer.
-/// So the count that a seat has seen after a see is the one that stood.
+/// claims, and the one that stands there then where it stores; by the calls' clauses it is the word of what they
+/// answer. So the count that a seat has seen after a see is the one that stood.
 pub fn takes_one_event_a_step<S: Subject>(_marks: &Marks<S>)
     ensures last { StepsStandLast S.places S.worth S.touches (topic_of _marks.now) }
     ensures words { StepsAreEvents S.places S.worth S.touches (topic_of _marks.now) }

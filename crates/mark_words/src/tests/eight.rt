@@ -2,7 +2,8 @@
 
 ghost use Rattle.std.specs.Prelude.{◌≡◌, ◌≤◌, ◌<◌, ◌+◌, true, All, IfOk};
 ghost use Rattle.mark_words.specs.Token.{IsSeatOf, closed_places};
-ghost use Rattle.mark_words.specs.Tests.EightTestCells.{last_setting, SetsPlace, last_stays, script, IsScripted, IsEditing};
+ghost use Rattle.mark_words.specs.Tests.EightTestCells.{last_setting, SetsPlace, last_stays, script};
+ghost use Rattle.mark_words.specs.Tests.EightTestCells.{IsScripted, IsEditing};
 
 use crate::closing::Words;
 use crate::marks::Marks;
