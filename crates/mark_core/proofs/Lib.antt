@@ -3,6 +3,7 @@ pub mod Stores
 pub mod Frames
 pub mod Places
 pub mod Holds
+pub mod HoldLaws
 pub mod ReadLemmas
 pub mod ViewLemmas
 pub mod Lists

@@ -1,8 +1,9 @@
 -- The laws of the protocol. Each but the last but one speaks of one event, or of no event.
-use Rattle.std.specs.Prelude.{◌≡◌, ◌≢◌, ◌<◌, ◌≤◌, ◌⊎◌, ◌↔◌, ℕ, List, [], ◌∷◌, Option, Some, true, length, take, Contains}
+use Rattle.std.specs.Prelude.{◌≡◌, ◌≢◌, ◌<◌, ◌≤◌, ◌⊎◌, ◌↔◌, ℕ, List, [], ◌∷◌, Option, Some, true, length, take, slice_get, Contains}
 use Rattle.mark_core.specs.declared.actors.Edits.{Edits}
 use Rattle.mark_core.specs.declared.words.Half.{Half}
 use Rattle.mark_core.specs.declared.words.Finished.{Finished}
+use Rattle.mark_core.specs.declared.words.Held.{Held}
 use Rattle.mark_core.specs.declared.answers.Seen.{Seen}
 use Rattle.mark_core.specs.declared.answers.Seen.TheVariants.{Value, Stale, Newer}
 use Rattle.mark_core.specs.declared.events.Event.{Event}
@@ -18,7 +19,7 @@ use Rattle.mark_core.specs.Step.{Happens}
 use Rattle.mark_core.specs.Answer.{Shows}
 use Rattle.mark_core.specs.Legal.{MeetsFloor, IsLegalCell, IsLegalRead}
 use Rattle.mark_core.specs.Honest.{IsHonest}
-use Rattle.mark_core.specs.Run.{IsOpening, IsCodeless, Runs}
+use Rattle.mark_core.specs.Run.{IsCodeless, Runs}
 use Rattle.mark_core.specs.Growth.{counts_of, finishes_of, losses_of, Grows, IsCopy, IsUnion, BeginsRead, EndsRead}
 
 module _ {S E : Type 0} (places : S → ℕ) (worth : S → List E → ℕ → ℕ) (touches : S → List E → E → ℕ → Type 0) (subject : S) where
@@ -30,10 +31,13 @@ module _ {S E : Type 0} (places : S → ℕ) (worth : S → List E → ℕ → �
   abbrev pub HappensIn : State E → Event E → Outcome → State E → Type 0
   HappensIn s event outcome after = Happens (worth subject) (touches subject) s event outcome after
 
-  -- each opening state is honest
+  -- each opening state is honest: the opening has one item per place, and a code that is given is the worth over
+  -- the empty log
   abbrev pub OpeningsAreHonest : Type 0
   OpeningsAreHonest =
-      (opening : List (Option ℕ)) → IsOpening (places subject) (worth subject) opening
+      (opening : List (Option ℕ))
+      → length opening ≡ places subject
+      → ((place code : ℕ) → slice_get opening place ≡ Some (Some code) → code ≡ worth subject [] place)
       → IsHonestFrom opening (opening_state opening)
 
   -- each event that happens leaves an honest state honest
@@ -151,6 +155,44 @@ module _ {S E : Type 0} (places : S → ℕ) (worth : S → List E → ℕ → �
       → Grows (counts_of s event view) (finishes_of s event view) (losses_of s event outcome view)
       (view_at s view) (view_at after view)
 
+  -- a clean word is held exactly where some view holds the place
+  abbrev pub HeldWordsHaveHolders : Type 0
+  HeldWordsHaveHolders =
+      (opening : List (Option ℕ)) (s : State E) (place : ℕ)
+      → IsHonestFrom opening s
+      → ((place_at s.places place).clean.held ≡ true)
+      ↔ ((view : ℕ) × (hold : Held) × Contains (view_at s view).holds hold × (hold.place ≡ place))
+
+  -- no two views hold one place
+  abbrev pub PlacesHaveOneHolder : Type 0
+  PlacesHaveOneHolder =
+      (opening : List (Option ℕ)) (s : State E) (view other : ℕ) (hold hold' : Held)
+      → IsHonestFrom opening s
+      → Contains (view_at s view).holds hold
+      → Contains (view_at s other).holds hold'
+      → hold.place ≡ hold'.place
+      → view ≡ other
+
+  -- a held place is stale: its value was computed for no mark as late as its own
+  abbrev pub HeldPlacesAreStale : Type 0
+  HeldPlacesAreStale =
+      (opening : List (Option ℕ)) (s : State E) (place : ℕ)
+      → IsHonestFrom opening s
+      → place < places subject
+      → (place_at s.places place).clean.held ≡ true
+      → (place_at s.places place).clean.upto ≤ (place_at s.places place).mark
+
+  -- a word that a view put at a place that it holds stands there, and is the worth of the place after some of the
+  -- first entries that the view knows
+  abbrev pub PutWordsAreKnown : Type 0
+  PutWordsAreKnown =
+      (opening : List (Option ℕ)) (s : State E) (view : ℕ) (hold : Held) (word : ℕ)
+      → IsHonestFrom opening s
+      → Contains (view_at s view).holds hold
+      → hold.word ≡ Some word
+      → ((place_at s.places hold.place).value ≡ word)
+      × ((count : ℕ) × (count ≤ length (view_at s view).log) × (worth subject (take count (view_at s view).log) hold.place ≡ word))
+
   -- no events happen exactly from a state to itself, and events happen in order exactly where the first one
   -- does and the others do from there
   abbrev pub EventsHappenInOrder : Type 0
@@ -164,7 +206,8 @@ module _ {S E : Type 0} (places : S → ℕ) (worth : S → List E → ℕ → �
   abbrev pub RunsStayHonest : Type 0
   RunsStayHonest =
       (opening : List (Option ℕ)) (events : List (Event E)) (s : State E)
-      → IsOpening (places subject) (worth subject) opening
+      → length opening ≡ places subject
+      → ((place code : ℕ) → slice_get opening place ≡ Some (Some code) → code ≡ worth subject [] place)
       → Runs (worth subject) (touches subject) (opening_state opening) events s
       → IsHonestFrom opening s
 

@@ -13,4 +13,4 @@ pub mod Growth
 pub mod Law
 pub mod Kept
 pub mod Core
-pub mod TwoCells
+pub mod Tests

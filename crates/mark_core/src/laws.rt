@@ -5,6 +5,8 @@ ghost use Rattle.mark_core.specs.Law.{NewerMarksTouch, StaleMarksTouch, CellsAre
 ghost use Rattle.mark_core.specs.Law.{ReadsAreLegal};
 ghost use Rattle.mark_core.specs.Law.{ReadsBegin, ReadsGoOn, ReadsEnd, SeesAnswerTheCount};
 ghost use Rattle.mark_core.specs.Law.{SplitsHandOn, JoinsHandOn, ViewsGrow};
+ghost use Rattle.mark_core.specs.Law.{HeldWordsHaveHolders, PlacesHaveOneHolder};
+ghost use Rattle.mark_core.specs.Law.{HeldPlacesAreStale, PutWordsAreKnown};
 ghost use Rattle.mark_core.specs.Law.{EventsHappenInOrder, RunsStayHonest, StaleForLaterEdits};
 ghost use Rattle.mark_core.specs.Law.{LastMarksAreUnique};
 
@@ -45,6 +47,15 @@ pub fn hands_on<S: Subject>(_subject: &S)
     ensures split { SplitsHandOn S.places S.worth S.touches _subject.now }
     ensures join { JoinsHandOn S.places S.worth S.touches _subject.now }
     ensures grow { ViewsGrow S.places S.worth S.touches _subject.now }
+{}
+
+/// Held places. In an honest state a clean word is held exactly where some view holds the place, no two views do,
+/// and the place is stale. A word that the holder put is the place's value and a worth that the holder knows.
+pub fn holds_alone<S: Subject>(_subject: &S)
+    ensures held { HeldWordsHaveHolders S.places S.worth S.touches _subject.now }
+    ensures one { PlacesHaveOneHolder S.places S.worth S.touches _subject.now }
+    ensures stale { HeldPlacesAreStale S.places S.worth S.touches _subject.now }
+    ensures put { PutWordsAreKnown S.places S.worth S.touches _subject.now }
 {}
 
 /// Lists of events: they happen one after the other, and whatever events happen from an opening state, the

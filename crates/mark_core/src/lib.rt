@@ -20,7 +20,7 @@ mod laws;
 mod machine;
 mod protocol;
 mod subjects;
-mod two_cells;
+mod test_cells;
 mod views;
 mod words;
 
@@ -28,12 +28,12 @@ pub use actors::{Edits, View};
 pub use answers::{Seen, shown};
 pub use events::{Event, Outcome};
 pub use laws::{
-    goes_stale_for_later_edits_only, hands_on, has_one_last_mark, keeps_honest,
+    goes_stale_for_later_edits_only, hands_on, has_one_last_mark, holds_alone, keeps_honest,
     reads_in_three_loads, shows_what_is_right, stays_honest,
 };
 pub use protocol::Core;
 pub use subjects::{Judge, Subject};
-pub use two_cells::TwoCells;
+pub use test_cells::TwoTestCells;
 pub use words::{Clean, Finished, Half, Held, Known, Lost, Memory, Place};
 
 #[cfg(test)]

@@ -6,10 +6,11 @@ use crate::words::Memory;
 use std::alloc::Global;
 
 /// What the marks are about: numbered places whose worth depends on a list of edits. Each edit is an
-/// entry that touches some of the places, and a place that it doesn't touch keeps its worth.
-pub trait Subject: Drop {
+/// entry that touches some of the places, and a place that it doesn't touch keeps its worth. Threads share
+/// a subject and hand on its entries.
+pub trait Subject: Drop + Send + Sync {
     /// One edit.
-    type Entry: Drop;
+    type Entry: Drop + Send + Sync;
 
     /// How many places there are, numbered from 0.
     ghost places: { Self → ℕ };

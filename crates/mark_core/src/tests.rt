@@ -16,7 +16,7 @@ const WORKER: u32 = 1;
 const VIEWER: u32 = 2;
 
 /// Does the event and answers its outcome, or `None` where it isn't allowed.
-fn act(core: &mut Core<TwoCells>, event: Event<u32>) -> Result<Option<Outcome>, Memory> {
+fn act(core: &mut Core<TwoTestCells>, event: Event<u32>) -> Result<Option<Outcome>, Memory> {
     if !core.has_room(&event) || !core.allows(&event)? {
         return Ok(None);
     }
@@ -24,7 +24,7 @@ fn act(core: &mut Core<TwoCells>, event: Event<u32>) -> Result<Option<Outcome>, 
 }
 
 /// Does each event and compares its outcome with the one beside it.
-fn run(rt: &impl Abort, core: &mut Core<TwoCells>, steps: Steps) -> Result<(), Memory> {
+fn run(rt: &impl Abort, core: &mut Core<TwoTestCells>, steps: Steps) -> Result<(), Memory> {
     for (event, wanted) in steps {
         assert_eq!(rt; act(core, event)?, wanted);
     }
@@ -79,7 +79,7 @@ fn claim(view: u32, place: u32, upto: u64) -> Event<u32> {
 }
 
 fn put(view: u32, place: u32, number: u32) -> Event<u32> {
-    let word = TwoCells::code(u64::from(number));
+    let word = TwoTestCells::code(u64::from(number));
     Event::Put { view, place, word }
 }
 
@@ -110,7 +110,7 @@ fn reading(
 fn compute(
     rt: &impl Abort,
     alloc: Global,
-    core: &mut Core<TwoCells>,
+    core: &mut Core<TwoTestCells>,
     place: u32,
     old: (u64, u64),
     number: u32,
@@ -131,8 +131,8 @@ fn compute(
 
 /// The first cell opens with the number 1, and the second has a formula. The worker and the viewer come
 /// to be, the editor sets the first cell to 5, and the worker learns of it.
-fn set_to_5(rt: &impl Abort, alloc: Global) -> Result<Core<TwoCells>, Memory> {
-    let mut core = Core::open(alloc, TwoCells, &[Some(TwoCells::code(1)), None])?;
+fn set_to_5(rt: &impl Abort, alloc: Global) -> Result<Core<TwoTestCells>, Memory> {
+    let mut core = Core::open(alloc, TwoTestCells, &[Some(TwoTestCells::code(1)), None])?;
     let steps = vec![in alloc;
         (split(EDITOR), Some(Outcome::Seat(WORKER))),
         (split(EDITOR), Some(Outcome::Seat(VIEWER))),
@@ -147,9 +147,9 @@ fn set_to_5(rt: &impl Abort, alloc: Global) -> Result<Core<TwoCells>, Memory> {
 }
 
 /// The same, and both cells were computed for it.
-fn computed_5(rt: &impl Abort, alloc: Global) -> Result<Core<TwoCells>, Memory> {
+fn computed_5(rt: &impl Abort, alloc: Global) -> Result<Core<TwoTestCells>, Memory> {
     let mut core = set_to_5(rt, alloc)?;
-    compute(rt, alloc, &mut core, 0, (1, TwoCells::code(1)), 5, 1)?;
+    compute(rt, alloc, &mut core, 0, (1, TwoTestCells::code(1)), 5, 1)?;
     compute(rt, alloc, &mut core, 1, (0, 0), 6, 1)?;
     Ok(core)
 }
@@ -167,7 +167,7 @@ fn a_value_computed_for_a_later_edit_is_shown_as_newer(rt: HostRuntime) -> Resul
         (join(WORKER, 4), done()),
     ]?;
     run(&rt, &mut core, editing)?;
-    compute(&rt, alloc, &mut core, 0, (2, TwoCells::code(5)), 6, 2)?;
+    compute(&rt, alloc, &mut core, 0, (2, TwoTestCells::code(5)), 6, 2)?;
     let steps = reading(alloc, VIEWER, 0, free(3), 72057594037927985, 2)?;
     run(&rt, &mut core, steps)?;
     assert_eq!(rt; shown(1, free(3), 72057594037927985, 2), Seen::Newer(2));
@@ -184,14 +184,14 @@ fn a_marked_place_is_shown_as_stale_before_the_commit(rt: HostRuntime) -> Result
         (commit(6), None),
     ]?;
     run(&rt, &mut core, editing)?;
-    let steps = reading(alloc, VIEWER, 0, free(2), TwoCells::code(5), 2)?;
+    let steps = reading(alloc, VIEWER, 0, free(2), TwoTestCells::code(5), 2)?;
     run(&rt, &mut core, steps)?;
-    assert_eq!(rt; shown(1, free(2), TwoCells::code(5), 2), Seen::Stale(2));
-    let steps = reading(alloc, VIEWER, 1, free(2), TwoCells::code(6), 1)?;
+    assert_eq!(rt; shown(1, free(2), TwoTestCells::code(5), 2), Seen::Stale(2));
+    let steps = reading(alloc, VIEWER, 1, free(2), TwoTestCells::code(6), 1)?;
     run(&rt, &mut core, steps)?;
     assert_eq!(rt;
-        shown(1, free(2), TwoCells::code(6), 1),
-        Seen::Value(TwoCells::code(6))
+        shown(1, free(2), TwoTestCells::code(6), 1),
+        Seen::Value(TwoTestCells::code(6))
     );
     Ok(())
 }
@@ -205,7 +205,7 @@ fn a_stale_worker_is_refused_its_claim(rt: HostRuntime) -> Result<(), Fail> {
         run(
             &rt,
             &mut core,
-            reading(alloc, view, 0, free(1), TwoCells::code(1), 1)?,
+            reading(alloc, view, 0, free(1), TwoTestCells::code(1), 1)?,
         )?;
     }
     let (view, place) = (VIEWER, 0);
@@ -238,7 +238,7 @@ fn an_edit_between_a_claim_and_its_put_leaves_the_place_stale(rt: HostRuntime) -
     run(
         &rt,
         &mut core,
-        reading(alloc, WORKER, 0, free(1), TwoCells::code(1), 1)?,
+        reading(alloc, WORKER, 0, free(1), TwoTestCells::code(1), 1)?,
     )?;
     let working = vec![in alloc;
         (claim(WORKER, 0, 1), claimed(true)),
@@ -256,8 +256,8 @@ fn an_edit_between_a_claim_and_its_put_leaves_the_place_stale(rt: HostRuntime) -
     run(
         &rt,
         &mut core,
-        reading(alloc, VIEWER, 0, free(2), TwoCells::code(5), 2)?,
+        reading(alloc, VIEWER, 0, free(2), TwoTestCells::code(5), 2)?,
     )?;
-    assert_eq!(rt; shown(2, free(2), TwoCells::code(5), 2), Seen::Stale(2));
+    assert_eq!(rt; shown(2, free(2), TwoTestCells::code(5), 2), Seen::Stale(2));
     Ok(())
 }

@@ -18,8 +18,8 @@ use Rattle.mark_core.specs.Run.{IsCodeless}
 use Rattle.mark_core.specs.Legal.{IsLegalRead}
 use Rattle.mark_core.specs.Honest.{IsRightRead}
 use Rattle.mark_core.specs.declared.subjects.Subject.{Ghosts}
-use Rattle.mark_words.specs.declared.board.History.{History}
-use Rattle.mark_words.specs.declared.board.Past.{Past}
+use Rattle.mark_words.specs.declared.tables.History.{History}
+use Rattle.mark_words.specs.declared.tables.Past.{Past}
 use Rattle.mark_words.specs.declared.marks.Marks.{Marks}
 use Rattle.mark_words.specs.declared.seats.Seat.{Seat}
 use Rattle.mark_words.specs.declared.closing.Words.{Words}
@@ -29,7 +29,7 @@ use Rattle.mark_words.specs.Token.{subject_of, topic_of, places_of, seat_table, 
 use Rattle.mark_words.specs.Rule.{HaveNoRepeats, past_at, IsKeptTable, IsEditor, IsSpent, AreGathered, doings_of}
 use Rattle.mark_words.specs.Steps.{steps_of}
 use Rattle.mark_words.specs.Closed.{HasClosed, ArePrefixes, AreLegal}
-use Rattle.mark_words.proofs.Boards.{Contains-cons_cases, not_spent, shown_same}
+use Rattle.mark_words.proofs.TableLemmas.{Contains-cons_cases, not_spent, shown_same}
 use Rattle.mark_words.proofs.StepLemmas.{doing_at}
 use Rattle.mark_words.proofs.OrderLemmas.{tail_of, head_or}
 use Rattle.mark_words.proofs.RunLemmas.{honest_state, same_view, same_steps, seat_right}

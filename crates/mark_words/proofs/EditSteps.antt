@@ -18,13 +18,14 @@ use Rattle.mark_core.specs.Step.{marks_for, commits, after_mark, after_commit}
 use Rattle.mark_core.proofs.Prefixes.{prefix_more}
 use Rattle.mark_core.specs.declared.events.Event.TheVariants.{Mark, Commit}
 use Rattle.mark_core.specs.declared.events.Outcome.TheVariants.{Done, Count}
-use Rattle.mark_words.specs.declared.board.Doing.{Doing}
-use Rattle.mark_words.specs.declared.board.History.{History}
+use Rattle.mark_words.specs.declared.tables.Doing.{Doing}
+use Rattle.mark_words.specs.declared.tables.History.{History}
 use Rattle.mark_words.specs.Doing.{with_mark, with_commit}
 use Rattle.mark_words.specs.Words.{words_of_places}
+use Rattle.mark_words.specs.Steps.{made_of}
 use Rattle.mark_words.specs.Rule.{IsRightSeat, IsEditor, AreSeats, NameSubject, IsKeptTable, doings_of}
 use Rattle.mark_words.specs.Plays.{Marked, Committed}
-use Rattle.mark_words.proofs.Boards.{first_set, mark_word, mark_set, seat_changes, subject_set}
+use Rattle.mark_words.proofs.TableLemmas.{first_set, mark_word, mark_set, seat_changes, subject_set}
 use Rattle.mark_words.proofs.StepLemmas.{doing_at, doings_set, next_number, with_step, one_more}
 use Rattle.mark_words.proofs.RunLemmas.{next_run, honest_state, next_steps, others_stay, same_view, same_subject, seat_right}
 
@@ -67,30 +68,30 @@ module _ {S E : Type 0} (subject : S) (places : ℕ) (worth : List E → ℕ →
       let doing : Doing S E = with_commit me.0.doing entry in
       let count : new ≡ length (core.edits.log ++ entry ∷ []) =
       is ∙ ap (λ l. length l + 1) whole ∙ sym (length-append core.edits.log (entry ∷ [])) in
-      let made : History S E = with_step me.0 doing (next_number kept.events) (Commit 0 entry) in (
+      let made : History S E = with_step me.0 doing (next_number kept.events) (made_of (Commit 0 entry) new) in (
         made,
         keeps,
         tt,
         record {
           right = kept.right;
           core = after;
-          events = kept.events ++ Commit 0 entry ∷ [];
+          events = kept.events ++ made_of (Commit 0 entry) new ∷ [];
           run =
-              next_run subject places worth touches opening t kept (Commit 0 entry) (Count (length core.edits.log + 1)) after
-              (record { allowed = (refl, honest.editor_live, may); gives = (refl, refl) });
+              next_run subject places worth touches opening t kept (Commit 0 entry) new (Count (length core.edits.log + 1)) after
+              (record { allowed = (refl, honest.editor_live, may); gives = (refl, refl) }) (is ∙ ap (λ l. length l + 1) whole);
           words =
               first_set t.words (length core.edits.log) new (words_of_places core.places) kept.words
               ∙ ap (λ n. n ∷ words_of_places core.places) count;
           subjects =
               doings_set (NameSubject subject) t.views id made
               (subject_set subject (doings_of t.views) id doing kept.subjects (λ still. same_subject subject places worth touches opening t kept id me.0 at live));
-          steps = next_steps subject places worth touches opening t kept id me.0 at live (Commit 0 entry) doing refl (sym ed.first) refl;
+          steps = next_steps subject places worth touches opening t kept id me.0 at live (Commit 0 entry) new doing refl (sym ed.first) refl;
           seats =
-              doings_set (AreSeats after (kept.events ++ Commit 0 entry ∷ [])) t.views id made
-              (seat_changes core after kept.events (kept.events ++ Commit 0 entry ∷ []) (doings_of t.views) kept.seats id me.0.doing doing (doing_at t.views id me.0 at) live
+              doings_set (AreSeats after (kept.events ++ made_of (Commit 0 entry) new ∷ [])) t.views id made
+              (seat_changes core after kept.events (kept.events ++ made_of (Commit 0 entry) new ∷ []) (doings_of t.views) kept.seats id me.0.doing doing (doing_at t.views id me.0 at) live
               (ap (λ i. slice_set core.views i (with_entry (view_at core 0) entry)) (sym ed.first)
               ∙ ap (λ v. slice_set core.views id (with_entry v entry)) here)
-              (others_stay subject places worth touches opening t kept id me.0 at live (Commit 0 entry) refl (sym ed.first))
+              (others_stay subject places worth touches opening t kept id me.0 at live (Commit 0 entry) new refl (sym ed.first))
               refl
               (λ j u apart right.
               record {
@@ -106,7 +107,7 @@ module _ {S E : Type 0} (subject : S) (places : ℕ) (worth : List E → ℕ →
                 shorter_length = omega (arith, seat.shorter_length, length-append me.0.doing.view.log (entry ∷ []));
               }));
         },
-        record { slots = refl; entry = entry; pending = pending; doing = refl; one = one_more me.0.steps 0 (next_number kept.events) (λ v. Commit v entry) (Commit 0 entry) refl },
+        record { slots = refl; entry = entry; pending = pending; doing = refl; one = one_more me.0.steps 0 (next_number kept.events) (λ v. Commit v entry) new (Commit 0 entry) new refl refl },
       )
 
   -- the same, of whatever entry is pending
@@ -147,17 +148,17 @@ module _ {S E : Type 0} (subject : S) (places : ℕ) (worth : List E → ℕ →
       let hits : either (found == old) new found ≡ new = hit found old new (mark ∙ sym own) in
       let doing : Doing S E = with_mark me.0.doing entry place new in
       let changed : Place = record (place_at core.places place) { mark = new } in
-      let made : History S E = with_step me.0 doing (next_number kept.events) (Mark 0 entry place) in (
+      let made : History S E = with_step me.0 doing (next_number kept.events) (made_of (Mark 0 entry place) new) in (
         made,
         keeps,
         tt,
         record {
           right = kept.right;
           core = after;
-          events = kept.events ++ Mark 0 entry place ∷ [];
+          events = kept.events ++ made_of (Mark 0 entry place) new ∷ [];
           run =
-              next_run subject places worth touches opening t kept (Mark 0 entry place) Done after
-              (record { allowed = (refl, record { there = lt; live = honest.editor_live }, may); gives = (refl, refl) });
+              next_run subject places worth touches opening t kept (Mark 0 entry place) new Done after
+              (record { allowed = (refl, record { there = lt; live = honest.editor_live }, may); gives = (refl, refl) }) count;
           words =
               ap (λ n. slice_set t.words (3 * place + 1) n) hits
               ∙ ap (λ ws. slice_set ws (3 * place + 1) new) kept.words
@@ -166,12 +167,12 @@ module _ {S E : Type 0} (subject : S) (places : ℕ) (worth : List E → ℕ →
           subjects =
               doings_set (NameSubject subject) t.views id made
               (subject_set subject (doings_of t.views) id doing kept.subjects (λ still. same_subject subject places worth touches opening t kept id me.0 at live));
-          steps = next_steps subject places worth touches opening t kept id me.0 at live (Mark 0 entry place) doing refl (sym ed.first) refl;
+          steps = next_steps subject places worth touches opening t kept id me.0 at live (Mark 0 entry place) new doing refl (sym ed.first) refl;
           seats =
-              doings_set (AreSeats after (kept.events ++ Mark 0 entry place ∷ [])) t.views id made
-              (seat_changes core after kept.events (kept.events ++ Mark 0 entry place ∷ []) (doings_of t.views) kept.seats id me.0.doing doing (doing_at t.views id me.0 at) live
+              doings_set (AreSeats after (kept.events ++ made_of (Mark 0 entry place) new ∷ [])) t.views id made
+              (seat_changes core after kept.events (kept.events ++ made_of (Mark 0 entry place) new ∷ []) (doings_of t.views) kept.seats id me.0.doing doing (doing_at t.views id me.0 at) live
               (sym (set-get_or core.views id spent_view) ∙ ap (λ v. slice_set core.views id v) same)
-              (others_stay subject places worth touches opening t kept id me.0 at live (Mark 0 entry place) refl (sym ed.first))
+              (others_stay subject places worth touches opening t kept id me.0 at live (Mark 0 entry place) new refl (sym ed.first))
               refl
               (λ j u apart right.
               record {
@@ -205,7 +206,7 @@ module _ {S E : Type 0} (subject : S) (places : ℕ) (worth : List E → ℕ →
           one = λ place' entry' word' said'.
               let same_place : place ≡ place' = omega (arith, word, word') in
               let same_entry : entry ≡ entry' = some-injective entry entry' (sym said ∙ said') in
-              one_more me.0.steps 0 (next_number kept.events) (λ v. Mark v entry' place') (Mark 0 entry place)
-              (ap (λ p. Mark 0 entry p) same_place ∙ ap (λ y. Mark 0 y place') same_entry);
+              one_more me.0.steps 0 (next_number kept.events) (λ v. Mark v entry' place') step.second (Mark 0 entry place) new
+              (ap (λ p. Mark 0 entry p) same_place ∙ ap (λ y. Mark 0 y place') same_entry) (sym second);
         },
       )

@@ -1,4 +1,4 @@
-pub mod Boards
+pub mod TableLemmas
 pub mod StepLemmas
 pub mod OrderLemmas
 pub mod WordLemmas
@@ -10,9 +10,9 @@ pub mod ReadSteps
 pub mod WorkSteps
 pub mod SeatSteps
 pub mod EditSteps
-pub mod DeskLemmas
+pub mod EditorMarkLemmas
 pub mod TokenLemmas
 pub mod Meets
 pub mod OpeningLemmas
 pub mod CloseLemmas
-pub mod TrialLemmas
+pub mod TestLemmas

@@ -8,11 +8,11 @@ use Rattle.mark_core.specs.declared.words.Known.{Known}
 use Rattle.mark_core.specs.declared.words.Finished.{Finished}
 use Rattle.mark_core.specs.Mark.{IsPrefix}
 use Rattle.mark_core.proofs.Prefixes.{prefix_itself}
-use Rattle.mark_words.specs.declared.board.Doing.{Doing}
-use Rattle.mark_words.specs.declared.board.History.{History}
-use Rattle.mark_words.specs.declared.seats.Desk.{Desk}
+use Rattle.mark_words.specs.declared.tables.Doing.{Doing}
+use Rattle.mark_words.specs.declared.tables.History.{History}
+use Rattle.mark_words.specs.declared.seats.EditorMarks.{EditorMarks}
 use Rattle.mark_words.specs.Doing.{copy_of, union_doing, with_see}
-use Rattle.mark_words.specs.Desk.{HasDesk, KnowsAll, FitsWords}
+use Rattle.mark_words.specs.EditorMarks.{HasEditorMarks, KnowsAll, FitsWords}
 use Rattle.mark_words.specs.Plays.{Saw}
 use Rattle.mark_words.specs.Meet.{HasMet, KeepsClean}
 
@@ -80,9 +80,9 @@ module _ {S E : Type 0} (step : Step E) (seat other : Doing S E) (joined after :
   pub met_live : after.0.doing.view.spent ≡ seat.view.spent
   met_live = ap (λ (d : Doing S E). d.view.spent) made
 
-  pub met_desk : (words words' : ℕ) (desk : Option Desk) → words' ≡ words → HasDesk words seat desk → HasDesk words' after.0.doing desk
-  met_desk words words' desk same has =
-      subst (λ (d : Doing S E). HasDesk words' d desk) (sym made)
+  pub met_own : (words words' : ℕ) (own : Option EditorMarks) → words' ≡ words → HasEditorMarks words seat own → HasEditorMarks words' after.0.doing own
+  met_own words words' own same has =
+      subst (λ (d : Doing S E). HasEditorMarks words' d own) (sym made)
       (record {
         editor = has.editor;
         count = λ d e. has.count d e ∙ ap length (sym (whole (has.editor ∙ ap is_some e)).1);

@@ -9,13 +9,13 @@ use Rattle.mark_core.specs.Place.{opening_place}
 use Rattle.mark_core.specs.State.{view_at, opening_state}
 use Rattle.mark_core.specs.Run.{IsOpening}
 use Rattle.mark_core.proofs.Prefixes.{prefix_itself}
-use Rattle.mark_words.specs.declared.board.Doing.{Doing}
-use Rattle.mark_words.specs.declared.board.History.{History}
-use Rattle.mark_words.specs.declared.board.Topic.{Topic}
+use Rattle.mark_words.specs.declared.tables.Doing.{Doing}
+use Rattle.mark_words.specs.declared.tables.History.{History}
+use Rattle.mark_words.specs.declared.tables.Topic.{Topic}
 use Rattle.mark_words.specs.Words.{words_of_places, opening_words}
 use Rattle.mark_words.specs.Doing.{first_doing, first_history}
 use Rattle.mark_words.specs.Rule.{IsRightSeat, AreGathered, IsKeptTable, NameSubject}
-use Rattle.mark_words.proofs.Boards.{none_gathered}
+use Rattle.mark_words.proofs.TableLemmas.{none_gathered}
 
 words_open : (opening : List (Option ℕ)) → opening_words opening ≡ words_of_places (map opening_place opening)
 words_open [] = refl

@@ -8,13 +8,14 @@ use mathlib.Core.Option.{some}
 use lib.ListN.{get_elem?}
 use Rattle.atomic_table.proofs.Lists.{set_else, set_here}
 use Rattle.mark_core.specs.declared.events.Event.{Event}
-use Rattle.mark_words.specs.declared.board.History.{History}
-use Rattle.mark_words.specs.declared.board.OwnStep.{OwnStep}
-use Rattle.mark_words.specs.Steps.{actor_of, single_steps, steps_from, steps_of, OneMore, NoneHandedIn, AreStepsOf}
-use Rattle.mark_words.proofs.Boards.{some_within}
+use Rattle.mark_words.specs.declared.tables.History.{History}
+use Rattle.mark_words.specs.declared.tables.Made.{Made}
+use Rattle.mark_words.specs.declared.tables.OwnStep.{OwnStep}
+use Rattle.mark_words.specs.Steps.{actor_of, single_steps, steps_from, steps_of, made_of, OneMore, NoneHandedIn, AreStepsOf}
+use Rattle.mark_words.proofs.TableLemmas.{some_within}
 
-abbrev step_at : {E : Type 0} → ℕ → Event E → OwnStep E
-step_at number event = record { number = number; event = event }
+abbrev step_at : {E : Type 0} → ℕ → Made E → OwnStep E
+step_at number made = record { number = number; made = made }
 
 abbrev pub tail_of : {X : Type 0} → List X → List X
 tail_of [] = []
@@ -28,82 +29,82 @@ pub not_empty : {X : Type 0} (x : X) (xs : List X) → (x ∷ xs ≡ [] → ⊥)
 not_empty x xs e = absurd (let none : suc (length xs) ≡ 0 = ap length e in omega arith)
 
 -- the steps of a view, where it makes the first event and where it doesn't
-from_hit : {E : Type 0} (view number : ℕ) (event : Event E) (events : List (Event E)) → actor_of event ≡ view
-    → steps_from view number (event ∷ events) ≡ step_at number event ∷ steps_from view (suc number) events
-from_hit view number event events own =
-    ap (λ b. if b then step_at number event ∷ steps_from view (suc number) events else steps_from view (suc number) events) (eq-eqb (actor_of event) view own)
+from_hit : {E : Type 0} (view number : ℕ) (made : Made E) (events : List (Made E)) → actor_of made.event ≡ view
+    → steps_from view number (made ∷ events) ≡ step_at number made ∷ steps_from view (suc number) events
+from_hit view number made events own =
+    ap (λ b. if b then step_at number made ∷ steps_from view (suc number) events else steps_from view (suc number) events) (eq-eqb (actor_of made.event) view own)
 
-from_miss : {E : Type 0} (view number : ℕ) (event : Event E) (events : List (Event E)) → actor_of event ≢ view
-    → steps_from view number (event ∷ events) ≡ steps_from view (suc number) events
-from_miss view number event events other =
-    ap (λ b. if b then step_at number event ∷ steps_from view (suc number) events else steps_from view (suc number) events) (ne_eqb (actor_of event) view other)
+from_miss : {E : Type 0} (view number : ℕ) (made : Made E) (events : List (Made E)) → actor_of made.event ≢ view
+    → steps_from view number (made ∷ events) ≡ steps_from view (suc number) events
+from_miss view number made events other =
+    ap (λ b. if b then step_at number made ∷ steps_from view (suc number) events else steps_from view (suc number) events) (ne_eqb (actor_of made.event) view other)
 
 -- no step has a number below the first one
-number_above : {E : Type 0} (view number : ℕ) (events : List (Event E)) (step : OwnStep E) (more : List (OwnStep E))
+number_above : {E : Type 0} (view number : ℕ) (events : List (Made E)) (step : OwnStep E) (more : List (OwnStep E))
     → steps_from view number events ≡ step ∷ more → number ≤ step.number
 number_above view number [] step more is = absurd (not_empty step more (sym is))
-number_above {E} view number (event ∷ events) step more is =
-    elim (cases_eq (actor_of event) view) [
+number_above {E} view number (made ∷ events) step more is =
+    elim (cases_eq (actor_of made.event) view) [
       | inl own ↦
-          let same : step_at number event ≡ step =
-          ap (λ (l : List (OwnStep E)). head_or step l) (sym (from_hit view number event events own) ∙ is) in
+          let same : step_at number made ≡ step =
+          ap (λ (l : List (OwnStep E)). head_or step l) (sym (from_hit view number made events own) ∙ is) in
           let at : number ≡ step.number = ap (λ (s : OwnStep E). s.number) same in
           omega (arith, at)
       | inr other ↦
-          let later : suc number ≤ step.number = number_above view (suc number) events step more (sym (from_miss view number event events other) ∙ is) in
+          let later : suc number ≤ step.number = number_above view (suc number) events step more (sym (from_miss view number made events other) ∙ is) in
           omega (arith, later)
     ]
 
 -- where no view makes a step there is none
-none_left : {E : Type 0} (number : ℕ) (events : List (Event E)) → ((view : ℕ) → steps_from view number events ≡ []) → events ≡ []
+none_left : {E : Type 0} (number : ℕ) (events : List (Made E)) → ((view : ℕ) → steps_from view number events ≡ []) → events ≡ []
 none_left number [] none = refl
-none_left number (event ∷ events) none =
-    absurd (not_empty (step_at number event) (steps_from (actor_of event) (suc number) events)
-    (sym (from_hit (actor_of event) number event events refl) ∙ none (actor_of event)))
+none_left number (made ∷ events) none =
+    absurd (not_empty (step_at number made) (steps_from (actor_of made.event) (suc number) events)
+    (sym (from_hit (actor_of made.event) number made events refl) ∙ none (actor_of made.event)))
 
 -- the first event is known from the first step with its number
-same_first : {E : Type 0} (view number : ℕ) (first event : Event E) (events : List (Event E)) (more : List (OwnStep E))
-    → steps_from view number (event ∷ events) ≡ step_at number first ∷ more → event ≡ first
-same_first {E} view number first event events more is =
-    elim (cases_eq (actor_of event) view) [
+same_first : {E : Type 0} (view number : ℕ) (first made : Made E) (events : List (Made E)) (more : List (OwnStep E))
+    → steps_from view number (made ∷ events) ≡ step_at number first ∷ more → made ≡ first
+same_first {E} view number first made events more is =
+    elim (cases_eq (actor_of made.event) view) [
       | inl own ↦
-          ap (λ (s : OwnStep E). s.event)
-          (ap (λ (l : List (OwnStep E)). head_or (step_at number first) l) (sym (from_hit view number event events own) ∙ is))
+          ap (λ (s : OwnStep E). s.made)
+          (ap (λ (l : List (OwnStep E)). head_or (step_at number first) l) (sym (from_hit view number made events own) ∙ is))
       | inr other ↦
           let later : suc number ≤ number =
-          number_above view (suc number) events (step_at number first) more (sym (from_miss view number event events other) ∙ is) in
+          number_above view (suc number) events (step_at number first) more (sym (from_miss view number made events other) ∙ is) in
           absurd (omega (arith, later))
     ]
 
 -- and the rest from what is left
-after_first : {E : Type 0} (view number : ℕ) (event : Event E) (xs ys : List (Event E)) (more : List (OwnStep E))
-    → steps_from view number (event ∷ ys) ≡ steps_from view number (event ∷ xs) ++ more
+after_first : {E : Type 0} (view number : ℕ) (made : Made E) (xs ys : List (Made E)) (more : List (OwnStep E))
+    → steps_from view number (made ∷ ys) ≡ steps_from view number (made ∷ xs) ++ more
     → steps_from view (suc number) ys ≡ steps_from view (suc number) xs ++ more
-after_first {E} view number event xs ys more is =
-    elim (cases_eq (actor_of event) view) [
+after_first {E} view number made xs ys more is =
+    elim (cases_eq (actor_of made.event) view) [
       | inl own ↦
           ap (λ (l : List (OwnStep E)). tail_of l)
-          (sym (from_hit view number event ys own) ∙ is ∙ ap (λ l. l ++ more) (from_hit view number event xs own))
-      | inr other ↦ sym (from_miss view number event ys other) ∙ is ∙ ap (λ l. l ++ more) (from_miss view number event xs other)
+          (sym (from_hit view number made ys own) ∙ is ∙ ap (λ l. l ++ more) (from_hit view number made xs own))
+      | inr other ↦ sym (from_miss view number made ys other) ∙ is ∙ ap (λ l. l ++ more) (from_miss view number made xs other)
     ]
 
 module _ {E : Type 0} (view : ℕ) (step : OwnStep E) (last : ℕ → List (OwnStep E)) (here : last view ≡ step ∷ [])
     (blank : (other : ℕ) → other ≢ view → last other ≡ []) where
   -- a list whose views have the steps of another one and this one more is that list with one more at its end
-  pub grows_by_one : (number : ℕ) (xs ys : List (Event E))
+  pub grows_by_one : (number : ℕ) (xs ys : List (Made E))
       → ((other : ℕ) → steps_from other number ys ≡ steps_from other number xs ++ last other)
-      → ys ≡ xs ++ step.event ∷ []
+      → ys ≡ xs ++ step.made ∷ []
   grows_by_one number [] [] all = absurd (not_empty step [] (sym (all view ∙ here)))
   grows_by_one number [] (y ∷ ys) all =
-      let own : actor_of y ≡ view =
-      elim (cases_eq (actor_of y) view) [
+      let own : actor_of y.event ≡ view =
+      elim (cases_eq (actor_of y.event) view) [
         | inl same ↦ same
         | inr other ↦
-            absurd (not_empty (step_at number y) (steps_from (actor_of y) (suc number) ys)
-            (sym (from_hit (actor_of y) number y ys refl) ∙ all (actor_of y) ∙ blank (actor_of y) other))
+            absurd (not_empty (step_at number y) (steps_from (actor_of y.event) (suc number) ys)
+            (sym (from_hit (actor_of y.event) number y ys refl) ∙ all (actor_of y.event) ∙ blank (actor_of y.event) other))
       ] in
       let whole : step_at number y ∷ steps_from view (suc number) ys ≡ step ∷ [] = sym (from_hit view number y ys own) ∙ all view ∙ here in
-      let first : y ≡ step.event = ap (λ (s : OwnStep E). s.event) (ap (λ (l : List (OwnStep E)). head_or step l) whole) in
+      let first : y ≡ step.made = ap (λ (s : OwnStep E). s.made) (ap (λ (l : List (OwnStep E)). head_or step l) whole) in
       let rest : ys ≡ [] =
       none_left (suc number) ys
       (λ other.
@@ -113,18 +114,18 @@ module _ {E : Type 0} (view : ℕ) (step : OwnStep E) (last : ℕ → List (OwnS
       ]) in
       ap (λ l. y ∷ l) rest ∙ ap (λ e. e ∷ []) first
   grows_by_one number (x ∷ xs) [] all =
-      absurd (not_empty (step_at number x) (steps_from (actor_of x) (suc number) xs ++ last (actor_of x))
-      (ap (λ l. l ++ last (actor_of x)) (sym (from_hit (actor_of x) number x xs refl)) ∙ sym (all (actor_of x))))
+      absurd (not_empty (step_at number x) (steps_from (actor_of x.event) (suc number) xs ++ last (actor_of x.event))
+      (ap (λ l. l ++ last (actor_of x.event)) (sym (from_hit (actor_of x.event) number x xs refl)) ∙ sym (all (actor_of x.event))))
   grows_by_one number (x ∷ xs) (y ∷ ys) all =
       let first : y ≡ x =
-      same_first (actor_of x) number x y ys (steps_from (actor_of x) (suc number) xs ++ last (actor_of x))
-      (all (actor_of x) ∙ ap (λ l. l ++ last (actor_of x)) (from_hit (actor_of x) number x xs refl)) in
-      let rest : ys ≡ xs ++ step.event ∷ [] =
+      same_first (actor_of x.event) number x y ys (steps_from (actor_of x.event) (suc number) xs ++ last (actor_of x.event))
+      (all (actor_of x.event) ∙ ap (λ l. l ++ last (actor_of x.event)) (from_hit (actor_of x.event) number x xs refl)) in
+      let rest : ys ≡ xs ++ step.made ∷ [] =
       grows_by_one (suc number) xs ys
       (λ other.
       after_first other number x xs ys (last other)
-      (subst (λ (z : Event E). steps_from other number (z ∷ ys) ≡ steps_from other number (x ∷ xs) ++ last other) first (all other))) in
-      ap (λ l. y ∷ l) rest ∙ ap (λ z. z ∷ xs ++ step.event ∷ []) first
+      (subst (λ (z : Made E). steps_from other number (z ∷ ys) ≡ steps_from other number (x ∷ xs) ++ last other) first (all other))) in
+      ap (λ l. y ∷ l) rest ∙ ap (λ z. z ∷ xs ++ step.made ∷ []) first
 
 -- an element that is there
 some_at : {X : Type 0} (xs : List X) (i : ℕ) → i < length xs → (x : X) × (get_elem? xs i ≡ some x)
@@ -133,11 +134,11 @@ some_at (x ∷ xs) zero lt = (x, refl)
 some_at (x ∷ xs) (suc i) lt = some_at xs i (omega (arith, lt))
 
 -- so the single steps of the events grow by a seat's one step more
-pub one_event_more : {S E : Type 0} (events events' : List (Event E)) (seats seats' : List (History S E)) (seat : ℕ) (before after : History S E) (event : ℕ → Event E)
+pub one_event_more : {S E : Type 0} (events events' : List (Made E)) (seats seats' : List (History S E)) (seat : ℕ) (before after : History S E) (event : ℕ → Event E) (word : ℕ)
     → AreStepsOf events seats → AreStepsOf events' seats' → get_elem? seats seat ≡ some before → seats' ≡ slice_set seats seat after
-    → NoneHandedIn seats → NoneHandedIn seats' → (one : OneMore before.steps after.steps event)
-    → single_steps events' ≡ single_steps events ++ event one.view ∷ []
-one_event_more {S} {E} events events' seats seats' seat before after event are are' at set none none' one =
+    → NoneHandedIn seats → NoneHandedIn seats' → (one : OneMore before.steps after.steps event word)
+    → single_steps events' ≡ single_steps events ++ made_of (event one.view) word ∷ []
+one_event_more {S} {E} events events' seats seats' seat before after event word are are' at set none none' one =
     grows_by_one seat step last (ap (λ b. if b then step ∷ [] else []) (eq-eqb seat seat refl))
     (λ other apart. ap (λ b. if b then step ∷ [] else []) (ne_eqb other seat apart))
     0 (single_steps events) (single_steps events')
@@ -154,7 +155,7 @@ one_event_more {S} {E} events events' seats seats' seat before after event are a
     ])
   where
     step : OwnStep E
-    step = record { number = one.number; event = event one.view }
+    step = record { number = one.number; made = made_of (event one.view) word }
 
     last : ℕ → List (OwnStep E)
     last other = if other == seat then step ∷ [] else []

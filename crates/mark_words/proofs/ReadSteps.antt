@@ -25,14 +25,15 @@ use Rattle.mark_core.proofs.ReadLemmas.{read_ends}
 use Rattle.mark_core.proofs.ReadLaws.{ends_right}
 use Rattle.mark_core.specs.declared.events.Event.TheVariants.{ReadClean, ReadValue, ReadMark}
 use Rattle.mark_core.specs.declared.events.Outcome.TheVariants.{Word, Clean as AnswersClean, Mark as AnswersMark}
-use Rattle.mark_words.specs.declared.board.Doing.{Doing}
-use Rattle.mark_words.specs.declared.board.History.{History}
-use Rattle.mark_words.specs.Words.{clean_at}
+use Rattle.mark_words.specs.declared.tables.Doing.{Doing}
+use Rattle.mark_words.specs.declared.tables.History.{History}
+use Rattle.mark_words.specs.Steps.{made_of}
+use Rattle.mark_words.specs.Words.{clean_at, word_of_clean}
 use Rattle.mark_words.specs.Doing.{with_clean_read, with_value_read, with_mark_read}
 use Rattle.mark_words.specs.Rule.{IsEditor, IsKeptTable}
 use Rattle.mark_words.specs.Plays.{BeganRead, WentOn, EndedRead}
 use Rattle.mark_words.specs.Read.{IsWorthAfter, TellsOf, GoesOn, Ends, LearnsClean}
-use Rattle.mark_words.proofs.Boards.{clean_word, value_word, mark_word, clean_at-code_of}
+use Rattle.mark_words.proofs.TableLemmas.{clean_word, value_word, mark_word, clean_at-code_of}
 use Rattle.mark_words.proofs.StepLemmas.{with_step, next_number, one_more}
 use Rattle.mark_words.proofs.RunLemmas.{honest_state, same_view, same_subject, seat_right}
 use Rattle.mark_words.proofs.ViewSteps.{keeps_rest, view_step}
@@ -154,14 +155,17 @@ module _ {S E : Type 0} (subject : S) (places : ℕ) (worth : List E → ℕ →
       let same : view_at core id ≡ me.0.doing.view = same_view subject places worth touches opening t kept id me.0 at live in
       let lt : place < length core.places = omega (arith, honest.count, kept.right.count) in
       let found : ℕ = slice_index t.words (3 * place + 2) in
+      let is_word : found ≡ word_of_clean (place_at core.places place).clean =
+      ap (λ ws. slice_index ws (3 * place + 2)) kept.words ∙ clean_word (length core.edits.log) core.places place lt in
       let is : clean_at found ≡ (place_at core.places place).clean =
-      ap (λ ws. clean_at (slice_index ws (3 * place + 2))) kept.words ∙ ap clean_at (clean_word (length core.edits.log) core.places place lt) ∙ clean_at-code_of (place_at core.places place).clean in (
-        with_step me.0 (with_clean_read me.0.doing place (clean_at found)) (next_number kept.events) (ReadClean id place),
+      ap clean_at is_word ∙ clean_at-code_of (place_at core.places place).clean in (
+        with_step me.0 (with_clean_read me.0.doing place (clean_at found)) (next_number kept.events) (made_of (ReadClean id place) found),
         keeps,
         tt,
-        view_step subject places worth touches opening t kept id me.0 at live (ReadClean id place) (AnswersClean (place_at core.places place).clean) (after_read_clean core id place) (with_half me.0.doing.view place (clean_at found))
+        view_step subject places worth touches opening t kept id me.0 at live (ReadClean id place) found (AnswersClean (place_at core.places place).clean) (after_read_clean core id place) (with_half me.0.doing.view place (clean_at found))
             (slice_set t.words (3 * place + 2) found) refl refl
             (record { allowed = record { there = lt; live = ap (λ (v : View (List E)). v.spent) same ∙ live }; gives = (refl, refl) })
+            is_word
             (set-get_or t.words (3 * place + 2) 0 ∙ kept.words) refl refl
             (ap (λ (v : View (List E)). slice_set core.views id (with_half v place (place_at core.places place).clean)) same
             ∙ ap (λ c. slice_set core.views id (with_half me.0.doing.view place c)) (sym is))
@@ -170,7 +174,7 @@ module _ {S E : Type 0} (subject : S) (places : ℕ) (worth : List E → ℕ →
           slots = refl;
           rest = keeps_rest me.0.doing _ refl refl refl;
           doing = λ place' word'. ap (λ p. with_clean_read me.0.doing p (clean_at found)) (omega (arith, word, word'));
-          one = λ place' word'. one_more me.0.steps id (next_number kept.events) (λ v. ReadClean v place') (ReadClean id place) (ap (λ p. ReadClean id p) (omega (arith, word, word')));
+          one = λ place' word'. one_more me.0.steps id (next_number kept.events) (λ v. ReadClean v place') found (ReadClean id place) found (ap (λ p. ReadClean id p) (omega (arith, word, word'))) refl;
         },
       )
 
@@ -184,12 +188,13 @@ module _ {S E : Type 0} (subject : S) (places : ℕ) (worth : List E → ℕ →
       let found : ℕ = slice_index t.words (3 * place + 3) in
       let is : found ≡ (place_at core.places place).value =
       ap (λ ws. slice_index ws (3 * place + 3)) kept.words ∙ value_word (length core.edits.log) core.places place lt in (
-        with_step me.0 (with_value_read me.0.doing place found) (next_number kept.events) (ReadValue id place),
+        with_step me.0 (with_value_read me.0.doing place found) (next_number kept.events) (made_of (ReadValue id place) found),
         keeps,
         tt,
-        view_step subject places worth touches opening t kept id me.0 at live (ReadValue id place) (Word (place_at core.places place).value) (after_read_value core id place) (with_value me.0.doing.view place found)
+        view_step subject places worth touches opening t kept id me.0 at live (ReadValue id place) found (Word (place_at core.places place).value) (after_read_value core id place) (with_value me.0.doing.view place found)
             (slice_set t.words (3 * place + 3) found) refl refl
             (record { allowed = record { there = lt; live = ap (λ (v : View (List E)). v.spent) same ∙ live }; gives = (refl, refl) })
+            is
             (set-get_or t.words (3 * place + 3) 0 ∙ kept.words) refl refl
             (ap (λ (v : View (List E)). slice_set core.views id (with_value v place (place_at core.places place).value)) same
             ∙ ap (λ w. slice_set core.views id (with_value me.0.doing.view place w)) (sym is))
@@ -198,7 +203,7 @@ module _ {S E : Type 0} (subject : S) (places : ℕ) (worth : List E → ℕ →
           slots = refl;
           rest = keeps_rest me.0.doing _ refl refl refl;
           doing = λ place' word'. ap (λ p. with_value_read me.0.doing p found) (omega (arith, word, word'));
-          one = λ place' word'. one_more me.0.steps id (next_number kept.events) (λ v. ReadValue v place') (ReadValue id place) (ap (λ p. ReadValue id p) (omega (arith, word, word')));
+          one = λ place' word'. one_more me.0.steps id (next_number kept.events) (λ v. ReadValue v place') found (ReadValue id place) found (ap (λ p. ReadValue id p) (omega (arith, word, word'))) refl;
         },
       )
 
@@ -219,12 +224,13 @@ module _ {S E : Type 0} (subject : S) (places : S → ℕ) (worth : S → List E
       let seat = seat_right subject (places subject) (worth subject) (touches subject) opening t kept id me.0 at in
       let here : (place' : ℕ) → step.word ≡ 3 * place' + 1 → place ≡ place' = λ place' word'. omega (arith, word, word') in
       let seen : length (view_at core id).log ≤ (view_at core id).seen = (honest.views id).log.below_seen in (
-        with_step me.0 (with_mark_read me.0.doing place found) (next_number kept.events) (ReadMark id place),
+        with_step me.0 (with_mark_read me.0.doing place found) (next_number kept.events) (made_of (ReadMark id place) found),
         keeps,
         tt,
-        view_step subject (places subject) (worth subject) (touches subject) opening t kept id me.0 at live (ReadMark id place) (AnswersMark (place_at core.places place).mark) (after_read_mark core id place) (with_read_end me.0.doing.view place found)
+        view_step subject (places subject) (worth subject) (touches subject) opening t kept id me.0 at live (ReadMark id place) found (AnswersMark (place_at core.places place).mark) (after_read_mark core id place) (with_read_end me.0.doing.view place found)
             (slice_set t.words (3 * place + 1) found) refl refl
             (record { allowed = record { there = lt; live = ap (λ (v : View (List E)). v.spent) same ∙ live }; gives = (refl, refl) })
+            is
             (set-get_or t.words (3 * place + 1) 0 ∙ kept.words) refl refl
             (ap (λ (v : View (List E)). slice_set core.views id (with_read_end v place (place_at core.places place).mark)) same
             ∙ ap (λ m. slice_set core.views id (with_read_end me.0.doing.view place m)) (sym is))
@@ -237,7 +243,7 @@ module _ {S E : Type 0} (subject : S) (places : S → ℕ) (worth : S → List E
               (read_end_cases (λ (v : View (List E)). v.log ≡ me.0.doing.view.log) me.0.doing.view me.0.doing.view.half place found refl (λ half begun at'. refl))
               (read_end_cases (λ (v : View (List E)). v.seen ≡ me.0.doing.view.seen) me.0.doing.view me.0.doing.view.half place found refl (λ half begun at'. refl));
           doing = λ place' word'. ap (λ p. with_mark_read me.0.doing p found) (here place' word');
-          one = λ place' word'. one_more me.0.steps id (next_number kept.events) (λ v. ReadMark v place') (ReadMark id place) (ap (λ p. ReadMark id p) (here place' word'));
+          one = λ place' word'. one_more me.0.steps id (next_number kept.events) (λ v. ReadMark v place') found (ReadMark id place) found (ap (λ p. ReadMark id p) (here place' word')) refl;
           within = subst (λ (v : View (List E)). length v.log ≤ v.seen) same seen;
           tells = λ place' subject' word' named half begun of.
               let of_place : half.place ≡ place = of ∙ sym (here place' word') in

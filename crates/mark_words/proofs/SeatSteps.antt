@@ -13,15 +13,15 @@ use Rattle.mark_core.specs.View.{split_off, longer, union_of}
 use Rattle.mark_core.specs.Permission.{MayJoin}
 use Rattle.mark_core.specs.Step.{after_split, after_join}
 use Rattle.mark_core.proofs.Prefixes.{prefix_of_nothing}
-use Rattle.mark_core.specs.declared.events.Event.{Event}
 use Rattle.mark_core.specs.declared.events.Event.TheVariants.{Split, Join}
 use Rattle.mark_core.specs.declared.events.Outcome.TheVariants.{Done, Seat}
-use Rattle.mark_words.specs.declared.board.Doing.{Doing}
-use Rattle.mark_words.specs.declared.board.History.{History}
+use Rattle.mark_words.specs.declared.tables.Doing.{Doing}
+use Rattle.mark_words.specs.declared.tables.History.{History}
+use Rattle.mark_words.specs.declared.tables.Made.{Made}
 use Rattle.mark_words.specs.Doing.{copy_of, shorter_of, spent_doing, copy_history, union_history, gather_history, spent_history}
 use Rattle.mark_words.specs.Rule.{IsRightSeat, AreSeats, NameSubject, IsKeptTable, doings_of}
-use Rattle.mark_words.specs.Steps.{steps_of, AreStepsOf}
-use Rattle.mark_words.proofs.Boards.{some_within, seat_stays, seat_changes, seat_added, seat_gathers, subject_set, subject_added}
+use Rattle.mark_words.specs.Steps.{steps_of, made_of, AreStepsOf}
+use Rattle.mark_words.proofs.TableLemmas.{some_within, seat_stays, seat_changes, seat_added, seat_gathers, subject_set, subject_added}
 use Rattle.mark_words.proofs.StepLemmas.{doing_at, doings_push, doings_set_both, seats_same, steps_set, steps_added, steps_gathered}
 use Rattle.mark_words.proofs.RunLemmas.{next_run, honest_state, same_view, same_subject, same_steps, seat_right}
 
@@ -44,7 +44,7 @@ module _ {S E : Type 0} (subject : S) (places : ℕ) (worth : List E → ℕ →
   splits id history live t kept at =
       let core : State E = kept.core in
       let doing : Doing S E = history.doing in
-      let events' : List (Event E) = kept.events ++ Split id ∷ [] in
+      let events' : List (Made E) = kept.events ++ made_of (Split id) 0 ∷ [] in
       let new : History S E = copy_history history in
       let same : view_at core id ≡ doing.view = same_view subject places worth touches opening t kept id history at live in
       let live' : (view_at core id).spent ≡ false = ap (λ (v : View (List E)). v.spent) same ∙ live in
@@ -55,8 +55,8 @@ module _ {S E : Type 0} (subject : S) (places : ℕ) (worth : List E → ℕ →
         core = after_split core id;
         events = events';
         run =
-            next_run subject places worth touches opening t kept (Split id) (Seat (length core.views)) (after_split core id)
-            (record { allowed = live'; gives = (refl, refl) });
+            next_run subject places worth touches opening t kept (Split id) 0 (Seat (length core.views)) (after_split core id)
+            (record { allowed = live'; gives = (refl, refl) }) refl;
         words = kept.words;
         subjects =
             subst (λ l. NameSubject subject (doings_of (l ++ new ∷ []))) (sym again)
@@ -64,12 +64,12 @@ module _ {S E : Type 0} (subject : S) (places : ℕ) (worth : List E → ℕ →
             (subject_added subject (doings_of t.views) (copy_of doing) kept.subjects (same_subject subject places worth touches opening t kept id history at live)));
         steps =
             subst (λ l. AreStepsOf events' (l ++ new ∷ [])) (sym again)
-            (steps_added kept.events events' t.views kept.steps new (seats_same kept.events (Split id) refl) refl);
+            (steps_added kept.events events' t.views kept.steps new (seats_same kept.events (made_of (Split id) 0) refl) refl);
         seats =
             subst (λ l. AreSeats (after_split core id) events' (doings_of (l ++ new ∷ []))) (sym again)
             (doings_push (AreSeats (after_split core id) events') t.views new
             (seat_added core (after_split core id) kept.events events' (doings_of t.views) (copy_of doing) kept.seats
-            (ap (λ v. core.views ++ split_off v ∷ []) same) (seats_same kept.events (Split id) refl) refl
+            (ap (λ v. core.views ++ split_off v ∷ []) same) (seats_same kept.events (made_of (Split id) 0) refl) refl
             (λ j u right. seat_stays core (after_split core id) j u refl refl right)
             (record {
               first = λ zero. absurd (omega (arith, zero));
@@ -85,8 +85,8 @@ module _ {S E : Type 0} (subject : S) (places : ℕ) (worth : List E → ℕ →
   joins id history other note live note_live empty_handed reader none_gathered no_steps t kept at apart there =
       let core : State E = kept.core in
       let both : History S E = union_history history note in
-      let events' : List (Event E) = kept.events ++ Join id other ∷ [] in
-      let stay : (j : ℕ) → steps_of events' j ≡ steps_of kept.events j = seats_same kept.events (Join id other) refl in
+      let events' : List (Made E) = kept.events ++ made_of (Join id other) 0 ∷ [] in
+      let stay : (j : ℕ) → steps_of events' j ≡ steps_of kept.events j = seats_same kept.events (made_of (Join id other) 0) refl in
       let at' : get_elem? t.views other ≡ some note = sym (set_else t.views id other both apart) ∙ there in
       let same : view_at core id ≡ history.doing.view = same_view subject places worth touches opening t kept id history at live in
       let same' : view_at core other ≡ note.doing.view = same_view subject places worth touches opening t kept other note at' note_live in
@@ -110,7 +110,7 @@ module _ {S E : Type 0} (subject : S) (places : ℕ) (worth : List E → ℕ →
         right = kept.right;
         core = after;
         events = events';
-        run = next_run subject places worth touches opening t kept (Join id other) Done after (record { allowed = ((λ e. apart (sym e)), not_first, may); gives = (refl, refl) });
+        run = next_run subject places worth touches opening t kept (Join id other) 0 Done after (record { allowed = ((λ e. apart (sym e)), not_first, may); gives = (refl, refl) }) refl;
         words = kept.words;
         subjects =
             doings_set_both (NameSubject subject) t.views id other both spent_history

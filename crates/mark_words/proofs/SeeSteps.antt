@@ -13,13 +13,14 @@ use Rattle.mark_core.proofs.Prefixes.{prefix_length}
 use Rattle.mark_core.proofs.ViewLemmas.{shorter_prefix}
 use Rattle.mark_core.specs.declared.events.Event.TheVariants.{See}
 use Rattle.mark_core.specs.declared.events.Outcome.TheVariants.{Count}
-use Rattle.mark_words.specs.declared.board.Doing.{Doing}
-use Rattle.mark_words.specs.declared.board.History.{History}
+use Rattle.mark_words.specs.declared.tables.Doing.{Doing}
+use Rattle.mark_words.specs.declared.tables.History.{History}
 use Rattle.mark_words.specs.Doing.{with_see}
 use Rattle.mark_words.specs.Words.{words_of_places}
+use Rattle.mark_words.specs.Steps.{made_of}
 use Rattle.mark_words.specs.Rule.{IsRightSeat, AreSeats, NameSubject, IsKeptTable, doings_of}
 use Rattle.mark_words.specs.Plays.{Saw}
-use Rattle.mark_words.proofs.Boards.{first_again, seat_stays, seat_changes, subject_set}
+use Rattle.mark_words.proofs.TableLemmas.{first_again, seat_stays, seat_changes, subject_set}
 use Rattle.mark_words.proofs.StepLemmas.{doing_at, doings_set, next_number, with_step, one_more}
 use Rattle.mark_words.proofs.RunLemmas.{next_run, honest_state, next_steps, others_stay, same_view, same_subject, seat_right}
 
@@ -39,26 +40,26 @@ module _ {S E : Type 0} (subject : S) (places : ℕ) (worth : List E → ℕ →
       let log = (honest.views id).log in
       let known : IsPrefix me.0.doing.view.log core.edits.log = subst (λ (v : View (List E)). IsPrefix v.log core.edits.log) same log.known_prefix in
       let doing : Doing S E = with_see me.0.doing count in
-      let new : History S E = with_step me.0 doing (next_number kept.events) (See id) in (
+      let new : History S E = with_step me.0 doing (next_number kept.events) (made_of (See id) count) in (
         new,
         keeps,
         tt,
         record {
           right = kept.right;
           core = after_see core id;
-          events = kept.events ++ See id ∷ [];
-          run = next_run subject places worth touches opening t kept (See id) (Count (length core.edits.log)) (after_see core id) (record { allowed = live'; gives = (refl, refl) });
+          events = kept.events ++ made_of (See id) count ∷ [];
+          run = next_run subject places worth touches opening t kept (See id) count (Count (length core.edits.log)) (after_see core id) (record { allowed = live'; gives = (refl, refl) }) is;
           words = first_again t.words (length core.edits.log) (words_of_places core.places) kept.words ∙ kept.words;
           subjects =
               doings_set (NameSubject subject) t.views id new
               (subject_set subject (doings_of t.views) id doing kept.subjects (λ still. same_subject subject places worth touches opening t kept id me.0 at live));
-          steps = next_steps subject places worth touches opening t kept id me.0 at live (See id) doing refl refl refl;
+          steps = next_steps subject places worth touches opening t kept id me.0 at live (See id) count doing refl refl refl;
           seats =
-              doings_set (AreSeats (after_see core id) (kept.events ++ See id ∷ [])) t.views id new
-              (seat_changes core (after_see core id) kept.events (kept.events ++ See id ∷ []) (doings_of t.views) kept.seats id me.0.doing doing (doing_at t.views id me.0 at) live
+              doings_set (AreSeats (after_see core id) (kept.events ++ made_of (See id) count ∷ [])) t.views id new
+              (seat_changes core (after_see core id) kept.events (kept.events ++ made_of (See id) count ∷ []) (doings_of t.views) kept.seats id me.0.doing doing (doing_at t.views id me.0 at) live
               (ap (λ (v : View (List E)). slice_set core.views id (with_count v (length core.edits.log))) same
               ∙ ap (λ n. slice_set core.views id (with_count me.0.doing.view n)) (sym is))
-              (others_stay subject places worth touches opening t kept id me.0 at live (See id) refl refl)
+              (others_stay subject places worth touches opening t kept id me.0 at live (See id) count refl refl)
               refl
               (λ j u apart right. seat_stays core (after_see core id) j u refl refl right)
               (record {
@@ -71,7 +72,7 @@ module _ {S E : Type 0} (subject : S) (places : ℕ) (worth : List E → ℕ →
         record {
           slots = refl;
           doing = refl;
-          one = one_more me.0.steps id (next_number kept.events) See (See id) refl;
+          one = one_more me.0.steps id (next_number kept.events) See count (See id) count refl refl;
           seen = let le : (view_at core id).seen ≤ length core.edits.log = log.seen_below in
               subst (λ (n : ℕ). me.0.doing.view.seen ≤ n) (sym is) (subst (λ (v : View (List E)). v.seen ≤ length core.edits.log) same le);
           within = omega (arith, prefix_length me.0.doing.view.log core.edits.log known);

@@ -8,12 +8,13 @@ use mathlib.Core.Option.{some, some-injective, some-ne-none}
 use lib.ListN.{get_elem?}
 use Rattle.atomic_table.proofs.Lists.{set_else, set_here, at_longer}
 use Rattle.mark_core.specs.declared.events.Event.{Event}
-use Rattle.mark_words.specs.declared.board.Doing.{Doing}
-use Rattle.mark_words.specs.declared.board.History.{History}
-use Rattle.mark_words.specs.declared.board.OwnStep.{OwnStep}
+use Rattle.mark_words.specs.declared.tables.Doing.{Doing}
+use Rattle.mark_words.specs.declared.tables.History.{History}
+use Rattle.mark_words.specs.declared.tables.Made.{Made}
+use Rattle.mark_words.specs.declared.tables.OwnStep.{OwnStep}
 use Rattle.mark_words.specs.Rule.{doings_of}
-use Rattle.mark_words.specs.Steps.{actor_of, is_single, single_steps, steps_from, steps_of, OneMore, NoneHandedIn, AreStepsOf}
-use Rattle.mark_words.proofs.Boards.{some_within, each_set, at_push}
+use Rattle.mark_words.specs.Steps.{actor_of, is_single, single_steps, steps_from, steps_of, made_of, OneMore, NoneHandedIn, AreStepsOf}
+use Rattle.mark_words.proofs.TableLemmas.{some_within, each_set, at_push}
 
 -- a list with one more at its end, whether or not its first element is kept
 kept_more : {X : Type 0} (b : Bool) (x e : X) (xs ys : List X) → ys ≡ xs ++ e ∷ []
@@ -25,59 +26,59 @@ kept_same : {X : Type 0} (b : Bool) (x : X) (xs ys : List X) → ys ≡ xs → (
 kept_same b x xs ys same = ap (λ l. if b then x ∷ l else l) same
 
 -- a single step more, and another event more
-single_more : {E : Type 0} (events : List (Event E)) (event : Event E) → is_single event ≡ true
-    → single_steps (events ++ event ∷ []) ≡ single_steps events ++ event ∷ []
-single_more [] event single = ap (λ b. if b then event ∷ [] else []) single
-single_more (first ∷ events) event single =
-    kept_more (is_single first) first event (single_steps events) (single_steps (events ++ event ∷ [])) (single_more events event single)
+single_more : {E : Type 0} (events : List (Made E)) (made : Made E) → is_single made.event ≡ true
+    → single_steps (events ++ made ∷ []) ≡ single_steps events ++ made ∷ []
+single_more [] made single = ap (λ b. if b then made ∷ [] else []) single
+single_more (first ∷ events) made single =
+    kept_more (is_single first.event) first made (single_steps events) (single_steps (events ++ made ∷ [])) (single_more events made single)
 
-single_same : {E : Type 0} (events : List (Event E)) (event : Event E) → is_single event ≡ false
-    → single_steps (events ++ event ∷ []) ≡ single_steps events
-single_same [] event none = ap (λ b. if b then event ∷ [] else []) none
-single_same (first ∷ events) event none =
-    kept_same (is_single first) first (single_steps events) (single_steps (events ++ event ∷ [])) (single_same events event none)
+single_same : {E : Type 0} (events : List (Made E)) (made : Made E) → is_single made.event ≡ false
+    → single_steps (events ++ made ∷ []) ≡ single_steps events
+single_same [] made none = ap (λ b. if b then made ∷ [] else []) none
+single_same (first ∷ events) made none =
+    kept_same (is_single first.event) first (single_steps events) (single_steps (events ++ made ∷ [])) (single_same events made none)
 
 -- the steps of the view that makes the event, and of another one
-from_own : {E : Type 0} (view number : ℕ) (events : List (Event E)) (event : Event E) → actor_of event ≡ view
-    → steps_from view number (events ++ event ∷ []) ≡ steps_from view number events ++ record { number = number + length events; event = event } ∷ []
-from_own {E} view number [] event own =
-    let step : ℕ → List (OwnStep E) = λ n. record { number = n; event = event } ∷ [] in
-    ap (λ b. if b then step number else []) (eq-eqb (actor_of event) view own) ∙ ap step (omega arith)
-from_own {E} view number (first ∷ events) event own =
-    let here : OwnStep E = record { number = number; event = first } in
-    let last : ℕ → List (OwnStep E) = λ n. record { number = n; event = event } ∷ [] in
-    kept_more (actor_of first == view) here (record { number = suc number + length events; event = event })
-    (steps_from view (suc number) events) (steps_from view (suc number) (events ++ event ∷ [])) (from_own view (suc number) events event own)
-    ∙ ap (λ n. (if actor_of first == view then here ∷ steps_from view (suc number) events else steps_from view (suc number) events) ++ last n) (omega arith)
+from_own : {E : Type 0} (view number : ℕ) (events : List (Made E)) (made : Made E) → actor_of made.event ≡ view
+    → steps_from view number (events ++ made ∷ []) ≡ steps_from view number events ++ record { number = number + length events; made = made } ∷ []
+from_own {E} view number [] made own =
+    let step : ℕ → List (OwnStep E) = λ n. record { number = n; made = made } ∷ [] in
+    ap (λ b. if b then step number else []) (eq-eqb (actor_of made.event) view own) ∙ ap step (omega arith)
+from_own {E} view number (first ∷ events) made own =
+    let here : OwnStep E = record { number = number; made = first } in
+    let last : ℕ → List (OwnStep E) = λ n. record { number = n; made = made } ∷ [] in
+    kept_more (actor_of first.event == view) here (record { number = suc number + length events; made = made })
+    (steps_from view (suc number) events) (steps_from view (suc number) (events ++ made ∷ [])) (from_own view (suc number) events made own)
+    ∙ ap (λ n. (if actor_of first.event == view then here ∷ steps_from view (suc number) events else steps_from view (suc number) events) ++ last n) (omega arith)
 
-pub from_other : {E : Type 0} (view number : ℕ) (events : List (Event E)) (event : Event E) → actor_of event ≢ view
-    → steps_from view number (events ++ event ∷ []) ≡ steps_from view number events
-from_other {E} view number [] event other =
-    let step : List (OwnStep E) = record { number = number; event = event } ∷ [] in
-    ap (λ b. if b then step else []) (ne_eqb (actor_of event) view other)
-from_other {E} view number (first ∷ events) event other =
-    let here : OwnStep E = record { number = number; event = first } in
-    kept_same (actor_of first == view) here (steps_from view (suc number) events) (steps_from view (suc number) (events ++ event ∷ []))
-    (from_other view (suc number) events event other)
+pub from_other : {E : Type 0} (view number : ℕ) (events : List (Made E)) (made : Made E) → actor_of made.event ≢ view
+    → steps_from view number (events ++ made ∷ []) ≡ steps_from view number events
+from_other {E} view number [] made other =
+    let step : List (OwnStep E) = record { number = number; made = made } ∷ [] in
+    ap (λ b. if b then step else []) (ne_eqb (actor_of made.event) view other)
+from_other {E} view number (first ∷ events) made other =
+    let here : OwnStep E = record { number = number; made = first } in
+    kept_same (actor_of first.event == view) here (steps_from view (suc number) events) (steps_from view (suc number) (events ++ made ∷ []))
+    (from_other view (suc number) events made other)
 
 -- the number of the next single step
-abbrev pub next_number : {E : Type 0} → List (Event E) → ℕ
+abbrev pub next_number : {E : Type 0} → List (Made E) → ℕ
 next_number events = length (single_steps events)
 
-pub steps_more : {E : Type 0} (events : List (Event E)) (event : Event E) (view : ℕ) → is_single event ≡ true → actor_of event ≡ view
-    → steps_of (events ++ event ∷ []) view ≡ steps_of events view ++ record { number = next_number events; event = event } ∷ []
-steps_more events event view single own =
+pub steps_more : {E : Type 0} (events : List (Made E)) (made : Made E) (view : ℕ) → is_single made.event ≡ true → actor_of made.event ≡ view
+    → steps_of (events ++ made ∷ []) view ≡ steps_of events view ++ record { number = next_number events; made = made } ∷ []
+steps_more events made view single own =
     let same : 0 + next_number events ≡ next_number events = omega arith in
-    ap (steps_from view 0) (single_more events event single) ∙ from_own view 0 (single_steps events) event own
-    ∙ ap (λ n. steps_of events view ++ record { number = n; event = event } ∷ []) same
+    ap (steps_from view 0) (single_more events made single) ∙ from_own view 0 (single_steps events) made own
+    ∙ ap (λ n. steps_of events view ++ record { number = n; made = made } ∷ []) same
 
-pub others_same : {E : Type 0} (events : List (Event E)) (event : Event E) (view : ℕ) → is_single event ≡ true → actor_of event ≢ view
-    → steps_of (events ++ event ∷ []) view ≡ steps_of events view
-others_same events event view single other = ap (steps_from view 0) (single_more events event single) ∙ from_other view 0 (single_steps events) event other
+pub others_same : {E : Type 0} (events : List (Made E)) (made : Made E) (view : ℕ) → is_single made.event ≡ true → actor_of made.event ≢ view
+    → steps_of (events ++ made ∷ []) view ≡ steps_of events view
+others_same events made view single other = ap (steps_from view 0) (single_more events made single) ∙ from_other view 0 (single_steps events) made other
 
-pub seats_same : {E : Type 0} (events : List (Event E)) (event : Event E) → is_single event ≡ false → (view : ℕ)
-    → steps_of (events ++ event ∷ []) view ≡ steps_of events view
-seats_same events event none view = ap (steps_from view 0) (single_same events event none)
+pub seats_same : {E : Type 0} (events : List (Made E)) (made : Made E) → is_single made.event ≡ false → (view : ℕ)
+    → steps_of (events ++ made ∷ []) view ≡ steps_of events view
+seats_same events made none view = ap (steps_from view 0) (single_same events made none)
 
 -- what the seats know and have done, through a change of one seat
 pub doing_at : {S E : Type 0} (seats : List (History S E)) (id : ℕ) (history : History S E) → get_elem? seats id ≡ some history
@@ -94,7 +95,7 @@ pub doings_push : {S E : Type 0} (P : List (Doing S E) → Type 0) (seats : List
     → P (doings_of seats ++ new.doing ∷ []) → P (doings_of (seats ++ new ∷ []))
 doings_push {S} {E} P seats new holds = subst P (sym (map-append (λ (h : History S E). h.doing) seats (new ∷ []))) holds
 
-module _ {S E : Type 0} (events events' : List (Event E)) (seats : List (History S E)) (are : AreStepsOf events seats) where
+module _ {S E : Type 0} (events events' : List (Made E)) (seats : List (History S E)) (are : AreStepsOf events seats) where
   -- the steps of the seats where one has changed, and its view alone has made some more
   pub steps_set : (id : ℕ) (before after : History S E) → get_elem? seats id ≡ some before
       → ((view : ℕ) → view ≢ id → steps_of events' view ≡ steps_of events view) → after.doing.gathered ≡ before.doing.gathered
@@ -136,15 +137,26 @@ module _ {S E : Type 0} (events events' : List (Event E)) (seats : List (History
       }
 
 -- a seat after a step: what it knows then, and the step at the end of its own
-abbrev pub with_step : {S E : Type 0} → History S E → Doing S E → ℕ → Event E → History S E
-with_step history doing number event =
-    record { doing = doing; steps = history.steps ++ record { number = number; event = event } ∷ [] }
+abbrev pub with_step : {S E : Type 0} → History S E → Doing S E → ℕ → Made E → History S E
+with_step history doing number made =
+    record { doing = doing; steps = history.steps ++ record { number = number; made = made } ∷ [] }
 
 -- which is one step more
-pub one_more : {E : Type 0} (steps : List (OwnStep E)) (view number : ℕ) (event : ℕ → Event E) (made : Event E) → made ≡ event view
-    → OneMore steps (steps ++ record { number = number; event = made } ∷ []) event
-one_more {E} steps view number event made same =
-    record { view = view; number = number; is = ap (λ (x : Event E). steps ++ record { number = number; event = x } ∷ []) same }
+pub one_more : {E : Type 0} (steps : List (OwnStep E)) (view number : ℕ) (event : ℕ → Event E) (word : ℕ) (made : Event E) (had : ℕ) → made ≡ event view → had ≡ word
+    → OneMore steps (steps ++ record { number = number; made = made_of made had } ∷ []) event word
+one_more {E} steps view number event word made had same same_word =
+    record {
+      view = view;
+      number = number;
+      is =
+          ap (λ (x : Event E). steps ++ record { number = number; made = made_of x had } ∷ []) same
+          ∙ ap (λ w. steps ++ record { number = number; made = made_of (event view) w } ∷ []) same_word;
+    }
+
+-- the same step with a word that is equal
+pub same_word : {E : Type 0} (before after : List (OwnStep E)) (event : ℕ → Event E) (word word' : ℕ) → word ≡ word' → OneMore before after event word
+    → OneMore before after event word'
+same_word before after event word word' same one = subst (λ (w : ℕ). OneMore before after event w) same one
 
 -- two changes of seats at once
 pub doings_set_both : {S E : Type 0} (P : List (Doing S E) → Type 0) (seats : List (History S E)) (id other : ℕ) (both spent : History S E)
@@ -153,7 +165,7 @@ doings_set_both {S} {E} P seats id other both spent holds =
     doings_set P (slice_set seats id both) other spent (doings_set (λ (l : List (Doing S E)). P (slice_set l other spent.doing)) seats id both holds)
 
 -- the steps of the seats after one was handed in to another
-pub steps_gathered : {S E : Type 0} (events : List (Event E)) (seats : List (History S E)) → AreStepsOf events seats → (id other : ℕ) (before after spent : History S E)
+pub steps_gathered : {S E : Type 0} (events : List (Made E)) (seats : List (History S E)) → AreStepsOf events seats → (id other : ℕ) (before after spent : History S E)
     → get_elem? seats id ≡ some before → before.doing.view.spent ≡ false → other ≢ id → after.steps ≡ before.steps → (after.doing.gathered ≡ [] → ⊥)
     → spent.doing.view.spent ≡ true → AreStepsOf events (slice_set (slice_set seats id after) other spent)
 steps_gathered {S} {E} events seats are id other before after spent at live apart same full off =

@@ -16,11 +16,11 @@ use Rattle.mark_core.specs.Growth.{BeginsRead}
 use Rattle.mark_core.specs.Knows.{KnowsClean}
 use Rattle.mark_core.specs.Mark.{IsLastMark}
 use Rattle.mark_core.proofs.ReadLaws.{begins_right}
-use Rattle.mark_words.specs.declared.board.Doing.{Doing}
-use Rattle.mark_words.specs.declared.seats.Desk.{Desk}
+use Rattle.mark_words.specs.declared.tables.Doing.{Doing}
+use Rattle.mark_words.specs.declared.seats.EditorMarks.{EditorMarks}
 use Rattle.mark_words.specs.Words.{clean_at}
 use Rattle.mark_words.specs.Doing.{no_edits, with_clean_read, with_value_read, with_mark_read, with_finish}
-use Rattle.mark_words.specs.Desk.{HasDesk, KnowsAll, FitsWords}
+use Rattle.mark_words.specs.EditorMarks.{HasEditorMarks, KnowsAll, FitsWords}
 use Rattle.mark_words.specs.Plays.{KeepsRest, KeepsReads}
 use Rattle.mark_words.proofs.ReadSteps.{read_end_cases}
 
@@ -37,8 +37,8 @@ with_word_fits (Some begun) place word fits half is =
     is
 
 module _ {S E : Type 0} (before after : Doing S E) (rest : KeepsRest before after) where
-  pub rest_desk : (words words' : ℕ) (found : Option Desk) → words' ≡ words → HasDesk words before found → HasDesk words' after found
-  rest_desk words words' found same has =
+  pub rest_own : (words words' : ℕ) (found : Option EditorMarks) → words' ≡ words → HasEditorMarks words before found → HasEditorMarks words' after found
+  rest_own words words' found same has =
       record {
         editor = rest.editor ∙ has.editor;
         count = λ d e. has.count d e ∙ ap length (sym rest.log);

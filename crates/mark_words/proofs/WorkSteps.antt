@@ -20,13 +20,13 @@ use Rattle.mark_core.specs.declared.events.Outcome.TheVariants.{Done, Claimed}
 use Rattle.mark_core.specs.Honest.{IsHonest}
 use Rattle.mark_core.specs.Run.{IsCodeless}
 use Rattle.mark_core.specs.Step.{after_claim, after_refusal, after_put, after_finish}
-use Rattle.mark_words.specs.declared.board.History.{History}
+use Rattle.mark_words.specs.declared.tables.History.{History}
 use Rattle.mark_words.specs.Words.{word_of_clean, clean_at, words_of_places}
 use Rattle.mark_words.specs.Doing.{with_claim, with_refusal, with_word_put, with_finish}
-use Rattle.mark_words.specs.Steps.{OneMore}
+use Rattle.mark_words.specs.Steps.{made_of, OneMore}
 use Rattle.mark_words.specs.Rule.{IsKeptTable}
 use Rattle.mark_words.specs.Plays.{TriedClaim, PutWord, GaveBack}
-use Rattle.mark_words.proofs.Boards.{clean_word, clean_set, value_set, marks_stay, clean_at-code_of}
+use Rattle.mark_words.proofs.TableLemmas.{clean_word, clean_set, value_set, marks_stay, clean_at-code_of}
 use Rattle.mark_words.proofs.StepLemmas.{with_step, next_number, one_more}
 use Rattle.mark_words.proofs.RunLemmas.{honest_state, same_view}
 use Rattle.mark_words.proofs.ViewSteps.{keeps_rest, view_step}
@@ -72,15 +72,16 @@ module _ {S E : Type 0} (subject : S) (places : ℕ) (worth : List E → ℕ →
 
     took : (seen : Clean) (stored : ℕ) → MayClaim me.0.doing.view place seen → slice_index t.words (3 * place + 2) ≡ word_of_clean seen
         → (let held : Clean = record { upto = seen.upto; held = true } in stored ≡ word_of_clean held)
-        → IsKeptTable subject places worth touches opening (record { words = slice_set t.words (3 * place + 2) stored; homes = t.homes; views = slice_set t.views id (with_step me.0 (with_claim me.0.doing place) (next_number kept.events) (Claim id place seen)) })
+        → IsKeptTable subject places worth touches opening (record { words = slice_set t.words (3 * place + 2) stored; homes = t.homes; views = slice_set t.views id (with_step me.0 (with_claim me.0.doing place) (next_number kept.events) (made_of (Claim id place seen) (slice_index t.words (3 * place + 2)))) })
     took seen stored ground found is =
         let held : Clean = record { upto = seen.upto; held = true } in
-        view_step subject places worth touches opening t kept id me.0 at live (Claim id place seen) (Claimed true) (after_claim core id place seen) (with_hold me.0.doing.view place)
+        view_step subject places worth touches opening t kept id me.0 at live (Claim id place seen) (slice_index t.words (3 * place + 2)) (Claimed true) (after_claim core id place seen) (with_hold me.0.doing.view place)
         (slice_set t.words (3 * place + 2) stored) refl refl
         (record {
           allowed = (may, subst (λ (v : View (List E)). MayClaim v place seen) (sym same) ground);
           gives = inl (record { found = sym clean_found ∙ ap clean_at found ∙ clean_at-code_of seen; answer = refl; effect = refl });
         })
+        word_found
         (ap (λ n. slice_set t.words (3 * place + 2) n) is ∙ clean_stored held)
         refl
         (marks_stay core.places place (record (place_at core.places place) { clean = held }) refl)
@@ -90,15 +91,16 @@ module _ {S E : Type 0} (subject : S) (places : ℕ) (worth : List E → ℕ →
     lost : (seen : Clean) (stored : ℕ) → MayClaim me.0.doing.view place seen → slice_index t.words (3 * place + 2) ≢ word_of_clean seen
         → stored ≡ slice_index t.words (3 * place + 2)
         → (let found : Clean = clean_at (slice_index t.words (3 * place + 2)) in
-        IsKeptTable subject places worth touches opening (record { words = slice_set t.words (3 * place + 2) stored; homes = t.homes; views = slice_set t.views id (with_step me.0 (with_refusal me.0.doing place found) (next_number kept.events) (Claim id place seen)) }))
+        IsKeptTable subject places worth touches opening (record { words = slice_set t.words (3 * place + 2) stored; homes = t.homes; views = slice_set t.views id (with_step me.0 (with_refusal me.0.doing place found) (next_number kept.events) (made_of (Claim id place seen) (slice_index t.words (3 * place + 2)))) }))
     lost seen stored ground differs is =
         let found : Clean = clean_at (slice_index t.words (3 * place + 2)) in
-        view_step subject places worth touches opening t kept id me.0 at live (Claim id place seen) (Claimed false) (after_refusal core id place) (with_loss me.0.doing.view place found)
+        view_step subject places worth touches opening t kept id me.0 at live (Claim id place seen) (slice_index t.words (3 * place + 2)) (Claimed false) (after_refusal core id place) (with_loss me.0.doing.view place found)
         (slice_set t.words (3 * place + 2) stored) refl refl
         (record {
           allowed = (may, subst (λ (v : View (List E)). MayClaim v place seen) (sym same) ground);
           gives = inr (record { found = λ e. differs (word_found ∙ ap word_of_clean e); answer = refl; effect = refl });
         })
+        word_found
         (ap (λ n. slice_set t.words (3 * place + 2) n) is ∙ set-get_or t.words (3 * place + 2) 0 ∙ kept.words)
         refl refl
         (ap (λ (v : View (List E)). slice_set core.views id (with_loss v place (place_at core.places place).clean)) same
@@ -113,14 +115,14 @@ module _ {S E : Type 0} (subject : S) (places : ℕ) (worth : List E → ℕ →
       let found : ℕ = slice_index t.words (3 * place + 2) in
       let here : (place' : ℕ) → step.word ≡ 3 * place' + 2 → place ≡ place' = λ place' word'. omega (arith, word, word') in
       let one : (place' : ℕ) (seen' : Clean) → step.word ≡ 3 * place' + 2 → step.first ≡ word_of_clean seen'
-      → OneMore me.0.steps (me.0.steps ++ record { number = next_number kept.events; event = Claim id place seen } ∷ []) (λ v. Claim v place' seen') = λ place' seen' word' first'.
+      → OneMore me.0.steps (me.0.steps ++ record { number = next_number kept.events; made = made_of (Claim id place seen) found } ∷ []) (λ v. Claim v place' seen') found = λ place' seen' word' first'.
       let same_clean : seen ≡ seen' =
       sym (clean_at-code_of seen) ∙ ap clean_at (sym is ∙ sym first ∙ first') ∙ clean_at-code_of seen' in
-      one_more me.0.steps id (next_number kept.events) (λ v. Claim v place' seen') (Claim id place seen)
-      (ap (λ p. Claim id p seen) (here place' word') ∙ ap (λ c. Claim id place' c) same_clean) in
+      one_more me.0.steps id (next_number kept.events) (λ v. Claim v place' seen') found (Claim id place seen) found
+      (ap (λ p. Claim id p seen) (here place' word') ∙ ap (λ c. Claim id place' c) same_clean) refl in
       elim (cases_eq found old) [
         | inl same ↦ (
-          with_step me.0 (with_claim me.0.doing place) (next_number kept.events) (Claim id place seen),
+          with_step me.0 (with_claim me.0.doing place) (next_number kept.events) (made_of (Claim id place seen) found),
           keeps,
           tt,
           took t kept at seen (either (found == old) new found) ground (same ∙ is) (hit found old new same ∙ next),
@@ -134,7 +136,7 @@ module _ {S E : Type 0} (subject : S) (places : ℕ) (worth : List E → ℕ →
           },
         )
         | inr differs ↦ (
-          with_step me.0 (with_refusal me.0.doing place (clean_at found)) (next_number kept.events) (Claim id place seen),
+          with_step me.0 (with_refusal me.0.doing place (clean_at found)) (next_number kept.events) (made_of (Claim id place seen) found),
           keeps,
           tt,
           lost t kept at seen (either (found == old) new found) ground (λ e. differs (e ∙ sym is)) (miss found old new differs),
@@ -154,12 +156,13 @@ module _ {S E : Type 0} (subject : S) (places : ℕ) (worth : List E → ℕ →
   puts word ground index first t kept deep at fits =
       let core : State E = kept.core in
       let changed : Place = record (place_at core.places place) { value = word } in (
-        with_step me.0 (with_word_put me.0.doing place word) (next_number kept.events) (Put id place word),
+        with_step me.0 (with_word_put me.0.doing place word) (next_number kept.events) (made_of (Put id place word) word),
         keeps,
         tt,
-        view_step subject places worth touches opening t kept id me.0 at live (Put id place word) Done (after_put core id place word) (with_put me.0.doing.view place word)
+        view_step subject places worth touches opening t kept id me.0 at live (Put id place word) word Done (after_put core id place word) (with_put me.0.doing.view place word)
             (slice_set t.words (3 * place + 3) word) refl refl
             (record { allowed = (may t kept at, subst (λ (v : View (List E)). MayPut worth v place word) (sym (same t kept at)) ground); gives = (refl, refl) })
+            refl
             (ap (λ ws. slice_set ws (3 * place + 3) word) kept.words ∙ value_set (length core.edits.log) core.places place word (lt t kept at))
             refl
             (marks_stay core.places place changed refl)
@@ -174,8 +177,8 @@ module _ {S E : Type 0} (subject : S) (places : ℕ) (worth : List E → ℕ →
               ap (λ p. with_word_put me.0.doing p word) here ∙ ap (λ w. with_word_put me.0.doing place' w) (sym first);
           one = λ place' index'.
               let here : place ≡ place' = omega (arith, index, index') in
-              one_more me.0.steps id (next_number kept.events) (λ v. Put v place' step.first) (Put id place word)
-              (ap (λ p. Put id p word) here ∙ ap (λ w. Put id place' w) (sym first));
+              one_more me.0.steps id (next_number kept.events) (λ v. Put v place' step.first) step.first (Put id place word) word
+              (ap (λ p. Put id p word) here ∙ ap (λ w. Put id place' w) (sym first)) (sym first);
         },
       )
 
@@ -187,12 +190,13 @@ module _ {S E : Type 0} (subject : S) (places : ℕ) (worth : List E → ℕ →
       let free : Clean = record { upto = mark + 1; held = false } in
       let core : State E = kept.core in
       let changed : Place = record (place_at core.places place) { clean = free } in (
-        with_step me.0 (with_finish me.0.doing place mark) (next_number kept.events) (Finish id place mark),
+        with_step me.0 (with_finish me.0.doing place mark) (next_number kept.events) (made_of (Finish id place mark) stored),
         keeps,
         tt,
-        view_step subject places worth touches opening t kept id me.0 at live (Finish id place mark) Done (after_finish core id place mark) (without_hold me.0.doing.view place mark)
+        view_step subject places worth touches opening t kept id me.0 at live (Finish id place mark) stored Done (after_finish core id place mark) (without_hold me.0.doing.view place mark)
             (slice_set t.words (3 * place + 2) stored) refl refl
             (record { allowed = (may t kept at, subst (λ (v : View (List E)). MayFinish worth touches v place mark) (sym (same t kept at)) ground); gives = (refl, refl) })
+            is
             (ap (λ n. slice_set t.words (3 * place + 2) n) is ∙ clean_stored t kept at free)
             refl
             (marks_stay core.places place changed refl)
@@ -209,7 +213,7 @@ module _ {S E : Type 0} (subject : S) (places : ℕ) (worth : List E → ℕ →
           one = λ place' mark' index' stored'.
               let here : place ≡ place' = omega (arith, index, index') in
               let of_mark : mark ≡ mark' = omega (arith, is, first, stored') in
-              one_more me.0.steps id (next_number kept.events) (λ v. Finish v place' mark') (Finish id place mark)
-              (ap (λ p. Finish id p mark) here ∙ ap (λ m. Finish id place' m) of_mark);
+              one_more me.0.steps id (next_number kept.events) (λ v. Finish v place' mark') step.first (Finish id place mark) stored
+              (ap (λ p. Finish id p mark) here ∙ ap (λ m. Finish id place' m) of_mark) (sym first);
         },
       )

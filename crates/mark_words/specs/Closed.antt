@@ -3,30 +3,31 @@ use Rattle.std.specs.Prelude.{◌≡◌, ◌<◌, ℕ, List, ◌∷◌, Some, ma
 use Rattle.mark_core.specs.declared.words.Finished.{Finished}
 use Rattle.mark_core.specs.Place.{place_at}
 use Rattle.mark_core.specs.Mark.{IsPrefix}
-use Rattle.mark_core.specs.declared.events.Event.{Event}
 use Rattle.mark_core.specs.State.{State, view_at, opening_state}
 use Rattle.mark_core.specs.Legal.{IsLegalRead}
 use Rattle.mark_core.specs.Honest.{IsHonest}
-use Rattle.mark_core.specs.Run.{IsCodeless, Runs}
+use Rattle.mark_core.specs.Run.{IsCodeless}
 use Rattle.mark_core.specs.declared.subjects.Subject.{Ghosts}
 use Rattle.mark_words.specs.declared.marks.Marks.{Marks}
 use Rattle.mark_words.specs.declared.seats.Seat.{Seat}
 use Rattle.mark_words.specs.declared.closing.Words.{Words}
 use Rattle.mark_words.specs.declared.closing.Kept.{Kept}
+use Rattle.mark_words.specs.declared.tables.Made.{Made}
 use Rattle.mark_words.specs.Rule.{HaveNoRepeats}
 use Rattle.mark_words.specs.Steps.{steps_of}
+use Rattle.mark_words.specs.Run.{RunsWith}
 use Rattle.mark_words.specs.Token.{subject_of, topic_of, places_of, view_of, own_steps, log_of, edits_of, closed_places, closed_place, closed_log}
 
 -- Events of the core have led from the opening state to one with these words, with the editor's edits, and with the
 -- views of all seats that were handed in, no two of which are one view of it. So it is honest. Each seat's single steps
--- are those of its view among the events, each at its number. The state may have further views, of seats that were
+-- are those of its view among the events, each at its number and with its word. The state may have further views, of seats that were
 -- dropped.
 pub record HasClosed {S E : Type 0} {G : Ghosts S E} (places : S → ℕ) (worth : S → List E → ℕ → ℕ) (touches : S → List E → E → ℕ → Type 0) (marks : Marks S E) (editor : Seat S E G) (others : List (Seat S E G)) (words : Words S E G) : Type 0 where
   pub same_count : closed_places words ≡ places_of marks
   pub same_log : closed_log words ≡ log_of editor
   pub core : State E
-  pub events : List (Event E)
-  pub run : Runs (worth (subject_of marks)) (touches (subject_of marks)) (opening_state (topic_of marks).opening.value.items) events core
+  pub events : List (Made E)
+  pub run : RunsWith (worth (subject_of marks)) (touches (subject_of marks)) (opening_state (topic_of marks).opening.value.items) events core
   pub honest : IsHonest (places (subject_of marks)) (worth (subject_of marks)) (touches (subject_of marks)) (IsCodeless (topic_of marks).opening.value.items) core
   pub sized : length core.places ≡ closed_places words
   pub same_places : (place : ℕ) → place < closed_places words → closed_place words place ≡ place_at core.places place

@@ -7,10 +7,10 @@ use Rattle.mark_core.specs.State.{new_view, spent_view}
 use Rattle.mark_core.specs.View.{with_count, with_entry, split_off, union_of}
 use Rattle.mark_core.specs.View.{with_half, with_value, with_read_end, with_hold, with_loss, with_put, without_hold}
 use Rattle.mark_core.specs.Step.{marks_for, commits}
-use Rattle.mark_words.specs.declared.board.Doing.{Doing}
-use Rattle.mark_words.specs.declared.board.History.{History}
-use Rattle.mark_words.specs.declared.board.Past.{Past}
-use Rattle.mark_words.specs.declared.board.Topic.{Topic}
+use Rattle.mark_words.specs.declared.tables.Doing.{Doing}
+use Rattle.mark_words.specs.declared.tables.History.{History}
+use Rattle.mark_words.specs.declared.tables.Past.{Past}
+use Rattle.mark_words.specs.declared.tables.Topic.{Topic}
 
 -- edits of a seat that isn't the editor's, and of the editor's at the start
 abbrev pub no_edits : {E : Type 0} → Edits E

@@ -1,6 +1,6 @@
 -- What the editor's steps want of its seat.
 use Rattle.std.specs.Prelude.{◌≡◌, ◌<◌, ◌⊎◌, ℕ, List, Some, None, Contains}
-use Rattle.mark_words.specs.declared.board.Doing.{Doing}
+use Rattle.mark_words.specs.declared.tables.Doing.{Doing}
 
 -- nothing is pending, or this entry is
 abbrev pub IsIdleFor : {S E : Type 0} → Doing S E → E → Type 0

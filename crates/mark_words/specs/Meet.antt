@@ -2,7 +2,7 @@
 use Rattle.std.specs.Prelude.{◌≡◌, ◌≤◌, ◌⊎◌, ℕ, List, [], ◌∷◌, ◌++◌, true, length}
 use Rattle.mark_core.specs.Mark.{IsPrefix}
 use Rattle.mark_core.specs.Knows.{KnowsClean}
-use Rattle.mark_words.specs.declared.board.Doing.{Doing}
+use Rattle.mark_words.specs.declared.tables.Doing.{Doing}
 
 -- The seat knows the longer of both logs, and both are prefixes of it; it knows the places that both knew; it has
 -- seen the count of commits, which is at least what both had seen. Its own reads and work stay. The editor's log

@@ -5,8 +5,8 @@ use Rattle.atomic_table.specs.Table.{Me, Step}
 use Rattle.mark_core.specs.declared.words.Clean.{Clean}
 use Rattle.mark_core.specs.Mark.{IsPrefix}
 use Rattle.mark_core.specs.declared.events.Event.TheVariants.{See, Mark, Commit, ReadClean, ReadValue, ReadMark, Claim, Put, Finish}
-use Rattle.mark_words.specs.declared.board.Doing.{Doing}
-use Rattle.mark_words.specs.declared.board.History.{History}
+use Rattle.mark_words.specs.declared.tables.Doing.{Doing}
+use Rattle.mark_words.specs.declared.tables.History.{History}
 use Rattle.mark_words.specs.Steps.{OneMore}
 use Rattle.mark_words.specs.Words.{clean_at, word_of_clean}
 use Rattle.mark_words.specs.Doing.{with_see, with_mark, with_commit}
@@ -18,7 +18,7 @@ use Rattle.mark_words.specs.Read.{TellsOfRead}
 pub record Saw {S E : Type 0} (step : Step E) (before : Me E (History S E)) (found : ℕ) (after : Me E (History S E)) : Type 0 where
   pub slots : after.1 ≡ before.1
   pub doing : after.0.doing ≡ with_see before.0.doing found
-  pub one : OneMore before.0.steps after.0.steps See
+  pub one : OneMore before.0.steps after.0.steps See found
   pub seen : before.0.doing.view.seen ≤ found
   pub within : length before.0.doing.view.log ≤ found
   pub editor :
@@ -34,7 +34,7 @@ pub record Marked {S E : Type 0} (step : Step E) (before : Me E (History S E)) (
       → after.0.doing ≡ with_mark before.0.doing entry place step.second
   pub one :
       (place : ℕ) (entry : E) → step.word ≡ 3 * place + 1 → step.said ≡ some entry
-      → OneMore before.0.steps after.0.steps (λ view. Mark view entry place)
+      → OneMore before.0.steps after.0.steps (λ view. Mark view entry place) step.second
 
 -- the pending entry is in the log
 pub record Committed {S E : Type 0} (step : Step E) (before : Me E (History S E)) (found : ℕ) (after : Me E (History S E)) : Type 0 where
@@ -42,7 +42,7 @@ pub record Committed {S E : Type 0} (step : Step E) (before : Me E (History S E)
   pub entry : E
   pub pending : before.0.doing.edits.pending ≡ Some entry
   pub doing : after.0.doing ≡ with_commit before.0.doing entry
-  pub one : OneMore before.0.steps after.0.steps (λ view. Commit view entry)
+  pub one : OneMore before.0.steps after.0.steps (λ view. Commit view entry) found
 
 -- of what the seat knew, all stays but its reads, what it holds and knows as computed, and what it has done and lost
 pub record KeepsRest {S E : Type 0} (before after : Doing S E) : Type 0 where
@@ -64,14 +64,14 @@ pub record BeganRead {S E : Type 0} (step : Step E) (before : Me E (History S E)
   pub slots : after.1 ≡ before.1
   pub rest : KeepsRest before.0.doing after.0.doing
   pub doing : (place : ℕ) → step.word ≡ 3 * place + 2 → after.0.doing ≡ with_clean_read before.0.doing place (clean_at found)
-  pub one : (place : ℕ) → step.word ≡ 3 * place + 2 → OneMore before.0.steps after.0.steps (λ view. ReadClean view place)
+  pub one : (place : ℕ) → step.word ≡ 3 * place + 2 → OneMore before.0.steps after.0.steps (λ view. ReadClean view place) found
 
 -- the seat's begun read, if it is one of the place of the word, has the value that it found
 pub record WentOn {S E : Type 0} (step : Step E) (before : Me E (History S E)) (found : ℕ) (after : Me E (History S E)) : Type 0 where
   pub slots : after.1 ≡ before.1
   pub rest : KeepsRest before.0.doing after.0.doing
   pub doing : (place : ℕ) → step.word ≡ 3 * place + 3 → after.0.doing ≡ with_value_read before.0.doing place found
-  pub one : (place : ℕ) → step.word ≡ 3 * place + 3 → OneMore before.0.steps after.0.steps (λ view. ReadValue view place)
+  pub one : (place : ℕ) → step.word ≡ 3 * place + 3 → OneMore before.0.steps after.0.steps (λ view. ReadValue view place) found
 
 -- The seat's begun read, if it is one of the place of the word, has ended with the mark that it found, and tells what
 -- it should of the subject that the seat names. The seat has seen at least as many entries as it knows. The editor's,
@@ -80,7 +80,7 @@ pub record EndedRead {S E : Type 0} (worth : S → List E → ℕ → ℕ) (touc
   pub slots : after.1 ≡ before.1
   pub rest : KeepsRest before.0.doing after.0.doing
   pub doing : (place : ℕ) → step.word ≡ 3 * place + 1 → after.0.doing ≡ with_mark_read before.0.doing place found
-  pub one : (place : ℕ) → step.word ≡ 3 * place + 1 → OneMore before.0.steps after.0.steps (λ view. ReadMark view place)
+  pub one : (place : ℕ) → step.word ≡ 3 * place + 1 → OneMore before.0.steps after.0.steps (λ view. ReadMark view place) found
   pub within : length before.0.doing.view.log ≤ before.0.doing.view.seen
   pub tells :
       (place : ℕ) (subject : S) → step.word ≡ 3 * place + 1 → before.0.doing.subject ≡ Some subject
@@ -95,7 +95,7 @@ pub record TriedClaim {S E : Type 0} (step : Step E) (before : Me E (History S E
   pub reads : KeepsReads before.0.doing after.0.doing
   pub one :
       (place : ℕ) (seen : Clean) → step.word ≡ 3 * place + 2 → step.first ≡ word_of_clean seen
-      → OneMore before.0.steps after.0.steps (λ view. Claim view place seen)
+      → OneMore before.0.steps after.0.steps (λ view. Claim view place seen) found
   pub taken : (place : ℕ) → step.word ≡ 3 * place + 2 → found ≡ step.first → after.0.doing ≡ with_claim before.0.doing place
   pub refused :
       (place : ℕ) → step.word ≡ 3 * place + 2 → found ≢ step.first → after.0.doing ≡ with_refusal before.0.doing place (clean_at found)
@@ -106,7 +106,7 @@ pub record PutWord {S E : Type 0} (step : Step E) (before : Me E (History S E)) 
   pub rest : KeepsRest before.0.doing after.0.doing
   pub reads : KeepsReads before.0.doing after.0.doing
   pub doing : (place : ℕ) → step.word ≡ 3 * place + 3 → after.0.doing ≡ with_word_put before.0.doing place step.first
-  pub one : (place : ℕ) → step.word ≡ 3 * place + 3 → OneMore before.0.steps after.0.steps (λ view. Put view place step.first)
+  pub one : (place : ℕ) → step.word ≡ 3 * place + 3 → OneMore before.0.steps after.0.steps (λ view. Put view place step.first) step.first
 
 -- the seat has given the place of the word back, as computed for the mark that it stored
 pub record GaveBack {S E : Type 0} (step : Step E) (before : Me E (History S E)) (found : ℕ) (after : Me E (History S E)) : Type 0 where
@@ -116,4 +116,4 @@ pub record GaveBack {S E : Type 0} (step : Step E) (before : Me E (History S E))
   pub doing : (place mark : ℕ) → step.word ≡ 3 * place + 2 → step.first ≡ 2 * (mark + 1) → after.0.doing ≡ with_finish before.0.doing place mark
   pub one :
       (place mark : ℕ) → step.word ≡ 3 * place + 2 → step.first ≡ 2 * (mark + 1)
-      → OneMore before.0.steps after.0.steps (λ view. Finish view place mark)
+      → OneMore before.0.steps after.0.steps (λ view. Finish view place mark) step.first

@@ -7,7 +7,7 @@ use Rattle.mark_core.specs.View.{read_of}
 use Rattle.mark_core.specs.Growth.{EndsRead}
 use Rattle.mark_core.specs.Knows.{KnowsClean}
 use Rattle.mark_core.specs.Legal.{MeetsFloor}
-use Rattle.mark_words.specs.declared.board.Doing.{Doing}
+use Rattle.mark_words.specs.declared.tables.Doing.{Doing}
 
 -- The word is the worth of the place after so many entries, which go on from the log, and the mark is the place's last
 -- one in them.

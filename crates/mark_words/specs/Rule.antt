@@ -5,15 +5,16 @@ use lib.ListN.{get_elem?}
 use Rattle.atomic_table.specs.Table.{State as TableState}
 use Rattle.mark_core.specs.declared.words.Place.{Place}
 use Rattle.mark_core.specs.Mark.{IsPrefix}
-use Rattle.mark_core.specs.declared.events.Event.{Event}
 use Rattle.mark_core.specs.State.{State, view_at, opening_state}
-use Rattle.mark_core.specs.Run.{IsOpening, Runs}
-use Rattle.mark_words.specs.declared.board.Doing.{Doing}
-use Rattle.mark_words.specs.declared.board.History.{History}
-use Rattle.mark_words.specs.declared.board.Past.{Past}
-use Rattle.mark_words.specs.declared.board.Topic.{Topic}
+use Rattle.mark_core.specs.Run.{IsOpening}
+use Rattle.mark_words.specs.declared.tables.Doing.{Doing}
+use Rattle.mark_words.specs.declared.tables.History.{History}
+use Rattle.mark_words.specs.declared.tables.Made.{Made}
+use Rattle.mark_words.specs.declared.tables.Past.{Past}
+use Rattle.mark_words.specs.declared.tables.Topic.{Topic}
 use Rattle.mark_words.specs.Words.{words_of_state}
 use Rattle.mark_words.specs.Steps.{steps_of, AreStepsOf}
+use Rattle.mark_words.specs.Run.{RunsWith}
 
 -- the editor's seat is the first one, has the state's edits and knows each place's mark
 pub record IsEditor {S E : Type 0} (core : State E) (seat : ℕ) (doing : Doing S E) : Type 0 where
@@ -41,18 +42,18 @@ HaveNoRepeats [] = Unit {0}
 HaveNoRepeats (number ∷ numbers) = (Contains numbers number → ⊥) × HaveNoRepeats numbers
 
 -- what state and events have of a seat
-abbrev pub past_at : {E : Type 0} → State E → List (Event E) → ℕ → Past E
+abbrev pub past_at : {E : Type 0} → State E → List (Made E) → ℕ → Past E
 past_at core events seat = record { view = view_at core seat; steps = steps_of events seat }
 
 -- what was handed in is what the state and the events have of so many spent seats, no two of which are one
-pub record AreGathered {S E : Type 0} (core : State E) (events : List (Event E)) (seats : List (Doing S E)) (pasts : List (Past E)) : Type 0 where
+pub record AreGathered {S E : Type 0} (core : State E) (events : List (Made E)) (seats : List (Doing S E)) (pasts : List (Past E)) : Type 0 where
   pub numbers : List ℕ
   pub same : map (past_at core events) numbers ≡ pasts
   pub spent : (seat : ℕ) → Contains numbers seat → IsSpent seats seat
   pub apart : HaveNoRepeats numbers
 
 -- The state has a view for each seat, which is the seat's own while it isn't spent, and each seat is right.
-pub record AreSeats {S E : Type 0} (core : State E) (events : List (Event E)) (seats : List (Doing S E)) : Type 0 where
+pub record AreSeats {S E : Type 0} (core : State E) (events : List (Made E)) (seats : List (Doing S E)) : Type 0 where
   pub count : length core.views ≡ length seats
   pub views :
       (seat : ℕ) (doing : Doing S E) → get_elem? seats seat ≡ some doing → doing.view.spent ≡ false
@@ -73,12 +74,12 @@ doings_of seats = map (λ history. history.doing) seats
 
 -- The table is that of a run of the core: events have happened from the opening state on, each allowed where it
 -- happened, and have led to a state whose words are those of the table and whose views are its seats'. So that state
--- is honest. The single steps of the run are those of the seats, each at its number.
+-- is honest. The single steps of the run are those of the seats, each at its number and with its word.
 pub record IsKeptTable {S E : Type 0} (subject : S) (places : ℕ) (worth : List E → ℕ → ℕ) (touches : List E → E → ℕ → Type 0) (opening : List (Option ℕ)) (t : TableState E (History S E)) : Type 0 where
   pub right : IsOpening places worth opening
   pub core : State E
-  pub events : List (Event E)
-  pub run : Runs worth touches (opening_state opening) events core
+  pub events : List (Made E)
+  pub run : RunsWith worth touches (opening_state opening) events core
   pub words : t.words ≡ words_of_state core
   pub seats : AreSeats core events (doings_of t.views)
   pub steps : AreStepsOf events t.views

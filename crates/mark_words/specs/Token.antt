@@ -1,15 +1,15 @@
 -- What contracts see of a table of words, of a seat, and of the words of a closed table.
 use Rattle.std.specs.Prelude.{◌≡◌, ℕ, List, Bool, Option, Some}
 use Rattle.std.specs.Mem.Slots.{slots_items}
-use Rattle.atomic_table.specs.Seated.{TableId}
+pub use Rattle.atomic_table.specs.Seated.{TableId}
 use Rattle.mark_core.specs.declared.actors.Edits.{Edits}
 use Rattle.mark_core.specs.declared.actors.View.{View}
 use Rattle.mark_core.specs.declared.words.Half.{Half}
 use Rattle.mark_core.specs.declared.words.Place.{Place}
 use Rattle.mark_core.specs.declared.subjects.Subject.{Ghosts}
-use Rattle.mark_words.specs.declared.board.Doing.{Doing}
-use Rattle.mark_words.specs.declared.board.OwnStep.{OwnStep}
-use Rattle.mark_words.specs.declared.board.Topic.{Topic}
+use Rattle.mark_words.specs.declared.tables.Doing.{Doing}
+use Rattle.mark_words.specs.declared.tables.OwnStep.{OwnStep}
+use Rattle.mark_words.specs.declared.tables.Topic.{Topic}
 use Rattle.mark_words.specs.declared.marks.Marks.{Marks}
 use Rattle.mark_words.specs.declared.seats.Seat.{Seat}
 use Rattle.mark_words.specs.declared.closing.Words.{Words}
@@ -43,10 +43,11 @@ doing_of seat = seat.seat.me.0.doing
 abbrev pub own_steps : {S E : Type 0} {G : Ghosts S E} → Seat S E G → List (OwnStep E)
 own_steps seat = seat.seat.me.0.steps
 
--- the seat is one of the table, and names what it is about
+-- the seat is one of the table, and names what it is about, which has the table's places
 pub record IsSeatOf {S E : Type 0} {G : Ghosts S E} (marks : Marks S E) (seat : Seat S E G) : Type 0 where
   pub same_table : seat_table seat ≡ table_of marks
   pub same_subject : (doing_of seat).subject ≡ Some (subject_of marks)
+  pub same_places : places_of marks ≡ G.places (subject_of marks)
 
 -- its view, as the core has views
 abbrev pub view_of : {S E : Type 0} {G : Ghosts S E} → Seat S E G → View (List E)

@@ -1,5 +1,5 @@
 -- The words of the table as a function of the state of the core.
-use Rattle.std.specs.Prelude.{ℕ, ◌+◌, ◌*◌, ◌/◌, ◌%◌, ◌==◌, List, [], ◌∷◌, Option, Some, None, length, if◌then◌else◌, slice_index}
+use Rattle.std.specs.Prelude.{ℕ, ◌+◌, ◌*◌, ◌/◌, ◌%◌, ◌==◌, List, [], ◌∷◌, Option, Some, None, Result, Ok, Err, length, if◌then◌else◌, slice_index}
 use Rattle.mark_core.specs.declared.words.Clean.{Clean}
 use Rattle.mark_core.specs.declared.words.Place.{Place}
 use Rattle.mark_core.specs.State.{State}
@@ -7,6 +7,11 @@ use Rattle.mark_core.specs.State.{State}
 -- the word of a clean word
 abbrev pub word_of_clean : Clean → ℕ
 word_of_clean clean = if clean.held then 2 * clean.upto + 1 else 2 * clean.upto
+
+-- the word that a claim found, by what it answers: the one that it expected, or another
+abbrev pub word_found : {A : Type 0} → Clean → Result A Clean → ℕ
+word_found seen (Ok done) = word_of_clean seen
+word_found seen (Err found) = word_of_clean found
 
 -- the clean word of which this is the word
 abbrev pub clean_at : ℕ → Clean

@@ -56,14 +56,19 @@ impl<S: Subject> Marks<S> {
         let Marks { table } = self;
         let Seat {
             seat: mut all,
-            desk,
+            editor_marks,
         } = editor;
-        let Some(desk) = desk else { unreachable!() };
-        let places = desk.marks.len();
+        let Some(own) = editor_marks else {
+            unreachable!()
+        };
+        let places = own.marks.len();
         let witness = table.shared.split_seat::<Copies>(&mut all);
         let mut others = others;
         while let Some(other) = others.pop() {
-            let Seat { seat, desk: _ } = other;
+            let Seat {
+                seat,
+                editor_marks: _,
+            } = other;
             table.shared.join_seat::<Gathers>(&mut all, seat);
         }
         let closed = table.close_with(all);

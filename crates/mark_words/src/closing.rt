@@ -3,9 +3,9 @@
 ghost use Rattle.std.specs.Prelude.{◌≡◌, ◌+◌, ◌*◌};
 ghost use Rattle.std.specs.Mem.Slots.{slots_len, IsFull};
 
-use crate::board::History;
 use crate::marks::Marks;
 use crate::seats::Seat;
+use crate::tables::History;
 use atomic_table::{Closed, Seat as TableSeat};
 use mark_core::Subject;
 use std::alloc::Global;

@@ -8,7 +8,6 @@
 // specs/Doing.antt. Below stand `mark_core` and the kit's `atomic_table`.
 #![tactic(auto)]
 
-mod board;
 mod closes;
 mod closing;
 mod codes;
@@ -19,13 +18,14 @@ mod plays;
 mod reads;
 mod seats;
 mod steps;
+mod tables;
 mod work;
 
-pub use board::{Doing, History, Keeps, OwnStep, Past, Topic};
 pub use closing::{Kept, Words};
-pub use laws::takes_one_event_a_step;
+pub use laws::{is_honest_between_steps, takes_one_event_a_step};
 pub use marks::Marks;
 pub use seats::Seat;
+pub use tables::{Doing, History, Keeps, Made, OwnStep, Past, Topic};
 
 #[cfg(test)]
 mod tests;

@@ -5,9 +5,9 @@ ghost use Rattle.mark_core.specs.Run.{IsOpening};
 ghost use Rattle.mark_words.specs.Words.{opening_words};
 ghost use Rattle.mark_words.specs.Opened.{HasOpened};
 
-use crate::board::{Board, Topic};
 use crate::marks::Marks;
-use crate::seats::{Desk, Seat};
+use crate::seats::{EditorMarks, Seat};
+use crate::tables::{MarkTable, Topic};
 use atomic_table::Table;
 use mark_core::{Memory, Subject};
 use std::alloc::{AllocError, Global};
@@ -32,9 +32,9 @@ impl<S: Subject> Marks<S> {
             subject: Snapshot::of(&subject),
             opening: Snapshot::of(&codes),
         };
-        let (table, seat) = Board::<S>::of_words(alloc, &words, &topic)?;
-        let desk = Some(Desk { count: 0, marks });
-        Ok((Marks { table }, Seat { seat, desk }))
+        let (table, seat) = MarkTable::<S>::of_words(alloc, &words, &topic)?;
+        let editor_marks = Some(EditorMarks { count: 0, marks });
+        Ok((Marks { table }, Seat { seat, editor_marks }))
     }
 }
 

@@ -4,7 +4,7 @@ ghost use Rattle.mark_words.specs.Plays.{Saw, Marked, Committed};
 ghost use Rattle.mark_words.specs.Plays.{BeganRead, WentOn, EndedRead, TriedClaim, PutWord, GaveBack};
 ghost use Rattle.mark_words.specs.Doing.{copy_history, union_history, gather_history, spent_history};
 
-use crate::board::History;
+use crate::tables::History;
 use atomic_table::{Join, Play, Split};
 use mark_core::Subject;
 use std::marker::PhantomData;

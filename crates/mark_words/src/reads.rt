@@ -8,6 +8,7 @@ ghost use Rattle.mark_words.specs.Doing.{with_clean_read, with_value_read, with_
 ghost use Rattle.mark_words.specs.Token.{IsSeatOf, subject_of, places_of};
 ghost use Rattle.mark_core.specs.declared.events.Event.TheVariants.{ReadClean, ReadValue, ReadMark};
 ghost use Rattle.mark_words.specs.Steps.{OneMore};
+ghost use Rattle.mark_words.specs.Words.{word_of_clean};
 ghost use Rattle.mark_words.specs.Token.{doing_of, own_steps, view_of, log_of, edits_of, half_of, is_editor};
 ghost use Rattle.mark_words.specs.Read.{GoesOn, Ends, TellsOfRead, LearnsClean};
 
@@ -26,7 +27,7 @@ impl<S: Subject> Marks<S> {
         ensures same { IsSeatOf self.now seat.new }
         ensures doing { doing_of seat.new ≡ with_clean_read (doing_of seat.old) place result }
         ensures step { OneMore (own_steps seat.old) (own_steps seat.new)
-            (λ view. ReadClean view place) }
+            (λ view. ReadClean view place) (word_of_clean result) }
         ensures begins { BeginsRead (view_of seat.old) place
             (new_half (view_of seat.old) place result) }
     {
@@ -41,7 +42,7 @@ impl<S: Subject> Marks<S> {
         ensures same { IsSeatOf self.now seat.new }
         ensures doing { doing_of seat.new ≡ with_value_read (doing_of seat.old) place result }
         ensures step { OneMore (own_steps seat.old) (own_steps seat.new)
-            (λ view. ReadValue view place) }
+            (λ view. ReadValue view place) result }
         ensures goes_on { GoesOn (doing_of seat.old) place result (doing_of seat.new) }
     {
         let at = 3 * place as usize + 3;
@@ -57,7 +58,7 @@ impl<S: Subject> Marks<S> {
         ensures same { IsSeatOf self.now seat.new }
         ensures doing { doing_of seat.new ≡ with_mark_read (doing_of seat.old) place result }
         ensures step { OneMore (own_steps seat.old) (own_steps seat.new)
-            (λ view. ReadMark view place) }
+            (λ view. ReadMark view place) result }
         ensures ends { Ends (doing_of seat.old) place result (doing_of seat.new) }
         ensures tells { TellsOfRead (S.worth (subject_of self.now)) (S.touches (subject_of self.now))
             (doing_of seat.old) place result }

@@ -21,7 +21,7 @@ impl<S: Subject> Marks<S> {
         requires table { IsSeatOf self.now seat.old }
         ensures same { IsSeatOf self.now seat.new }
         ensures doing { doing_of seat.new ≡ with_see (doing_of seat.old) result }
-        ensures step { OneMore (own_steps seat.old) (own_steps seat.new) See }
+        ensures step { OneMore (own_steps seat.old) (own_steps seat.new) See result }
         ensures seen { seen_of seat.old ≤ result }
         ensures known { length (log_of seat.old) ≤ result }
         ensures editor { is_editor seat.old ≡ true → result ≡ length (log_of seat.old) }
@@ -42,7 +42,7 @@ impl<S: Subject> Marks<S> {
         let copy = self.table.shared.split_seat::<Copies>(&mut seat.seat);
         Seat {
             seat: copy,
-            desk: None,
+            editor_marks: None,
         }
     }
 
@@ -59,16 +59,16 @@ impl<S: Subject> Marks<S> {
         ensures same { IsSeatOf self.now seat.new }
         ensures doing { doing_of seat.new ≡ with_mark (doing_of seat.old) entry.now place number }
         ensures step { OneMore (own_steps seat.old) (own_steps seat.new)
-            (λ view. Mark view entry.now place) }
+            (λ view. Mark view entry.now place) number }
     {
-        let Some(desk) = seat.desk.take() else {
+        let Some(own) = seat.editor_marks.take() else {
             unreachable!()
         };
         let at = 3 * place as usize + 1;
-        let old = desk.mark(place);
+        let old = own.mark(place);
         let shared = &self.table.shared;
         shared.compare_exchange_with::<MarksPlace>(&mut seat.seat, at, old, number, entry);
-        seat.desk = Some(desk.with_mark(place, number));
+        seat.editor_marks = Some(own.with_mark(place, number));
     }
 
     /// Counts the pending entry, which is in the log from then on, and answers the new count. One store.
@@ -83,14 +83,15 @@ impl<S: Subject> Marks<S> {
         ensures doing { (entry : S.Entry) → (edits_of seat.old).pending ≡ Some entry
             → doing_of seat.new ≡ with_commit (doing_of seat.old) entry }
         ensures step { (entry : S.Entry) → (edits_of seat.old).pending ≡ Some entry
-            → OneMore (own_steps seat.old) (own_steps seat.new) (λ view. Commit view entry) }
+            → OneMore (own_steps seat.old) (own_steps seat.new)
+            (λ view. Commit view entry) result }
     {
-        let Some(desk) = seat.desk.take() else {
+        let Some(own) = seat.editor_marks.take() else {
             unreachable!()
         };
-        let count = desk.count + 1;
+        let count = own.count + 1;
         self.table.shared.store::<Commits>(&mut seat.seat, 0, count);
-        seat.desk = Some(desk.with_count(count));
+        seat.editor_marks = Some(own.with_count(count));
         count
     }
 
@@ -102,7 +103,8 @@ impl<S: Subject> Marks<S> {
         ensures same { IsSeatOf self.now seat.new }
         ensures other_same { IsSeatOf self.now other.new }
         ensures other_kept { doing_of other.new ≡ doing_of other.old }
-        ensures step { OneMore (own_steps seat.old) (own_steps seat.new) See }
+        ensures step { OneMore (own_steps seat.old) (own_steps seat.new)
+            See (seen_of seat.new) }
         ensures no_step { own_steps other.new ≡ own_steps other.old }
         ensures met { HasMet (doing_of seat.old) (doing_of other.old) (doing_of seat.new) }
         ensures clean { KeepsClean (S.touches (subject_of self.now))

@@ -3,11 +3,11 @@
 ghost use Rattle.std.specs.Prelude.{◌≡◌, ◌≤◌, ◌<◌, ◌+◌, length, true, All, IfOk, OnOk};
 ghost use Rattle.std.specs.Thread.{IsSync};
 ghost use Rattle.mark_words.specs.Token.{IsSeatOf, places_of, is_editor, log_of, closed_places};
-ghost use Rattle.mark_words.specs.Trial.{IsReadyEditor, IsBlank, KnowsMany, AreTwoSeats};
+ghost use Rattle.mark_words.specs.Tests.Threads.{IsReadyEditor, IsBlank, KnowsMany, AreTwoSeats};
 
 use crate::tests::uses::opens_and_closes;
 use crate::{Marks, Seat, Words};
-use mark_core::{Clean, Memory, TwoCells};
+use mark_core::{Clean, Memory, TwoTestCells};
 use std::alloc::{AllocError, Global};
 use std::test::Fail;
 use std::thread::{Threads, join, map_vec};
@@ -15,11 +15,12 @@ use std::thread::{Threads, join, map_vec};
 mod crowd;
 mod eight;
 mod row;
+mod shares;
 mod uses;
 
-type Table = Marks<TwoCells>;
+type Table = Marks<TwoTestCells>;
 
-type Token = Seat<TwoCells>;
+type Token = Seat<TwoTestCells>;
 
 type Cell = (u64, Clean, u64);
 
@@ -97,7 +98,7 @@ fn learns(marks: &Table, viewer: &mut Token, editor: &mut Token)
     marks.meet(viewer, editor);
 }
 
-fn cell(words: &Words<TwoCells>, place: u32) -> Cell
+fn cell(words: &Words<TwoTestCells>, place: u32) -> Cell
     requires { place < closed_places words.now }
 {
     (words.mark(place), words.clean(place), words.value(place))
@@ -151,7 +152,14 @@ fn listen_all<R: Threads + Sync>(
     requires { All (λ pair. AreTwoSeats marks.now pair count) pairs.items }
     ensures { IfOk result (λ all. All (λ seat. KnowsMany marks.now seat count) all.items) }
 {
-    map_vec(rt, pairs, &|pair| listens(marks, pair, count))
+    map_vec(
+        rt,
+        pairs,
+        &|pair: Pair| -> Token
+            requires { AreTwoSeats marks.now pair count }
+            ensures { KnowsMany marks.entry.now result count }
+        { listens(marks, pair, count) },
+    )
 }
 
 /// The viewers listen to what the editor had committed before, while it commits a hundred entries more.
@@ -256,19 +264,19 @@ fn viewers(alloc: Global, marks: &Table, editor: &mut Token) -> Result<Vec<Token
 fn opened(alloc: Global) -> Result<(Table, Token), Memory>
     ensures { IfOk result (λ r. IsReadyEditor r.0 r.1 0) }
 {
-    Marks::open(alloc, TwoCells, &[Some(TwoCells::code(1)), None])
+    Marks::open(alloc, TwoTestCells, &[Some(TwoTestCells::code(1)), None])
 }
 
 /// The two cells of a table that is closed as soon as it is opened.
 fn cells_at_first(alloc: Global) -> Option<(Cell, Cell)> {
-    let words = opens_and_closes(alloc, TwoCells, &[Some(TwoCells::code(1)), None])?;
+    let words = opens_and_closes(alloc, TwoTestCells, &[Some(TwoTestCells::code(1)), None])?;
     Some((cell(&words, 0), cell(&words, 1)))
 }
 
 /// The first cell with this mark and the second, as they were opened.
 fn marked(mark: u64) -> Option<(Cell, Cell)> {
     let free = |upto| Clean { upto, held: false };
-    Some(((mark, free(1), TwoCells::code(1)), (mark, free(0), 0)))
+    Some(((mark, free(1), TwoTestCells::code(1)), (mark, free(0), 0)))
 }
 
 #[test]

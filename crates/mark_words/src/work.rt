@@ -1,12 +1,13 @@
 #![tactic(auto)]
 
-ghost use Rattle.std.specs.Prelude.{◌≡◌, ◌≢◌, ◌<◌, ℕ, List, IfOk, IfErr};
+ghost use Rattle.std.specs.Prelude.{◌≡◌, ◌≢◌, ◌<◌, ◌+◌, ◌*◌, ℕ, List, IfOk, IfErr};
 ghost use Rattle.mark_core.specs.Knows.{KnowsClean};
 ghost use Rattle.mark_core.specs.Mark.{IsLastMark};
 ghost use Rattle.mark_core.specs.Permission.{MayClaim, MayPut, MayFinish};
 ghost use Rattle.mark_words.specs.Doing.{with_claim, with_refusal, with_word_put, with_finish};
 ghost use Rattle.mark_core.specs.declared.events.Event.TheVariants.{Claim, Put, Finish};
 ghost use Rattle.mark_words.specs.Steps.{OneMore};
+ghost use Rattle.mark_words.specs.Words.{word_found};
 ghost use Rattle.mark_words.specs.Token.{IsSeatOf, subject_of, places_of, doing_of, own_steps, view_of};
 
 use crate::codes::{clean_of, word_of};
@@ -24,7 +25,7 @@ impl<S: Subject> Marks<S> {
         requires stale { MayClaim (view_of seat.old) place seen }
         ensures same { IsSeatOf self.now seat.new }
         ensures step { OneMore (own_steps seat.old) (own_steps seat.new)
-            (λ view. Claim view place seen) }
+            (λ view. Claim view place seen) (word_found seen result) }
         ensures taken { IfOk result
             (λ _. doing_of seat.new ≡ with_claim (doing_of seat.old) place) }
         ensures refused { IfErr result
@@ -51,7 +52,7 @@ impl<S: Subject> Marks<S> {
         ensures same { IsSeatOf self.now seat.new }
         ensures doing { doing_of seat.new ≡ with_word_put (doing_of seat.old) place word }
         ensures step { OneMore (own_steps seat.old) (own_steps seat.new)
-            (λ view. Put view place word) }
+            (λ view. Put view place word) word }
     {
         let at = 3 * place as usize + 3;
         self.table.shared.store::<Puts>(&mut seat.seat, at, word);
@@ -68,7 +69,7 @@ impl<S: Subject> Marks<S> {
         ensures same { IsSeatOf self.now seat.new }
         ensures doing { doing_of seat.new ≡ with_finish (doing_of seat.old) place mark }
         ensures step { OneMore (own_steps seat.old) (own_steps seat.new)
-            (λ view. Finish view place mark) }
+            (λ view. Finish view place mark) (2 * (mark + 1)) }
         ensures clean { (log : List S.Entry)
             → IsLastMark (S.touches (subject_of self.now)) log place mark
             → KnowsClean (S.touches (subject_of self.now)) log (view_of seat.new) place mark }

@@ -3,7 +3,7 @@
 ghost use Rattle.std.specs.Prelude.{◌≡◌, ◌≤◌, ◌<◌, ◌+◌, All, IfOk, OnOk};
 ghost use Rattle.std.specs.Thread.{IsSync};
 ghost use Rattle.mark_words.specs.Token.{IsSeatOf};
-ghost use Rattle.mark_words.specs.EightCells.{IsEditing, IsReadingPlace};
+ghost use Rattle.mark_words.specs.Tests.EightTestCells.{IsEditing, IsScripted};
 
 use crate::tests::eight::{
     Reader, Table, Token, closes, ends, hired, is_right, opened, sets_many, shows_all, views,
@@ -20,16 +20,16 @@ fn work_all<R: Threads + Sync>(
     workers: Vec<Reader>,
     number: u32,
 ) -> Result<Vec<Reader>, AllocError>
-    requires workers { All (λ worker. IsReadingPlace marks.now worker number) workers.items }
+    requires workers { All (λ worker. IsScripted marks.now worker.0 number) workers.items }
     requires room { number ≤ 1048576 }
-    ensures { IfOk result (λ all. All (λ worker. IsReadingPlace marks.now worker number) all.items) }
+    ensures { IfOk result (λ all. All (λ worker. IsScripted marks.now worker.0 number) all.items) }
 {
     map_vec(
         rt,
         workers,
         &|worker: Reader| -> Reader
-            requires { IsReadingPlace marks.now worker number × (number ≤ 1048576) }
-            ensures { IsReadingPlace marks.entry.now result number }
+            requires { IsScripted marks.now worker.0 number × (number ≤ 1048576) }
+            ensures { IsScripted marks.entry.now result.0 number }
         { works_on(marks, worker, number) },
     )
 }
@@ -40,15 +40,15 @@ fn view_all<R: Threads + Sync>(
     marks: &Table,
     viewers: Vec<Reader>,
 ) -> Result<Vec<Reader>, AllocError>
-    requires { All (λ viewer. IsReadingPlace marks.now viewer 0) viewers.items }
-    ensures { IfOk result (λ all. All (λ viewer. IsReadingPlace marks.now viewer 0) all.items) }
+    requires { All (λ viewer. IsScripted marks.now viewer.0 0) viewers.items }
+    ensures { IfOk result (λ all. All (λ viewer. IsScripted marks.now viewer.0 0) all.items) }
 {
     map_vec(
         rt,
         viewers,
         &|viewer: Reader| -> Reader
-            requires { IsReadingPlace marks.now viewer 0 }
-            ensures { IsReadingPlace marks.entry.now result 0 }
+            requires { IsScripted marks.now viewer.0 0 }
+            ensures { IsScripted marks.entry.now result.0 0 }
         { views(marks, viewer) },
     )
 }
@@ -64,26 +64,26 @@ fn crowd<R: Threads + Sync>(
     Result<Vec<Reader>, AllocError>,
     Result<Vec<Reader>, AllocError>,
 )
-    requires workers { All (λ worker. IsReadingPlace marks.now worker number) workers.items }
-    requires viewers { All (λ viewer. IsReadingPlace marks.now viewer 0) viewers.items }
+    requires workers { All (λ worker. IsScripted marks.now worker.0 number) workers.items }
+    requires viewers { All (λ viewer. IsScripted marks.now viewer.0 0) viewers.items }
     requires room { number ≤ 1048576 }
     ensures workers { IfOk result.0
-        (λ all. All (λ worker. IsReadingPlace marks.now worker number) all.items) }
+        (λ all. All (λ worker. IsScripted marks.now worker.0 number) all.items) }
     ensures viewers { IfOk result.1
-        (λ all. All (λ viewer. IsReadingPlace marks.now viewer 0) all.items) }
+        (λ all. All (λ viewer. IsScripted marks.now viewer.0 0) all.items) }
 {
     join(
         rt,
         move || -> Result<Vec<Reader>, AllocError>
             requires { IsSync R.row × (number ≤ 1048576)
-                × All (λ worker. IsReadingPlace marks.now worker number) workers.items }
+                × All (λ worker. IsScripted marks.now worker.0 number) workers.items }
             ensures { IfOk result
-                (λ all. All (λ worker. IsReadingPlace marks.entry.now worker number) all.items) }
+                (λ all. All (λ worker. IsScripted marks.entry.now worker.0 number) all.items) }
         { work_all(rt, marks, workers, number) },
         move || -> Result<Vec<Reader>, AllocError>
-            requires { IsSync R.row × All (λ viewer. IsReadingPlace marks.now viewer 0) viewers.items }
+            requires { IsSync R.row × All (λ viewer. IsScripted marks.now viewer.0 0) viewers.items }
             ensures { IfOk result
-                (λ all. All (λ viewer. IsReadingPlace marks.entry.now viewer 0) all.items) }
+                (λ all. All (λ viewer. IsScripted marks.entry.now viewer.0 0) all.items) }
         { view_all(rt, marks, viewers) },
     )
 }
@@ -104,14 +104,14 @@ fn round<R: Threads + Sync>(
     ),
 )
     requires ready { IsEditing marks.now editor number }
-    requires workers { All (λ worker. IsReadingPlace marks.now worker number) workers.items }
-    requires viewers { All (λ viewer. IsReadingPlace marks.now viewer 0) viewers.items }
+    requires workers { All (λ worker. IsScripted marks.now worker.0 number) workers.items }
+    requires viewers { All (λ viewer. IsScripted marks.now viewer.0 0) viewers.items }
     requires room { number < 10000 }
     ensures ready { IsEditing marks.now result.0 (number + 100) }
     ensures workers { IfOk result.1.0
-        (λ all. All (λ worker. IsReadingPlace marks.now worker number) all.items) }
+        (λ all. All (λ worker. IsScripted marks.now worker.0 number) all.items) }
     ensures viewers { IfOk result.1.1
-        (λ all. All (λ viewer. IsReadingPlace marks.now viewer 0) all.items) }
+        (λ all. All (λ viewer. IsScripted marks.now viewer.0 0) all.items) }
 {
     join(
         rt,
@@ -124,12 +124,12 @@ fn round<R: Threads + Sync>(
             Result<Vec<Reader>, AllocError>,
         )
             requires { IsSync R.row × (number < 10000)
-                × All (λ worker. IsReadingPlace marks.now worker number) workers.items
-                × All (λ viewer. IsReadingPlace marks.now viewer 0) viewers.items }
+                × All (λ worker. IsScripted marks.now worker.0 number) workers.items
+                × All (λ viewer. IsScripted marks.now viewer.0 0) viewers.items }
             ensures { IfOk result.0
-                (λ all. All (λ worker. IsReadingPlace marks.entry.now worker number) all.items)
+                (λ all. All (λ worker. IsScripted marks.entry.now worker.0 number) all.items)
                 × IfOk result.1
-                (λ all. All (λ viewer. IsReadingPlace marks.entry.now viewer 0) all.items) }
+                (λ all. All (λ viewer. IsScripted marks.entry.now viewer.0 0) all.items) }
         { crowd(rt, marks, workers, viewers, number) },
     )
 }
@@ -144,7 +144,7 @@ fn hire(
     requires ready { IsEditing marks.now editor.old _number }
     ensures ready { OnOk result (IsEditing marks.now editor.new _number) }
     ensures seats { IfOk result
-        (λ all. All (λ worker. IsReadingPlace marks.now worker _number) all.items) }
+        (λ all. All (λ worker. IsScripted marks.now worker.0 _number) all.items) }
 {
     let mut all = Vec::with_capacity(alloc, 4)?;
     for _ in 0..4 {
@@ -157,7 +157,7 @@ fn hire(
 fn hire_one(alloc: Global, marks: &Table, editor: &mut Token, _number: u32) -> Reader
     requires ready { IsEditing marks.now editor.old _number }
     ensures ready { IsEditing marks.now editor.new _number }
-    ensures reader { IsReadingPlace marks.now result _number }
+    ensures reader { IsScripted marks.now result.0 _number }
 {
     (hired(marks, editor, _number), Vec::new(alloc))
 }
@@ -170,7 +170,7 @@ fn judge(
     _number: u32,
 ) -> Result<usize, AllocError>
     requires done { All (λ seat. IsSeatOf _marks.now seat) done.old.items }
-    requires readers { All (λ reader. IsReadingPlace _marks.now reader _number) readers.items }
+    requires readers { All (λ reader. IsScripted _marks.now reader.0 _number) readers.items }
     ensures { OnOk result (All (λ seat. IsSeatOf _marks.now seat) done.new.items) }
 {
     let mut right: usize = 0;
@@ -196,9 +196,9 @@ fn rounds<R: Threads + Sync>(
     mut viewers: Vec<Reader>,
 ) -> Result<Rounds, AllocError>
     requires ready { IsEditing marks.now editor 0 }
-    requires viewers { All (λ viewer. IsReadingPlace marks.now viewer 0) viewers.items }
+    requires viewers { All (λ viewer. IsScripted marks.now viewer.0 0) viewers.items }
     ensures ready { IfOk result (λ r. IsEditing marks.now r.0 2000) }
-    ensures viewers { IfOk result (λ r. All (λ viewer. IsReadingPlace marks.now viewer 0) r.1.items) }
+    ensures viewers { IfOk result (λ r. All (λ viewer. IsScripted marks.now viewer.0 0) r.1.items) }
     ensures workers { IfOk result (λ r. All (λ seat. IsSeatOf marks.now seat) r.2.items) }
 {
     let mut done = Vec::new(alloc);

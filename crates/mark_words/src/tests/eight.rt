@@ -2,7 +2,8 @@
 
 ghost use Rattle.std.specs.Prelude.{◌≡◌, ◌≤◌, ◌<◌, ◌+◌, true, All, IfOk};
 ghost use Rattle.mark_words.specs.Token.{IsSeatOf, closed_places};
-ghost use Rattle.mark_words.specs.EightCells.{last_setting, SetsPlace, last_stays, script, IsScripted, IsEditing, IsReadingPlace};
+ghost use Rattle.mark_words.specs.Tests.EightTestCells.{last_setting, SetsPlace, last_stays, script};
+ghost use Rattle.mark_words.specs.Tests.EightTestCells.{IsScripted, IsEditing};
 
 use crate::closing::Words;
 use crate::marks::Marks;
@@ -13,9 +14,9 @@ use std::alloc::Global;
 
 /// Eight places, of which entry n sets the one that n leaves when divided by 8.
 #[derive(Drop)]
-pub(super) struct EightCells;
+pub(super) struct EightTestCells;
 
-impl Subject for EightCells {
+impl Subject for EightTestCells {
     type Entry = u32;
 
     ghost places = { λ _. 8 };
@@ -27,9 +28,9 @@ impl Subject for EightCells {
     ghost untouched = { λ _ log entry place _ spared. last_stays place 0 log entry spared };
 }
 
-pub(super) type Table = Marks<EightCells>;
+pub(super) type Table = Marks<EightTestCells>;
 
-pub(super) type Token = Seat<EightCells>;
+pub(super) type Token = Seat<EightTestCells>;
 
 /// The worth of the place after the first entries of the script, found by going through them.
 fn worth_after(number: u32, place: u32) -> u32
@@ -105,9 +106,9 @@ fn works_at(marks: &Table, worker: &mut Token, number: u32, place: u32) -> (Look
 
 /// Works on the places in turn, and keeps what it saw.
 pub(super) fn works_on(marks: &Table, worker: Reader, number: u32) -> Reader
-    requires worker { IsReadingPlace marks.now worker number }
+    requires worker { IsScripted marks.now worker.0 number }
     requires room { number ≤ 1048576 }
-    ensures { IsReadingPlace marks.now result number }
+    ensures { IsScripted marks.now result.0 number }
 {
     let (mut seat, mut kept) = worker;
     for turn in 0..160 {
@@ -141,8 +142,8 @@ pub(super) fn is_right(look: Look) -> bool {
 
 /// Looks at the places in turn, and keeps what it saw.
 pub(super) fn views(marks: &Table, viewer: Reader) -> Reader
-    requires { IsReadingPlace marks.now viewer 0 }
-    ensures { IsReadingPlace marks.now result 0 }
+    requires { IsScripted marks.now viewer.0 0 }
+    ensures { IsScripted marks.now result.0 0 }
 {
     let (mut seat, mut kept) = viewer;
     for turn in 0..200 {
@@ -174,7 +175,7 @@ pub(super) fn opened(alloc: Global) -> Result<(Table, Token), Memory>
     ensures { IfOk result (λ r. IsEditing r.0 r.1 0) }
 {
     let none = [None, None, None, None, None, None, None, None];
-    Marks::open(alloc, EightCells, &none)
+    Marks::open(alloc, EightTestCells, &none)
 }
 
 /// Whether the worker gets all places computed for the whole script.
@@ -209,7 +210,7 @@ pub(super) fn shows_all(marks: &Table, seat: &mut Token) -> bool
 }
 
 /// Whether each place is free, marked with its last entry and computed for it.
-fn is_script(words: &Words<EightCells>) -> bool
+fn is_script(words: &Words<EightTestCells>) -> bool
     requires { closed_places words.now ≡ 8 }
 {
     for place in 0..8 {

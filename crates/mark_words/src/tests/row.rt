@@ -1,13 +1,13 @@
 #![tactic(auto)]
 
 ghost use Rattle.std.specs.Prelude.{◌≡◌, ◌<◌, ◌+◌};
-ghost use Rattle.mark_core.specs.TwoCells.{code_of};
+ghost use Rattle.mark_core.specs.Tests.TwoTestCells.{code_of};
 ghost use Rattle.mark_words.specs.Token.{IsSeatOf};
-ghost use Rattle.mark_words.specs.Trial.{IsReadyEditor, KnowsLast};
+ghost use Rattle.mark_words.specs.Tests.Threads.{IsReadyEditor, KnowsLast};
 
 use crate::tests::uses::{Loads, reads, recomputes};
 use crate::tests::{Table, Token, opened};
-use mark_core::{Clean, Seen, TwoCells, shown};
+use mark_core::{Clean, Seen, TwoTestCells, shown};
 use std::test::Fail;
 
 /// Marks both cells for the entry and commits it. The viewer reads the first one in between, and answers what it found.
@@ -42,7 +42,7 @@ fn code(place: u32, last: u32) -> u64
     requires { place < 2 }
     ensures { result ≡ code_of (last + place) }
 {
-    TwoCells::code(u64::from(last) + u64::from(place))
+    TwoTestCells::code(u64::from(last) + u64::from(place))
 }
 
 /// Computes the cell, and answers the mark for which it is known as clean then.
@@ -112,7 +112,7 @@ fn later_edits_show_as_stale_and_newer(rt: HostRuntime) -> Result<(), Fail> {
     assert_eq!(rt; computes(&marks, &mut worker, 1, 1, 5), Some(1));
     assert_eq!(rt; marks.see(&mut viewer), 1);
     let marked = found(sets(&marks, &mut editor, &mut viewer, 1, 6));
-    assert_eq!(rt; marked, (free(2), TwoCells::code(5), 2));
+    assert_eq!(rt; marked, (free(2), TwoTestCells::code(5), 2));
     assert_eq!(rt; shown(1, marked.0, marked.1, marked.2), Seen::Stale(2));
     let mut worker = hires(&marks, &mut editor, 2, 6);
     assert_eq!(rt; computes(&marks, &mut worker, 0, 2, 6), Some(2));

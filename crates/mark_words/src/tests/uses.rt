@@ -8,7 +8,7 @@ ghost use Rattle.mark_core.specs.Permission.{MayClaim};
 ghost use Rattle.mark_core.specs.Run.{IsOpening};
 ghost use Rattle.mark_words.specs.Token.{IsSeatOf, subject_of, places_of, doing_of, view_of, log_of, seen_of};
 ghost use Rattle.mark_words.specs.Token.{closed_places, closed_place};
-ghost use Rattle.mark_words.specs.Trial.{HasReadPlace, IsWorthOf, IsStaleAfter, AreLedTo};
+ghost use Rattle.mark_words.specs.Tests.Threads.{HasReadPlace, IsWorthOf, IsStaleAfter, AreLedTo};
 
 use crate::closing::Words;
 use crate::marks::Marks;

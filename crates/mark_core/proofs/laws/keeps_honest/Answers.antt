@@ -5,8 +5,9 @@ use Rattle.mark_core.proofs.Runs.{keeps_honest}
 use Rattle.mark_core.proofs.laws.keeps_honest.Goals as goal
 
 pub returns-clause-opening : goal.returns-clause-opening
-returns-clause-opening g c opening right =
-    opening_honest (g.S.Subject.places c.args._subject.now) (g.S.Subject.worth c.args._subject.now) (g.S.Subject.touches c.args._subject.now) opening right
+returns-clause-opening g c opening count codes =
+    opening_honest (g.S.Subject.places c.args._subject.now) (g.S.Subject.worth c.args._subject.now) (g.S.Subject.touches c.args._subject.now) opening
+    (record { count = count; codes = codes })
 
 pub returns-clause-event : goal.returns-clause-event
 returns-clause-event g c opening s event outcome after happens honest =

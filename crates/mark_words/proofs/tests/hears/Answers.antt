@@ -1,7 +1,7 @@
 -- The viewer knows at least what the other seat does.
 use Rattle.std.proofs.Common.{◌≤◌, length, arith, ap}
 use Rattle.mark_core.proofs.Prefixes.{prefix_length}
-use Rattle.mark_words.specs.declared.board.Doing.{Doing}
+use Rattle.mark_words.specs.declared.tables.Doing.{Doing}
 use Rattle.mark_words.proofs.tests.hears.Goals as goal
 
 pub returns-clause-viewer : goal.returns-clause-viewer

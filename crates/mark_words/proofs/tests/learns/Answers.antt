@@ -1,8 +1,8 @@
 -- The viewer knew nothing, and knows the editor's log.
 use Rattle.std.proofs.Common.{ℕ, length, ◌∙◌, ap, inl, inr, arith}
 use Rattle.mark_core.proofs.Prefixes.{prefix_length}
-use Rattle.mark_words.specs.declared.board.Doing.{Doing}
-use Rattle.mark_words.proofs.TrialLemmas.{ready_still}
+use Rattle.mark_words.specs.declared.tables.Doing.{Doing}
+use Rattle.mark_words.proofs.TestLemmas.{ready_still}
 use Rattle.mark_words.proofs.tests.learns.Goals as goal
 
 pub returns-clause-ready : goal.returns-clause-ready

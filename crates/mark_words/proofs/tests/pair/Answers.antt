@@ -1,7 +1,7 @@
 -- The editor's seat is as it was, and the new one knows what it knows.
 use Rattle.std.proofs.Common.{length, ◌∙◌, ap, arith}
-use Rattle.mark_words.specs.declared.board.Doing.{Doing}
-use Rattle.mark_words.proofs.TrialLemmas.{ready_still}
+use Rattle.mark_words.specs.declared.tables.Doing.{Doing}
+use Rattle.mark_words.proofs.TestLemmas.{ready_still}
 use Rattle.mark_words.proofs.tests.pair.Goals as goal
 
 pub returns-clause-ready : goal.returns-clause-ready

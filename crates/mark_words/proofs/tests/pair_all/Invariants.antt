@@ -1,6 +1,6 @@
 -- The editor's seat is as it was, and the pairs so far are right.
 use Rattle.std.specs.Prelude.{All}
-use Rattle.mark_words.specs.Trial.{IsReadyEditor, AreTwoSeats}
+use Rattle.mark_words.specs.Tests.Threads.{IsReadyEditor, AreTwoSeats}
 use Rattle.mark_words.proofs.tests.pair_all.Given as goal
 
 abbrev pub invariant-loop-viewer : goal.invariant-loop-viewer

@@ -3,7 +3,7 @@ use Rattle.std.proofs.Common.{◌≡◌, ◌+◌, ◌-◌, subst, arith, ℕ, If
 use Rattle.std.specs.declared.result.Result.{Result}
 use Rattle.std.specs.Prelude.{All}
 use Rattle.mark_words.specs.declared.seats.Seat.{Seat}
-use Rattle.mark_words.specs.Trial.{KnowsMany}
+use Rattle.mark_words.specs.Tests.Threads.{KnowsMany}
 use Rattle.mark_words.proofs.tests.rounds.Goals as goal
 
 pub loop-count-preserved : goal.loop-count-preserved

@@ -1,7 +1,7 @@
 -- The editor has so many entries, and each viewer all but the last hundred.
 use Rattle.std.proofs.Common.{◌≡◌, ◌≤◌, ◌-◌, ◌%◌}
 use Rattle.std.specs.Prelude.{All}
-use Rattle.mark_words.specs.Trial.{IsReadyEditor, KnowsMany}
+use Rattle.mark_words.specs.Tests.Threads.{IsReadyEditor, KnowsMany}
 use Rattle.mark_words.proofs.tests.rounds.Given as goal
 
 abbrev pub invariant-loop-count : goal.invariant-loop-count

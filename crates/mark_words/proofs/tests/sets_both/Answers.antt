@@ -1,9 +1,9 @@
 -- Both places are marked.
-use Rattle.mark_words.proofs.TrialLemmas.{both_marked, entry_pending, ready_next}
+use Rattle.mark_words.proofs.TestLemmas.{both_marked, entry_pending, ready_next}
 use Rattle.mark_words.proofs.tests.sets_both.Goals as goal
 
 pub commit-requires-clause-marked : goal.commit-requires-clause-marked
-commit-requires-clause-marked c entry pending place there touched =
+commit-requires-clause-marked c κs entry pending place there touched =
     both_marked c.args.marks.now c.args.editor.now c.mark.new.seat c.mark-2.new.seat 7 c.args.count _ c.requires.ready c.mark.ensures.doing c.mark-2.ensures.doing place touched
 
 pub returns-clause-ready : goal.returns-clause-ready

@@ -1,6 +1,6 @@
 -- The editor's seat has so many entries.
 use Rattle.std.proofs.Common.{◌≤◌, ◌-◌}
-use Rattle.mark_words.specs.Trial.{IsReadyEditor}
+use Rattle.mark_words.specs.Tests.Threads.{IsReadyEditor}
 use Rattle.mark_words.proofs.tests.sets_often.Given as goal
 
 abbrev pub invariant-loop-count : goal.invariant-loop-count

@@ -1,7 +1,7 @@
 use Rattle.std.proofs.Common.{◌+◌, ◌*◌, sym, ap, ◌∙◌}
 use Rattle.std.specs.Mem.Slots.{slots_items}
 use Rattle.mark_words.specs.Words.{clean_at}
-use Rattle.mark_words.proofs.Boards.{there_or}
+use Rattle.mark_words.proofs.TableLemmas.{there_or}
 use Rattle.mark_words.proofs.closing.Words.clean.Goals as goal
 
 pub returns : goal.returns

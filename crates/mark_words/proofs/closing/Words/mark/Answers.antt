@@ -1,6 +1,6 @@
 use Rattle.std.proofs.Common.{◌+◌, ◌*◌, sym}
 use Rattle.std.specs.Mem.Slots.{slots_items}
-use Rattle.mark_words.proofs.Boards.{there_or}
+use Rattle.mark_words.proofs.TableLemmas.{there_or}
 use Rattle.mark_words.proofs.closing.Words.mark.Goals as goal
 
 pub returns : goal.returns

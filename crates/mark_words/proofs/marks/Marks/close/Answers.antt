@@ -46,7 +46,7 @@ returns-clause-closed g c =
     c.loop-other.all.id c.loop-other.all.me.0 last.1.1 inv.live inv.editor (g.S.Subject.untouched c.args.self.table.shared.key.subject.value) last.2
     (inv.view ∙ ap (λ m. m.0.doing.view) split.2) (inv.edits ∙ ap (λ m. m.0.doing.edits) split.2) (inv.steps ∙ ap (λ m. m.0.steps) split.2)
     (c.args.editor.knows_all.log c.requires.editor)
-    (omega (arith, c.args.editor.has_desk.places c.in-Some.desk c.in-Some.is, c.args.self.sized, ap (λ z. z.words) c.requires.table.same_table))
+    (omega (arith, c.args.editor.has_own.places c.in-Some.own c.in-Some.is, c.args.self.sized, ap (λ z. z.words) c.requires.table.same_table))
     (ap (λ m. m.0.doing.view.log) split.4)
     _
     (ap (λ l. map past_of l ++ c.loop-other.all.me.0.doing.gathered) (sym none) ∙ inv.pasts)

@@ -1,6 +1,7 @@
 use Rattle.std.proofs.Common.{rules, arith, refl}
+use Rattle.mark_words.proofs.StepLemmas.{same_word}
 use Rattle.mark_words.proofs.WorkSteps.{finishes}
-use Rattle.mark_words.proofs.TokenLemmas.{rest_desk, rest_knows, rest_fits, finish_clean}
+use Rattle.mark_words.proofs.TokenLemmas.{rest_own, rest_knows, rest_fits, finish_clean}
 use Rattle.mark_words.proofs.marks.Marks.finish.Goals as goal
 
 pub store-requires : goal.store-requires
@@ -13,8 +14,8 @@ store-requires g c = (
       c.args.seat.now.live c.requires.there c.args.mark c.word_of-free.result c.requires.computed c.word_of-free.ensures refl refl,
 )
 
-pub invariant_of-seat-clause-has_desk : goal.invariant_of-seat-clause-has_desk
-invariant_of-seat-clause-has_desk g c = search (rules, rest_desk)
+pub invariant_of-seat-clause-has_own : goal.invariant_of-seat-clause-has_own
+invariant_of-seat-clause-has_own g c = search (rules, rest_own)
 
 pub invariant_of-seat-clause-knows_all : goal.invariant_of-seat-clause-knows_all
 invariant_of-seat-clause-knows_all g c = search (rules, rest_knows)
@@ -29,4 +30,4 @@ pub returns-clause-clean : goal.returns-clause-clean
 returns-clause-clean g c log last = finish_clean _ log _ _ _ _ (returns-clause-doing g c) last
 
 pub returns-clause-step : goal.returns-clause-step
-returns-clause-step g c = c.store.ensures.2.one c.args.place c.args.mark refl c.word_of-free.ensures
+returns-clause-step g c = same_word _ _ _ _ _ c.word_of-free.ensures (c.store.ensures.2.one c.args.place c.args.mark refl c.word_of-free.ensures)

@@ -1,12 +1,12 @@
 use Rattle.std.proofs.Common.{arith, sym, ◌∙◌, ap, subst}
-use Rattle.mark_words.specs.declared.board.Doing.{Doing}
-use Rattle.mark_words.specs.declared.board.History.{History}
+use Rattle.mark_words.specs.declared.tables.Doing.{Doing}
+use Rattle.mark_words.specs.declared.tables.History.{History}
 use Rattle.mark_core.specs.declared.events.Event.TheVariants.{See}
 use Rattle.mark_words.specs.Steps.{OneMore}
 use Rattle.mark_words.specs.Doing.{union_doing}
 use Rattle.mark_words.proofs.SeeSteps.{sees}
 use Rattle.mark_words.proofs.SeatSteps.{splits, joins}
-use Rattle.mark_words.proofs.Meets.{met, met_knows, met_live, met_desk, met_fits, met_clean, met_subject}
+use Rattle.mark_words.proofs.Meets.{met, met_knows, met_live, met_own, met_fits, met_clean, met_subject}
 use Rattle.mark_words.proofs.marks.Marks.meet.Goals as goal
 
 pub split_seat-note-requires : goal.split_seat-note-requires
@@ -51,9 +51,9 @@ invariant_of-seat g c =
     record {
       live = met_live _ c.args.seat.now.seat.me.0.doing c.args.other.now.seat.me.0.doing c.join_seat.new.seat.me c.load.new.seat.me c.load.result is c.load.ensures.2 c.args.seat.now.knows_all ∙ c.args.seat.now.live;
       bare = c.load.ensures.2.slots ∙ ap (λ m. m.1) c.join_seat.ensures.2 ∙ c.args.seat.now.bare;
-      has_desk =
-          met_desk _ c.args.seat.now.seat.me.0.doing c.args.other.now.seat.me.0.doing c.join_seat.new.seat.me c.load.new.seat.me c.load.result is c.load.ensures.2 c.args.seat.now.knows_all
-          c.args.seat.now.seat.table_id.words c.load.new.seat.table_id.words c.args.seat.now.desk same c.args.seat.now.has_desk;
+      has_own =
+          met_own _ c.args.seat.now.seat.me.0.doing c.args.other.now.seat.me.0.doing c.join_seat.new.seat.me c.load.new.seat.me c.load.result is c.load.ensures.2 c.args.seat.now.knows_all
+          c.args.seat.now.seat.table_id.words c.load.new.seat.table_id.words c.args.seat.now.editor_marks same c.args.seat.now.has_own;
       knows_all = met_knows _ c.args.seat.now.seat.me.0.doing c.args.other.now.seat.me.0.doing c.join_seat.new.seat.me c.load.new.seat.me c.load.result is c.load.ensures.2 c.args.seat.now.knows_all;
       fits =
           met_fits _ c.args.seat.now.seat.me.0.doing c.args.other.now.seat.me.0.doing c.join_seat.new.seat.me c.load.new.seat.me c.load.result is c.load.ensures.2 c.args.seat.now.knows_all
@@ -79,7 +79,10 @@ returns-clause-same g c =
       same_subject =
           met_subject _ c.args.seat.now.seat.me.0.doing c.args.other.now.seat.me.0.doing c.join_seat.new.seat.me c.load.new.seat.me c.load.result is c.load.ensures.2 c.args.seat.now.knows_all
           ∙ c.requires.table.same_subject;
+      same_places = c.requires.table.same_places;
     }
 
 pub returns-clause-step : goal.returns-clause-step
-returns-clause-step g c = subst (λ l. OneMore l c.load.new.seat.me.0.steps See) (ap (λ m. m.0.steps) c.join_seat.ensures.2) c.load.ensures.2.one
+returns-clause-step g c =
+    subst (λ n. OneMore c.args.seat.now.seat.me.0.steps c.load.new.seat.me.0.steps See n) (sym (ap (λ (d : Doing _ _). d.view.seen) c.load.ensures.2.doing))
+    (subst (λ l. OneMore l c.load.new.seat.me.0.steps See c.load.result) (ap (λ m. m.0.steps) c.join_seat.ensures.2) c.load.ensures.2.one)

@@ -1,6 +1,9 @@
-use Rattle.std.proofs.Common.{rules, arith, refl}
+use Rattle.std.proofs.Common.{rules, arith, refl, sym, ◌∙◌, ap}
+use Rattle.mark_words.specs.Words.{word_of_clean}
+use Rattle.mark_words.proofs.StepLemmas.{same_word}
+use Rattle.mark_words.proofs.TableLemmas.{code_of-clean_at}
 use Rattle.mark_words.proofs.ReadSteps.{reads_clean}
-use Rattle.mark_words.proofs.TokenLemmas.{rest_desk, rest_knows, clean_read_fits, begins}
+use Rattle.mark_words.proofs.TokenLemmas.{rest_own, rest_knows, clean_read_fits, begins}
 use Rattle.mark_words.proofs.marks.Marks.read_clean.Goals as goal
 
 pub load-requires : goal.load-requires
@@ -13,8 +16,8 @@ load-requires g c = (
       c.args.seat.now.live c.requires.there refl,
 )
 
-pub invariant_of-seat-clause-has_desk : goal.invariant_of-seat-clause-has_desk
-invariant_of-seat-clause-has_desk g c = search (rules, rest_desk)
+pub invariant_of-seat-clause-has_own : goal.invariant_of-seat-clause-has_own
+invariant_of-seat-clause-has_own g c = search (rules, rest_own)
 
 pub invariant_of-seat-clause-knows_all : goal.invariant_of-seat-clause-knows_all
 invariant_of-seat-clause-knows_all g c = search (rules, rest_knows)
@@ -27,4 +30,5 @@ pub returns-clause-begins : goal.returns-clause-begins
 returns-clause-begins g c = begins c.args.seat.now.seat.me.0.doing.view c.args.place _
 
 pub returns-clause-step : goal.returns-clause-step
-returns-clause-step g c = c.load.ensures.2.one c.args.place refl
+returns-clause-step g c =
+    same_word _ _ _ _ _ (sym (ap word_of_clean c.clean_of.ensures ∙ code_of-clean_at c.load.result)) (c.load.ensures.2.one c.args.place refl)

@@ -1,6 +1,6 @@
 use Rattle.std.proofs.Common.{rules, arith, refl}
 use Rattle.mark_words.proofs.ReadSteps.{reads_value, goes_on}
-use Rattle.mark_words.proofs.TokenLemmas.{rest_desk, rest_knows, value_read_fits}
+use Rattle.mark_words.proofs.TokenLemmas.{rest_own, rest_knows, value_read_fits}
 use Rattle.mark_words.proofs.marks.Marks.read_value.Goals as goal
 
 pub load-requires : goal.load-requires
@@ -13,8 +13,8 @@ load-requires g c = (
       c.args.seat.now.live c.requires.there refl,
 )
 
-pub invariant_of-seat-clause-has_desk : goal.invariant_of-seat-clause-has_desk
-invariant_of-seat-clause-has_desk g c = search (rules, rest_desk)
+pub invariant_of-seat-clause-has_own : goal.invariant_of-seat-clause-has_own
+invariant_of-seat-clause-has_own g c = search (rules, rest_own)
 
 pub invariant_of-seat-clause-knows_all : goal.invariant_of-seat-clause-knows_all
 invariant_of-seat-clause-knows_all g c = search (rules, rest_knows)

@@ -1,6 +1,6 @@
 -- The last round ends at two thousand.
 use Rattle.std.proofs.Common.{◌≡◌, ℕ, subst, arith}
-use Rattle.mark_words.specs.EightCells.{IsEditing}
+use Rattle.mark_words.specs.Tests.EightTestCells.{IsEditing}
 use Rattle.mark_words.proofs.tests.crowd.rounds.Goals as goal
 
 pub returns-clause-ready : goal.returns-clause-ready

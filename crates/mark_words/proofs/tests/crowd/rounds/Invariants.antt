@@ -2,13 +2,13 @@
 use Rattle.std.proofs.Common.{◌≡◌, ◌≤◌, ◌-◌, ◌%◌}
 use Rattle.std.specs.Prelude.{All}
 use Rattle.mark_words.specs.Token.{IsSeatOf}
-use Rattle.mark_words.specs.EightCells.{IsEditing, IsReadingPlace}
+use Rattle.mark_words.specs.Tests.EightTestCells.{IsEditing, IsScripted}
 use Rattle.mark_words.proofs.tests.crowd.rounds.Given as goal
 
 abbrev pub invariant-loop-number : goal.invariant-loop-number
 invariant-loop-number g l =
     (l.number ≤ 2000) × (l.number % 100 ≡ 0) × IsEditing l.marks l.editor l.number
-    × All (λ viewer. IsReadingPlace l.marks viewer 0) l.viewers.items × All (λ seat. IsSeatOf l.marks seat) l.done.items
+    × All (λ viewer. IsScripted l.marks viewer.0 0) l.viewers.items × All (λ seat. IsSeatOf l.marks seat) l.done.items
 
 abbrev pub decreases-loop-number : goal.decreases-loop-number
 decreases-loop-number g l = 2000 - l.number

@@ -1,8 +1,8 @@
 -- The next entry of the script is in the log.
 use Rattle.std.proofs.Common.{◌≡◌, ◌+◌, ◌++◌, ◌∷◌, [], ℕ, suc, length, sym, ◌∙◌, ap, arith}
-use Rattle.mark_words.specs.declared.board.Doing.{Doing}
-use Rattle.mark_words.specs.EightCells.{script}
-use Rattle.mark_words.proofs.TrialLemmas.{script_length}
+use Rattle.mark_words.specs.declared.tables.Doing.{Doing}
+use Rattle.mark_words.specs.Tests.EightTestCells.{script}
+use Rattle.mark_words.proofs.TestLemmas.{script_length}
 use Rattle.mark_words.proofs.tests.eight.sets.Goals as goal
 
 pub mark-requires-clause-number : goal.mark-requires-clause-number

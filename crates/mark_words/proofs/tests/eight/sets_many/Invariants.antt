@@ -1,6 +1,6 @@
 -- The editor's seat has so many entries.
 use Rattle.std.proofs.Common.{◌≤◌, ◌-◌}
-use Rattle.mark_words.specs.EightCells.{IsEditing}
+use Rattle.mark_words.specs.Tests.EightTestCells.{IsEditing}
 use Rattle.mark_words.proofs.tests.eight.sets_many.Given as goal
 
 abbrev pub invariant-loop-count : goal.invariant-loop-count

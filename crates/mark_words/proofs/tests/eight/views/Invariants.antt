@@ -1,5 +1,5 @@
 -- The viewer's log stays empty.
-use Rattle.mark_words.specs.EightCells.{IsScripted}
+use Rattle.mark_words.specs.Tests.EightTestCells.{IsScripted}
 use Rattle.mark_words.proofs.tests.eight.views.Given as goal
 
 abbrev pub invariant-loop-turn : goal.invariant-loop-turn

@@ -2,8 +2,8 @@
 use Rattle.std.proofs.Common.{◌≡◌, ◌+◌, ◌%◌, suc, sym, ◌∙◌, ap, arith}
 use Rattle.std.specs.Prelude.{if◌then◌else◌}
 use Rattle.std.proofs.lemmas.Bool.{eq-eqb, ne_eqb}
-use Rattle.mark_words.specs.EightCells.{last_setting, script}
-use Rattle.mark_words.proofs.TrialLemmas.{last_next}
+use Rattle.mark_words.specs.Tests.EightTestCells.{last_setting, script}
+use Rattle.mark_words.proofs.TestLemmas.{last_next}
 use Rattle.mark_words.proofs.tests.eight.worth_after.Goals as goal
 
 pub loop-next-preserved-then-next-place : goal.loop-next-preserved-then-next-place

@@ -1,6 +1,6 @@
 -- The last of the entries so far that sets the place.
 use Rattle.std.proofs.Common.{◌≡◌, ◌≤◌, ◌-◌}
-use Rattle.mark_words.specs.EightCells.{last_setting, script}
+use Rattle.mark_words.specs.Tests.EightTestCells.{last_setting, script}
 use Rattle.mark_words.proofs.tests.eight.worth_after.Given as goal
 
 abbrev pub invariant-loop-next : goal.invariant-loop-next

@@ -1,19 +1,19 @@
 -- The first worker knows the cell's code, and the mark that it read is the last one.
 use Rattle.std.proofs.Common.{◌<◌, ◌+◌, ℕ, List, sym, ◌∙◌, ap, subst, arith}
 use Rattle.mark_core.specs.Mark.{IsLastMark}
-use Rattle.mark_core.specs.TwoCells.{code_of, cell_code}
-use Rattle.mark_words.proofs.TrialLemmas.{last_read, may_put, may_finish}
+use Rattle.mark_core.specs.Tests.TwoTestCells.{code_of, cell_code}
+use Rattle.mark_words.proofs.TestLemmas.{last_read, may_put, may_finish}
 use Rattle.mark_words.proofs.tests.row.contends.Goals as goal
 
 pub put-requires-clause-held : goal.put-requires-clause-held
-put-requires-clause-held c =
+put-requires-clause-held c κs =
     may_put (λ (log : List ℕ) (place : ℕ). cell_code log place) (λ (log : List ℕ) (entry place : ℕ). place < 2)
     c.reads-own.new.seat.seat.me.0.doing c.claim.new.seat.seat.me.0.doing c.args.place c.code.result c.reads-own.result.mark
     (ap (λ l. cell_code l c.args.place) c.reads-own.ensures.read.log ∙ ap (λ n. code_of (n + c.args.place)) c.requires.first.ends ∙ sym c.code.ensures)
     c.in-Ok.ensures.taken
 
 pub finish-requires-clause-computed : goal.finish-requires-clause-computed
-finish-requires-clause-computed c =
+finish-requires-clause-computed c κs =
     may_finish (λ (log : List ℕ) (place : ℕ). cell_code log place) (λ (log : List ℕ) (entry place : ℕ). place < 2)
     c.reads-own.new.seat.seat.me.0.doing c.claim.new.seat.seat.me.0.doing c.args.place c.code.result c.reads-own.result.mark
     (ap (λ l. cell_code l c.args.place) c.reads-own.ensures.read.log ∙ ap (λ n. code_of (n + c.args.place)) c.requires.first.ends ∙ sym c.code.ensures)

@@ -1,8 +1,8 @@
 -- The editor's seat is as it was, and the worker's knows what it knows.
 use Rattle.std.proofs.Common.{length, ◌∙◌, ap}
-use Rattle.mark_core.specs.TwoCells.{last_or}
-use Rattle.mark_words.specs.declared.board.Doing.{Doing}
-use Rattle.mark_words.proofs.TrialLemmas.{ready_still}
+use Rattle.mark_core.specs.Tests.TwoTestCells.{last_or}
+use Rattle.mark_words.specs.declared.tables.Doing.{Doing}
+use Rattle.mark_words.proofs.TestLemmas.{ready_still}
 use Rattle.mark_words.proofs.tests.row.hires.Goals as goal
 
 pub returns-clause-ready : goal.returns-clause-ready

@@ -1,12 +1,12 @@
 -- Both cells are marked, and the entry is the last one.
 use Rattle.std.proofs.Common.{ℕ, ◌∙◌, ap}
-use Rattle.mark_core.specs.TwoCells.{last_or}
-use Rattle.mark_words.specs.declared.board.Doing.{Doing}
-use Rattle.mark_words.proofs.TrialLemmas.{both_marked, entry_pending, ready_next, last_added}
+use Rattle.mark_core.specs.Tests.TwoTestCells.{last_or}
+use Rattle.mark_words.specs.declared.tables.Doing.{Doing}
+use Rattle.mark_words.proofs.TestLemmas.{both_marked, entry_pending, ready_next, last_added}
 use Rattle.mark_words.proofs.tests.row.sets.Goals as goal
 
 pub commit-requires-clause-marked : goal.commit-requires-clause-marked
-commit-requires-clause-marked c entry pending place there touched =
+commit-requires-clause-marked c κs entry pending place there touched =
     both_marked c.args.marks.now c.args.editor.now c.mark.new.seat c.mark-2.new.seat c.args.entry c.args.count _ c.requires.ready c.mark.ensures.doing c.mark-2.ensures.doing place touched
 
 pub returns-clause-ready : goal.returns-clause-ready

@@ -1,6 +1,6 @@
 use Rattle.std.proofs.Common.{ap}
-use Rattle.mark_words.specs.declared.board.Doing.{Doing}
-use Rattle.mark_words.proofs.TrialLemmas.{worth_read}
+use Rattle.mark_words.specs.declared.tables.Doing.{Doing}
+use Rattle.mark_words.proofs.TestLemmas.{worth_read}
 use Rattle.mark_words.proofs.tests.uses.looks.Goals as goal
 
 pub returns-clause-worth : goal.returns-clause-worth

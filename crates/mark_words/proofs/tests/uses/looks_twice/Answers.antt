@@ -1,4 +1,4 @@
-use Rattle.mark_words.proofs.TrialLemmas.{stale_after}
+use Rattle.mark_words.proofs.TestLemmas.{stale_after}
 use Rattle.mark_words.proofs.tests.uses.looks_twice.Goals as goal
 
 pub returns-clause-later : goal.returns-clause-later

@@ -1,4 +1,4 @@
-use Rattle.mark_words.proofs.TrialLemmas.{has_read}
+use Rattle.mark_words.proofs.TestLemmas.{has_read}
 use Rattle.mark_words.proofs.tests.uses.reads.Goals as goal
 
 pub returns-clause-read : goal.returns-clause-read

@@ -1,6 +1,6 @@
--- What the trials of reads and work rest on.
+-- What the tests of reads and work rest on.
 use Rattle.std.proofs.Common.{◌≡◌, ◌≢◌, ◌<◌, ◌≤◌, ◌+◌, ◌==◌, ℕ, zero, suc, List, [], ◌∷◌, ◌++◌, Some, None, map, length, false, true, refl, sym, ◌∙◌, ap, subst, inl, inr, arith, length-append}
-use Rattle.std.specs.Prelude.{Contains, if◌then◌else◌, ◌%◌}
+use Rattle.std.specs.Prelude.{Contains, IfOk, Result, Ok, Err, if◌then◌else◌, ◌%◌}
 use Rattle.std.proofs.Math.Seq.{take-length}
 use Rattle.std.proofs.lemmas.List.Elements.{Contains-push}
 use Rattle.std.proofs.lemmas.Bool.{cond_both, cases_lt, eq-eqb}
@@ -13,19 +13,19 @@ use Rattle.mark_core.specs.declared.answers.Seen.TheVariants.{Value, Stale, Newe
 use Rattle.mark_core.specs.declared.actors.View.{View}
 use Rattle.mark_core.specs.Answer.{Shows}
 use Rattle.mark_core.specs.Mark.{IsLastMark}
-use Rattle.mark_core.specs.TwoCells.{last_or}
+use Rattle.mark_core.specs.Tests.TwoTestCells.{last_or}
 use Rattle.mark_core.specs.View.{new_half, read_of, hold_with}
 use Rattle.mark_core.specs.declared.subjects.Subject.{Ghosts}
 use Rattle.mark_core.specs.Permission.{IsWorthKnown, MayClaim, MayPut, MayFinish}
 use Rattle.mark_core.proofs.Prefixes.{last_mark_unique}
-use Rattle.mark_words.specs.declared.board.Doing.{Doing}
+use Rattle.mark_words.specs.declared.tables.Doing.{Doing}
 use Rattle.mark_words.specs.declared.marks.Marks.{Marks}
 use Rattle.mark_words.specs.declared.seats.Seat.{Seat}
 use Rattle.mark_words.specs.Doing.{with_clean_read, with_value_read, with_mark_read, with_claim, with_word_put, with_mark, with_commit}
 use Rattle.mark_words.specs.Read.{IsWorthAfter, TellsOf, GoesOn, Ends, TellsOfRead}
-use Rattle.mark_words.specs.EightCells.{last_setting, script}
+use Rattle.mark_words.specs.Tests.EightTestCells.{last_setting, script}
 use Rattle.mark_words.specs.Token.{IsSeatOf, doing_of}
-use Rattle.mark_words.specs.Trial.{IsReadyEditor, HasReadPlace, IsWorthOf, IsStaleAfter}
+use Rattle.mark_words.specs.Tests.Threads.{IsReadyEditor, HasReadPlace, IsWorthOf, IsStaleAfter}
 use Rattle.mark_words.proofs.ReadSteps.{read_end_cases}
 use Rattle.mark_words.proofs.TokenLemmas.{begins}
 
@@ -244,3 +244,8 @@ module _ {S E : Type 0} {G : Ghosts S E} (marks : Marks S E) (before first secon
             ∙ ap (λ (d : Doing S E). length d.view.log + 1) both ∙ ap (λ (d : Doing S E). length d.view.log + 1) one
             ∙ ap (λ n. n + 1) ready.entries;
       }
+
+-- what two facts of a result give together
+pub ok_both : {A B : Type 0} (r : Result A B) (P Q Z : A → Type 0) → IfOk r P → IfOk r Q → ((x : A) → P x → Q x → Z x) → IfOk r Z
+ok_both (Ok x) P Q Z p q f = f x p q
+ok_both (Err e) P Q Z p q f = p

@@ -1,4 +1,4 @@
--- Eight places for trials: entry n sets the place that n leaves when divided by 8.
+-- Eight places for tests: entry n sets the place that n leaves when divided by 8.
 use Rattle.std.specs.Prelude.{refl, ◌≡◌, ◌==◌, ◌%◌, ℕ, zero, suc, List, [], ◌∷◌, ◌++◌, Bool, true, false, None, if◌then◌else◌}
 use Rattle.mark_core.specs.declared.subjects.Subject.{Ghosts}
 use Rattle.mark_words.specs.declared.marks.Marks.{Marks}
@@ -42,7 +42,3 @@ pub record IsEditing {S : Type 0} {G : Ghosts S ℕ} (marks : Marks S ℕ) (seat
   pub editor : is_editor seat ≡ true
   pub pending : (edits_of seat).pending ≡ None
   pub marked : (edits_of seat).marked ≡ []
-
--- the first of the two is a seat of the table that knows so many entries
-pub record IsReadingPlace {S X : Type 0} {G : Ghosts S ℕ} (marks : Marks S ℕ) (reader : Seat S ℕ G × X) (number : ℕ) : Type 0 where
-  pub scripted : IsScripted marks reader.0 number

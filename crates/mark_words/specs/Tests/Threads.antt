@@ -1,21 +1,21 @@
--- What the trials with threads keep.
+-- What the tests with threads keep.
 use Rattle.std.specs.Prelude.{◌≡◌, ◌<◌, ◌≤◌, ◌+◌, ℕ, List, [], ◌∷◌, ◌++◌, Some, None, true, length, Contains, Option}
 use Rattle.mark_core.specs.declared.words.Clean.{Clean}
 use Rattle.mark_core.specs.declared.words.Half.{Half}
 use Rattle.mark_core.specs.declared.answers.Seen.{Seen}
 use Rattle.mark_core.specs.declared.answers.Seen.TheVariants.{Value, Stale, Newer}
-use Rattle.mark_core.specs.TwoCells.{last_or}
-use Rattle.mark_core.specs.declared.events.Event.{Event}
+use Rattle.mark_core.specs.Tests.TwoTestCells.{last_or}
 use Rattle.mark_core.specs.declared.words.Place.{Place}
 use Rattle.mark_core.specs.Place.{place_at}
 use Rattle.mark_core.specs.State.{State, opening_state}
-use Rattle.mark_core.specs.Run.{Runs}
 use Rattle.mark_core.specs.View.{read_of}
 use Rattle.mark_core.specs.declared.subjects.Subject.{Ghosts}
-use Rattle.mark_words.specs.declared.board.Doing.{Doing}
+use Rattle.mark_words.specs.declared.tables.Doing.{Doing}
+use Rattle.mark_words.specs.declared.tables.Made.{Made}
 use Rattle.mark_words.specs.declared.marks.Marks.{Marks}
 use Rattle.mark_words.specs.declared.seats.Seat.{Seat}
 use Rattle.mark_words.specs.Read.{IsWorthAfter, TellsOf}
+use Rattle.mark_words.specs.Run.{RunsWith}
 use Rattle.mark_words.specs.Token.{IsSeatOf, places_of, is_editor, edits_of, log_of}
 
 -- the seat is the editor's one of a table with two places, with so many entries and none that is pending
@@ -77,8 +77,8 @@ pub record KnowsLast {S : Type 0} {G : Ghosts S ℕ} (marks : Marks S ℕ) (seat
 
 -- events have led from these codes to a state with these places
 pub record AreLedTo {E : Type 0} (worth : List E → ℕ → ℕ) (touches : List E → E → ℕ → Type 0) (opening : List (Option ℕ)) (places : ℕ) (place_of : ℕ → Place) : Type 0 where
-  pub events : List (Event E)
+  pub events : List (Made E)
   pub core : State E
-  pub run : Runs worth touches (opening_state opening) events core
+  pub run : RunsWith worth touches (opening_state opening) events core
   pub count : length core.places ≡ places
   pub each : (place : ℕ) → place < places → place_of place ≡ place_at core.places place

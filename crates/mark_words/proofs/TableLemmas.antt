@@ -4,6 +4,7 @@ use Rattle.std.specs.Prelude.{slice_index, slice_set}
 use Rattle.std.proofs.Math.ListN.{length-set}
 use Rattle.std.specs.Prelude.{Contains}
 use Rattle.std.proofs.lemmas.List.{get_or_append_left, get_or_push}
+use Rattle.std.proofs.lemmas.Bool.{cond_both, eqb-true, eqb-false}
 use mathlib.Core.Option.{some, some-injective, some-ne-none}
 use lib.ListN.{get_elem?}
 use Rattle.atomic_table.proofs.Lists.{at_set, set_else, set_here, at_longer}
@@ -13,11 +14,11 @@ use Rattle.mark_core.specs.declared.words.Place.{Place}
 use Rattle.mark_core.specs.Place.{place_at}
 use Rattle.mark_core.specs.Mark.{IsPrefix}
 use Rattle.mark_core.specs.State.{State, view_at, spent_view}
-use Rattle.mark_core.specs.declared.events.Event.{Event}
-use Rattle.mark_words.specs.declared.board.Doing.{Doing}
-use Rattle.mark_words.specs.declared.board.OwnStep.{OwnStep}
-use Rattle.mark_words.specs.declared.board.Past.{Past}
-use Rattle.mark_words.specs.Words.{word_of_clean, clean_at, shown_place, words_of_places}
+use Rattle.mark_words.specs.declared.tables.Doing.{Doing}
+use Rattle.mark_words.specs.declared.tables.Made.{Made}
+use Rattle.mark_words.specs.declared.tables.OwnStep.{OwnStep}
+use Rattle.mark_words.specs.declared.tables.Past.{Past}
+use Rattle.mark_words.specs.Words.{word_of_clean, clean_at, shown_place, words_of_places, words_of_state}
 use Rattle.mark_words.specs.Rule.{IsRightSeat, IsSpent, past_at, AreGathered, AreSeats, NameSubject}
 use Rattle.mark_words.specs.Steps.{steps_of}
 
@@ -172,14 +173,14 @@ spent_else : {S E : Type 0} (seats : List (Doing S E)) (id n : ℕ) (after : Doi
 spent_else seats id n after apart was = record { doing = was.doing; there = set_else seats id n after apart ∙ was.there; spent = was.spent }
 
 -- the same of a seat where state and events have the same of it
-past_same : {E : Type 0} (core core' : State E) (events events' : List (Event E)) (n : ℕ) → view_at core' n ≡ view_at core n
+past_same : {E : Type 0} (core core' : State E) (events events' : List (Made E)) (n : ℕ) → view_at core' n ≡ view_at core n
     → steps_of events' n ≡ steps_of events n → past_at core' events' n ≡ past_at core events n
 past_same {E} core core' events events' n view steps =
     ap (λ v. (let p : Past E = record { view = v; steps = steps_of events' n } in p)) view
     ∙ ap (λ l. (let p : Past E = record { view = view_at core n; steps = l } in p)) steps
 
 -- what was handed in, where the seats stay spent and what state and events have of them stays
-gathered_moves : {S E : Type 0} (core core' : State E) (events events' : List (Event E)) (seats seats' : List (Doing S E)) (pasts : List (Past E))
+gathered_moves : {S E : Type 0} (core core' : State E) (events events' : List (Made E)) (seats seats' : List (Doing S E)) (pasts : List (Past E))
     → ((n : ℕ) → IsSpent seats n → IsSpent seats' n × (past_at core' events' n ≡ past_at core events n)) → AreGathered core events seats pasts
     → AreGathered core' events' seats' pasts
 gathered_moves core core' events events' seats seats' pasts moves g =
@@ -190,10 +191,10 @@ gathered_moves core core' events events' seats seats' pasts moves g =
       apart = g.apart;
     }
 
-pub none_gathered : {S E : Type 0} (core : State E) (events : List (Event E)) (seats : List (Doing S E)) → AreGathered core events seats []
+pub none_gathered : {S E : Type 0} (core : State E) (events : List (Made E)) (seats : List (Doing S E)) → AreGathered core events seats []
 none_gathered core events seats = record { numbers = []; same = refl; spent = λ n among. absurd (let lt : among.0 < 0 = among.1 in omega arith); apart = tt }
 
-more_gathered : {S E : Type 0} (core : State E) (events : List (Event E)) (seats : List (Doing S E)) (n : ℕ) (past : Past E) (pasts : List (Past E))
+more_gathered : {S E : Type 0} (core : State E) (events : List (Made E)) (seats : List (Doing S E)) (n : ℕ) (past : Past E) (pasts : List (Past E))
     → IsSpent seats n → past_at core events n ≡ past → (g : AreGathered core events seats pasts) → (Contains g.numbers n → ⊥)
     → AreGathered core events seats (past ∷ pasts)
 more_gathered {S} {E} core events seats n past pasts spent same g fresh =
@@ -208,7 +209,7 @@ more_gathered {S} {E} core events seats n past pasts spent same g fresh =
       apart = (fresh, g.apart);
     }
 
-module _ {S E : Type 0} (core core' : State E) (events events' : List (Event E)) (seats : List (Doing S E)) (are : AreSeats core events seats)
+module _ {S E : Type 0} (core core' : State E) (events events' : List (Made E)) (seats : List (Doing S E)) (are : AreSeats core events seats)
     (id : ℕ) (doing after : Doing S E) (at : get_elem? seats id ≡ some doing) (live : doing.view.spent ≡ false) where
   pub id_within : id < length core.views
   id_within = omega (arith, are.count, some_within seats id doing at)
@@ -246,7 +247,7 @@ module _ {S E : Type 0} (core core' : State E) (events events' : List (Event E))
       }
 
 -- the seats with one more
-pub seat_added : {S E : Type 0} (core core' : State E) (events events' : List (Event E)) (seats : List (Doing S E)) (new : Doing S E) → AreSeats core events seats
+pub seat_added : {S E : Type 0} (core core' : State E) (events events' : List (Made E)) (seats : List (Doing S E)) (new : Doing S E) → AreSeats core events seats
     → core'.views ≡ core.views ++ new.view ∷ [] → ((j : ℕ) → steps_of events' j ≡ steps_of events j) → new.gathered ≡ []
     → ((j : ℕ) (u : Doing S E) → IsRightSeat core j u → IsRightSeat core' j u) → IsRightSeat core' (length seats) new
     → AreSeats core' events' (seats ++ new ∷ [])
@@ -285,7 +286,7 @@ seat_added {S} {E} core core' events events' seats new are views steps none othe
     front j lt = ap (λ vs. get_or vs j spent_view) views ∙ get_or_append_left core.views (new.view ∷ []) spent_view j (omega (arith, are.count))
 
 -- the seats after one was handed in to another, which has its view from then on: the state keeps its view
-module _ {S E : Type 0} (core : State E) (events : List (Event E)) (seats : List (Doing S E)) (are : AreSeats core events seats)
+module _ {S E : Type 0} (core : State E) (events : List (Made E)) (seats : List (Doing S E)) (are : AreSeats core events seats)
     (id other : ℕ) (doing note spent : Doing S E) (steps : List (OwnStep E)) (made : steps ≡ steps_of events other) (at : get_elem? seats id ≡ some doing) (live : doing.view.spent ≡ false)
     (there : get_elem? seats other ≡ some note) (live' : note.view.spent ≡ false) (apart : other ≢ id) where
   abbrev after : Doing S E
@@ -370,6 +371,13 @@ clean_at-code_of_parts upto false =
 pub clean_at-code_of : (clean : Clean) → clean_at (word_of_clean clean) ≡ clean
 clean_at-code_of clean = clean_at-code_of_parts clean.upto clean.held
 
+-- each word is that of the clean word which it stands for
+pub code_of-clean_at : (word : ℕ) → word_of_clean (clean_at word) ≡ word
+code_of-clean_at word =
+    cond_both (word % 2 == 1) (2 * (word / 2) + 1) (2 * (word / 2)) (λ n. n ≡ word)
+    (λ e. let odd : word % 2 ≡ 1 = eqb-true (word % 2) 1 e in omega arith)
+    (λ e. let even : word % 2 ≢ 1 = eqb-false (word % 2) 1 e in omega arith)
+
 -- the words of a place, behind those of another one
 shown_next : (a b c : ℕ) (words : List ℕ) (place : ℕ) → shown_place (a ∷ b ∷ c ∷ words) (suc place) ≡ shown_place words place
 shown_next a b c words place =
@@ -387,3 +395,21 @@ shown_same count (p ∷ places) zero lt =
     ap (λ c. (let q : Place = record { mark = p.mark; clean = c; value = p.value } in q)) (clean_at-code_of p.clean)
 shown_same count (p ∷ places) (suc place) lt =
     shown_next count p.mark (word_of_clean p.clean) (p.value ∷ words_of_places places) place ∙ shown_same p.value places place (omega arith)
+
+-- the words of a table are those of its state
+pub words_shown : {E : Type 0} (words : List ℕ) (s : State E) (places : ℕ) → length s.places ≡ places → words ≡ words_of_state s
+    → (slice_index words 0 ≡ length s.edits.log)
+    × ((place : ℕ) → place < places
+    → (slice_index words (3 * place + 1) ≡ (place_at s.places place).mark)
+    × (clean_at (slice_index words (3 * place + 2)) ≡ (place_at s.places place).clean)
+    × (slice_index words (3 * place + 3) ≡ (place_at s.places place).value))
+words_shown {E} words s places count is = (
+  ap (λ ws. slice_index ws 0) is,
+  λ place lt.
+      let there : place < length s.places = omega (arith, lt, count) in (
+        ap (λ ws. slice_index ws (3 * place + 1)) is ∙ mark_word (length s.edits.log) s.places place there,
+        ap (λ ws. clean_at (slice_index ws (3 * place + 2))) is ∙ ap clean_at (clean_word (length s.edits.log) s.places place there)
+            ∙ clean_at-code_of (place_at s.places place).clean,
+        ap (λ ws. slice_index ws (3 * place + 3)) is ∙ value_word (length s.edits.log) s.places place there,
+      ),
+)

@@ -2,16 +2,16 @@
 use Rattle.std.specs.Prelude.{◌≡◌, ◌<◌, ◌≤◌, ◌+◌, ◌*◌, ◌^◌, ℕ, true, Option, Some, is_some, IsSome, length, All}
 use Rattle.std.specs.Option.{ForSome}
 use Rattle.mark_core.specs.declared.words.Half.{Half}
-use Rattle.mark_words.specs.declared.board.Doing.{Doing}
-use Rattle.mark_words.specs.declared.seats.Desk.{Desk}
+use Rattle.mark_words.specs.declared.tables.Doing.{Doing}
+use Rattle.mark_words.specs.declared.seats.EditorMarks.{EditorMarks}
 
--- The editor's seat has a desk and no other has, with the length of its log and the marks that it knows, one for
+-- The editor's seat has such marks and no other has, with the length of its log and the marks that it knows, one for
 -- each place of a table of so many words.
-pub record HasDesk {S E : Type 0} (words : ℕ) (doing : Doing S E) (desk : Option Desk) : Type 0 where
-  pub editor : doing.editor ≡ is_some desk
-  pub count : ForSome desk (λ d. d.count ≡ length doing.view.log)
-  pub marks : ForSome desk (λ d. d.marks.items ≡ doing.marks)
-  pub places : ForSome desk (λ d. words ≡ 3 * length d.marks.items + 1)
+pub record HasEditorMarks {S E : Type 0} (words : ℕ) (doing : Doing S E) (own : Option EditorMarks) : Type 0 where
+  pub editor : doing.editor ≡ is_some own
+  pub count : ForSome own (λ d. d.count ≡ length doing.view.log)
+  pub marks : ForSome own (λ d. d.marks.items ≡ doing.marks)
+  pub places : ForSome own (λ d. words ≡ 3 * length d.marks.items + 1)
 
 -- The editor's seat knows the whole log, and has seen its length. A log with a pending entry has room for it, since
 -- places were marked with its number.

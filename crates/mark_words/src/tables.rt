@@ -21,10 +21,17 @@ pub struct Doing<S, E> {
     pub marks: LinkedList<u64>,
 }
 
-/// A single step of a seat: the event that it was, and its number among the single steps of the table, from 0.
+/// What a single step did: the event that it was, and the word of the table that it loaded or stored, or that a claim
+/// found. No program makes a value.
+pub struct Made<E> {
+    pub event: Event<E>,
+    pub word: u64,
+}
+
+/// A single step of a seat, with its number among the single steps of the table, from 0.
 pub struct OwnStep<E> {
     pub number: u64,
-    pub event: Event<E>,
+    pub made: Made<E>,
 }
 
 /// What a seat knew and did when it was handed in.
@@ -60,7 +67,7 @@ impl<S: Subject> TableRule<S::Entry, History<S, S::Entry>, Topic<S>> for Keeps<S
     ghost first = { first_history };
 }
 
-pub(crate) type Board<S: Subject> = Table<
+pub(crate) type MarkTable<S: Subject> = Table<
     S::Entry,
     History<S, S::Entry>,
     Topic<S>,

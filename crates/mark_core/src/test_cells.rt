@@ -1,7 +1,7 @@
 #![tactic(auto)]
 
 ghost use Rattle.std.specs.Prelude.{◌≡◌, ◌<◌, ◌+◌, ◌^◌};
-ghost use Rattle.mark_core.specs.TwoCells.{code_of, cell_code, last_or};
+ghost use Rattle.mark_core.specs.Tests.TwoTestCells.{code_of, cell_code, last_or};
 
 use crate::subjects::{Judge, Subject};
 use crate::words::Memory;
@@ -10,9 +10,9 @@ use std::alloc::Global;
 /// The smallest subject with a formula in it, for trials of the protocol: two cells, of which each edit
 /// sets the first to a number, 1 at first, and the second is one more. Every edit touches both.
 #[derive(Clone, Copy, Debug)]
-pub struct TwoCells;
+pub struct TwoTestCells;
 
-impl TwoCells {
+impl TwoTestCells {
     /// The code of a number.
     pub fn code(number: u64) -> u64
         requires { number < 2 ^ 33 }
@@ -22,7 +22,7 @@ impl TwoCells {
     }
 }
 
-impl Subject for TwoCells {
+impl Subject for TwoTestCells {
     type Entry = u32;
 
     ghost places = { λ _. 2 };
@@ -34,7 +34,7 @@ impl Subject for TwoCells {
     ghost untouched = { λ _ _ _ _ there spared. absurd (spared there) };
 }
 
-impl Judge for TwoCells {
+impl Judge for TwoTestCells {
     fn touches_now(
         &self,
         _alloc: Global,
@@ -46,7 +46,7 @@ impl Judge for TwoCells {
     }
 
     fn worth_now(&self, _alloc: Global, log: &[u32], place: u32) -> Result<u64, Memory> {
-        Ok(TwoCells::code(u64::from(last(log)) + u64::from(place)))
+        Ok(TwoTestCells::code(u64::from(last(log)) + u64::from(place)))
     }
 
     fn same_now(&self, a: &u32, b: &u32) -> bool {

@@ -1,0 +1,3 @@
+-- What the tests of this crate speak of. Nothing else rests on it.
+pub mod Threads
+pub mod EightTestCells
