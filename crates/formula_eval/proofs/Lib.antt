@@ -1,6 +1,8 @@
 pub mod CircularFunctions
 pub mod CircularMeaning
 pub mod ClipLemmas
+pub mod FormulaInRange
+pub mod InRange
 pub mod MachineLemmas
 pub mod MeaningLemmas
 pub mod NodeLemmas

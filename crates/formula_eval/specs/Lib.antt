@@ -1,6 +1,7 @@
 pub mod Functions
 pub mod Inputs
 pub mod Items
+pub mod Laws
 pub mod Meaning
 pub mod Pending
 pub mod Seen

@@ -13,6 +13,7 @@ mod evaluation;
 mod function_tests;
 mod inputs;
 mod items;
+mod laws;
 mod machine;
 mod scalars;
 mod scan;
@@ -23,4 +24,5 @@ mod tests;
 
 pub use evaluation::{eval, eval_known};
 pub use inputs::{Inputs, Missing};
+pub use laws::eval_laws;
 pub use stack::Stack;

@@ -53,7 +53,7 @@ even_square (negsuc zero) n small some even =
     rw half (even_power (n / 2))
 even_square (negsuc (suc m)) n small some even = absurd (omega arith)
 
-size_of_neg : (z : ℤ) → nat_abs (neg_ℤ z) ≡ nat_abs z
+pub size_of_neg : (z : ℤ) → nat_abs (neg_ℤ z) ≡ nat_abs z
 size_of_neg (pos zero) = refl
 size_of_neg (pos (suc n)) = refl
 size_of_neg (negsuc n) = refl

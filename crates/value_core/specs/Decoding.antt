@@ -1,13 +1,12 @@
 -- The value of a word.
-use Rattle.std.specs.Prelude.{◌≡◌, ℕ, zero, suc, ◌+◌, ◌*◌, ◌/◌, ◌%◌, ◌^◌, ◌<◌, ℤ, pos, negsuc, ◌+ℤ◌, ◌-ℤ◌, nat_abs, ◌==◌, Bool, true, false, if◌then◌else◌, List, [], ◌∷◌, slice_index_or, refl}
-use Rattle.std.proofs.Common.{sym, ◌∙◌, ap, arith, cond}
+use Rattle.std.specs.Prelude.{◌≡◌, ℕ, ◌+◌, ◌*◌, ◌/◌, ◌%◌, ◌^◌, ◌<◌, pos, ◌+ℤ◌, ◌-ℤ◌, nat_abs, ◌==◌, true, false, if◌then◌else◌, List, [], ◌∷◌, slice_index_or, refl}
+use Rattle.std.proofs.Common.{◌∙◌, ap, arith}
 use Rattle.std.proofs.lemmas.Int.{ints}
 use Rattle.value_core.specs.declared.value.ErrorKind.{ErrorKind}
 use Rattle.value_core.specs.declared.value.ErrorKind.TheVariants as error
 use Rattle.value_core.specs.declared.value.Value.{Value}
 use Rattle.value_core.specs.declared.value.Value.TheVariants.{Empty, Number, Truth, Error, Label}
 use Rattle.value_core.specs.Values.{IsValue, code_of, place_of_error}
-use Rattle.value_core.specs.Wholes.{IsWhole}
 
 -- the table of errors
 abbrev pub errors : List ErrorKind

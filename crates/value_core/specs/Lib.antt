@@ -1,5 +1,6 @@
 pub mod Conversions
 pub mod Decoding
+pub mod Laws
 pub mod Operators
 pub mod Powers
 pub mod Values
