@@ -1,4 +1,7 @@
+pub mod BookLemmas
+pub mod InputLemmas
 pub mod ListMembers
 pub mod PairLemmas
+pub mod PlaceLemmas
 pub mod RowLemmas
 pub mod TouchLemmas

@@ -27,7 +27,7 @@ mod tests;
 
 pub use book::Book;
 pub use graphs::graph_of;
-pub use laws::touch_laws;
+pub use laws::{book_laws, pair_laws, place_laws, touch_laws};
 pub use over_sheet::OverSheet;
 pub use prepared::{Applied, Prepared};
 pub use refused::PrepareRefused;
