@@ -4,4 +4,5 @@ pub mod ListMembers
 pub mod PairLemmas
 pub mod PlaceLemmas
 pub mod RowLemmas
+pub mod Sent
 pub mod TouchLemmas
