@@ -65,7 +65,7 @@ module _ (rows : Rows) (fields : List (List ℕ)) (field : List ℕ) (old new : 
 
   sheet_filled : IsSheet old → length old.labels < 2 ^ 32 - 1 → IsSheet new
   sheet_filled is room = subst IsSheet (sym put.placed)
-      (sheet_with_content labelled (cell_there (length rows) (length fields)) put.content (sheet_labelled is room) (held_content new.labels field put.content put.writes))
+      (sheet_with_content labelled (cell_there (length rows) (length fields)) put.content (sheet_labelled is room) (held_content new.labels field put.content (sheet_labelled is room).table (omega (arith, put.short)) put.writes))
 
   kept_cell : IsSheet labelled → (row col : ℕ) → (row ≡ length rows → col ≢ length fields)
       → IsContent old.labels (field_at (rows ++ fields ∷ []) row col) (content_of old (cell_there row col))

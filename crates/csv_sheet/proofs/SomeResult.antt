@@ -201,7 +201,7 @@ next_part row fields old record_for fine (suc col) within denied = next_part row
     no_content between.labels (get_or fields col []) (fine col (omega (arith, within))) (λ labels content table writes.
     let new = with_content (with_labels between labels) (cell_there row col) content in
     let more : IsPartFilled row fields (col + 1) old new = part_step row fields col old between new (cell_there row col) (get_or fields col []) record_for (omega (arith, within)) part refl refl
-    (record { table = table; content = content; writes = writes; placed = refl }) in
+    (record { short = record_for.short col (omega (arith, within)); table = table; content = content; writes = writes; placed = refl }) in
     let same : col + 1 ≡ suc col = omega arith in
     denied new (subst (λ k. IsPartFilled row fields k old new) same more)))
 

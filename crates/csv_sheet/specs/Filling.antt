@@ -20,8 +20,9 @@ pub record HoldsRecords (rows : Rows) (sheet : SheetValue) : Type 0 where
   pub cells : (row col : ℕ) → row < sheet.sizes.rows → col < sheet.sizes.cols
       → IsContent sheet.labels (field_at rows row col) (content_of sheet (cell_there row col))
 
--- a field was put into a cell
+-- a field, which isn't too long, was put into a cell
 pub record PutsField (field : List ℕ) (cell : Position) (old new : SheetValue) : Type 0 where
+  pub short : ¬ IsLong field
   pub table : IsTableAfter field old.labels new.labels
   pub content : ContentValue
   pub writes : IsContent new.labels field content

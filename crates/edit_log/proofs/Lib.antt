@@ -1,4 +1,8 @@
+pub mod BookLemmas
+pub mod InputLemmas
 pub mod ListMembers
 pub mod PairLemmas
+pub mod PlaceLemmas
 pub mod RowLemmas
+pub mod Sent
 pub mod TouchLemmas

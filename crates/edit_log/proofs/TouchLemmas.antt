@@ -1,5 +1,6 @@
 -- The cells that depend on a cell by the pairs of a graph are those that an entry touches, and all lie in the sheet.
 use Rattle.std.proofs.Common.{◌≡◌, ◌≢◌, ◌↔◌, ◌⊎◌, inl, inr, cond, ℕ, ◌+◌, ◌<◌, ◌≤◌, length, length-append, get_or-set_same, length-set, List, ◌∷◌, [], ◌++◌, IsTrue, Contains, arith, refl, sym, ap, subst, ◌∙◌}
+use Rattle.std.proofs.lemmas.List.Elements.{All-push}
 use Rattle.sheet_refs.specs.Cells.{Position, Corners, IsIn, span_of}
 use Rattle.sheet_refs.specs.Rectangles.{IsAmong}
 use Rattle.sheet_refs.specs.Sizes.{is_inside, place_of, cell_count}
@@ -10,8 +11,8 @@ use Rattle.formula_syntax.proofs.Listings.{once_all, once_back}
 use Rattle.graph_walk.specs.Graphs.{Pair, Step, Reach, HoldsReach, Replaces, SamePairs}
 use Rattle.graph_walk.proofs.PathLemmas.{reached_start, reached_step, reached_within}
 use Rattle.sheet_model.specs.Changes.{ChangeValue, after_change}
-use Rattle.sheet_model.specs.Logs.{after}
-use Rattle.sheet_model.specs.Sheets.{SheetValue, ContentValue, Constant, HasLabel, IsSheet, content_of, with_content}
+use Rattle.sheet_model.specs.Logs.{after, AreHeld}
+use Rattle.sheet_model.specs.Sheets.{SheetValue, ContentValue, Constant, HasLabel, IsHeld, IsSheet, content_of, with_content}
 use Rattle.sheet_model.specs.declared.entry.Entry.{Entry}
 use Rattle.sheet_model.proofs.LogLemmas.{after-more, after-sizes, after-labels}
 use Rattle.value_core.specs.declared.value.Value.TheVariants as value
@@ -19,16 +20,17 @@ use Rattle.edit_log.specs.Books.{BookValue, IsBookOf, IsPreparedFor, IsStoredEdi
 use Rattle.edit_log.specs.Kept.{Depends, one_or_two, content-kept}
 use Rattle.edit_log.specs.Pairs.{ranges_in, IsPairOf, ArePairsOf}
 use Rattle.edit_log.specs.Touches.{DependsDirectly, Touches, AreTouched, ListsRowByRow}
+use Rattle.edit_log.proofs.ListMembers.{all_from}
 use Rattle.edit_log.proofs.PairLemmas.{pair_inside}
 
 -- the range of one cell has that cell alone
-one_cell : (cell from : Position) → IsIn from (span_of cell cell) → from ≡ cell
+pub one_cell : (cell from : Position) → IsIn from (span_of cell cell) → from ≡ cell
 one_cell cell from inside =
     let row : from.row ≡ cell.row = omega (arith, inside.row_from, inside.row_to) in
     let col : from.col ≡ cell.col = omega (arith, inside.col_from, inside.col_to) in
     λ i. record { row = row i; col = col i }
 
-in_one_cell : (cell : Position) → IsIn cell (span_of cell cell)
+pub in_one_cell : (cell : Position) → IsIn cell (span_of cell cell)
 in_one_cell cell = record { row_from = omega arith; row_to = omega arith; col_from = omega arith; col_to = omega arith }
 
 -- what a graph reaches from a cell are the cells that depend on it
@@ -45,7 +47,7 @@ reach_depends sheet pairs start are cell = (
 )
 
 -- the cells that depend on a cell of the sheet lie in it
-depends_inside : (sheet : SheetValue) (start : Position) → IsTrue (is_inside sheet.sizes start) → (cell : Position) → Depends sheet start cell → IsTrue (is_inside sheet.sizes cell)
+pub depends_inside : (sheet : SheetValue) (start : Position) → IsTrue (is_inside sheet.sizes start) → (cell : Position) → Depends sheet start cell → IsTrue (is_inside sheet.sizes cell)
 depends_inside sheet start inside = reached_within (DependsDirectly sheet) (λ from. from ≡ start) (λ c. IsTrue (is_inside sheet.sizes c))
     (λ c is. subst (λ (p : Position). IsTrue (is_inside sheet.sizes p)) (sym is) inside)
     (λ from to one from_in.
@@ -120,15 +122,17 @@ filled_before sheet change inside is =
 
 -- what a book keeps after a prepared edit was made
 pub applied_book : (opening sheet new_sheet : SheetValue) (log new_log : List Entry) (pairs new_pairs : List Pair) (entry : Entry) (change : ChangeValue) (refs : List Corners)
-    → IsBookOf opening sheet log pairs → IsStoredEdit entry change refs → IsTrue (is_inside sheet.sizes change.cell) → length log < 1048576
+    → IsBookOf opening sheet log pairs → IsStoredEdit entry change refs → IsTrue (is_inside sheet.sizes change.cell) → IsHeld (length opening.labels) entry.edit.change.content → length log < 1048576
     → new_sheet ≡ after_change sheet change → IsSheet new_sheet → new_log ≡ log ++ entry ∷ [] → Replaces pairs new_pairs change.cell refs
     → IsBookOf opening new_sheet new_log new_pairs
-applied_book opening sheet new_sheet log new_log pairs new_pairs entry change refs is stored inside room placed is_sheet logged replaced =
+applied_book opening sheet new_sheet log new_log pairs new_pairs entry change refs is stored inside held room placed is_sheet logged replaced =
     let filled = filled_before sheet change inside (subst IsSheet placed is_sheet) in
     let made : ArePairsOf (after_change sheet change) new_pairs = pairs_after sheet change pairs new_pairs refs filled inside stored.refs is.pairs_are replaced in
     let edited : after_change sheet change ≡ after_change (after opening log) entry.edit.change = ap (λ s. after_change s change) is.replayed ∙ ap (after_change (after opening log)) stored.same in
     let count : length new_log ≡ length log + 1 = ap length logged ∙ length-append log (entry ∷ []) in
     record {
+      opened = is.opened;
+      held = subst (AreHeld (length opening.labels)) (sym logged) (All-push (λ (e : Entry). IsHeld (length opening.labels) e.edit.change.content) log entry is.held held);
       replayed = placed ∙ edited ∙ sym (after-more opening log entry) ∙ ap (after opening) (sym logged);
       pairs_are = subst (λ (s : SheetValue). ArePairsOf s new_pairs) (sym placed) made;
       few = omega (arith, count, room);
@@ -143,21 +147,26 @@ book_labels opening sheet log pairs is = ap (λ (s : SheetValue). s.labels) is.r
 
 -- an edit that is ready
 pub prepared_for : (opening sheet : SheetValue) (log : List Entry) (pairs : List Pair) (entry : Entry) (number : ℕ) (touched : List Position)
-    → IsBookOf opening sheet log pairs → IsTrue (is_inside sheet.sizes entry.edit.change.cell) → HasLabel (length sheet.labels) entry.edit.change.content
+    → IsBookOf opening sheet log pairs → IsTrue (is_inside sheet.sizes entry.edit.change.cell) → IsHeld (length sheet.labels) entry.edit.change.content
     → number ≡ length log + 1 → length log < 1048576
     → ListsRowByRow sheet.sizes touched (Reach pairs (span_of entry.edit.change.cell entry.edit.change.cell))
     → IsPreparedFor opening log (record { entry = entry; number = number; touched = touched })
-prepared_for opening sheet log pairs entry number touched is inside label counted room rows = record {
+prepared_for opening sheet log pairs entry number touched is inside held counted room rows = record {
   number = counted;
   touched = touched_cells opening sheet log pairs entry touched is rows;
   inside = subst (λ (s : Sizes). IsTrue (is_inside s entry.edit.change.cell)) (book_sizes opening sheet log pairs is) inside;
-  label = subst (λ (ls : List (List ℕ)). HasLabel (length ls) entry.edit.change.content) (book_labels opening sheet log pairs is) label;
+  touched_inside = all_from (λ cell. IsTrue (is_inside opening.sizes cell)) touched
+      (λ cell there. subst (λ (s : Sizes). IsTrue (is_inside s cell)) (book_sizes opening sheet log pairs is)
+      (reach_inside sheet pairs entry.edit.change.cell is.pairs_are inside cell ((rows.exact cell).0 there)));
+  held = subst (λ (ls : List (List ℕ)). IsHeld (length ls) entry.edit.change.content) (book_labels opening sheet log pairs is) held;
   room = room;
 }
 
 -- other ways to keep the same pairs and the same log
 pub same_book : (opening sheet : SheetValue) (log same_log : List Entry) (old new : List Pair) → IsBookOf opening sheet log old → SamePairs old new → same_log ≡ log → IsBookOf opening sheet same_log new
 same_book opening sheet log same_log old new is same logged = record {
+  opened = is.opened;
+  held = subst (AreHeld (length opening.labels)) (sym logged) is.held;
   replayed = subst (λ (l : List Entry). sheet ≡ after opening l) (sym logged) is.replayed;
   pairs_are = λ pair. (λ there. (is.pairs_are pair).0 ((same pair).0 there), λ is_pair. (same pair).1 ((is.pairs_are pair).1 is_pair));
   few = subst (λ (l : List Entry). length l ≤ 1048576) (sym logged) is.few;
@@ -182,4 +191,4 @@ pub ready_label : (opening sheet : SheetValue) (log : List Entry) (pairs : List 
 ready_label opening sheet log pairs prepared entry change is ready entry_is stored =
     let same : change ≡ prepared.entry.edit.change = stored ∙ ap (λ (e : Entry). e.edit.change) entry_is in
     subst (λ (x : ChangeValue). HasLabel (length sheet.labels) x.content) (sym same)
-    (subst (λ (ls : List (List ℕ)). HasLabel (length ls) prepared.entry.edit.change.content) (sym (book_labels opening sheet log pairs is)) ready.label)
+    (subst (λ (ls : List (List ℕ)). HasLabel (length ls) prepared.entry.edit.change.content) (sym (book_labels opening sheet log pairs is)) ready.held.label)

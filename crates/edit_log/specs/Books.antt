@@ -1,12 +1,12 @@
 -- Books: a sheet, its graph, and the log of its edits.
-use Rattle.std.specs.Prelude.{◌≡◌, ℕ, ◌+◌, ◌<◌, ◌≤◌, IsTrue, List, [], ◌∷◌, ◌++◌, length}
+use Rattle.std.specs.Prelude.{◌≡◌, ℕ, ◌+◌, ◌<◌, ◌≤◌, IsTrue, List, [], ◌∷◌, ◌++◌, length, take, All}
 use Rattle.sheet_refs.specs.Cells.{Position, Corners}
 use Rattle.sheet_refs.specs.Sizes.{is_inside}
 use Rattle.formula_syntax.specs.Listing.{IsOnceEach}
 use Rattle.graph_walk.specs.Graphs.{Pair, SamePairs}
 use Rattle.sheet_model.specs.Changes.{ChangeValue}
-use Rattle.sheet_model.specs.Logs.{after, after_edit}
-use Rattle.sheet_model.specs.Sheets.{SheetValue, HasLabel}
+use Rattle.sheet_model.specs.Logs.{after, after_edit, AreHeld}
+use Rattle.sheet_model.specs.Sheets.{SheetValue, IsSheet, IsHeld}
 use Rattle.sheet_model.specs.declared.change.Edit.{Edit}
 use Rattle.sheet_model.specs.declared.entry.Entry.{Entry}
 use Rattle.edit_log.specs.Pairs.{ArePairsOf, ranges_in}
@@ -20,8 +20,11 @@ pub record BookValue (G : Type 0) : Type 0 where
   pub log : List Entry
   pub spare : ℕ
 
--- a sheet is the opening sheet after the log, and the pairs are those of the sheet
+-- a sheet is the opening sheet after the log, of which each entry's content may stand beside the opening sheet's labels, and
+-- the pairs are those of the sheet
 pub record IsBookOf (opening sheet : SheetValue) (log : List Entry) (pairs : List Pair) : Type 0 where
+  pub opened : IsSheet opening
+  pub held : AreHeld (length opening.labels) log
   pub replayed : sheet ≡ after opening log
   pub pairs_are : ArePairsOf sheet pairs
   pub few : length log ≤ 1048576
@@ -52,13 +55,14 @@ pub record PreparedValue : Type 0 where
   pub number : ℕ
   pub touched : List Position
 
--- it is for the next place of a log: it has the number of that place and the cells that the entry touches there, its
--- cell is in the sheet and its label in the table, and the log isn't full
+-- it is for the next place of a log: it has the number of that place and the cells that the entry touches there, all of them
+-- in the sheet as its own cell is; its content may stand beside the labels; and the log isn't full
 pub record IsPreparedFor (opening : SheetValue) (log : List Entry) (prepared : PreparedValue) : Type 0 where
   pub number : prepared.number ≡ length log + 1
   pub touched : AreTouched opening log prepared.entry prepared.touched
   pub inside : IsTrue (is_inside opening.sizes prepared.entry.edit.change.cell)
-  pub label : HasLabel (length opening.labels) prepared.entry.edit.change.content
+  pub touched_inside : All (λ cell. IsTrue (is_inside opening.sizes cell)) prepared.touched
+  pub held : IsHeld (length opening.labels) prepared.entry.edit.change.content
   pub room : length log < 1048576
 
 -- a prepared edit in memory: the change for the sheet is that of the entry, and the ranges are those to which its
@@ -72,3 +76,20 @@ pub record HasApplied {G : Type 0} (entry : Entry) (old new : BookValue G) : Typ
   pub opening : new.opening ≡ old.opening
   pub sheet : new.sheet ≡ after_edit old.sheet entry.edit
   pub log : new.log ≡ old.log ++ entry ∷ []
+
+-- one book comes of another by the edits of these entries, made one after the other
+abbrev pub ComesByEdits : {G : Type 0} → List Entry → BookValue G → BookValue G → Type 0
+ComesByEdits {G} [] old new = new ≡ old
+ComesByEdits {G} (entry ∷ entries) old new = (between : BookValue G) × HasApplied entry old between × ComesByEdits entries between new
+
+-- then the opening sheet is the same, the entries are the last of the log, and the sheet is the opening one after the log
+abbrev pub EditsMakeTheLog : Type 0 → Type 0
+EditsMakeTheLog G =
+    (entries : List Entry) (old new : BookValue G) → ComesByEdits entries old new → old.sheet ≡ after old.opening old.log
+    → (new.opening ≡ old.opening) × (new.log ≡ old.log ++ entries) × (new.sheet ≡ after old.opening new.log)
+
+-- the sheet after each beginning of a book's log is a sheet
+abbrev pub EarlierSheetsAreSheets : Type 0
+EarlierSheetsAreSheets =
+    (opening sheet : SheetValue) (log : List Entry) (pairs : List Pair) → IsBookOf opening sheet log pairs
+    → (k : ℕ) → IsSheet (after opening (take k log))

@@ -11,7 +11,6 @@ use Rattle.value_core.specs.declared.value.Value.{Value}
 use Rattle.formula_syntax.specs.Tree.{references_of}
 use Rattle.graph_walk.specs.Paths.{IsReached}
 use Rattle.graph_walk.proofs.PathLemmas.{reached_start, reached_step, reached_within}
-use Rattle.sheet_model.specs.Budget.{AgreeOn}
 use Rattle.sheet_model.specs.Changes.{ChangeValue, after_change}
 use Rattle.sheet_model.specs.Logs.{after, IsOfSheet}
 use Rattle.sheet_model.specs.Sheets.{SheetValue, ContentValue, Constant, Computed, content_of, with_content}
@@ -63,7 +62,7 @@ content-kept sheet change cell differs = go (is_inside sheet.sizes change.cell) 
     go false outside = refl
 
 -- an input of a cell leads to it by a step
-input_step : (sheet : SheetValue) (cell input : Position) → IsInput sheet cell input → DependsDirectly sheet input cell
+pub input_step : (sheet : SheetValue) (cell input : Position) → IsInput sheet cell input → DependsDirectly sheet input cell
 input_step sheet cell input is =
     record {
       pair = record { range = corners_of is.named.through; cell = cell };
@@ -83,18 +82,18 @@ module _ (sheet : SheetValue) (change : ChangeValue) where
       ap (λ s. step_content s f (content_of (after_change sheet change) cell)) (change-sizes sheet change)
       ∙ ap (step_content sheet.sizes f) (content-kept sheet change cell differs)
 
-  agree : AgreeOn (IsInput sheet) Kept (step (after_change sheet change)) (step sheet)
-  agree = record {
-    closed = λ cell input kept is depends. kept (reached_step (DependsDirectly sheet) (λ from. from ≡ change.cell) input cell depends (input_step sheet cell input is));
-    same = λ cell f g kept same. step-kept cell f kept ∙ step_local sheet cell f g same;
-  }
+  inputs-kept : (cell input : Position) → Kept cell → IsInput sheet cell input → Kept input
+  inputs-kept cell input kept is depends = kept (reached_step (DependsDirectly sheet) (λ from. from ≡ change.cell) input cell depends (input_step sheet cell input is))
+
+  same-kept : (cell : Position) (f g : Position → Value) → Kept cell → ((input : Position) → IsInput sheet cell input → f input ≡ g input) → step (after_change sheet change) cell f ≡ step sheet cell g
+  same-kept cell f g kept same = step-kept cell f kept ∙ step_local sheet cell f g same
 
   -- a cell that doesn't depend on the changed one keeps its value
   pub value-kept : (cell : Position) → ¬ Depends sheet change.cell cell → value_of (after_change sheet change) cell ≡ value_of sheet cell
   unfolding value_of
   value-kept cell kept =
       ap (λ s. budget_value (after_change sheet change) (suc (cell_count s)) cell) (change-sizes sheet change)
-      ∙ agree_on (IsInput sheet) circular_value Kept (step (after_change sheet change)) (step sheet) agree (suc (cell_count sheet.sizes)) cell kept
+      ∙ agree_on (IsInput sheet) circular_value Kept (step (after_change sheet change)) (step sheet) inputs-kept same-kept (suc (cell_count sheet.sizes)) cell kept
 
 pub untouched : (opening : SheetValue) (log : List Entry) (entry : Entry) (cell : Position) → ¬ Touches opening log entry cell → value_of (after opening (log ++ entry ∷ [])) cell ≡ value_of (after opening log) cell
 untouched opening log entry cell spared =
@@ -132,14 +131,14 @@ before_after opening log entry cell =
 split_place : (cols count place : ℕ) → place < count * cols → (place / cols < count) × (place % cols < cols) × (place / cols * cols + place % cols ≡ place)
 split_place cols count place below = grind arith
 
-cell_at-inside : (sizes : Sizes) (place : ℕ) → place < cell_count sizes → IsTrue (is_inside sizes (cell_at sizes place))
+pub cell_at-inside : (sizes : Sizes) (place : ℕ) → place < cell_count sizes → IsTrue (is_inside sizes (cell_at sizes place))
 cell_at-inside sizes place below =
     let parts = split_place sizes.cols sizes.rows place below in
     let row = parts.0 in
     let col = parts.1 in
     inside_from sizes (cell_at sizes place) (record { row_from = omega arith; row_to = omega (arith, row); col_from = omega arith; col_to = omega (arith, col) })
 
-cell_at-place_of : (sizes : Sizes) (place : ℕ) → place < cell_count sizes → place_of sizes (cell_at sizes place) ≡ place
+pub cell_at-place_of : (sizes : Sizes) (place : ℕ) → place < cell_count sizes → place_of sizes (cell_at sizes place) ≡ place
 cell_at-place_of sizes place below =
     let parts = split_place sizes.cols sizes.rows place below in
     let row_at : place / sizes.cols + 1 - 1 ≡ place / sizes.cols = omega arith in

@@ -1,8 +1,8 @@
 -- Which cells an entry touches: the one that it changes, and all that depend on it.
-use Rattle.std.specs.Prelude.{◌≡◌, ℕ, ◌+◌, ◌/◌, ◌%◌, ◌↔◌, IsTrue, List, [], ◌∷◌, ◌++◌, map, Contains}
+use Rattle.std.specs.Prelude.{◌≡◌, ℕ, ◌+◌, ◌/◌, ◌%◌, ◌<◌, ◌↔◌, IsTrue, List, [], ◌∷◌, ◌++◌, map, Contains}
 use Rattle.std.specs.List.Sorted.{IsStrictlyIncreasing}
 use Rattle.sheet_refs.specs.Cells.{Position, Corners, IsIn}
-use Rattle.sheet_refs.specs.Sizes.{is_inside, place_of}
+use Rattle.sheet_refs.specs.Sizes.{is_inside, place_of, cell_count}
 use Rattle.sheet_refs.specs.declared.sizes.Sizes.{Sizes}
 use Rattle.value_core.specs.Values.{code_of}
 use Rattle.graph_walk.specs.Graphs.{Pair, Reach}
@@ -41,6 +41,12 @@ TouchedBeforeAndAfter =
     (opening : SheetValue) (log : List Entry) (entry : Entry) (cell : Position)
     → Touches opening log entry cell ↔ Touches opening (log ++ entry ∷ []) entry cell
 
+-- an entry that changes a cell of the sheet touches cells of the sheet alone
+abbrev pub TouchedCellsAreInside : Type 0
+TouchedCellsAreInside =
+    (opening : SheetValue) (log : List Entry) (entry : Entry) (cell : Position)
+    → IsTrue (is_inside opening.sizes entry.edit.change.cell) → Touches opening log entry cell → IsTrue (is_inside opening.sizes cell)
+
 -- all cells that a range reaches lie in the rectangle
 abbrev pub IsReachInside : Sizes → List Pair → Corners → Type 0
 IsReachInside sizes pairs range = (cell : Position) → Reach pairs range cell → IsTrue (is_inside sizes cell)
@@ -54,6 +60,12 @@ pub record ListsRowByRow (sizes : Sizes) (cells : List Position) (set : Position
 abbrev pub AreTouched : SheetValue → List Entry → Entry → List Position → Type 0
 AreTouched opening log entry cells = ListsRowByRow opening.sizes cells (Touches opening log entry)
 
+-- two lists of the cells that an entry touches are one
+abbrev pub TouchedCellsHaveOneList : Type 0
+TouchedCellsHaveOneList =
+    (opening : SheetValue) (log : List Entry) (entry : Entry) (a b : List Position)
+    → AreTouched opening log entry a → AreTouched opening log entry b → a ≡ b
+
 -- the cell at a place of a rectangle, row by row, counted from 0
 abbrev pub cell_at : Sizes → ℕ → Position
 cell_at sizes place = record { row = place / sizes.cols + 1; col = place % sizes.cols + 1 }
@@ -64,3 +76,28 @@ place_worth opening log place = code_of (value_of (after opening log) (cell_at o
 
 abbrev pub TouchesPlace : SheetValue → List Entry → Entry → ℕ → Type 0
 TouchesPlace opening log entry place = Touches opening log entry (cell_at opening.sizes place)
+
+-- a cell of a rectangle is the cell at its place
+abbrev pub CellsAreAtTheirPlaces : Type 0
+CellsAreAtTheirPlaces = (sizes : Sizes) (cell : Position) → IsTrue (is_inside sizes cell) → cell_at sizes (place_of sizes cell) ≡ cell
+
+-- the cell at one of a rectangle's places is a cell of it, and has that place
+abbrev pub PlacesAreThoseOfTheirCells : Type 0
+PlacesAreThoseOfTheirCells =
+    (sizes : Sizes) (place : ℕ) → place < cell_count sizes
+    → IsTrue (is_inside sizes (cell_at sizes place)) × (place_of sizes (cell_at sizes place) ≡ place)
+
+-- to touch the place of a cell of the sheet is to touch the cell
+abbrev pub TouchedPlacesAreTouchedCells : Type 0
+TouchedPlacesAreTouchedCells =
+    (opening : SheetValue) (log : List Entry) (entry : Entry) (cell : Position) → IsTrue (is_inside opening.sizes cell)
+    → TouchesPlace opening log entry (place_of opening.sizes cell) ↔ Touches opening log entry cell
+
+-- the places that an entry touches, which changes a cell of the sheet, are those of the cells in the list of what it touches,
+-- and places of the sheet
+abbrev pub TouchedPlacesAreListed : Type 0
+TouchedPlacesAreListed =
+    (opening : SheetValue) (log : List Entry) (entry : Entry) (cells : List Position)
+    → IsTrue (is_inside opening.sizes entry.edit.change.cell) → AreTouched opening log entry cells → (place : ℕ)
+    → (TouchesPlace opening log entry place ↔ Contains (map (place_of opening.sizes) cells) place)
+    × (TouchesPlace opening log entry place → place < cell_count opening.sizes)

@@ -14,8 +14,9 @@ use std::snapshot::Snapshot;
 /// A sheet that is edited, with its dependency graph and the log of its edits.
 ///
 /// Contracts see besides these the sheet with which it was opened, and for how many edits there is room (`spare`).
-/// Its type keeps that the sheet is the opening one after the log, that the graph's pairs are those of the sheet, and
-/// that the log has at most 1,048,576 entries.
+/// Its type keeps that the sheet is the opening one after the log, that what each entry puts into its cell may stand
+/// beside the labels of the opening sheet, that the graph's pairs are those of the sheet, and that the log has at most
+/// 1,048,576 entries.
 #[derive(Drop)]
 pub struct Book<G: Graph> {
     pub(crate) opening: Snapshot<Sheet>,
@@ -56,6 +57,8 @@ impl<G: Graph> Book<G> {
         ensures opened { IfOk result (IsOpenedWith sheet) }
         ensures kept { IfOk result (IsBook G.pairs) }
     {
+        // Says that what it is lent is a sheet, which the book keeps of the opening one.
+        let _ = sheet.sizes();
         let graph = graph_of(alloc, graph, &sheet)?;
         Ok(Book {
             opening: Snapshot::of(&sheet),

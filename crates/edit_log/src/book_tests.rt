@@ -71,7 +71,7 @@ fn edits_touch_their_dependents_row_by_row(rt: HostRuntime) -> Result<(), Fail> 
 }
 
 // Empties a cell of a book, and tells whether that was prepared.
-fn clears<G: Graph>(book: &mut Book<G>, cell: Cell) -> Result<u64, PrepareRefused> {
+pub(crate) fn clears<G: Graph>(book: &mut Book<G>, cell: Cell) -> Result<u64, PrepareRefused> {
     let content = Content::Empty;
     let edit = Edit {
         change: Change { cell, content },

@@ -7,7 +7,8 @@
 //! (`specs/Books.antt`). `prepare` finds the cells that an edit touches and takes all memory; `apply` then
 //! makes the edit and can't fail. Which cells an entry touches, `specs/Touches.antt` says: its own and all
 //! that depend on it. `touch_laws` says that every other cell keeps its value, and by this an `OverSheet` is
-//! what the marks of a sheet are about.
+//! what the marks of a sheet are about. `place_laws`, `pair_laws` and `book_laws` say what holds of places, of pairs
+//! and inputs, and of books; `book_crosses` that threads may share a book under a lock.
 //!
 //! Below stand `sheet_refs`, `formula_syntax`, `sheet_model`, `graph_walk` and `mark_core`.
 #![tactic(auto)]
@@ -15,6 +16,7 @@
 mod book;
 #[cfg(test)]
 mod book_tests;
+mod crossing;
 mod graphs;
 mod laws;
 mod over_sheet;
@@ -24,10 +26,13 @@ mod refused;
 mod rows;
 #[cfg(test)]
 mod tests;
+#[cfg(test)]
+mod thread_tests;
 
 pub use book::Book;
+pub use crossing::book_crosses;
 pub use graphs::graph_of;
-pub use laws::touch_laws;
+pub use laws::{book_laws, pair_laws, place_laws, touch_laws};
 pub use over_sheet::OverSheet;
 pub use prepared::{Applied, Prepared};
 pub use refused::PrepareRefused;

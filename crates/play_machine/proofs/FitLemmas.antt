@@ -8,7 +8,7 @@ use Rattle.sheet_refs.specs.Sizes.{is_inside}
 use Rattle.sheet_refs.specs.declared.sizes.Sizes.{Sizes}
 use Rattle.sheet_refs.proofs.Grid.{rows_length}
 use Rattle.sheet_model.specs.Sheets.{SheetValue, HasLabel, with_labels}
-use Rattle.sheet_model.proofs.SheetLemmas.{held_content, held_empty}
+use Rattle.sheet_model.proofs.SheetLemmas.{label_content, held_empty}
 use Rattle.edit_script.specs.Lines.{LineValue, Skip, Client, Set, Clear, Look, Firm, Work}
 use Rattle.edit_script.specs.Scripts.{AreLines, AreSteps, Brought, IsAllowed, IsCommand, IsScript, IsSilent, ScriptValue, brought_by, nothing_yet, with_line}
 use Rattle.edit_script.specs.Scripts.AreLines.{none as no_lines, more as more_lines}
@@ -86,7 +86,7 @@ module _ (sheet : SheetValue) where
       go : (said : LineValue) (asked : Command) → IsAllowed sheet.sizes now said → IsCommand sheet.labels said asked → IsCommandOfSheet sheet asked × (one_of (is_put asked) ≡ edit_count said)
       go said _ fine (set text edit named is content) =
           let ok = subst (IsAllowed sheet.sizes now) is fine in
-          (record { inside = stable (is_inside sheet.sizes edit.change.cell) ok.inside; label = (held_content sheet.labels text edit.change.content content).label }, ap edit_count (sym is))
+          (record { inside = stable (is_inside sheet.sizes edit.change.cell) ok.inside; label = label_content sheet.labels text edit.change.content content }, ap edit_count (sym is))
       go said _ fine (clear edit named is content) =
           let ok = subst (IsAllowed sheet.sizes now) is fine in
           (record { inside = stable (is_inside sheet.sizes edit.change.cell) ok.inside; label = subst (HasLabel (length sheet.labels)) (sym content) (held_empty (length sheet.labels)).label }, ap edit_count (sym is))

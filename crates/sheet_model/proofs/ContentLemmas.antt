@@ -1,5 +1,5 @@
 -- A text writes at most one content over a table.
-use Rattle.std.proofs.Common.{◌≡◌, ◌≢◌, ℕ, ◌+◌, ◌*◌, ◌<◌, ◌≤◌, ◌==◌, ℤ, pos, Bool, true, false, List, [], ◌∷◌, ◌++◌, length, get_or, Some, refl, sym, ap, subst, ◌∙◌, arith, ◌⊎◌, inl, inr, true≢false, if◌then◌else◌}
+use Rattle.std.proofs.Common.{◌≡◌, ℕ, ◌+◌, ◌*◌, ◌≤◌, ◌==◌, ℤ, pos, Bool, true, false, List, [], ◌∷◌, length, get_or, Some, refl, sym, ap, subst, ◌∙◌, arith, ◌⊎◌, inl, inr, true≢false, if◌then◌else◌}
 use Rattle.std.specs.Prelude.{slice_get, neg_ℤ}
 use Rattle.std.proofs.lemmas.Option.{get_or_from_slice_get, slice_get_within}
 use Rattle.std.proofs.lemmas.Bool.{cases_eq, cases_order}
@@ -13,12 +13,12 @@ use Rattle.formula_syntax.specs.declared.tokens.Token.{Token}
 use Rattle.formula_syntax.specs.declared.tokens.Token.TheVariants as token
 use Rattle.formula_syntax.specs.Lexing.{IsWord, IsSpelt, is_word}
 use Rattle.formula_syntax.specs.Lexing.IsWord.{number, truth}
-use Rattle.formula_syntax.specs.Spelling.{IsIntroduced, IsRead, HasTooManyRefs}
+use Rattle.formula_syntax.specs.Spelling.{IsRead, HasTooManyRefs}
 use Rattle.formula_syntax.specs.Spelling.IsIntroduced.{plain, prefixed}
 use Rattle.formula_syntax.specs.Tree.{Tree, references_of}
 use Rattle.formula_syntax.proofs.Spells.{spells_unique}
 use Rattle.formula_syntax.proofs.WordLemmas.{all_of, word_unique, word_bytes, word_some}
-use Rattle.sheet_model.specs.Fields.{IsNumberField, IsErrorField, IsFaultyFormula, IsLabelField, BeginsFormula, IsContent, IsDeepFormula}
+use Rattle.sheet_model.specs.Fields.{IsNumberField, IsLabelField, BeginsFormula, IsContent, IsDeepFormula}
 use Rattle.sheet_model.specs.Fields.IsNumberField.{unsigned, plus, minus}
 use Rattle.sheet_model.specs.Labels.{IsTable}
 use Rattle.sheet_model.specs.Sheets.{ContentValue, Constant, Computed}

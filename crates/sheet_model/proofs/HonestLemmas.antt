@@ -58,8 +58,8 @@ module _ (sizes : Sizes) (values : Position → Value) where
       by_test false outside = absurd (let no : Empty ≡ Error Circ = rw outside at same in cc)
 
   content_honest : (content : ContentValue) → IsWritten content → step_content sizes values content ≡ Error Circ → (cell : Position) × IsNamedBy (content_references content) cell × IsTrue (is_inside sizes cell) × (values cell ≡ Error Circ)
-  content_honest (Constant value) differs same = absurd (differs same)
-  content_honest (Computed formula) fits same = by_test (has_circular (within sizes values) (references_of formula)) refl
+  content_honest (Constant value) written same = absurd (written.not_circular same)
+  content_honest (Computed formula) kept same = by_test (has_circular (within sizes values) (references_of formula)) refl
     where
       by_test : (test : Bool) → has_circular (within sizes values) (references_of formula) ≡ test → (cell : Position) × IsNamedBy (references_of formula) cell × IsTrue (is_inside sizes cell) × (values cell ≡ Error Circ)
       by_test true some =
@@ -68,7 +68,7 @@ module _ (sizes : Sizes) (values : Position → Value) where
           (cell, named, inside, value)
       by_test false none =
           let here : never_empty (meaning (within sizes values) formula) ≡ Error Circ = rw none at same in
-          absurd (let no : is_circular (Error Circ) ≡ false = ap is_circular (sym here) ∙ value_plain (within sizes values) formula fits none in cc)
+          absurd (let no : is_circular (Error Circ) ≡ false = ap is_circular (sym here) ∙ value_plain (within sizes values) formula kept.fitting none in cc)
 
 module _ (sheet : SheetValue) where
   pub step_honest : IsSheet sheet → HandsOnCircular (IsInput sheet) (Error Circ) (step sheet)

@@ -13,6 +13,7 @@ pub mod PartLemmas
 pub mod ResultLemmas
 pub mod SameSheets
 pub mod SheetLemmas
+pub mod SheetValues
 pub mod StepLemmas
 pub mod TableLemmas
 pub mod TurnLemmas
@@ -20,3 +21,4 @@ pub mod ValueLemmas
 pub mod WalkLemmas
 pub mod WordLemmas
 mod WorkedRows
+pub mod WrittenLemmas

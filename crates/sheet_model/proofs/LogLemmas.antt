@@ -1,12 +1,13 @@
 -- What logs do to a sheet.
-use Rattle.std.proofs.Common.{◌≡◌, ◌≢◌, Bool, true, false, cond, List, [], ◌∷◌, ◌++◌, IsTrue, refl, ◌∙◌, ap}
+use Rattle.std.proofs.Common.{◌≡◌, ◌≢◌, ℕ, Bool, true, false, cond, List, [], ◌∷◌, ◌++◌, length, IsTrue, refl, sym, ◌∙◌, ap, subst}
+use Rattle.std.proofs.lemmas.List.Elements.{All-head, All-tail}
 use Rattle.sheet_refs.specs.Cells.{Position}
 use Rattle.sheet_refs.specs.Sizes.{is_inside}
 use Rattle.sheet_model.specs.Changes.{ChangeValue, after_change}
-use Rattle.sheet_model.specs.Logs.{after, after_edit}
-use Rattle.sheet_model.specs.Sheets.{SheetValue, IsSheet, content_of, with_content}
+use Rattle.sheet_model.specs.Logs.{after, after_edit, AreHeld}
+use Rattle.sheet_model.specs.Sheets.{SheetValue, IsSheet, IsHeld, content_of, with_content}
 use Rattle.sheet_model.specs.declared.entry.Entry.{Entry}
-use Rattle.sheet_model.proofs.SheetLemmas.{content_of-same, content_of-other}
+use Rattle.sheet_model.proofs.SheetLemmas.{content_of-same, content_of-other, sheet_with_content}
 
 -- one more entry makes one more edit
 pub after-more : (sheet : SheetValue) (log : List Entry) (entry : Entry) → after sheet (log ++ entry ∷ []) ≡ after_edit (after sheet log) entry.edit
@@ -53,3 +54,19 @@ change-others sheet change cell differs = go (is_inside sheet.sizes change.cell)
     go true inside =
         ap (λ (s : SheetValue). content_of s cell) (change-inside sheet change inside) ∙ content_of-other sheet change.cell change.content inside cell differs
     go false outside = let same : after_change sheet change ≡ sheet = rw outside refl in ap (λ (s : SheetValue). content_of s cell) same
+
+-- a change whose content may stand beside the labels leaves a sheet
+change-sheet : (sheet : SheetValue) (change : ChangeValue) → IsSheet sheet → IsHeld (length sheet.labels) change.content → IsSheet (after_change sheet change)
+change-sheet sheet change is held = go (is_inside sheet.sizes change.cell)
+  where
+    go : (b : Bool) → IsSheet (cond b (with_content sheet change.cell change.content) sheet)
+    go true = sheet_with_content sheet change.cell change.content is held
+    go false = is
+
+pub after-sheet : (sheet : SheetValue) (log : List Entry) → IsSheet sheet → AreHeld (length sheet.labels) log → IsSheet (after sheet log)
+after-sheet sheet [] is held = is
+after-sheet sheet (entry ∷ log) is held =
+    let P : ℕ → Entry → Type 0 = λ labels e. IsHeld labels e.edit.change.content in
+    let here : IsSheet (after_edit sheet entry.edit) = change-sheet sheet entry.edit.change is (All-head (P (length sheet.labels)) entry log held) in
+    after-sheet (after_edit sheet entry.edit) log here
+    (subst (λ (labels : List (List ℕ)). AreHeld (length labels) log) (sym (change-labels sheet entry.edit.change)) (All-tail (P (length sheet.labels)) entry log held))

@@ -1,15 +1,15 @@
 -- The values of cells that lead into a cycle, and of cells on which two steps agree.
-use Rattle.std.proofs.Common.{◌≡◌, ◌≢◌, ℕ, zero, suc, ◌+◌, ◌<◌, ◌⊎◌, inl, inr, List, [], ◌∷◌, ◌++◌, length, slice_get, Some, refl, sym, subst, arith, length-append}
+use Rattle.std.proofs.Common.{◌≡◌, ◌≢◌, ℕ, zero, suc, ◌+◌, ◌<◌, ◌⊎◌, inl, inr, List, [], ◌∷◌, ◌++◌, length, slice_get, Some, refl, sym, ◌∙◌, subst, arith, length-append}
 use Rattle.std.specs.Prelude.{Bool, true, false, ◌==◌}
 use Rattle.std.proofs.lemmas.Bool.Decides.{nat_tests}
-use Rattle.sheet_model.specs.Budget.{IsLocal, IsStrict, HandsOnCircular, ev, IsCircular, Leads, LeadsIntoCycle, AgreeOn}
+use Rattle.sheet_model.specs.Budget.{IsLocal, IsStrict, HandsOnCircular, ev, IsCircular, Leads, LeadsIntoCycle}
 use Rattle.sheet_model.specs.Budget.Leads.{one_step, and_on}
 use Rattle.std.proofs.lemmas.Option.{slice_get_within}
-use Rattle.sheet_model.proofs.BudgetLemmas.{circular_closed, length-le-count}
+use Rattle.sheet_model.proofs.BudgetLemmas.{stability, circular_closed, length-le-count}
 use Rattle.sheet_model.proofs.ListLemmas.{slice_get-pushed}
 
 -- a step more at the end
-leads_on : {C : Type 0} {Input : C → C → Type 0} (a b c : C) → Leads Input a b → Input b c → Leads Input a c
+pub leads_on : {C : Type 0} {Input : C → C → Type 0} (a b c : C) → Leads Input a b → Input b c → Leads Input a c
 leads_on a b c (one_step _ _ first) last = and_on a b c first (one_step b c last)
 leads_on a b c (and_on _ d _ first rest) last = and_on a d c first (leads_on d b c rest last)
 
@@ -143,9 +143,32 @@ module _ {C V : Type 0} (Input : C → C → Type 0) (circ : V) (step : C → (C
         differ = λ i j v w less at_i at_j. absurd (cc);
       }
 
+-- with one step more than there are numbers, values are one step over themselves, and no others are
+module _ {C V : Type 0} (Input : C → C → Type 0) (circ : V) (step : C → (C → V) → V) (local : IsLocal Input step) (strict : IsStrict Input circ step) (honest : HandsOnCircular Input circ step) (number : C → ℕ) (count : ℕ) (below : (c d : C) → Input c d → number d < count) (apart : (c d e f : C) → Input c d → Input e f → number d ≡ number f → d ≡ f) (decide : (v : V) → (v ≡ circ) ⊎ (v ≢ circ)) where
+  pub value_once : (c : C) → ev circ step (suc count) c ≡ step c (ev circ step (suc count))
+  unfolding ev
+  value_once c = elim (decide (ev circ step (suc count) c)) [
+    | inl circular ↦ circular ∙ sym (cycle_circular Input circ step local strict c (leads_into_cycle Input circ step honest number count below apart c circular) (suc (suc count)))
+    | inr differs ↦ sym (stability Input circ step local strict (suc count) (suc (suc count)) c differs (omega arith))
+  ]
+
+  module _ (values : C → V) (at_cycles : (c : C) → LeadsIntoCycle Input c → values c ≡ circ) (at_others : (c : C) → ¬ LeadsIntoCycle Input c → values c ≡ step c values) where
+    only_plain : (n : ℕ) (c : C) → ev circ step n c ≢ circ → values c ≡ ev circ step n c
+    unfolding ev
+    only_plain zero c differs = absurd (differs refl)
+    only_plain (suc n) c differs =
+        at_others c (λ leads. differs (cycle_circular Input circ step local strict c leads (suc n)))
+        ∙ local c values (ev circ step n) (λ d input. only_plain n d (λ circular. differs (strict c d (ev circ step n) input circular)))
+
+    pub only_values : (c : C) → values c ≡ ev circ step (suc count) c
+    only_values c = elim (decide (ev circ step (suc count) c)) [
+      | inl circular ↦ at_cycles c (leads_into_cycle Input circ step honest number count below apart c circular) ∙ sym circular
+      | inr differs ↦ only_plain (suc count) c differs
+    ]
+
 -- steps that agree on a set that is closed under inputs give its cells the same values with every budget
-pub agree_on : {C V : Type 0} (Input : C → C → Type 0) (circ : V) (Kept : C → Type 0) (a b : C → (C → V) → V) → AgreeOn Input Kept a b → (n : ℕ) (c : C) → Kept c → ev circ a n c ≡ ev circ b n c
-unfolding ev
-agree_on Input circ Kept a b agree zero c kept = refl
-agree_on Input circ Kept a b agree (suc n) c kept =
-    agree.same c (ev circ a n) (ev circ b n) kept (λ d is_input. agree_on Input circ Kept a b agree n d (agree.closed c d kept is_input))
+module _ {C V : Type 0} (Input : C → C → Type 0) (circ : V) (Kept : C → Type 0) (a b : C → (C → V) → V) (closed : (c d : C) → Kept c → Input c d → Kept d) (same : (c : C) (f g : C → V) → Kept c → ((d : C) → Input c d → f d ≡ g d) → a c f ≡ b c g) where
+  pub agree_on : (n : ℕ) (c : C) → Kept c → ev circ a n c ≡ ev circ b n c
+  unfolding ev
+  agree_on zero c kept = refl
+  agree_on (suc n) c kept = same c (ev circ a n) (ev circ b n) kept (λ d is_input. agree_on n d (closed c d kept is_input))

@@ -1,9 +1,9 @@
 -- A sheet is told by its sizes, its labels and its cells.
-use Rattle.std.proofs.Common.{◌≡◌, ℕ, ◌+◌, ◌-◌, ◌*◌, ◌/◌, ◌%◌, ◌<◌, ◌≤◌, length, get_or, IsTrue, refl, sym, ◌∙◌, ap, arith}
+use Rattle.std.proofs.Common.{◌≡◌, ℕ, ◌+◌, ◌-◌, ◌*◌, ◌/◌, ◌%◌, ◌<◌, length, get_or, IsTrue, refl, sym, ◌∙◌, ap, arith}
 use Rattle.std.proofs.lemmas.List.{ext_get_or}
 use Rattle.sheet_refs.specs.Cells.{Position}
 use Rattle.sheet_refs.specs.declared.sizes.Sizes.{Sizes}
-use Rattle.sheet_refs.specs.Sizes.{is_inside, place_of, cell_count}
+use Rattle.sheet_refs.specs.Sizes.{is_inside, cell_count}
 use Rattle.sheet_refs.proofs.Places.{inside_from}
 use Rattle.value_core.specs.declared.value.Value.TheVariants.{Empty}
 use Rattle.sheet_model.specs.Sheets.{SheetValue, Constant, IsSheet, content_of}

@@ -1,25 +1,26 @@
 -- What a sheet keeps, and what a change does to it.
-use Rattle.std.proofs.Common.{◌≡◌, ◌≢◌, ℕ, zero, suc, ◌+◌, ◌-◌, ◌*◌, ◌^◌, ◌<◌, ◌≤◌, List, [], ◌∷◌, ◌++◌, map, replicate, Bool, cond, length, get_or, IsTrue, true, false, refl, sym, ◌∙◌, ap, subst, arith, length-set, length-append, get_or-set_same, get_or-set_other, inl, inr, Result, Ok, Err}
-use Rattle.std.specs.Prelude.{All, AllPairs, OnOk, OnErr}
-use Rattle.std.specs.List.{list_any}
-use Rattle.std.specs.Str.{bytes_eq}
+use Rattle.std.proofs.Common.{◌≡◌, ◌≢◌, ℕ, zero, suc, ◌-◌, ◌^◌, ◌<◌, ◌≤◌, List, ◌∷◌, map, replicate, Bool, cond, length, get_or, IsTrue, true, false, refl, sym, ◌∙◌, ap, subst, arith, length-set, get_or-set_same, get_or-set_other, inl, inr, Result, Ok, Err}
+use Rattle.std.specs.Prelude.{All, OnOk, OnErr}
 use Rattle.std.proofs.Math.ListN.{get_or-map}
-use Rattle.std.proofs.lemmas.Grind.{common_steps}
-use Rattle.std.proofs.lemmas.List.{length-replicate, map-set, length-map}
+use Rattle.std.proofs.lemmas.List.{length-replicate}
 use Rattle.std.proofs.lemmas.List.Elements.{All-set, All-replicate}
 use Rattle.std.proofs.lemmas.Option.{slice_get_within}
 use Rattle.sheet_refs.specs.Cells.{Position}
 use Rattle.sheet_refs.specs.declared.sizes.Sizes.{Sizes}
 use Rattle.sheet_refs.specs.Sizes.{is_inside, cell_count, place_of}
 use Rattle.sheet_refs.proofs.Places.{place-lt, place_same}
-use Rattle.formula_syntax.proofs.Measures.{fitting, tokens_written}
 use Rattle.value_core.specs.declared.value.ErrorKind.TheVariants.{Circ}
+use Rattle.value_core.specs.declared.value.Value.{Value}
 use Rattle.value_core.specs.declared.value.Value.TheVariants as value
+use Rattle.value_core.specs.Values.{IsValue}
+use Rattle.formula_syntax.specs.Formula.{IsFormula}
+use Rattle.formula_syntax.specs.Tree.{Tree}
 use Rattle.sheet_model.specs.Fields.{IsContent, IsTableAfter}
 use Rattle.sheet_model.specs.Fields.IsTableAfter.{label, other}
 use Rattle.sheet_model.specs.declared.content.Content.{Content}
 use Rattle.sheet_model.specs.Labels.{IsTable, with_label}
-use Rattle.sheet_model.specs.Sheets.{SheetValue, ContentValue, Constant, Computed, HasLabel, IsWritten, IsHeld, IsSheet, IsSheetSize, content_of, content_value, blank_sheet, with_content, with_labels}
+use Rattle.sheet_model.specs.Sheets.{SheetValue, ContentValue, Constant, Computed, HasLabel, IsConstant, IsWritten, IsHeld, IsSheet, IsSheetSize, content_of, content_value, blank_sheet, with_content, with_labels}
+use Rattle.sheet_model.proofs.WrittenLemmas.{whole_field, read_is_formula}
 use Rattle.sheet_model.proofs.LabelLemmas.{length-with_label, distinct-with_label, get-with_label}
 
 -- a function of each of many copies
@@ -35,7 +36,7 @@ get_or-replicate_default (suc n) (suc i) x = get_or-replicate_default n i x
 
 -- an empty cell may stand beside any table
 pub held_empty : (labels : ℕ) → IsHeld labels (Constant value.Empty)
-held_empty labels = record { label = tt; written = λ e. cc }
+held_empty labels = record { label = tt; written = record { in_range = tt; not_circular = λ e. cc } }
 
 -- what may stand beside a table may stand beside a longer one
 pub HasLabel-more : (fewer more : ℕ) (content : ContentValue) → fewer ≤ more → HasLabel fewer content → HasLabel more content
@@ -49,15 +50,27 @@ HasLabel-more fewer more (Computed tree) grown has = tt
 pub IsHeld-more : (fewer more : ℕ) (content : ContentValue) → fewer ≤ more → IsHeld fewer content → IsHeld more content
 IsHeld-more fewer more content grown held = record { label = HasLabel-more fewer more content grown held.label; written = held.written }
 
--- what a text writes may stand beside the table
-pub held_content : (labels : List (List ℕ)) (text : List ℕ) (content : ContentValue) → IsContent labels text content → IsHeld (length labels) content
-held_content labels text (Constant value.Empty) is = record { label = tt; written = λ e. cc }
-held_content labels text (Constant (value.Number n)) is = record { label = tt; written = λ e. cc }
-held_content labels text (Constant (value.Truth b)) is = record { label = tt; written = λ e. cc }
-held_content labels text (Constant (value.Error kind)) is = record { label = tt; written = λ e. elim is [ inl named ↦ named.written cc | inr faulty ↦ let k = faulty.0 in cc ] }
-held_content labels text (Constant (value.Label place)) is = record { label = slice_get_within labels place text is.1; written = λ e. cc }
-held_content labels text (Computed tree) is =
-    record { label = tt; written = fitting 0 is.spelt.tokens tree is.spelt.derived (tokens_written is.spelt.rest is.spelt.tokens is.spelt.has_tokens) }
+-- what a text writes may be written, and its label is in the table
+pub label_content : (labels : List (List ℕ)) (text : List ℕ) (content : ContentValue) → IsContent labels text content → HasLabel (length labels) content
+label_content labels text (Constant value.Empty) is = tt
+label_content labels text (Constant (value.Number n)) is = tt
+label_content labels text (Constant (value.Truth b)) is = tt
+label_content labels text (Constant (value.Error kind)) is = tt
+label_content labels text (Constant (value.Label place)) is = slice_get_within labels place text is.1
+label_content labels text (Computed tree) is = tt
+
+written_content : (labels : List (List ℕ)) (text : List ℕ) (content : ContentValue) → length labels < 2 ^ 32 → length text ≤ 8192 → IsContent labels text content → IsWritten content
+written_content labels text (Constant value.Empty) few short is = record { in_range = tt; not_circular = λ e. cc }
+written_content labels text (Constant (value.Number n)) few short is = record { in_range = whole_field text n is; not_circular = λ e. cc }
+written_content labels text (Constant (value.Truth b)) few short is = record { in_range = tt; not_circular = λ e. cc }
+written_content labels text (Constant (value.Error kind)) few short is =
+    record { in_range = tt; not_circular = λ e. elim is [ inl named ↦ named.written cc | inr faulty ↦ let k = faulty.0 in cc ] }
+written_content labels text (Constant (value.Label place)) few short is =
+    record { in_range = (let within = slice_get_within labels place text is.1 in omega (arith, within, few)); not_circular = λ e. cc }
+written_content labels text (Computed tree) few short is = read_is_formula text tree short is
+
+pub held_content : (labels : List (List ℕ)) (text : List ℕ) (content : ContentValue) → IsTable labels → length text ≤ 8192 → IsContent labels text content → IsHeld (length labels) content
+held_content labels text content table short is = record { label = label_content labels text content is; written = written_content labels text content table.few short is }
 
 -- a table after a field has been read
 pub grown_table : (text : List ℕ) (old new : List (List ℕ)) → IsTableAfter text old new → length old ≤ length new
@@ -109,17 +122,29 @@ pub table_read : {A E : Type 0} (result : Result A E) (text : List ℕ) (old new
 table_read (Ok x) text old new room table after refused = (table_after text old new room table after, grown_table text old new after)
 table_read (Err e) text old new room table after refused = rw refused (table, omega arith)
 
--- in a sheet what stands in a cell writes no #CIRC!, also past the rectangle
-pub written_at : (sheet : SheetValue) → IsSheet sheet → (cell : Position) → IsWritten (content_of sheet cell)
-written_at sheet is cell = go (is_inside sheet.sizes cell) refl
+-- what stands in a cell of a sheet may stand beside its table, also past the rectangle
+pub held_of : (sheet : SheetValue) → IsSheet sheet → (cell : Position) → IsHeld (length sheet.labels) (content_of sheet cell)
+held_of sheet is cell = go (is_inside sheet.sizes cell) refl
   where
-    go : (b : Bool) → is_inside sheet.sizes cell ≡ b → IsWritten (content_of sheet cell)
+    go : (b : Bool) → is_inside sheet.sizes cell ≡ b → IsHeld (length sheet.labels) (content_of sheet cell)
     go true inside =
         let lt = place-lt sheet.sizes cell inside in
         let within : place_of sheet.sizes cell < length sheet.contents = (let e = is.filled in omega arith) in
         let held = is.held (place_of sheet.sizes cell) (Constant value.Empty) within in
-        rw inside held.written
-    go false outside = rw outside (held_empty 0).written
+        rw inside held
+    go false outside = rw outside (held_empty (length sheet.labels))
+
+pub written_at : (sheet : SheetValue) → IsSheet sheet → (cell : Position) → IsWritten (content_of sheet cell)
+written_at sheet is cell = (held_of sheet is cell).written
+
+pub constant_at : (sheet : SheetValue) (cell : Position) (constant : Value) → IsSheet sheet → content_of sheet cell ≡ Constant constant → IsValue constant × (constant ≢ value.Error Circ)
+constant_at sheet cell constant is stands = let written : IsConstant constant = subst IsWritten stands (written_at sheet is cell) in (written.in_range, written.not_circular)
+
+pub formula_at : (sheet : SheetValue) (cell : Position) (formula : Tree) → IsSheet sheet → content_of sheet cell ≡ Computed formula → IsFormula formula
+formula_at sheet cell formula is stands = subst IsWritten stands (written_at sheet is cell)
+
+pub label_at : (sheet : SheetValue) (cell : Position) (place : ℕ) → IsSheet sheet → content_of sheet cell ≡ Constant (value.Label place) → place < length sheet.labels
+label_at sheet cell place is stands = subst (HasLabel (length sheet.labels)) stands (held_of sheet is cell).label
 
 pub on_ok : {A E : Type 0} (result : Result A E) (P : Type 0) → P → OnOk result P
 on_ok (Ok x) P holds = holds

@@ -2,7 +2,6 @@
 use Rattle.std.proofs.Common.{◌≡◌, ℕ, ◌+◌, ◌≤◌, List, [], ◌∷◌, ◌++◌, length, refl, sym, ap, subst, ◌∙◌, arith}
 use Rattle.sheet_model.specs.Fields.{IsTableAfter}
 use Rattle.sheet_model.specs.Fields.IsTableAfter.{label, other}
-use Rattle.sheet_model.specs.Labels.{with_label}
 use Rattle.sheet_model.proofs.LabelLemmas.{length-with_label}
 use Rattle.sheet_model.specs.Tables.{AddsLabels}
 use Rattle.sheet_model.specs.Tables.AddsLabels.{done, next}

@@ -1,6 +1,6 @@
 -- Boards: what is shown of the cells of a window, row by row.
 use Rattle.std.specs.Prelude.{ℕ, ◌≤◌, List, [], ◌∷◌, ◌++◌, length}
-use Rattle.sheet_refs.specs.Cells.{Position, Corners, cells_of}
+use Rattle.sheet_refs.specs.Cells.{Corners, cells_of}
 use Rattle.sheet_model.specs.declared.board.Shown.{Shown}
 
 -- how many cells it has room for, how many edits it tells of, the window, and what is shown of its first cells

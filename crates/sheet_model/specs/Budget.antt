@@ -1,6 +1,6 @@
 -- Values by a budget of steps: over any cells, any values, and any function that gives a cell its value from those of its inputs.
 -- `circ` is the value of a cell that leads into a cycle.
-use Rattle.std.specs.Prelude.{◌≡◌, ◌≢◌, ◌⊎◌, ℕ, zero, suc, ◌<◌, ◌≤◌, List, slice_get, Some}
+use Rattle.std.specs.Prelude.{◌≡◌, ◌⊎◌, ℕ, zero, suc, ◌≤◌, List, slice_get, Some}
 
 -- the value of a cell depends on the values of its inputs alone
 abbrev pub IsLocal : {C V : Type 0} (Input : C → C → Type 0) (step : C → (C → V) → V) → Type 0
@@ -27,14 +27,6 @@ IsCircular circ step c = (n : ℕ) → ev circ step n c ≡ circ
 abbrev pub StandsIn : {C : Type 0} → List C → C → Type 0
 StandsIn cells c = (i : ℕ) × (slice_get cells i ≡ Some c)
 
--- a list in which the inputs of each cell stand before it, and a set of cells each of which has an input in the set;
--- the listed cells have numbers below `count`, and no two have one number
-pub record IsJustified {C : Type 0} (Input : C → C → Type 0) (number : C → ℕ) (count : ℕ) (ordered : List C) (Circular : C → Type 0) : Type 0 where
-  pub inputs_before : (i : ℕ) (c d : C) → slice_get ordered i ≡ Some c → Input c d → (j : ℕ) × (j < i) × (slice_get ordered j ≡ Some d)
-  pub numbers_below : (i : ℕ) (c : C) → slice_get ordered i ≡ Some c → number c < count
-  pub numbers_differ : (i j : ℕ) (c d : C) → i < j → slice_get ordered i ≡ Some c → slice_get ordered j ≡ Some d → number c ≢ number d
-  pub circular_input : (c : C) → Circular c → (d : C) × Input c d × Circular d
-
 -- one or more steps lead from a cell to another, each of them from a cell to one of its inputs
 pub data Leads {C : Type 0} (Input : C → C → Type 0) : C → C → Type 0 where
   one_step : (c d : C) → Input c d → Leads Input c d
@@ -49,8 +41,3 @@ pub record LeadsIntoCycle {C : Type 0} (Input : C → C → Type 0) (c : C) : Ty
 -- a step gives the circular value only where an input has it
 abbrev pub HandsOnCircular : {C V : Type 0} (Input : C → C → Type 0) (circ : V) (step : C → (C → V) → V) → Type 0
 HandsOnCircular {C} {V} Input circ step = (c : C) (f : C → V) → step c f ≡ circ → (d : C) × Input c d × (f d ≡ circ)
-
--- two steps give the cells of a set the same values from the same values of their inputs, which are in the set too
-pub record AgreeOn {C V : Type 0} (Input : C → C → Type 0) (Kept : C → Type 0) (a b : C → (C → V) → V) : Type 0 where
-  pub closed : (c d : C) → Kept c → Input c d → Kept d
-  pub same : (c : C) (f g : C → V) → Kept c → ((d : C) → Input c d → f d ≡ g d) → a c f ≡ b c g

@@ -1,10 +1,10 @@
 -- Logs of edits, and what they do to a sheet.
-use Rattle.std.specs.Prelude.{◌≡◌, ℕ, IsTrue, List, [], ◌∷◌, ◌++◌}
+use Rattle.std.specs.Prelude.{◌≡◌, ℕ, IsTrue, List, [], ◌∷◌, ◌++◌, length, All}
 use Rattle.sheet_refs.specs.Cells.{Position}
 use Rattle.sheet_refs.specs.Sizes.{is_inside, cell_count, place_of}
 use Rattle.value_core.specs.Values.{code_of}
 use Rattle.sheet_model.specs.Changes.{after_change}
-use Rattle.sheet_model.specs.Sheets.{SheetValue}
+use Rattle.sheet_model.specs.Sheets.{SheetValue, IsSheet, IsHeld}
 use Rattle.sheet_model.specs.Values.{value_of}
 use Rattle.sheet_model.specs.declared.change.Edit.{Edit}
 use Rattle.sheet_model.specs.declared.entry.Entry.{Entry}
@@ -29,6 +29,14 @@ LogsKeepSizes = (sheet : SheetValue) (log : List Entry) → (after sheet log).si
 
 abbrev pub LogsKeepLabels : Type 0
 LogsKeepLabels = (sheet : SheetValue) (log : List Entry) → (after sheet log).labels ≡ sheet.labels
+
+-- what each entry of a log puts into its cell may stand beside a table of so many labels
+abbrev pub AreHeld : ℕ → List Entry → Type 0
+AreHeld labels log = All (λ (entry : Entry). IsHeld labels entry.edit.change.content) log
+
+-- a log of such entries leaves a sheet
+abbrev pub LogsKeepSheets : Type 0
+LogsKeepSheets = (sheet : SheetValue) (log : List Entry) → IsSheet sheet → AreHeld (length sheet.labels) log → IsSheet (after sheet log)
 
 -- a number of places, and the worth of each after a log, are those of a sheet: the places are its cells, row by row
 -- from 0, and the worth of a cell's place is the code of the value that the cell has after the log

@@ -3,10 +3,12 @@ use Rattle.std.specs.Prelude.{◌≡◌, ◌≢◌, ℕ, ◌*◌, ◌<◌, ◌�
 use Rattle.sheet_refs.specs.Cells.{Position}
 use Rattle.sheet_refs.specs.declared.sizes.Sizes.{Sizes}
 use Rattle.sheet_refs.specs.Sizes.{is_inside, cell_count, place_of}
-use Rattle.formula_syntax.specs.Tree.{Tree, IsFitting}
+use Rattle.formula_syntax.specs.Formula.{IsFormula}
+use Rattle.formula_syntax.specs.Tree.{Tree}
 use Rattle.value_core.specs.declared.value.ErrorKind.TheVariants.{Circ}
 use Rattle.value_core.specs.declared.value.Value.{Value}
 use Rattle.value_core.specs.declared.value.Value.TheVariants as value
+use Rattle.value_core.specs.Values.{IsValue}
 use Rattle.sheet_model.specs.Labels.{IsTable}
 use Rattle.sheet_model.specs.declared.content.Content.{Content}
 use Rattle.sheet_model.specs.declared.content.Content.TheVariants.{Empty, Number, Truth, Error, Label, Formula}
@@ -43,17 +45,23 @@ abbrev pub HasLabel : ℕ → ContentValue → Type 0
 HasLabel labels (Constant (value.Label place)) = place < labels
 HasLabel labels _ = Unit {0}
 
--- a constant that isn't #CIRC!, or a fitting formula, which doesn't write it: that error comes of evaluation alone
+-- a constant that may be written: a value in range other than #CIRC!, since that error comes of evaluation alone
+pub record IsConstant (constant : Value) : Type 0 where
+  pub in_range : IsValue constant
+  pub not_circular : constant ≢ value.Error Circ
+
+-- such a constant, or a formula that can be read, which doesn't write #CIRC! either
 abbrev pub IsWritten : ContentValue → Type 0
-IsWritten (Constant constant) = constant ≢ value.Error Circ
-IsWritten (Computed formula) = IsFitting formula
+IsWritten (Constant constant) = IsConstant constant
+IsWritten (Computed formula) = IsFormula formula
 
 -- what a cell may hold beside a table of so many labels
 pub record IsHeld (labels : ℕ) (content : ContentValue) : Type 0 where
   pub label : HasLabel labels content
   pub written : IsWritten content
 
--- a sheet has such a size, something stands in each of its cells, its labels are in its table, and no content writes #CIRC!
+-- a sheet has such a size, something stands in each of its cells, its labels are in its table, its constants are values in
+-- range and its formulas can be read, and none of them writes #CIRC!
 pub record IsSheet (sheet : SheetValue) : Type 0 where
   pub size : IsSheetSize sheet.sizes
   pub filled : length sheet.contents ≡ cell_count sheet.sizes
@@ -94,3 +102,20 @@ abbrev pub SheetsAreTheirCells : Type 0
 SheetsAreTheirCells =
     (a b : SheetValue) → IsSheet a → IsSheet b → a.sizes ≡ b.sizes → a.labels ≡ b.labels
     → ((cell : Position) → IsTrue (is_inside a.sizes cell) → content_of a cell ≡ content_of b cell) → a ≡ b
+
+-- a label that stands in a cell of a sheet is in its table
+abbrev pub LabelsAreInTheirTable : Type 0
+LabelsAreInTheirTable =
+    (sheet : SheetValue) (cell : Position) (place : ℕ) → IsSheet sheet
+    → content_of sheet cell ≡ Constant (value.Label place) → place < length sheet.labels
+
+-- a constant that stands in a cell of a sheet is a value in range other than #CIRC!
+abbrev pub ConstantsAreInRange : Type 0
+ConstantsAreInRange =
+    (sheet : SheetValue) (cell : Position) (constant : Value) → IsSheet sheet
+    → content_of sheet cell ≡ Constant constant → IsValue constant × (constant ≢ value.Error Circ)
+
+-- a formula that stands in a cell of a sheet can be read
+abbrev pub FormulasCanBeRead : Type 0
+FormulasCanBeRead =
+    (sheet : SheetValue) (cell : Position) (formula : Tree) → IsSheet sheet → content_of sheet cell ≡ Computed formula → IsFormula formula

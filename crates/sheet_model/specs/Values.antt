@@ -1,5 +1,5 @@
 -- What a cell's value is, by a budget of steps of evaluation.
-use Rattle.std.specs.Prelude.{◌≡◌, ◌≢◌, ◌↔◌, ℕ, suc, Bool, IsTrue, List, [], length, slice_get, Some}
+use Rattle.std.specs.Prelude.{◌≡◌, ◌↔◌, ℕ, suc, Bool, IsTrue, List, [], length, slice_get, Some}
 use Rattle.sheet_refs.specs.Cells.{Position}
 use Rattle.sheet_refs.specs.Ends.{Reference}
 use Rattle.sheet_refs.specs.Sizes.{is_inside, cell_count, place_of}
@@ -10,7 +10,7 @@ use Rattle.value_core.specs.declared.value.Value.TheVariants.{Error}
 use Rattle.value_core.specs.Values.{IsValue, code_of}
 use Rattle.formula_syntax.specs.Tree.{references_of}
 use Rattle.formula_eval.specs.Meaning.{IsNamedBy, formula_value}
-use Rattle.sheet_model.specs.Budget.{ev, StandsIn, IsJustified, LeadsIntoCycle, AgreeOn}
+use Rattle.sheet_model.specs.Budget.{ev, StandsIn, LeadsIntoCycle}
 use Rattle.sheet_model.specs.Sheets.{SheetValue, ContentValue, Constant, Computed, IsSheet, content_of}
 
 -- one step: what a content gives over the values of the cells
@@ -43,32 +43,48 @@ pub record IsInput (sheet : SheetValue) (cell input : Position) : Type 0 where
   pub named : IsNamedBy (content_references (content_of sheet cell)) input
   pub inside : IsTrue (is_inside sheet.sizes input)
 
--- an order of cells in which inputs come first, and a set of cells, told by a test, in which each has an input
-abbrev pub IsOrderOf : SheetValue → List Position → (Position → Bool) → Type 0
-IsOrderOf sheet ordered circular = IsJustified (IsInput sheet) (place_of sheet.sizes) (cell_count sheet.sizes) ordered (λ cell. IsTrue (circular cell))
-
--- values that are one step over themselves at the cells of the order, and #CIRC! at those of the set
-pub record IsSettledBy (sheet : SheetValue) (ordered : List Position) (circular : Position → Bool) (values : Position → Value) : Type 0 where
-  pub at_ordered : (cell : Position) → StandsIn ordered cell → values cell ≡ step sheet cell values
-  pub at_circular : (cell : Position) → IsTrue (circular cell) → values cell ≡ circular_value
-
 -- the codes of the values of all cells, row by row, each of them a value in range
 pub record AreValues (sheet : SheetValue) (codes : List ℕ) : Type 0 where
   pub count : length codes ≡ cell_count sheet.sizes
   pub each : (cell : Position) → IsTrue (is_inside sheet.sizes cell) → slice_get codes (place_of sheet.sizes cell) ≡ Some (code_of (value_of sheet cell))
   pub values : (cell : Position) → IsTrue (is_inside sheet.sizes cell) → IsValue (value_of sheet cell)
 
+-- in a sheet each cell's value is what one step gives over the values of the sheet
+abbrev pub ValuesAreOneStep : Type 0
+ValuesAreOneStep = (sheet : SheetValue) (cell : Position) → IsSheet sheet → value_of sheet cell ≡ step sheet cell (value_of sheet)
+
 -- in a sheet a cell's value is #CIRC! exactly where its references lead into a cycle
 abbrev pub CyclesTellCircularCells : Type 0
 CyclesTellCircularCells = (sheet : SheetValue) (cell : Position) → IsSheet sheet → (value_of sheet cell ≡ circular_value) ↔ LeadsIntoCycle (IsInput sheet) cell
+
+-- in a sheet each cell's value is in range
+abbrev pub ValuesAreInRange : Type 0
+ValuesAreInRange = (sheet : SheetValue) (cell : Position) → IsSheet sheet → IsValue (value_of sheet cell)
+
+-- cells each of which has an input among them are #CIRC!
+abbrev pub CellsThatWaitForEachOtherAreCircular : Type 0
+CellsThatWaitForEachOtherAreCircular =
+    (sheet : SheetValue) (among : Position → Bool)
+    → ((cell : Position) → IsTrue (among cell) → (input : Position) × IsInput sheet cell input × IsTrue (among input))
+    → (cell : Position) → IsTrue (among cell) → value_of sheet cell ≡ circular_value
+
+-- values that are #CIRC! at the cells that lead into a cycle, and one step over themselves at all others, are those of the sheet
+abbrev pub OneStepTellsTheValues : Type 0
+OneStepTellsTheValues =
+    (sheet : SheetValue) (values : Position → Value) → IsSheet sheet
+    → ((cell : Position) → LeadsIntoCycle (IsInput sheet) cell → values cell ≡ circular_value)
+    → ((cell : Position) → ¬ LeadsIntoCycle (IsInput sheet) cell → values cell ≡ step sheet cell values)
+    → (cell : Position) → values cell ≡ value_of sheet cell
 
 -- the cells that a map gives a cell as its inputs
 abbrev pub IsMapped : (Position → List Position) → Position → Position → Type 0
 IsMapped inputs cell input = StandsIn (inputs cell) input
 
--- over any map from cells to inputs, steps that agree on a set of cells that has their inputs give them the same values
+-- over any map from cells to inputs, two steps that give the cells of a set, which has their inputs, the same values from the
+-- same values of these give them the same values with every budget
 abbrev pub AgreeingStepsGiveOneValue : Type 0
 AgreeingStepsGiveOneValue =
     (inputs : Position → List Position) (kept : Position → Bool) (a b : Position → (Position → Value) → Value)
-    → AgreeOn (IsMapped inputs) (λ cell. IsTrue (kept cell)) a b
+    → ((cell input : Position) → IsTrue (kept cell) → IsMapped inputs cell input → IsTrue (kept input))
+    → ((cell : Position) (f g : Position → Value) → IsTrue (kept cell) → ((input : Position) → IsMapped inputs cell input → f input ≡ g input) → a cell f ≡ b cell g)
     → (n : ℕ) (cell : Position) → IsTrue (kept cell) → ev circular_value a n cell ≡ ev circular_value b n cell

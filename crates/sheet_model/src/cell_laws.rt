@@ -1,7 +1,9 @@
 ghost use Rattle.sheet_model.specs.Changes.{ChangesFillTheirCell, ChangesLeaveOtherCells};
 ghost use Rattle.sheet_model.specs.Fields.{WritesOneContent, RefusedWritesNone};
 ghost use Rattle.sheet_model.specs.Logs.{OneMoreEntryIsOneMoreEdit, LogsKeepSizes, LogsKeepLabels};
-ghost use Rattle.sheet_model.specs.Sheets.{SheetsAreTheirCells};
+ghost use Rattle.sheet_model.specs.Logs.{LogsKeepSheets};
+ghost use Rattle.sheet_model.specs.Sheets.{SheetsAreTheirCells, LabelsAreInTheirTable};
+ghost use Rattle.sheet_model.specs.Sheets.{ConstantsAreInRange, FormulasCanBeRead};
 
 /// What holds of fields: over a table of labels a text writes at most one content, and a text that is
 /// refused writes none.
@@ -11,17 +13,23 @@ pub fn field_laws()
 {}
 
 /// What holds of sheets as contracts see them: one is told by its sizes, its labels and what stands in its
-/// cells.
+/// cells. A label that stands in a cell is in the table, a constant is a value in range other than `#CIRC!`,
+/// and a formula can be read.
 pub fn sheet_laws()
-    ensures { SheetsAreTheirCells }
+    ensures told { SheetsAreTheirCells }
+    ensures labels { LabelsAreInTheirTable }
+    ensures constants { ConstantsAreInRange }
+    ensures formulas { FormulasCanBeRead }
 {}
 
 /// What holds of sheets after logs of edits: a log with one more entry makes one more edit, which fills its cell
-/// and leaves every other cell as it was, and no log changes the sizes or the labels of a sheet.
+/// and leaves every other cell as it was, and no log changes the sizes or the labels of a sheet. Where what each entry
+/// puts into its cell may stand beside the labels, the sheet after the log is one.
 pub fn log_laws()
     ensures more { OneMoreEntryIsOneMoreEdit }
     ensures here { ChangesFillTheirCell }
     ensures others { ChangesLeaveOtherCells }
     ensures sizes { LogsKeepSizes }
     ensures labels { LogsKeepLabels }
+    ensures sheets { LogsKeepSheets }
 {}

@@ -2,7 +2,8 @@ use crate::content::Content;
 use sheet_refs::{Cell, Memory};
 use std::marker::Model;
 
-/// A cell, and what it is to hold: anything that doesn't write `#CIRC!`, as a constant or in a formula.
+/// A cell, and what it is to hold: a value in range other than `#CIRC!`, or a formula that can be read, which
+/// doesn't write that error either.
 #[derive(Drop)]
 pub struct Change {
     /// The cell.

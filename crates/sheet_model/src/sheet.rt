@@ -20,7 +20,8 @@ use std::mem;
 /// A rectangle of cells that begins at A1, with a content in each, and the table of its labels.
 ///
 /// It has at most 1,048,576 cells and 16,384 columns. A sheet without rows has no columns. Every label in
-/// it is in its table, and none of its contents writes `#CIRC!`, as a constant or in a formula.
+/// it is in its table, each constant is a value in range and each formula can be read, and none of them
+/// writes `#CIRC!`.
 #[derive(Drop)]
 pub struct Sheet {
     sizes: Sizes,

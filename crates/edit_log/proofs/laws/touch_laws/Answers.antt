@@ -1,8 +1,6 @@
 use Rattle.edit_log.specs.Kept.{untouched, before_after}
+use Rattle.edit_log.proofs.PlaceLemmas.{touches_inside, one_touched_list}
 use Rattle.edit_log.proofs.laws.touch_laws.Goals as goal
 
-pub returns-clause-untouched : goal.returns-clause-untouched
-returns-clause-untouched c = untouched
-
-pub returns-clause-both : goal.returns-clause-both
-returns-clause-both c = before_after
+pub returns : goal.returns
+returns c = record { untouched = untouched; both = before_after; inside = touches_inside; listed = one_touched_list }

@@ -1,4 +1,4 @@
-use Rattle.sheet_model.proofs.LogLemmas.{after-more, change-here, change-others, after-sizes, after-labels}
+use Rattle.sheet_model.proofs.LogLemmas.{after-more, change-here, change-others, after-sizes, after-labels, after-sheet}
 use Rattle.sheet_model.proofs.cell_laws.log_laws.Goals as goal
 
 pub returns-clause-more : goal.returns-clause-more
@@ -15,3 +15,6 @@ returns-clause-sizes c = after-sizes
 
 pub returns-clause-labels : goal.returns-clause-labels
 returns-clause-labels c = after-labels
+
+pub returns-clause-sheets : goal.returns-clause-sheets
+returns-clause-sheets c = after-sheet

@@ -1,4 +1,3 @@
-use Rattle.std.proofs.Common.{◌≡◌}
 use Rattle.formula_eval.proofs.NodeLemmas.{take-all}
 use Rattle.sheet_model.specs.Sheets.{content_value}
 use Rattle.sheet_model.proofs.ListLemmas.{seen_more}

@@ -16,4 +16,4 @@ invariant_of-self c =
 
 pub returns-clause-held : goal.returns-clause-held
 returns-clause-held c =
-    IfOk-weaker c.read_content.result _ _ (λ content is. held_content c.read_content.new.labels c.args.text.now (content_value content) is) c.read_content.ensures.read
+    IfOk-weaker c.read_content.result _ _ (λ content is. held_content c.read_content.new.labels c.args.text.now (content_value content) (invariant_of-self c).sheet.table c.requires.short is) c.read_content.ensures.read
