@@ -113,13 +113,13 @@ line_whole old new before after line is re calm (inr (rose, part)) = absurd (cal
 
 -- ---- endings
 
-same_text : {a b : List ℕ} → output a ≡ output b → a ≡ b
+pub same_text : {a b : List ℕ} → output a ≡ output b → a ≡ b
 same_text h = cc
 
 same_line : {s t : ℕ} {l m : List ℕ} → refusal s l ≡ refusal t m → l ≡ m
 same_line h = cc
 
-no_refusal : {s : ℕ} {l t : List ℕ} → refusal s l ≡ output t → ⊥
+pub no_refusal : {s : ℕ} {l t : List ℕ} → refusal s l ≡ output t → ⊥
 no_refusal h = cc
 
 asked_check : (words : List (List ℕ)) (request : Request) (name : List ℕ) → request ≡ of_check name → Asks words request → words ≡ codes "check" ∷ name ∷ []
@@ -134,10 +134,10 @@ asked_check words _ name re (asks_play sheet script is _ _) = absurd (no re)
     no h = cc
 
 -- what stands behind the number of pairs
-abbrev behind : List EdgeValue → List ℕ
+abbrev pub behind : List EdgeValue → List ℕ
 behind edges = count_line (codes "edges") (length edges) ++ flat_map edge_line edges
 
-in_front : (pairs : ℕ) (edges : List EdgeValue) → check_text pairs edges ≡ codes "pairs " ++ (decimal pairs ++ 10 ∷ behind edges)
+pub in_front : (pairs : ℕ) (edges : List EdgeValue) → check_text pairs edges ≡ codes "pairs " ++ (decimal pairs ++ 10 ∷ behind edges)
 in_front pairs edges = ap (λ t. codes "pairs " ++ t) (append_assoc (decimal pairs) (10 ∷ []) (behind edges))
 
 pub one_count : ChecksHaveOneCount

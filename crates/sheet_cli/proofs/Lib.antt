@@ -6,8 +6,10 @@ pub mod KeepLemmas
 pub mod LawLemmas
 pub mod OneAnswer
 pub mod ReplyLemmas
+pub mod RowGraph
 pub mod RowShow
 pub mod RunLemmas
 pub mod VerticalRuns
 pub mod WordLemmas
+pub mod WorkedGraph
 pub mod WorkedSheet

@@ -101,7 +101,7 @@ no_more : (sheet : SheetValue) (text said : List ℕ) → (one : ListsEdges shee
 no_more sheet text said one other =
     no_longer (pairs_of one.edges) (pairs_of other.edges) one.stand.once (λ pair there. same_pair sheet text said one other pair there)
 
-as_many : (sheet : SheetValue) (text said : List ℕ) → (one : ListsEdges sheet text) → (other : ListsEdges sheet said) → length (pairs_of one.edges) ≡ length (pairs_of other.edges)
+pub as_many : (sheet : SheetValue) (text said : List ℕ) → (one : ListsEdges sheet text) → (other : ListsEdges sheet said) → length (pairs_of one.edges) ≡ length (pairs_of other.edges)
 as_many sheet text said one other = omega (arith, no_more sheet text said one other, no_more sheet said text other one)
 
 -- a command writes one text of a window of a sheet

@@ -47,7 +47,7 @@ just_refused words given line tells owed holds status said here = (
 same_byte : (a b : ℕ) → Some a ≡ Some b → a ≡ b
 same_byte a b same = cc
 
-no_option : ¬ IsOption (codes "s")
+pub no_option : ¬ IsOption (codes "s")
 no_option option = (let same = same_byte 115 45 option in omega (arith, same))
 
 abbrev corners : ℕ → ℕ → Corners

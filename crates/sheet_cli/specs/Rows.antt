@@ -42,3 +42,18 @@ OutsideRow = RefusedJust (worked_words (codes "show") (codes "A1:B3")) 2 (codes 
 -- `show s`
 abbrev pub UsageRow : Type 0
 UsageRow = RefusedJust (codes "show" ∷ codes "s" ∷ []) 2 usage_line
+
+-- `deps s A1`
+abbrev pub DepsRow : Type 0
+DepsRow = WritesJust (worked_words (codes "deps") (codes "A1")) (codes "A1:A1\nB1:B2\n")
+
+-- `check s`: there are three pairs, whatever edges stand for them, and these two may
+abbrev pub CheckRow : Type 0
+CheckRow =
+    (holds : Texts) (text : List ℕ) → TellsWorked holds → HasWritten (codes "check" ∷ codes "s" ∷ []) holds (Some []) (Some text)
+    → (edges : List ℕ) × (text ≡ codes "pairs 3\n" ++ edges)
+
+abbrev pub ListedRow : Type 0
+ListedRow =
+    (holds : Texts) → TellsWorked holds
+    → HasWritten (codes "check" ∷ codes "s" ∷ []) holds (Some []) (Some (codes "pairs 3\nedges 2\nB1:B2 A1:A2 RR\nB2:B2 B1:B1 Single\n"))

@@ -7,7 +7,8 @@ ghost use Rattle.sheet_cli.specs.Laws.{UnfetchedOfWindow, TellsOfCheck, TellsOfP
 ghost use Rattle.sheet_cli.specs.Laws.{AcceptedIsNotRefused, BegunIsAPrefix, ChecksHaveOneCount};
 ghost use Rattle.sheet_cli.specs.Laws.{NoOutputAndRefusal, OneOutput, OneRefusal, RefusedIsOwed};
 ghost use Rattle.sheet_cli.specs.Laws.{WrittenIsOwed};
-ghost use Rattle.sheet_cli.specs.Rows.{AcceptedRow, OutsideRow, ShowRow, UsageRow};
+ghost use Rattle.sheet_cli.specs.Rows.{AcceptedRow, CheckRow, DepsRow, ListedRow, OutsideRow};
+ghost use Rattle.sheet_cli.specs.Rows.{ShowRow, UsageRow};
 
 /// Words ask for at most one thing; and words and the texts that they name, where the shelf tells these, are
 /// answered in one way, but for which edges `check` lists.
@@ -64,4 +65,7 @@ pub fn row_laws()
     ensures accepted { AcceptedRow }
     ensures outside { OutsideRow }
     ensures usage { UsageRow }
+    ensures deps { DepsRow }
+    ensures check { CheckRow }
+    ensures listed { ListedRow }
 {}
