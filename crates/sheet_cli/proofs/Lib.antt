@@ -1,9 +1,15 @@
 pub mod ClapLemmas
 pub mod ClapOne
 pub mod GraphLemmas
+pub mod InOrder
 pub mod KeepLemmas
+pub mod LawLemmas
 pub mod OneAnswer
 pub mod ReplyLemmas
+pub mod RowGraph
+pub mod RowShow
 pub mod RunLemmas
 pub mod VerticalRuns
 pub mod WordLemmas
+pub mod WorkedGraph
+pub mod WorkedSheet

@@ -1,5 +1,5 @@
 -- Words and the texts that they name are answered in one way.
-use Rattle.std.proofs.Common.{◌≡◌, ℕ, ◌<◌, ◌≤◌, ◌⊎◌, inl, inr, All, List, [], length, codes, refl, sym, ◌∙◌, ap, subst, arith, slice_index_or}
+use Rattle.std.proofs.Common.{◌≡◌, ℕ, ◌<◌, ◌≤◌, ◌⊎◌, inl, inr, All, Contains, List, [], length, codes, refl, sym, ◌∙◌, ap, subst, arith, slice_index_or}
 use Rattle.std.specs.Prelude.{Option, Some, IfSome, Result, Ok, Err}
 use Rattle.std.proofs.lemmas.Option.{MatchOption-at_some}
 use Rattle.sheet_refs.specs.Cells.{Corners}
@@ -14,6 +14,7 @@ use Rattle.window_text.specs.Reports.{play_text}
 use Rattle.csv_sheet.specs.declared.refused.SheetRefused.{SheetRefused}
 use Rattle.csv_sheet.specs.Results.{IsSheetResult}
 use Rattle.csv_sheet.proofs.ResultLemmas.{one_result}
+use Rattle.graph_walk.specs.Graphs.{Pair, SamePairs}
 use Rattle.taco_graph.specs.Pairs.{pairs_of}
 use Rattle.range_index.proofs.DistinctLemmas.{no_longer}
 use Rattle.window_text.specs.Texts.{IsWithinSheet, check_text, runs_text}
@@ -59,7 +60,7 @@ one_command Precs Deps same = absurd (omega (arith, same))
 one_command Precs Precs same = refl
 
 -- none of them is the word of `play`
-not_play : (command : WindowCommand) → command_word command ≡ codes "play" → ⊥
+pub not_play : (command : WindowCommand) → command_word command ≡ codes "play" → ⊥
 not_play Show same = let first = ap (λ w. slice_index_or w 0 0) same in absurd (omega (arith, first))
 not_play Deps same = let first = ap (λ w. slice_index_or w 0 0) same in absurd (omega (arith, first))
 not_play Precs same = let long = ap length same in absurd (omega (arith, long))
@@ -88,13 +89,19 @@ one_request words _ _ (asks_play sheet script is _ _) (asks_play other again re 
 abbrev no_script_for : ScriptRefused → Result ScriptValue ScriptRefused
 no_script_for cause = Err cause
 
--- lists of edges that stand for one sheet's pairs have equally many
+-- lists of edges that stand for one sheet's pairs have the same pairs
+same_pair : (sheet : SheetValue) (text said : List ℕ) → (one : ListsEdges sheet text) → (other : ListsEdges sheet said) → (pair : Pair) → Contains (pairs_of one.edges) pair → Contains (pairs_of other.edges) pair
+same_pair sheet text said one other pair there = (other.stand.same pair).1 ((other.of_sheet pair).1 ((one.of_sheet pair).0 ((one.stand.same pair).0 there)))
+
+alike : (sheet : SheetValue) (text said : List ℕ) → (one : ListsEdges sheet text) → (other : ListsEdges sheet said) → SamePairs (pairs_of one.edges) (pairs_of other.edges)
+alike sheet text said one other pair = (same_pair sheet said text other one pair, same_pair sheet text said one other pair)
+
+-- and equally many
 no_more : (sheet : SheetValue) (text said : List ℕ) → (one : ListsEdges sheet text) → (other : ListsEdges sheet said) → length (pairs_of one.edges) ≤ length (pairs_of other.edges)
 no_more sheet text said one other =
-    no_longer (pairs_of one.edges) (pairs_of other.edges) one.stand.once
-    (λ pair there. (other.stand.same pair).1 ((other.of_sheet pair).1 ((one.of_sheet pair).0 ((one.stand.same pair).0 there))))
+    no_longer (pairs_of one.edges) (pairs_of other.edges) one.stand.once (λ pair there. same_pair sheet text said one other pair there)
 
-as_many : (sheet : SheetValue) (text said : List ℕ) → (one : ListsEdges sheet text) → (other : ListsEdges sheet said) → length (pairs_of one.edges) ≡ length (pairs_of other.edges)
+pub as_many : (sheet : SheetValue) (text said : List ℕ) → (one : ListsEdges sheet text) → (other : ListsEdges sheet said) → length (pairs_of one.edges) ≡ length (pairs_of other.edges)
 as_many sheet text said one other = omega (arith, no_more sheet text said one other, no_more sheet said text other one)
 
 -- a command writes one text of a window of a sheet
@@ -142,7 +149,7 @@ module _ (holds : List ℕ → Option (List ℕ)) (name told : List ℕ) (here :
       let past = MatchOption-at_some _ _ told here long in
       omega (arith, short, past)
 
-  sheet_or_none : (sheet : SheetValue) (status : ℕ) (line : List ℕ) → GivesSheet holds name (Ok sheet) → HasNoSheet holds name status line → ⊥
+  pub sheet_or_none : (sheet : SheetValue) (status : ℕ) (line : List ℕ) → GivesSheet holds name (Ok sheet) → HasNoSheet holds name status line → ⊥
   sheet_or_none sheet _ _ given (too_long long) = short_or_long (Ok sheet) given long
   sheet_or_none sheet _ _ given (refused why gives) =
       let both : Ok sheet ≡ Err why = gives_one (Ok sheet) (Err why) given gives in
@@ -156,7 +163,7 @@ module _ (holds : List ℕ → Option (List ℕ)) (name told : List ℕ) (here :
       let same : why ≡ also = cc (gives_one (Err why) (Err also) gives regives) in
       ap (λ w. refusal 3 (refused_line w)) same
 
-  one_sheet : (sheet other : SheetValue) → GivesSheet holds name (Ok sheet) → GivesSheet holds name (Ok other) → sheet ≡ other
+  pub one_sheet : (sheet other : SheetValue) → GivesSheet holds name (Ok sheet) → GivesSheet holds name (Ok other) → sheet ≡ other
   one_sheet sheet other one again = cc (gives_one (Ok sheet) (Ok other) one again)
 
   -- so is a command about a window
@@ -179,9 +186,11 @@ module _ (holds : List ℕ → Option (List ℕ)) (name told : List ℕ) (here :
       inr (record {
         name = name;
         asked = asked;
-        pairs = length (pairs_of lists.edges);
         edges = lists.edges;
         others = again.edges;
+        alike = alike sheet text said lists again;
+        pairs = length (pairs_of lists.edges);
+        count = refl;
         one = ap output lists.text_is;
         other = ap output (again.text_is ∙ ap (λ n. check_text n again.edges) (as_many sheet said text again lists));
       })
@@ -202,7 +211,7 @@ module _ (holds : List ℕ → Option (List ℕ)) (name told : List ℕ) (here :
       let past = MatchOption-at_some _ _ told here long in
       omega (arith, short, past)
 
-  script_or_none : (labels : List (List ℕ)) (script : ScriptValue) (status : ℕ) (line : List ℕ) → GivesScript holds name sheet labels (Ok script) → HasNoScript holds name sheet status line → ⊥
+  pub script_or_none : (labels : List (List ℕ)) (script : ScriptValue) (status : ℕ) (line : List ℕ) → GivesScript holds name sheet labels (Ok script) → HasNoScript holds name sheet status line → ⊥
   script_or_none labels script _ _ given (long_script long) = no_long_script labels (Ok script) given long
   script_or_none labels script _ _ given (refused_script why others gives) =
       let both : Ok script ≡ Err why = (script_one labels others (Ok script) (Err why) given gives).0 in

@@ -1,5 +1,5 @@
 -- From what a text gives to the reply to the words, over a shelf.
-use Rattle.std.proofs.Common.{◌≡◌, ◌≢◌, ℕ, suc, ◌+◌, ◌*◌, ◌<◌, ◌≤◌, inl, inr, List, [], ◌∷◌, ◌++◌, length, length-append, refl, sym, subst, ap, arith}
+use Rattle.std.proofs.Common.{◌≡◌, ◌≢◌, ℕ, zero, suc, All, ◌+◌, ◌*◌, ◌<◌, ◌≤◌, inl, inr, List, [], ◌∷◌, ◌++◌, length, length-append, refl, sym, subst, ap, arith}
 use Rattle.std.specs.Prelude.{max, fold, Option, IfSome, Result, Ok, Err, IfOk, Some, None, string_bytes}
 use Rattle.sheet_refs.specs.Cells.{Corners}
 use Rattle.csv_sheet.specs.Results.{IsSheetResult}
@@ -13,7 +13,7 @@ use Rattle.edit_script.specs.Scripts.{ScriptValue, IsScriptResult}
 use Rattle.edit_script.specs.declared.refused.ScriptRefused.{ScriptRefused}
 use Rattle.edit_script.specs.declared.script.Mode.TheVariants.{Play}
 use Rattle.edit_script.specs.declared.refused.ScriptRefused.TheVariants as script_why
-use Rattle.sheet_cli.specs.Answers.{Answer, AnswersRequest, AnswersWindow, AnswersCheck, AnswersPlay, GivesSheet, HasNoScript, IsDue, IsPlayed, Owes, HasNoSheet, status_of}
+use Rattle.sheet_cli.specs.Answers.{Answer, AnswersRequest, AnswersWindow, AnswersCheck, AnswersPlay, GivesSheet, HasGivenSheet, HasNoScript, IsDue, IsPlayed, Owes, HasNoSheet, status_of}
 use Rattle.sheet_cli.specs.Answers.Answer.{output, refusal}
 use Rattle.sheet_cli.specs.Answers.AnswersWindow.{written, outside, no_sheet}
 use Rattle.sheet_cli.specs.Answers.AnswersCheck.{listed, unlisted}
@@ -23,7 +23,7 @@ use Rattle.sheet_cli.specs.Answers.HasNoSheet.{too_long, refused}
 use Rattle.sheet_cli.specs.Answers.Owes.{answers, usage}
 use Rattle.sheet_io.specs.Faults.{Rose}
 use Rattle.sheet_cli.specs.Lines.{long_script_line, read_failed_line, refused_line, script_line, too_long_line, usage_line}
-use Rattle.sheet_cli.specs.Requests.{Request}
+use Rattle.sheet_cli.specs.Requests.{Request, texts_named}
 use Rattle.sheet_cli.specs.Requests.Request.{of_window, of_check, of_play}
 use Rattle.sheet_cli.specs.Replies.{HasFetched, HasSheet, IsMissed, IsOwed, IsRefusedStatus, RepliesPlay, RepliesScript, RepliesTo, answer_of}
 use Rattle.sheet_cli.specs.Words.{Asks, AsksNothing}
@@ -119,17 +119,21 @@ module _ (holds : List ℕ → Option (List ℕ)) (name : List ℕ) (before afte
   read_failure : (request : Request) (reply : Reply) → IsDue holds request name → IsMissed name before after reply → RepliesTo request holds before after reply
   read_failure request reply due miss = inl (record { name = name; due = due; rose = miss.rose; reply_is = miss.reply_is })
 
+  -- the first text that a request names is due
+  first_due : (request : Request) (others : List (List ℕ)) → texts_named request ≡ name ∷ others → IsDue holds request name
+  first_due request others is = record { before = []; after = others; named = is; there = λ k d within. absurd (omega (arith, within)) }
+
   -- where there is no sheet, each command says so
   pub no_window : (command : WindowCommand) (window : Corners) (reply : Reply) → HasFetched holds name before after (Err reply) → RepliesTo (of_window command name window) holds before after reply
-  no_window command window reply (inl miss) = read_failure (of_window command name window) reply refl miss
+  no_window command window reply (inl miss) = read_failure (of_window command name window) reply (first_due (of_window command name window) [] refl) miss
   no_window command window reply (inr lacks) = inr (subst (AnswersWindow holds command name window) (sym lacks.reply_is) (no_sheet lacks.status lacks.line lacks.none))
 
   pub no_check : (reply : Reply) → HasFetched holds name before after (Err reply) → RepliesTo (of_check name) holds before after reply
-  no_check reply (inl miss) = read_failure (of_check name) reply refl miss
+  no_check reply (inl miss) = read_failure (of_check name) reply (first_due (of_check name) [] refl) miss
   no_check reply (inr lacks) = inr (subst (AnswersCheck holds name) (sym lacks.reply_is) (unlisted lacks.status lacks.line lacks.none))
 
   pub no_play : (script : List ℕ) (reply : Reply) → HasFetched holds name before after (Err reply) → RepliesTo (of_play name script) holds before after reply
-  no_play script reply (inl miss) = read_failure (of_play name script) reply (inl refl) miss
+  no_play script reply (inl miss) = read_failure (of_play name script) reply (first_due (of_play name script) (script ∷ []) refl) miss
   no_play script reply (inr lacks) = inr (subst (AnswersPlay holds name script) (sym lacks.reply_is) (unplayed lacks.status lacks.line lacks.none))
 
 -- a fault that rose later has risen
@@ -137,9 +141,17 @@ rose_from : (before mid after : ℕ) → before ≤ mid → Rose mid after → R
 rose_from before mid after grown (inl more) = inl (omega (arith, grown, more))
 rose_from before mid after grown (inr most) = inr most
 
+-- the script is due once the sheet is there
+second_due : (holds : List ℕ → Option (List ℕ)) (name script : List ℕ) (sheet : SheetValue) → GivesSheet holds name (Ok sheet) → IsDue holds (of_play name script) script
+second_due holds name script sheet gives = record { before = name ∷ []; after = []; named = refl; there = only }
+  where
+    only : All (HasGivenSheet holds) (name ∷ [])
+    only zero d within = record { sheet = sheet; gives = gives }
+    only (suc k) d within = absurd (omega (arith, within))
+
 -- the reply over a sheet is one to the words
 pub play_replies : (holds : List ℕ → Option (List ℕ)) (name script : List ℕ) (sheet : SheetValue) (before mid after : ℕ) (reply : Reply) → before ≤ mid → GivesSheet holds name (Ok sheet) → RepliesScript holds sheet script mid after reply → RepliesTo (of_play name script) holds before after reply
-play_replies holds name script sheet before mid after reply grown gives (inl miss) = inl (record { name = script; due = inr (refl, record { sheet = sheet; gives = gives }); rose = rose_from before mid after grown miss.rose; reply_is = miss.reply_is })
+play_replies holds name script sheet before mid after reply grown gives (inl miss) = inl (record { name = script; due = second_due holds name script sheet gives; rose = rose_from before mid after grown miss.rose; reply_is = miss.reply_is })
 play_replies holds name script sheet before mid after reply grown gives (inr plays) = inr (plays name gives)
 
 -- a sheet that was read has no more labels than cells

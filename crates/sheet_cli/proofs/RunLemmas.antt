@@ -6,9 +6,10 @@ use Rattle.sheet_io.specs.Faults.{Rose}
 use Rattle.sheet_cli.specs.Answers.{Owes}
 use Rattle.sheet_cli.specs.Answers.Answer.{output, refusal}
 use Rattle.sheet_cli.specs.Replies.{IsOwed, IsRefusedStatus}
-use Rattle.sheet_cli.specs.Runs.{IsComplete, RefusesAll, IsUnfetched}
+use Rattle.sheet_cli.specs.Runs.{AcceptsAll, IsComplete, RefusesAll, IsUnfetched}
 use Rattle.sheet_cli.specs.declared.reply.Reply.TheVariants.{Refusal}
 use Rattle.sheet_cli.proofs.OneAnswer.{one_status, not_refused}
+use Rattle.sheet_cli.proofs.InOrder.{accepted_not_refused}
 
 module _ (words : List (List ℕ)) (holds : List ℕ → Option (List ℕ)) where
   -- where a text is owed, its status is that of whatever is owed
@@ -25,6 +26,11 @@ module _ (words : List (List ℕ)) (holds : List ℕ → Option (List ℕ)) wher
 
   pub refusal_refuses : (before after status : ℕ) (line : String Global) → IsOwed words holds before after (Refusal status line) → ¬ Rose before after → RefusesAll words holds status
   refusal_refuses before after status line reply calm given told tells owed = refusal_complete before after status line reply calm (refusal given told) tells owed
+
+  -- nothing that is in order is refused
+  pub refusal_accepts : (before after status : ℕ) (line : String Global) → IsOwed words holds before after (Refusal status line) → ¬ Rose before after → AcceptsAll words holds status
+  refusal_accepts before after status line (inl unread) calm tells accepted = absurd (calm unread.rose)
+  refusal_accepts before after status line (inr given) calm tells accepted = absurd (accepted_not_refused words holds status (string_bytes line) tells accepted given.owed)
 
   -- a refusal with the status of a failed fetch names what was not fetched
   pub unfetched : (before after status : ℕ) (line : String Global) (Noted : List ℕ → Type 0) (told : List ℕ) → IsOwed words holds before after (Refusal status line) → told ≡ string_bytes line → Noted told → status ≡ 5 → IsUnfetched words holds Noted

@@ -1,5 +1,5 @@
 -- What the program owes to its words and to the texts that they name.
-use Rattle.std.specs.Prelude.{◌≡◌, ℕ, ◌<◌, ◌≤◌, ◌⊎◌, List, length, Result, Ok, Err, Some, IfSome, All}
+use Rattle.std.specs.Prelude.{◌≡◌, ℕ, ◌<◌, ◌≤◌, ◌⊎◌, List, ◌∷◌, ◌++◌, length, Result, Ok, Err, Some, IfSome, All}
 use Rattle.std.specs.declared.option.Option.{Option}
 use Rattle.sheet_refs.specs.Cells.{Corners}
 use Rattle.sheet_model.specs.Labels.{IsTable}
@@ -15,6 +15,8 @@ use Rattle.window_text.specs.Reports.{play_text}
 use Rattle.window_text.specs.declared.report.Report.{Report}
 use Rattle.window_text.specs.Texts.{IsWithinSheet, check_text, show_text, runs_text}
 use Rattle.edge_patterns.specs.Edges.{EdgeValue}
+use Rattle.graph_walk.specs.Graphs.{SamePairs}
+use Rattle.taco_graph.specs.Pairs.{pairs_of}
 use Rattle.sheet_cli.specs.Graphs.{AreDependents, ArePrecedents, ListsEdges}
 use Rattle.sheet_cli.specs.Lines.{usage_line, outside_line, too_long_line, refused_line, long_script_line, script_line}
 use Rattle.sheet_cli.specs.Requests.{Request, texts_named}
@@ -138,11 +140,12 @@ pub record HasGivenSheet (holds : Texts) (name : List ℕ) : Type 0 where
   pub sheet : SheetValue
   pub gives : GivesSheet holds name (Ok sheet)
 
--- the text under a name is due for a request: that of its sheet, or that of its script once the sheet is there
-abbrev pub IsDue : Texts → Request → List ℕ → Type 0
-IsDue holds (of_window command sheet window) name = name ≡ sheet
-IsDue holds (of_check sheet) name = name ≡ sheet
-IsDue holds (of_play sheet script) name = (name ≡ sheet) ⊎ ((name ≡ script) × HasGivenSheet holds sheet)
+-- the text under a name is due for a request: the request names it, and each text that it names before gives a sheet
+pub record IsDue (holds : Texts) (request : Request) (name : List ℕ) : Type 0 where
+  pub before : List (List ℕ)
+  pub after : List (List ℕ)
+  pub named : texts_named request ≡ before ++ name ∷ after
+  pub there : All (HasGivenSheet holds) before
 
 -- the shelf tells each text that the words name
 abbrev pub TellsTexts : List (List ℕ) → Texts → Type 0
@@ -154,13 +157,15 @@ TellsTexts words holds =
 abbrev pub WordsAskForOne : Type 0
 WordsAskForOne = (words : List (List ℕ)) (a b : Request) → Asks words a → Asks words b → a ≡ b
 
--- two texts of `check`, with the same number of pairs; which edges stand for them isn't said
+-- two texts of `check`, each with the number of its edges' pairs in front, which are the same pairs; which edges stand for them isn't said
 pub record AreOfCheck (words : List (List ℕ)) (a b : Answer) : Type 0 where
   pub name : List ℕ
   pub asked : Asks words (of_check name)
-  pub pairs : ℕ
   pub edges : List EdgeValue
   pub others : List EdgeValue
+  pub alike : SamePairs (pairs_of edges) (pairs_of others)
+  pub pairs : ℕ
+  pub count : pairs ≡ length (pairs_of edges)
   pub one : a ≡ output (check_text pairs edges)
   pub other : b ≡ output (check_text pairs others)
 
@@ -169,3 +174,18 @@ abbrev pub OneAnswer : Type 0
 OneAnswer =
     (words : List (List ℕ)) (holds : Texts) (a b : Answer)
     → TellsTexts words holds → Owes words holds a → Owes words holds b → (a ≡ b) ⊎ AreOfCheck words a b
+
+-- a request is in order: the texts that it names give a sheet, and a script where it names one, and its window is in the sheet
+abbrev pub IsInOrder : Texts → Request → Type 0
+IsInOrder holds (of_window command name window) =
+    (sheet : SheetValue) × GivesSheet holds name (Ok sheet) × IsWithinSheet window sheet
+IsInOrder holds (of_check name) = (sheet : SheetValue) × GivesSheet holds name (Ok sheet)
+IsInOrder holds (of_play name script_name) =
+    (sheet : SheetValue) × (labels : List (List ℕ)) × (script : ScriptValue)
+    × GivesSheet holds name (Ok sheet) × GivesScript holds script_name sheet labels (Ok script)
+
+-- words ask for what is in order
+pub record IsAccepted (words : List (List ℕ)) (holds : Texts) : Type 0 where
+  pub request : Request
+  pub asked : Asks words request
+  pub in_order : IsInOrder holds request

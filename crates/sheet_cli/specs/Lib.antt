@@ -1,8 +1,10 @@
 pub mod Answers
 pub mod Clap
 pub mod Graphs
+pub mod Laws
 pub mod Lines
 pub mod Replies
 pub mod Requests
+pub mod Rows
 pub mod Runs
 pub mod Words

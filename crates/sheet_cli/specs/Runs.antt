@@ -4,7 +4,7 @@ use Rattle.std.specs.declared.option.Option.{Option}
 use Rattle.std.specs.Io.KnownBytes.{Appends}
 use Rattle.sheet_io.specs.Faults.{Rose}
 use Rattle.sheet_io.specs.Sink.{AppendsPrefix}
-use Rattle.sheet_cli.specs.Answers.{Answer, IsDue, Owes, TellsTexts, Texts, status_of}
+use Rattle.sheet_cli.specs.Answers.{Answer, IsAccepted, IsDue, Owes, TellsTexts, Texts, status_of}
 use Rattle.sheet_cli.specs.Answers.Answer.{output, refusal}
 use Rattle.sheet_cli.specs.Lines.{read_failed_line}
 use Rattle.sheet_cli.specs.Requests.{Request}
@@ -60,3 +60,7 @@ abbrev pub RefusesAll : List (List ℕ) → Texts → ℕ → Type 0
 RefusesAll words holds status =
     (given : ℕ) (line : List ℕ) → TellsTexts words holds → Owes words holds (refusal given line)
     → (status ≡ given) ⊎ (status ≡ 7)
+
+-- where the shelf tells the texts, and what the words ask for is in order, all is done or memory ran out
+abbrev pub AcceptsAll : List (List ℕ) → Texts → ℕ → Type 0
+AcceptsAll words holds status = TellsTexts words holds → IsAccepted words holds → (status ≡ 0) ⊎ (status ≡ 7)

@@ -1,8 +1,71 @@
+// Laws of the definitions that the contract of `run` cites.
 ghost use Rattle.sheet_cli.specs.Answers.{OneAnswer, WordsAskForOne};
+ghost use Rattle.sheet_cli.specs.Laws.{CalmIsStill, RefusedStatusesAreThree, StatusesAreSeven};
+ghost use Rattle.sheet_cli.specs.Laws.{CalmLineIsWhole, LineIsTakenFromItsFront};
+ghost use Rattle.sheet_cli.specs.Laws.{DueIsNamed, UnfetchedOfCheck, UnfetchedOfPlay};
+ghost use Rattle.sheet_cli.specs.Laws.{UnfetchedOfWindow, TellsOfCheck, TellsOfPlay, TellsOfWindow};
+ghost use Rattle.sheet_cli.specs.Laws.{AcceptedIsNotRefused, BegunIsAPrefix, ChecksHaveOneCount};
+ghost use Rattle.sheet_cli.specs.Laws.{NoOutputAndRefusal, OneOutput, OneRefusal, RefusedIsOwed};
+ghost use Rattle.sheet_cli.specs.Laws.{WrittenIsOwed};
+ghost use Rattle.sheet_cli.specs.Rows.{AcceptedRow, CheckRow, DepsRow, ListedRow, OutsideRow};
+ghost use Rattle.sheet_cli.specs.Rows.{ShowRow, UsageRow};
 
-/// Laws of the definitions that the contract of `run` cites: words ask for at most one thing; and words and
-/// the texts that they name, where the shelf tells these, are answered in one way.
+/// Words ask for at most one thing; and words and the texts that they name, where the shelf tells these, are
+/// answered in one way, but for which edges `check` lists.
 pub fn run_laws()
     ensures request { WordsAskForOne }
     ensures answer { OneAnswer }
+{}
+
+/// Which numbers are statuses; and that a count of faults is calm where it stands still.
+pub fn status_laws()
+    ensures all { StatusesAreSeven }
+    ensures refused { RefusedStatusesAreThree }
+    ensures calm { CalmIsStill }
+{}
+
+/// What it is for notes that tell to take a line: they gain first bytes of it, and without a fault all of it.
+pub fn note_laws()
+    ensures front { LineIsTakenFromItsFront }
+    ensures whole { CalmLineIsWhole }
+{}
+
+/// A text that is due is one that the words name, and so is the one that a line of a failed fetch names.
+pub fn unfetched_laws()
+    ensures named { DueIsNamed }
+    ensures window { UnfetchedOfWindow }
+    ensures check { UnfetchedOfCheck }
+    ensures play { UnfetchedOfPlay }
+{}
+
+/// A shelf that tells just the texts that the words name tells the texts of the words.
+pub fn told_laws()
+    ensures window { TellsOfWindow }
+    ensures check { TellsOfCheck }
+    ensures play { TellsOfPlay }
+{}
+
+/// What a run leaves behind, in plain bytes, where the shelf tells the texts of the words: outputs of one
+/// input are equal, but for the lines of `check` behind the number of pairs; so are refusals; there are not
+/// both, and no refusal where what the words ask for is in order. What was written or begun is what is owed.
+pub fn ending_laws()
+    ensures output { OneOutput }
+    ensures checks { ChecksHaveOneCount }
+    ensures refusal { OneRefusal }
+    ensures apart { NoOutputAndRefusal }
+    ensures accepted { AcceptedIsNotRefused }
+    ensures written { WrittenIsOwed }
+    ensures begun { BegunIsAPrefix }
+    ensures noted { RefusedIsOwed }
+{}
+
+/// Rows worked out by hand, over the sheet `1,=A1+1` above `2,=A2+B1`: what is written, and what is noted.
+pub fn row_laws()
+    ensures show { ShowRow }
+    ensures accepted { AcceptedRow }
+    ensures outside { OutsideRow }
+    ensures usage { UsageRow }
+    ensures deps { DepsRow }
+    ensures check { CheckRow }
+    ensures listed { ListedRow }
 {}

@@ -18,11 +18,15 @@ mod laws;
 mod output;
 mod reply;
 mod script;
+mod sure;
 #[cfg(test)]
 mod tests;
 mod top;
 mod words;
 
-pub use laws::run_laws;
+pub use laws::{
+    ending_laws, note_laws, row_laws, run_laws, status_laws, told_laws, unfetched_laws,
+};
+pub use sure::run_without_faults;
 pub use top::{no_memory, run};
 pub use words::{Asked, read_words};

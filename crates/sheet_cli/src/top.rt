@@ -3,7 +3,7 @@ ghost use Rattle.sheet_io.specs.Faults.{Rose};
 ghost use Rattle.sheet_cli.specs.Lines.{write_failed_line, no_memory_line};
 ghost use Rattle.sheet_cli.specs.Replies.{IsRefusedStatus};
 ghost use Rattle.sheet_cli.specs.Runs.{IsStatus, HasWritten, HasBegun, IsRefused, IsUnfetched};
-ghost use Rattle.sheet_cli.specs.Runs.{TakesLine, IsCalm, IsComplete, RefusesAll};
+ghost use Rattle.sheet_cli.specs.Runs.{TakesLine, IsCalm, IsComplete, AcceptsAll, RefusesAll};
 ghost use Rattle.sheet_cli.specs.Words.{AsksNothing, bytes_of};
 
 use crate::reply::{Reply, reply_to};
@@ -53,6 +53,8 @@ pub fn run<F: Shelf, K: Sink, N: Sink>(
         → F.faults shelf.new ≡ F.faults shelf.old }
 
     // Where no fault rises, what the words and the texts that they name ask for is done.
+    ensures accepts { IsCalm F.faults shelf.old shelf.new → IsCalm K.faults out.old out.new
+        → AcceptsAll (bytes_of words.now) (F.holds shelf.old) result }
     ensures complete { IsCalm F.faults shelf.old shelf.new → IsCalm K.faults out.old out.new
         → IsComplete (bytes_of words.now) (F.holds shelf.old) result }
     ensures refuses { IsCalm F.faults shelf.old shelf.new

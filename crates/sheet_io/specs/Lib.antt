@@ -8,3 +8,4 @@ pub mod MemorySink
 pub mod Schedule
 pub mod FileShelf
 pub mod StreamSink
+pub mod Laws

@@ -1,7 +1,6 @@
 // A shelf and a sink that never fail.
-ghost use Rattle.std.specs.Prelude.{◌≡◌, Some, None};
-ghost use Rattle.sheet_io.specs.Sure.{sure_texts};
-ghost use Rattle.sheet_io.specs.Texts.{text_or_empty};
+ghost use Rattle.std.specs.Prelude.{◌≡◌, None};
+ghost use Rattle.sheet_io.specs.Sure.{sure_holds, sure_texts};
 
 use crate::texts::find_text;
 use crate::{Failed, Fetch, Shelf, Sink};
@@ -22,7 +21,7 @@ impl SureShelf {
 }
 
 impl Shelf for SureShelf {
-    ghost holds = { λ shelf name. Some (text_or_empty (sure_texts shelf) name) };
+    ghost holds = { sure_holds };
 
     ghost faults = { λ _. 0 };
 

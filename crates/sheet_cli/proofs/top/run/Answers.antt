@@ -1,4 +1,4 @@
-use Rattle.sheet_cli.proofs.RunLemmas.{output_complete, output_refuses, refusal_complete, refusal_refuses, unfetched}
+use Rattle.sheet_cli.proofs.RunLemmas.{output_complete, output_refuses, refusal_accepts, refusal_complete, refusal_refuses, unfetched}
 use Rattle.sheet_cli.proofs.top.run.Goals as goal
 
 pub returns-in-Ok-clause-complete : goal.returns-in-Ok-clause-complete
@@ -12,6 +12,9 @@ returns-in-Ok-Output-clause-refuses g c = λ calm. output_refuses _ _ _ 6 (rw c.
 
 pub returns-in-Ok-Refusal-clause-complete : goal.returns-in-Ok-Refusal-clause-complete
 returns-in-Ok-Refusal-clause-complete g c = λ calm quiet. refusal_complete _ _ (g.F.Shelf.faults c.args.shelf.now) (g.F.Shelf.faults c.reply_to.new.shelf) c.in-Ok-Refusal.status c.in-Ok-Refusal.line (rw c.in-Ok-Refusal.field-0-is at c.in-Ok-Refusal.ensures.owed) calm
+
+pub returns-in-Ok-Refusal-clause-accepts : goal.returns-in-Ok-Refusal-clause-accepts
+returns-in-Ok-Refusal-clause-accepts g c = λ calm quiet. refusal_accepts _ _ (g.F.Shelf.faults c.args.shelf.now) (g.F.Shelf.faults c.reply_to.new.shelf) c.in-Ok-Refusal.status c.in-Ok-Refusal.line (rw c.in-Ok-Refusal.field-0-is at c.in-Ok-Refusal.ensures.owed) calm
 
 pub returns-in-Ok-Refusal-clause-refuses : goal.returns-in-Ok-Refusal-clause-refuses
 returns-in-Ok-Refusal-clause-refuses g c = λ calm. refusal_refuses _ _ (g.F.Shelf.faults c.args.shelf.now) (g.F.Shelf.faults c.reply_to.new.shelf) c.in-Ok-Refusal.status c.in-Ok-Refusal.line (rw c.in-Ok-Refusal.field-0-is at c.in-Ok-Refusal.ensures.owed) calm

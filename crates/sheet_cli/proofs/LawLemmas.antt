@@ -1,0 +1,178 @@
+-- The words of the clauses of `run`, in plain numbers, lists of bytes and names.
+use Rattle.std.proofs.Common.{◌≡◌, ℕ, zero, suc, ◌+◌, ◌<◌, ◌≤◌, ◌⊎◌, inl, inr, All, Contains, List, [], ◌∷◌, ◌++◌, length, take, length-append, append_assoc, codes, refl, sym, ◌∙◌, ap, subst, arith, get_or}
+use Rattle.std.proofs.Math.Seq.{get_or-append_seam, take-length}
+use Rattle.std.specs.Prelude.{Option, Some, None, flat_map}
+use Rattle.std.specs.Fmt.{decimal}
+use Rattle.std.specs.Io.KnownBytes.{Appends}
+use Rattle.window_text.specs.Texts.{check_text, count_line, edge_line}
+use Rattle.edge_patterns.specs.Edges.{EdgeValue}
+use Rattle.sheet_cli.specs.Answers.{Answer, AreOfCheck, HasGivenSheet, IsDue, TellsTexts, status_of}
+use Rattle.sheet_cli.specs.Answers.Answer.{output, refusal}
+use Rattle.sheet_cli.specs.Laws.{AreChecks, CalmLineIsWhole, ChecksHaveOneCount, DueIsNamed, LineIsTakenFromItsFront, NoOutputAndRefusal, OneOutput, OneRefusal, TellsOfCheck, TellsOfPlay, TellsOfWindow, UnfetchedOfCheck, UnfetchedOfPlay, UnfetchedOfWindow}
+use Rattle.sheet_cli.specs.Lines.{read_failed_line}
+use Rattle.sheet_cli.specs.Requests.{Request, texts_named}
+use Rattle.sheet_cli.specs.Requests.Request.{of_window, of_check, of_play}
+use Rattle.sheet_cli.specs.Words.{Asks, command_word}
+use Rattle.sheet_cli.specs.Words.Asks.{asks_of_window, asks_check, asks_play}
+use Rattle.sheet_cli.specs.declared.words.WindowCommand.{WindowCommand}
+use Rattle.sheet_cli.proofs.OneAnswer.{not_play, not_refused, one_answer}
+
+-- ---- what words name
+
+pub window_names : (command : WindowCommand) (sheet range : List ℕ) (request : Request) → Asks (command_word command ∷ sheet ∷ range ∷ []) request → texts_named request ≡ sheet ∷ []
+window_names command sheet range _ (asks_of_window given name again window is plain named) = let same : name ≡ sheet = cc is in ap (λ s. s ∷ []) same
+window_names command sheet range _ (asks_check name is _) = absurd (omega (arith, ap length is))
+window_names command sheet range _ (asks_play name script is _ _) = let word : command_word command ≡ codes "play" = cc is in absurd (not_play command word)
+
+pub check_names : (sheet : List ℕ) (request : Request) → Asks (codes "check" ∷ sheet ∷ []) request → texts_named request ≡ sheet ∷ []
+check_names sheet _ (asks_of_window given name again window is plain named) = absurd (omega (arith, ap length is))
+check_names sheet _ (asks_check name is _) = let same : name ≡ sheet = cc is in ap (λ s. s ∷ []) same
+check_names sheet _ (asks_play name script is _ _) = absurd (omega (arith, ap length is))
+
+pub play_names : (sheet script : List ℕ) (request : Request) → Asks (codes "play" ∷ sheet ∷ script ∷ []) request → texts_named request ≡ sheet ∷ script ∷ []
+play_names sheet script _ (asks_of_window given name again window is plain named) = let word : command_word given ≡ codes "play" = cc is in absurd (not_play given word)
+play_names sheet script _ (asks_check name is _) = absurd (omega (arith, ap length is))
+play_names sheet script _ (asks_play name other is _ _) =
+    let same : name ≡ sheet = cc is in
+    let also : other ≡ script = cc is in
+    λ i. same i ∷ also i ∷ []
+
+abbrev IsTold : (List ℕ → Option (List ℕ)) → List ℕ → Type 0
+IsTold holds name = (text : List ℕ) × (holds name ≡ Some text)
+
+one_told : (holds : List ℕ → Option (List ℕ)) (sheet text : List ℕ) → holds sheet ≡ Some text → All (IsTold holds) (sheet ∷ [])
+one_told holds sheet text here zero d within = (text, here)
+one_told holds sheet text here (suc k) d within = absurd (omega (arith, within))
+
+two_told : (holds : List ℕ → Option (List ℕ)) (sheet script text steps : List ℕ) → holds sheet ≡ Some text → holds script ≡ Some steps → All (IsTold holds) (sheet ∷ script ∷ [])
+two_told holds sheet script text steps here there zero d within = (text, here)
+two_told holds sheet script text steps here there (suc zero) d within = (steps, there)
+two_told holds sheet script text steps here there (suc (suc k)) d within = absurd (omega (arith, within))
+
+pub tells_window : TellsOfWindow
+tells_window command sheet range text holds here request asked = subst (All (IsTold holds)) (sym (window_names command sheet range request asked)) (one_told holds sheet text here)
+
+pub tells_check : TellsOfCheck
+tells_check sheet text holds here request asked = subst (All (IsTold holds)) (sym (check_names sheet request asked)) (one_told holds sheet text here)
+
+pub tells_play : TellsOfPlay
+tells_play sheet script text steps holds here there request asked =
+    subst (All (IsTold holds)) (sym (play_names sheet script request asked)) (two_told holds sheet script text steps here there)
+
+-- ---- what is due
+
+pub due_named : DueIsNamed
+due_named holds request name due =
+    let joined = length-append due.before (name ∷ due.after) in
+    subst (λ names. Contains names name) (sym due.named) (length due.before, omega (arith, joined), get_or-append_seam due.before name due.after name)
+
+only_name : (before after : List (List ℕ)) (name sheet : List ℕ) → sheet ∷ [] ≡ before ++ name ∷ after → name ≡ sheet
+only_name [] after name sheet is = cc
+only_name (first ∷ before) after name sheet is = let joined = length-append before (name ∷ after) in absurd (omega (arith, ap length is, joined))
+
+either_name : (before after : List (List ℕ)) (name sheet script : List ℕ) → sheet ∷ script ∷ [] ≡ before ++ name ∷ after → (name ≡ sheet) ⊎ ((name ≡ script) × (before ≡ sheet ∷ []))
+either_name [] after name sheet script is = let same : name ≡ sheet = cc is in inl same
+either_name (first ∷ []) after name sheet script is = let same : name ≡ script = cc is in let front : first ≡ sheet = cc is in inr (same, ap (λ s. s ∷ []) front)
+either_name (first ∷ second ∷ before) after name sheet script is = let joined = length-append before (name ∷ after) in absurd (omega (arith, ap length is, joined))
+
+pub unfetched_window : UnfetchedOfWindow
+unfetched_window command sheet range holds line missed =
+    sym missed.noted ∙ ap read_failed_line (only_name missed.due.before missed.due.after missed.name sheet (sym (window_names command sheet range missed.request missed.asked) ∙ missed.due.named))
+
+pub unfetched_check : UnfetchedOfCheck
+unfetched_check sheet holds line missed =
+    sym missed.noted ∙ ap read_failed_line (only_name missed.due.before missed.due.after missed.name sheet (sym (check_names sheet missed.request missed.asked) ∙ missed.due.named))
+
+pub unfetched_play : UnfetchedOfPlay
+unfetched_play sheet script holds line missed =
+    elim (either_name missed.due.before missed.due.after missed.name sheet script (sym (play_names sheet script missed.request missed.asked) ∙ missed.due.named)) [
+      | inl same ↦ inl (sym missed.noted ∙ ap read_failed_line same)
+      | inr both ↦ inr (sym missed.noted ∙ ap read_failed_line both.0, subst (All (HasGivenSheet holds)) both.1 missed.due.there 0 [] (omega arith))
+    ]
+
+-- ---- lines
+
+none_some : (o : Option (List ℕ)) (x : List ℕ) → o ≡ None → o ≡ Some x → ⊥
+none_some o x none some = cc
+
+appended : (old new : Option (List ℕ)) (before after line : List ℕ) → old ≡ Some before → new ≡ Some after → Appends old new line → after ≡ before ++ line
+appended None new before after line is re gained = absurd (none_some None before refl is)
+appended (Some xs) None before after line is re gained = absurd gained
+appended (Some xs) (Some ys) before after line is re gained =
+    let first : xs ≡ before = cc is in
+    let last : ys ≡ after = cc re in
+    sym last ∙ (gained ∙ ap (λ l. l ++ line) first)
+
+pub line_front : LineIsTakenFromItsFront
+line_front old new before after line is re (inl whole) = (length line, appended old.told new.told before after line is re whole ∙ ap (λ l. before ++ l) (sym (take-length line)))
+line_front old new before after line is re (inr (rose, part)) = (part.0, appended old.told new.told before after (take part.0 line) is re part.1)
+
+pub line_whole : CalmLineIsWhole
+line_whole old new before after line is re calm (inl whole) = appended old.told new.told before after line is re whole
+line_whole old new before after line is re calm (inr (rose, part)) = absurd (calm rose)
+
+-- ---- endings
+
+pub same_text : {a b : List ℕ} → output a ≡ output b → a ≡ b
+same_text h = cc
+
+same_line : {s t : ℕ} {l m : List ℕ} → refusal s l ≡ refusal t m → l ≡ m
+same_line h = cc
+
+pub no_refusal : {s : ℕ} {l t : List ℕ} → refusal s l ≡ output t → ⊥
+no_refusal h = cc
+
+asked_check : (words : List (List ℕ)) (request : Request) (name : List ℕ) → request ≡ of_check name → Asks words request → words ≡ codes "check" ∷ name ∷ []
+asked_check words _ name re (asks_of_window command sheet range window is _ _) = absurd (no re)
+  where
+    no : of_window command sheet window ≡ of_check name → ⊥
+    no h = cc
+asked_check words _ name re (asks_check sheet is _) = let same : sheet ≡ name = cc re in is ∙ ap (λ n. codes "check" ∷ n ∷ []) same
+asked_check words _ name re (asks_play sheet script is _ _) = absurd (no re)
+  where
+    no : of_play sheet script ≡ of_check name → ⊥
+    no h = cc
+
+-- what stands behind the number of pairs
+abbrev pub behind : List EdgeValue → List ℕ
+behind edges = count_line (codes "edges") (length edges) ++ flat_map edge_line edges
+
+pub in_front : (pairs : ℕ) (edges : List EdgeValue) → check_text pairs edges ≡ codes "pairs " ++ (decimal pairs ++ 10 ∷ behind edges)
+in_front pairs edges = ap (λ t. codes "pairs " ++ t) (append_assoc (decimal pairs) (10 ∷ []) (behind edges))
+
+pub one_count : ChecksHaveOneCount
+one_count words a b checks = record {
+  name = checks.name;
+  words_are = asked_check words (of_check checks.name) checks.name refl checks.asked;
+  pairs = checks.pairs;
+  rest = behind checks.edges;
+  others = behind checks.others;
+  one = same_text checks.one ∙ in_front checks.pairs checks.edges;
+  other = same_text checks.other ∙ in_front checks.pairs checks.others;
+}
+
+two_checks : (words : List (List ℕ)) (a b text said : List ℕ) → a ≡ text → b ≡ said → AreChecks words text said → AreChecks words a b
+two_checks words a b text said is re checks = record {
+  name = checks.name;
+  words_are = checks.words_are;
+  pairs = checks.pairs;
+  rest = checks.rest;
+  others = checks.others;
+  one = is ∙ checks.one;
+  other = re ∙ checks.other;
+}
+
+pub one_output : OneOutput
+one_output words holds a b tells x y = elim (one_answer words holds (output x.text) (output y.text) tells x.owed y.owed) [
+  | inl same ↦ inl (x.gained ∙ same_text same ∙ sym y.gained)
+  | inr checks ↦ inr (two_checks words a b x.text y.text x.gained y.gained (one_count words x.text y.text checks))
+]
+
+pub one_refusal : OneRefusal
+one_refusal words holds status given line other tells x y = elim (one_answer words holds (refusal status x.line) (refusal given y.line) tells x.owed y.owed) [
+  | inl same ↦ (ap status_of same, sym x.noted ∙ same_line same ∙ y.noted)
+  | inr checks ↦ absurd (no_refusal checks.one)
+]
+
+pub not_both : NoOutputAndRefusal
+not_both words holds text status line tells x y = not_refused words holds x.text y.line status tells x.owed y.owed

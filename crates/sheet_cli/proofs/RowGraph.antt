@@ -1,0 +1,70 @@
+-- Worked rows of `deps` and `check` over the worked sheet.
+use Rattle.std.proofs.Common.{◌≡◌, ℕ, List, [], ◌∷◌, ◌++◌, codes, refl, sym, ◌∙◌, ap, subst, arith, length}
+use Rattle.std.specs.Prelude.{Option}
+use Rattle.std.specs.Fmt.{decimal, digits}
+use Rattle.sheet_refs.specs.Names.{IsRangeName}
+use Rattle.sheet_refs.specs.Names.IsRangeName.{one}
+use Rattle.edge_patterns.specs.Edges.{EdgeValue}
+use Rattle.taco_graph.specs.Pairs.{pairs_of}
+use Rattle.window_text.specs.Texts.{check_text, runs_text}
+use Rattle.sheet_cli.specs.Answers.{Answer, AnswersCheck, AnswersRequest, AnswersWindow, Owes}
+use Rattle.sheet_cli.specs.Graphs.{ListsEdges}
+use Rattle.sheet_cli.specs.Answers.Answer.{output}
+use Rattle.sheet_cli.specs.Answers.AnswersCheck.{listed, unlisted}
+use Rattle.sheet_cli.specs.Answers.AnswersWindow.{written}
+use Rattle.sheet_cli.specs.Answers.Owes.{answers, usage}
+use Rattle.sheet_cli.specs.Answers.Writes.{dependents}
+use Rattle.sheet_cli.specs.Requests.Request.{of_check, of_window}
+use Rattle.sheet_cli.specs.Rows.{CheckRow, DepsRow, ListedRow, TellsWorked, worked_words}
+use Rattle.sheet_cli.specs.Words.Asks.{asks_check}
+use Rattle.sheet_cli.specs.declared.words.WindowCommand.TheVariants.{Deps}
+use Rattle.sheet_cli.proofs.LawLemmas.{behind, in_front, no_refusal, same_text}
+use Rattle.sheet_cli.proofs.OneAnswer.{as_many, one_request, one_sheet}
+use Rattle.sheet_cli.proofs.RowShow.{asks_window, just_written, no_option, not_check, tells, within_worked}
+use Rattle.sheet_cli.proofs.WorkedGraph.{at, dependents_of_a1, from_to, lists_worked, three_listed, worked_check, worked_runs}
+use Rattle.sheet_cli.proofs.WorkedSheet.{gives_worked, in_a, worked_sheet}
+
+named_a1 : IsRangeName (codes "A1") (from_to (at 1 1) (at 1 1))
+named_a1 = one (codes "A1") (at 1 1) (in_a 49 1 (omega arith) (omega arith) refl)
+
+runs_shown : runs_text worked_runs ≡ codes "A1:A1\nB1:B2\n"
+unfolding digits
+runs_shown = refl
+
+pub deps_row : DepsRow
+deps_row =
+    just_written (worked_words (codes "deps") (codes "A1")) (codes "A1:A1\nB1:B2\n") (not_check (codes "deps") (codes "A1")) (tells Deps (codes "A1"))
+    (λ holds here. answers (of_window Deps (codes "s") (from_to (at 1 1) (at 1 1))) (output (codes "A1:A1\nB1:B2\n")) (asks_window Deps (codes "A1") (from_to (at 1 1) (at 1 1)) named_a1)
+    (subst (λ t. AnswersWindow holds Deps (codes "s") (from_to (at 1 1) (at 1 1)) (output t)) runs_shown
+    (written worked_sheet (runs_text worked_runs) (gives_worked holds here) (within_worked (from_to (at 1 1) (at 1 1)) (omega arith) (omega arith) (omega arith) (omega arith)) (dependents worked_runs dependents_of_a1))))
+
+check_owed : (holds : List ℕ → Option (List ℕ)) → TellsWorked holds → Owes (codes "check" ∷ codes "s" ∷ []) holds (output worked_check)
+check_owed holds here = answers (of_check (codes "s")) (output worked_check) (asks_check (codes "s") refl no_option) (listed worked_sheet worked_check (gives_worked holds here) lists_worked)
+
+pub listed_row : ListedRow
+listed_row holds here = record { text = worked_check; owed = check_owed holds here; gained = refl }
+
+three : decimal 3 ≡ 51 ∷ []
+unfolding digits
+three = refl
+
+-- `check` of the worked sheet has three pairs in front
+three_pairs : (edges : List EdgeValue) → length (pairs_of edges) ≡ 3 → check_text (length (pairs_of edges)) edges ≡ codes "pairs 3\n" ++ behind edges
+three_pairs edges count = ap (λ n. check_text n edges) count ∙ (in_front 3 edges ∙ ap (λ d. codes "pairs " ++ (d ++ 10 ∷ behind edges)) three)
+
+by_check : (holds : List ℕ → Option (List ℕ)) (answer : Answer) (text : List ℕ) → TellsWorked holds → answer ≡ output text → AnswersCheck holds (codes "s") answer → (edges : List ℕ) × (text ≡ codes "pairs 3\n" ++ edges)
+by_check holds _ text here is (listed sheet said gives lists) =
+    let again = subst (λ s. ListsEdges s said) (one_sheet holds (codes "s") _ here sheet worked_sheet gives (gives_worked holds here)) lists in
+    (behind again.edges, sym (same_text is) ∙ (again.text_is ∙ three_pairs again.edges (as_many worked_sheet said worked_check again lists_worked ∙ three_listed)))
+by_check holds _ text here is (unlisted status line none) = absurd (no_refusal is)
+
+by_words : (holds : List ℕ → Option (List ℕ)) (answer : Answer) (text : List ℕ) → TellsWorked holds → answer ≡ output text → Owes (codes "check" ∷ codes "s" ∷ []) holds answer → (edges : List ℕ) × (text ≡ codes "pairs 3\n" ++ edges)
+by_words holds _ text here is (usage none) = absurd (no_refusal is)
+by_words holds _ text here is (answers request answer asked given) =
+    by_check holds answer text here is
+    (subst (λ r. AnswersRequest holds r answer) (one_request (codes "check" ∷ codes "s" ∷ []) request (of_check (codes "s")) asked (asks_check (codes "s") refl no_option)) given)
+
+pub check_row : CheckRow
+check_row holds text here has =
+    let (edges, is) = by_words holds (output has.text) has.text here refl has.owed in
+    (edges, has.gained ∙ is)
