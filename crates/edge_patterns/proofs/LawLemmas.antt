@@ -6,12 +6,11 @@ use Rattle.edge_patterns.specs.declared.axis.Axis.{Axis}
 use Rattle.edge_patterns.specs.Axes.{axis_of, count_along}
 use Rattle.edge_patterns.specs.Edges.{EdgeValue, IsEdge, run_length, run_cell, range_at, range_along, edge_of}
 use Rattle.edge_patterns.specs.Joins.{HasBothPairs}
-use Rattle.edge_patterns.specs.Laws.{AlikeInPairs}
 use Rattle.edge_patterns.proofs.Crossings.{ordered}
 use Rattle.edge_patterns.proofs.AxisLemmas.{one_cell, single_range}
 use Rattle.edge_patterns.proofs.FlipLemmas.{union_flipped}
 use Rattle.edge_patterns.proofs.JoinedLemmas.{ends_tell}
-use Rattle.edge_patterns.proofs.UnionLemmas.{one_range, same_run}
+use Rattle.edge_patterns.proofs.UnionLemmas.{AlikeInPairs, one_range, same_run}
 
 -- at each index of the run the ranges are the same
 same_ranges : (a b : EdgeValue) → a.dep ≡ b.dep → AlikeInPairs a b → (index : ℕ) → index < run_length a → range_at a index ≡ range_at b index

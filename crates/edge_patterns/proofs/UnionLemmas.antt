@@ -6,11 +6,14 @@ use Rattle.edge_patterns.specs.declared.axis.Axis.{Axis}
 use Rattle.edge_patterns.specs.declared.axis.Axis.TheVariants.{Down}
 use Rattle.edge_patterns.specs.Axes.{along, across, position_at, axis_of, count_along}
 use Rattle.edge_patterns.specs.Edges.{EdgeValue, IsEdge, IsShapeOf, IsPair, run_cell, range_at, range_along, steps_if, head_moves, tail_moves}
-use Rattle.edge_patterns.specs.Laws.{AlikeInPairs}
 use Rattle.edge_patterns.proofs.Crossings.{lies, is_in, along_of, across_of, cell_again}
 use Rattle.edge_patterns.proofs.EdgeLemmas.{spans}
 use Rattle.edge_patterns.proofs.PartLemmas.{one_index, index_in_run}
 use Rattle.edge_patterns.proofs.JoinLemmas.{same_range, tail_room}
+
+-- the pairs of two edges are the same
+abbrev pub AlikeInPairs : EdgeValue → EdgeValue → Type 0
+AlikeInPairs a b = (range : Corners) (cell : Position) → IsPair a range cell ↔ IsPair b range cell
 
 -- coordinates that move alike and agree at two indices agree between them
 heads_agree : (m k : Bool) (first other offset count index : ℕ) → first + steps_if m offset ≡ other + steps_if k 0 → first + steps_if m (offset + (count - 1)) ≡ other + steps_if k (count - 1) → index < count → first + steps_if m (offset + index) ≡ other + steps_if k index

@@ -57,13 +57,11 @@ abbrev pub ChainsReferToNeighbours : Type 0
 ChainsReferToNeighbours =
     (edge : EdgeValue) → IsEdge edge → edge.pattern ≢ Single → (edge.pattern ≡ Chain) ↔ (AllReferBefore edge ⊎ AllReferBehind edge)
 
--- the pairs of two edges are the same
-abbrev pub AlikeInPairs : EdgeValue → EdgeValue → Type 0
-AlikeInPairs a b = (range : Corners) (cell : Position) → IsPair a range cell ↔ IsPair b range cell
-
 -- edges with the same pairs are the same
 abbrev pub PairsTellTheEdge : Type 0
-PairsTellTheEdge = (a b : EdgeValue) → IsEdge a → IsEdge b → AlikeInPairs a b → a ≡ b
+PairsTellTheEdge =
+    (a b : EdgeValue) → IsEdge a → IsEdge b
+    → ((range : Corners) (cell : Position) → IsPair a range cell ↔ IsPair b range cell) → a ≡ b
 
 -- two edges are joined into one edge, in either order
 abbrev pub UnionsAreOne : Type 0

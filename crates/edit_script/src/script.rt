@@ -71,17 +71,19 @@ impl Script {
         Script { names, steps }
     }
 
-    /// The clients, in the order of their first places in the script: the first line that names one, or its
-    /// first command where it is `main` and has one before every line that names a client.
+    /// The clients, all different, in the order of their first places in the script: the first line that names one,
+    /// or its first command where it is `main` and has one before every line that names a client.
     pub fn names(&self) -> &[String]
-        ensures { map string_bytes result.now ≡ self.now.names }
+        ensures names { map string_bytes result.now ≡ self.now.names }
+        ensures distinct { AllPairs (λ a b. a ≢ b) self.now.names }
     {
         &self.names
     }
 
-    /// The commands, in the order of their lines.
+    /// The commands, in the order of their lines, each with the place of its client among the names.
     pub fn steps(&self) -> &[Step]
-        ensures { result.now ≡ self.now.steps }
+        ensures steps { result.now ≡ self.now.steps }
+        ensures clients { All (λ step. step.client < length self.now.names) result.now }
     {
         &self.steps
     }

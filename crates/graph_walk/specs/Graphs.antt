@@ -1,5 +1,5 @@
 -- The dependency graph of a sheet as a set of pairs, and what cells depend on by them.
-use Rattle.std.specs.Prelude.{◌≡◌, ◌≢◌, ◌↔◌, ◌⊎◌, Bool, IsTrue, List, ◌++◌, Contains}
+use Rattle.std.specs.Prelude.{◌≡◌, ◌≢◌, ◌↔◌, ◌⊎◌, List, ◌++◌, Contains}
 use Rattle.sheet_refs.specs.Cells.{Position, Corners, IsIn}
 use Rattle.sheet_refs.specs.Rectangles.{IsAmong}
 use Rattle.graph_walk.specs.Paths.{IsPath, IsReached, LeadsTo}
@@ -81,17 +81,6 @@ SamePairs old new = (pair : Pair) → Contains new pair ↔ Contains old pair
 abbrev pub Replaces : List Pair → List Pair → Position → List Corners → Type 0
 Replaces old new cell refs =
     (pair : Pair) → Contains new pair ↔ (((pair.cell ≡ cell) × Contains refs pair.range) ⊎ ((pair.cell ≢ cell) × Contains old pair))
-
--- a set of cells, as a test, has those of a range
-abbrev pub HasRange : (Position → Bool) → Corners → Type 0
-HasRange set range = (cell : Position) → IsIn cell range → IsTrue (set cell)
-
--- a set of cells has all that depend directly on its cells, or all on which they depend directly
-abbrev pub IsClosed : List Pair → (Position → Bool) → Type 0
-IsClosed pairs set = (from to : Position) → Step pairs from to → IsTrue (set from) → IsTrue (set to)
-
-abbrev pub IsClosedBack : List Pair → (Position → Bool) → Type 0
-IsClosedBack pairs set = (from to : Position) → Step pairs from to → IsTrue (set to) → IsTrue (set from)
 
 -- a set has exactly the cells of a range and all that depend on them, or on which they depend
 abbrev pub HoldsReach : List Pair → Corners → List Corners → Type 0

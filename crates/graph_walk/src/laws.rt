@@ -1,6 +1,7 @@
 ghost use Rattle.graph_walk.specs.Laws.{ReachHasTheRange, ReachIsClosed, ReachIsLeast};
 ghost use Rattle.graph_walk.specs.Laws.{BackHasTheRange, BackIsClosed, BackIsLeast};
 ghost use Rattle.graph_walk.specs.Laws.{KeptRangesStand};
+ghost use Rattle.graph_walk.specs.Laws.{AddedAreDirectDependents, AddedAreDirectPrecedents};
 
 /// What is true of the cells that a range reaches: they have the range, they are closed under a step, and
 /// they lie in every set that has the range and is closed under a step.
@@ -17,7 +18,11 @@ pub fn back_laws()
     ensures least { BackIsLeast }
 {}
 
-/// What is true of the lists to which queries add: where a list has kept what it held, each range stands in its place.
+/// What is true of the lists to which queries add. Where a list has kept what it held, each range stands in its place.
+/// What a direct query adds is among the cells exactly where these depend directly on the range, by a pair of their
+/// own, or where it depends directly on them.
 pub fn list_laws()
-    ensures { KeptRangesStand }
+    ensures kept { KeptRangesStand }
+    ensures dependents { AddedAreDirectDependents }
+    ensures precedents { AddedAreDirectPrecedents }
 {}

@@ -1,3 +1,4 @@
+mod CallLemmas
 pub mod ChangeLemmas
 pub mod DistinctLemmas
 pub mod EntryLemmas

@@ -1,5 +1,5 @@
 -- What is true of an index after any list of calls, and of what queries add.
-use Rattle.std.specs.Prelude.{◌≡◌, ◌↔◌, ℕ, ◌+◌, ◌≤◌, ◌==◌, if◌then◌else◌, List, [], ◌∷◌, length, Option, Some, None, Contains}
+use Rattle.std.specs.Prelude.{◌≡◌, ◌↔◌, ℕ, ◌+◌, ◌≤◌, ◌==◌, if◌then◌else◌, List, [], ◌∷◌, length, Option, Some, None, IsSome, Contains}
 use Rattle.std.specs.List.{slice_get}
 use Rattle.sheet_refs.specs.Cells.{Corners}
 use Rattle.range_index.specs.Entries.{Entry, entry_of, HaveOneRange, HasNoId, Inserts, Removes, ChangesRange, AddsOverlapping, KeepsIds}
@@ -41,6 +41,20 @@ last_range (call ∷ calls) id = if id_of call == id then left_by call else last
 abbrev pub EntriesAreTheLast : Type 0
 EntriesAreTheLast =
     (calls : List Call) (entries : List Entry) (id : ℕ) (range : Corners) → After calls entries → Contains entries (entry_of id range) ↔ (last_range calls id ≡ Some range)
+
+-- a call may be made after calls that left its id this range, if any: only an id without a range is inserted, and only one with a range is removed or changed
+abbrev pub MayBeMade : Call → Option Corners → Type 0
+MayBeMade (insertion id range) left = left ≡ None
+MayBeMade (removal id) left = IsSome left
+MayBeMade (change id range) left = IsSome left
+
+abbrev pub AreLawful : List Call → Type 0
+AreLawful [] = Unit {0}
+AreLawful (call ∷ calls) = MayBeMade call (last_range calls (id_of call)) × AreLawful calls
+
+-- every list of calls, of which each may be made after those before it, leads to some entries
+abbrev pub LawfulCallsHaveEntries : Type 0
+LawfulCallsHaveEntries = (calls : List Call) → AreLawful calls → (entries : List Entry) × After calls entries
 
 -- where no id stands twice, each has one range
 abbrev pub IdsHaveOneRange : Type 0

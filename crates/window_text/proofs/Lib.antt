@@ -1,3 +1,4 @@
+mod CallLemmas
 pub mod EdgesLemmas
 pub mod LetterLemmas
 pub mod PieceLemmas

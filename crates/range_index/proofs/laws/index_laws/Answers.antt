@@ -1,8 +1,10 @@
+use Rattle.range_index.proofs.CallLemmas.{have_entries}
 use Rattle.range_index.proofs.LawLemmas.{entries_last, ids_one, found_few, still_stands}
 use Rattle.range_index.proofs.laws.index_laws.Goals as goal
 
 pub returns : goal.returns
 returns c = record {
+  lawful = have_entries;
   last = entries_last;
   one_range = ids_one;
   few = found_few;

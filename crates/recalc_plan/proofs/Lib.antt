@@ -1,0 +1,9 @@
+mod CycleLemmas
+mod LawLemmas
+mod ListLemmas
+mod OpenLemmas
+mod OpeningLemmas
+mod PlanLemmas
+mod TakeLemmas
+mod WaiterLemmas
+mod WakeLemmas

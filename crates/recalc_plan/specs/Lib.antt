@@ -1,0 +1,5 @@
+pub mod Laws
+pub mod Opens
+pub mod Planning
+pub mod Plans
+pub mod Taking

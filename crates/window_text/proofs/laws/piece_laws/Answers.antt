@@ -1,0 +1,5 @@
+use Rattle.window_text.proofs.CallLemmas.{are_pieces}
+use Rattle.window_text.proofs.laws.piece_laws.Goals as goal
+
+pub returns : goal.returns
+returns c = are_pieces _
