@@ -5,7 +5,8 @@
 //! Words ask for at most one thing (`specs/Words.antt`, `specs/Requests.antt`), and words and the texts that
 //! they name are answered in one way, by a text or by the status and the line of a refusal, but for which
 //! edges `check` lists (`specs/Answers.antt`); `run_laws` says both. Each command is a case of each of these
-//! definitions.
+//! definitions. What their words mean in plain bytes are further laws (`specs/Laws.antt`), with rows worked out
+//! over a small sheet (`specs/Rows.antt`); `run_without_faults` shows that the premises of success can be met.
 //!
 //! The words after a command's name are read with the kit's `clap`, once it is known that none of them is
 //! written as an option. Below stand `csv_sheet` and `edit_script`, which read sheets and scripts, `sheet_model`,
