@@ -1,6 +1,7 @@
 -- The worked sheet: what its text's fields write, and that they make a sheet.
 use Rattle.std.proofs.Common.{◌≡◌, ℕ, zero, suc, ◌+◌, ◌-◌, ◌<◌, ◌≤◌, pos, false, true, inl, inr, All, List, [], ◌∷◌, ◌++◌, length, take, codes, refl, sym, ◌∙◌, ap, subst, arith, ◌≢◌, ℤ, slice_index_or}
 use Rattle.std.specs.Prelude.{count_by, ◌==◌, Option, IfSome, Ok}
+use Rattle.std.proofs.lemmas.Int.{ints}
 use Rattle.std.proofs.lemmas.List.{append-nil, length-take}
 use Rattle.std.proofs.lemmas.List.Sums.{count_by-le-length}
 use Rattle.csv.specs.Machine.{next_record}
@@ -11,6 +12,7 @@ use Rattle.sheet_refs.specs.Cells.{IsNamed}
 use Rattle.sheet_refs.specs.Names.{IsCellName, IsDecimal, IsDigit, IsLetter, column_number}
 use Rattle.sheet_refs.specs.Ends.{Anchor, IsReference, IsReferenceName, one_end}
 use Rattle.sheet_refs.specs.Ends.IsReferenceName.{alone}
+use Rattle.value_core.specs.Wholes.{IsWhole}
 use Rattle.value_core.specs.declared.operators.BinaryOp.TheVariants.{Add}
 use Rattle.value_core.specs.declared.value.ErrorKind.TheVariants.{Circ}
 use Rattle.value_core.specs.declared.value.Value.TheVariants.{Number, Error}
@@ -187,12 +189,32 @@ named_end row col a b c d = record { head_named = named; tail_named = named; ord
 not_circular : (n : ℤ) → Number n ≢ Error Circ
 not_circular n h = cc
 
+one_in_range : IsWhole (pos 1)
+one_in_range = record { least = omega (arith, ints); most = omega (arith, ints) }
+
+two_in_range : IsWhole (pos 2)
+two_in_range = record { least = omega (arith, ints); most = omega (arith, ints) }
+
 -- what stands in the cells may stand there
 held : All (IsHeld 0) worked_sheet.contents
-held zero d within = record { label = tt; written = not_circular (pos 1) }
-held (suc zero) d within = record { label = tt; written = (named_end 1 1 (omega arith) (omega arith) (omega arith) (omega arith), (1, omega arith, refl)) }
-held (suc (suc zero)) d within = record { label = tt; written = not_circular (pos 2) }
-held (suc (suc (suc zero))) d within = record { label = tt; written = (named_end 2 1 (omega arith) (omega arith) (omega arith) (omega arith), named_end 1 2 (omega arith) (omega arith) (omega arith) (omega arith)) }
+held zero d within = record { label = tt; written = record { in_range = one_in_range; not_circular = not_circular (pos 1) } }
+held (suc zero) d within = record {
+  label = tt;
+  written = record {
+    few_nodes = omega arith;
+    few_references = omega arith;
+    fitting = (named_end 1 1 (omega arith) (omega arith) (omega arith) (omega arith), (1, omega arith, refl));
+  };
+}
+held (suc (suc zero)) d within = record { label = tt; written = record { in_range = two_in_range; not_circular = not_circular (pos 2) } }
+held (suc (suc (suc zero))) d within = record {
+  label = tt;
+  written = record {
+    few_nodes = omega arith;
+    few_references = omega arith;
+    fitting = (named_end 2 1 (omega arith) (omega arith) (omega arith) (omega arith), named_end 1 2 (omega arith) (omega arith) (omega arith) (omega arith));
+  };
+}
 held (suc (suc (suc (suc k)))) d within = absurd (omega (arith, within))
 
 pub is_sheet : IsSheet worked_sheet

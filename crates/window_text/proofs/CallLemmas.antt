@@ -10,12 +10,12 @@ abbrev EndsAtFalse : List Handing → Type 0
 EndsAtFalse calls = (place : ℕ) (call : Handing) → slice_get calls place ≡ Some call → call.taken ≡ false → length calls ≡ suc place
 
 ends_alone : (only : Handing) → EndsAtFalse (only ∷ [])
-ends_alone only zero call here no = refl
-ends_alone only (suc place) call here no = absurd (cc)
+ends_alone only zero call here told = refl
+ends_alone only (suc place) call here told = absurd (cc)
 
 ends_later : (piece : List ℕ) (calls : List Handing) → EndsAtFalse calls → EndsAtFalse (record { piece = piece; taken = true } ∷ calls)
-ends_later piece calls ends zero call here no = absurd (cc)
-ends_later piece calls ends (suc place) call here no = ap suc (ends place call here no)
+ends_later piece calls ends zero call here told = absurd (cc)
+ends_later piece calls ends (suc place) call here told = ap suc (ends place call here told)
 
 module _ {F : Type 0} (taker : Taker F) where
   record AreCallsOf (old : F) (sent : List ℕ) (told : Bool) (new : F) : Type 0 where
@@ -26,7 +26,7 @@ module _ {F : Type 0} (taker : Taker F) where
     last : EndsAtFalse calls
 
   calls_of : (old new : F) (sent : List ℕ) (told : Bool) → Sends taker old sent told new → AreCallsOf old sent told new
-  calls_of _ _ _ _ (nothing f) = record { calls = []; made = refl; joined = refl; taken = refl; last = λ place call here no. absurd (cc) }
+  calls_of _ _ _ _ (nothing f) = record { calls = []; made = refl; joined = refl; taken = refl; last = λ place call here told. absurd (cc) }
   calls_of _ _ _ _ (stops f last piece called) =
       let only : Handing = record { piece = piece; taken = false } in
       record { calls = only ∷ []; made = (last, called, refl); joined = sym (append-nil piece); taken = refl; last = ends_alone only }
