@@ -16,13 +16,13 @@ pub play_output-requires : goal.play_output-requires
 play_output-requires c =
     let is = c.in-Ok.ensures.result (a_script c.in-Ok.script) in
     subst (λ s. AreFit s c.steps.result.now) (sym c.in-Ok.ensures.kept)
-    (subst (AreFit (with_labels c.args.sheet c.script_of.new.sheet.labels)) (sym c.steps.ensures) (script_fits Play c.args.sheet c.script_of.new.sheet.labels c.args.text.now c.in-Ok.script is))
+    (subst (AreFit (with_labels c.args.sheet c.script_of.new.sheet.labels)) (sym c.steps.ensures.steps) (script_fits Play c.args.sheet c.script_of.new.sheet.labels c.args.text.now c.in-Ok.script is))
 
 pub returns-in_ok-play_output-in-Ok : goal.returns-in_ok-play_output-in-Ok
 returns-in_ok-play_output-in-Ok c = λ holds name script gives stands.
     let is = c.in-Ok.ensures.result (a_script c.in-Ok.script) in
     let text = c.in_ok-play_output-in-Ok.field-0.items in
-    let plays = subst (λ s. IsPlayed (with_labels c.args.sheet c.script_of.new.sheet.labels) s text) c.steps.ensures (subst (λ s. IsPlayed s c.steps.result.now text) c.in-Ok.ensures.kept c.in_ok-play_output-in-Ok.ensures) in
+    let plays = subst (λ s. IsPlayed (with_labels c.args.sheet c.script_of.new.sheet.labels) s text) c.steps.ensures.steps (subst (λ s. IsPlayed s c.steps.result.now text) c.in-Ok.ensures.kept c.in_ok-play_output-in-Ok.ensures) in
     reported c.args.sheet c.script_of.new.sheet.labels c.in-Ok.script text gives (record { text = c.args.text.now; stands = stands; gives = is; table = c.in-Ok.ensures.table }) plays
 
 pub returns-in_ok-no_script-in-Err : goal.returns-in_ok-no_script-in-Err
