@@ -27,7 +27,7 @@ pub record InLevel (levels : List (List Position)) (number : ℕ) (cell : Positi
   pub at : slice_get levels number ≡ Some level
   pub listed : Contains level cell
 
--- levels of stale cells: each cell in one alone, its stale direct precedents in earlier ones, and one of these just before
+-- levels of stale cells, none of them empty: each cell at one place of one level alone, its stale direct precedents in earlier ones, and one of these just before
 pub record AreLevels (pairs : List Pair) (stale : List Position) (levels : List (List Position)) : Type 0 where
   pub of_stale : (number : ℕ) (cell : Position) → InLevel levels number cell → Contains stale cell
   pub once : All (AllPairs (λ a b. a ≢ b)) levels

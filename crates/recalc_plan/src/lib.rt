@@ -4,9 +4,10 @@
 //! could stand in an earlier level than it does (`specs/Plans.antt`, `plan_laws`). The cells of one level can be
 //! computed side by side. Stale cells from which steps to stale precedents lead into a cycle stand in no level.
 //!
-//! A cell that isn't ready waits on one direct precedent that stands in no level yet. Where a level is taken out,
-//! those that wait on its cells look on, and either wait on another one or are of the next level. A cell whose
-//! precedents are all in levels is ready in the level behind the last of them, hence no level is too late.
+//! A cell that isn't ready waits on one stale direct precedent that stands in no level yet, which is called open. Where
+//! a level is taken out, those that wait on its cells look for another open one, and either wait on that or are of the
+//! next level. So a cell comes just behind the last of its stale direct precedents, hence in no level that is too late.
+//! Cells that wait on each other to the end are the circular ones.
 //!
 //! Below stand `sheet_refs`, and `graph_walk` with the graphs that are asked; above stands what recalculates sheets.
 #![tactic(auto)]

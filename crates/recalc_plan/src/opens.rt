@@ -1,6 +1,7 @@
 ghost use Rattle.std.specs.Prelude.{◌≡◌, ◌≤◌, MatchOption};
-ghost use Rattle.sheet_refs.specs.Cells.{IsNamed, Position};
-ghost use Rattle.recalc_plan.specs.Opens.{AreCells, IsLastIn, IsLastUpTo, IsNowhereIn, NoneUpTo};
+ghost use Rattle.sheet_refs.specs.Cells.{IsIn, IsNamed, Position};
+ghost use Rattle.recalc_plan.specs.Opens.{AreCells, IsLastIn, IsLastUpTo, IsNowhereIn, IsOpen};
+ghost use Rattle.recalc_plan.specs.Opens.{NoneUpTo};
 ghost use Rattle.recalc_plan.specs.Opens.{name_place, place_at};
 
 use crate::waiter::Waiter;
@@ -40,9 +41,9 @@ fn last_up_to(opens: &BTreeMap<u64, Open>, place: u64) -> Option<Cell>
     Some(last.cell)
 }
 
-/// An open cell of a range: in its last column with one, up to the given column, the lowest one. It takes two searches
-/// in an ordered map for each column of the range that has an open cell.
-pub(crate) fn last_in(opens: &BTreeMap<u64, Open>, range: Range, up_to: u32) -> Option<Cell>
+// An open cell of a range: in its last column with one, up to the given column, the lowest one. It takes two searches
+// in an ordered map for each column of the range.
+fn last_in(opens: &BTreeMap<u64, Open>, range: Range, up_to: u32) -> Option<Cell>
     requires { AreCells opens.now }
     ensures { MatchOption result (IsNowhereIn opens.now range up_to) (IsLastIn opens.now range up_to) }
 {
@@ -60,4 +61,44 @@ pub(crate) fn last_in(opens: &BTreeMap<u64, Open>, range: Range, up_to: u32) -> 
         }
     }
     None
+}
+
+// A row from the first to the last. Numbers that follow on each other give rows far apart.
+fn spread_row(first: u32, last: u32, number: usize) -> u32
+    requires named { 1 ≤ first }
+    requires order { first ≤ last }
+    ensures from { first ≤ result }
+    ensures to { result ≤ last }
+{
+    let spread = number as u64 % 4_294_967_296 * 2_654_435_761 / 65_536 % 1_048_576;
+    first + spread as u32 % (last - first + 1)
+}
+
+// An open cell of the same column of a range: the last one up to some row, or else the given one.
+fn beside(opens: &BTreeMap<u64, Open>, range: Range, last: Cell) -> Cell
+    requires cells { AreCells opens.now }
+    requires open { IsOpen opens.now last }
+    requires inside { IsIn last range }
+    ensures open { IsOpen opens.now result }
+    ensures inside { IsIn result range }
+    ensures col { result.col ≡ last.col }
+{
+    let row = spread_row(range.head().row(), last.row(), opens.len());
+    let Some(cell) = last_up_to(opens, place(last.col(), row)) else {
+        return last;
+    };
+    if cell.col() == last.col() && cell.row() >= range.head().row() {
+        return cell;
+    }
+    last
+}
+
+/// An open cell of a range: in its last column with one, up to the given column, one of any row. Were it always the
+/// lowest one, or the highest, a cell would wait on each cell of a column that gets ready from that end.
+pub(crate) fn open_in(opens: &BTreeMap<u64, Open>, range: Range, up_to: u32) -> Option<Cell>
+    requires { AreCells opens.now }
+    ensures { MatchOption result (IsNowhereIn opens.now range up_to) (IsLastIn opens.now range up_to) }
+{
+    let last = last_in(opens, range, up_to)?;
+    Some(beside(opens, range, last))
 }

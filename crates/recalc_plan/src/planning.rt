@@ -46,9 +46,13 @@ fn precedents_of<G: Graph>(alloc: Global, graph: &G, cell: Cell) -> Result<Vec<R
 /// in which it can; no level is empty. Circular are exactly those from which steps to stale precedents lead into a
 /// cycle.
 ///
-/// It asks the graph once for each stale cell and keeps what that answers, until the cell is ready. It makes two
-/// searches in an ordered map for each column of each answered range, and one more each time that a cell waits. So it
-/// takes memory in proportion to the stale cells and the answered ranges. After Memory nothing has changed.
+/// It asks the graph once for each stale cell and keeps what that answers until the cell is ready. So it takes memory
+/// in proportion to the stale cells and the answered ranges.
+///
+/// It makes at most two searches in an ordered map for each column of each answered range, and a few each time that a
+/// cell waits. A cell waits on one stale cell of a range at a time, in the last column that has one left, on one of any
+/// row. On average half of a column's others are ready by then, so it mostly waits on few cells of a column, but at
+/// worst on each; and at worst in each column, where these get ready from the last one on.
 pub fn plan<G: Graph>(alloc: Global, graph: &G, stale: &[Cell]) -> Result<Plan, Memory>
     requires distinct { AllPairs (λ a b. a ≢ b) stale.now }
     ensures { IfOk result (λ plan. IsPlan (G.pairs graph.now) stale.now

@@ -1,7 +1,7 @@
 ghost use Rattle.std.specs.Prelude.{◌≡◌, MatchOption};
 ghost use Rattle.recalc_plan.specs.Opens.{AreCells, FindsOpen, HasNoneLeft, LooksOn};
 
-use crate::opens::{Open, last_in};
+use crate::opens::{Open, open_in};
 use sheet_refs::{Cell, Range};
 use std::collections::BTreeMap;
 
@@ -15,8 +15,8 @@ pub(crate) struct Waiter {
 }
 
 impl Waiter {
-    /// Looks on to an open cell in what is left. Over all its looks a cell asks once for each column of its ranges, and
-    /// once more each time that it waits.
+    /// Looks on to an open cell in what is left, from the last column of the last range on. Over all its looks a cell
+    /// asks once for each column of its ranges, and once more each time that it waits.
     pub(crate) fn look_on(&mut self, opens: &BTreeMap<u64, Open>) -> Option<Cell>
         requires cells { AreCells opens.now }
         ensures looks { LooksOn opens.now self.old self.new }
@@ -25,7 +25,7 @@ impl Waiter {
     {
         while !self.left.is_empty() {
             let range = self.left[self.left.len() - 1];
-            if let Some(cell) = last_in(opens, range, self.up_to) {
+            if let Some(cell) = open_in(opens, range, self.up_to) {
                 self.up_to = cell.col();
                 return Some(cell);
             }
