@@ -63,6 +63,9 @@ fn last_in(opens: &BTreeMap<u64, Open>, range: Range, up_to: u32) -> Option<Cell
     None
 }
 
+// The golden ratio's part of 2^32: multiples of it by numbers that follow on each other lie far apart.
+const GOLDEN: u64 = 2_654_435_761;
+
 // A row from the first to the last. Numbers that follow on each other give rows far apart.
 fn spread_row(first: u32, last: u32, number: usize) -> u32
     requires named { 1 ≤ first }
@@ -70,7 +73,7 @@ fn spread_row(first: u32, last: u32, number: usize) -> u32
     ensures from { first ≤ result }
     ensures to { result ≤ last }
 {
-    let spread = number as u64 % 4_294_967_296 * 2_654_435_761 / 65_536 % 1_048_576;
+    let spread = number as u64 % 4_294_967_296 * GOLDEN / 65_536 % 1_048_576;
     first + spread as u32 % (last - first + 1)
 }
 
