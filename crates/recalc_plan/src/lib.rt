@@ -7,7 +7,7 @@
 //! A cell that isn't ready waits on one stale direct precedent that stands in no level yet, which is called open. Where
 //! a level is taken out, those that wait on its cells look for another open one, and either wait on that or are of the
 //! next level. So a cell comes just behind the last of its stale direct precedents, hence in no level that is too late.
-//! Cells that wait on each other to the end are the circular ones.
+//! Those that still wait where no cell is ready are the circular ones.
 //!
 //! Below stand `sheet_refs`, and `graph_walk` with the graphs that are asked; above stands what recalculates sheets.
 #![tactic(auto)]

@@ -42,17 +42,17 @@ fn precedents_of<G: Graph>(alloc: Global, graph: &G, cell: Cell) -> Result<Vec<R
 /// The plan of stale cells over a graph.
 ///
 /// Each stale cell stands once, in one level or among the circular ones. The stale direct precedents of a cell of a
-/// level stand in earlier levels, and one of them in the level just before, so that each cell stands in the first level
-/// in which it can; no level is empty. Circular are exactly those from which steps to stale precedents lead into a
-/// cycle.
+/// level stand in earlier levels and, unless it is the first level, one of them in the level just before, so that each
+/// cell stands in the first level in which it can; no level is empty. Circular are exactly those from which steps to
+/// stale precedents lead into a cycle.
 ///
 /// It asks the graph once for each stale cell and keeps what that answers until the cell is ready. So it takes memory
 /// in proportion to the stale cells and the answered ranges.
 ///
 /// It makes at most two searches in an ordered map for each column of each answered range, and a few each time that a
 /// cell waits. A cell waits on one stale cell of a range at a time, in the last column that has one left, on one of any
-/// row. On average half of a column's others are ready by then, so it mostly waits on few cells of a column, but at
-/// worst on each; and at worst in each column, where these get ready from the last one on.
+/// row. Mostly about half of those that are left in the column are ready before that one, so it waits on few of them;
+/// at worst it waits on each. Where the columns get ready from the last one on, it waits in each of them.
 pub fn plan<G: Graph>(alloc: Global, graph: &G, stale: &[Cell]) -> Result<Plan, Memory>
     requires distinct { AllPairs (λ a b. a ≢ b) stale.now }
     ensures { IfOk result (λ plan. IsPlan (G.pairs graph.now) stale.now
