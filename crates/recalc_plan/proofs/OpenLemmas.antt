@@ -25,7 +25,7 @@ pub one_place : (a b : Position) → IsNamed a.row a.col → IsNamed b.row b.col
 one_place a b na nb same =
     let row : a.row ≡ b.row = omega (arith, na.row_from, na.row_to, na.col_from, nb.row_from, nb.row_to, nb.col_from, same) in
     let col : a.col ≡ b.col = omega (arith, na.row_from, na.row_to, na.col_from, nb.row_from, nb.row_to, nb.col_from, same) in
-    ap (λ (r : ℕ). record { row = r; col = a.col }) row ∙ ap (λ (c : ℕ). record { row = b.row; col = c }) col
+    ◌∙◌ {b = record { row = b.row; col = a.col }} (ap (λ (r : ℕ). record { row = r; col = a.col }) row) (ap (λ (c : ℕ). record { row = b.row; col = c }) col)
 
 -- ---- the last open cell of a range
 
