@@ -1,3 +1,4 @@
+pub mod Calls
 pub mod Gathers
 pub mod Graphs
 pub mod Laws

@@ -1,3 +1,4 @@
+ghost use Rattle.graph_walk.specs.Calls.{LastCallsAreLeft, OtherCellsAreKept, CellsAreReplacedOrLeft};
 ghost use Rattle.graph_walk.specs.Laws.{ReachHasTheRange, ReachIsClosed, ReachIsLeast};
 ghost use Rattle.graph_walk.specs.Laws.{BackHasTheRange, BackIsClosed, BackIsLeast};
 ghost use Rattle.graph_walk.specs.Laws.{KeptRangesStand};
@@ -25,4 +26,12 @@ pub fn list_laws()
     ensures kept { KeptRangesStand }
     ensures dependents { AddedAreDirectDependents }
     ensures precedents { AddedAreDirectPrecedents }
+{}
+
+/// What is true of every graph after any list of calls of `replace`, with calls of `reserve` between them: a cell has
+/// exactly the ranges that the last call for it gave, and where no call was for it, those that it had first.
+pub fn change_laws()
+    ensures last { LastCallsAreLeft }
+    ensures others { OtherCellsAreKept }
+    ensures either { CellsAreReplacedOrLeft }
 {}

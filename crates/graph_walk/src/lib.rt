@@ -4,7 +4,8 @@
 //! depend directly on a range and on which it depends. What depends on a range in any number of steps is
 //! defined by lists of cells (`specs/Graphs.antt`); `reach_laws` and `back_laws` say that this is the least
 //! set that has the range and is closed under a step. `dependents`, `precedents` and `on_cycle` answer it
-//! exactly over every graph, whatever its `ahead` and `behind` answer between the direct ones and all.
+//! exactly over every graph, whatever its `ahead` and `behind` answer between the direct ones and all. What calls
+//! leave to each cell is a law (`change_laws`).
 //!
 //! It stands on `sheet_refs` alone; graphs of other crates implement the trait.
 #![tactic(auto)]
@@ -15,5 +16,5 @@ mod laws;
 mod walk;
 
 pub use graph::Graph;
-pub use laws::{back_laws, list_laws, reach_laws};
+pub use laws::{back_laws, change_laws, list_laws, reach_laws};
 pub use walk::{dependents, on_cycle, precedents};

@@ -9,7 +9,6 @@ pub mod ReplyLemmas
 pub mod RowGraph
 pub mod RowShow
 pub mod RunLemmas
-pub mod VerticalRuns
 pub mod WordLemmas
 pub mod WorkedGraph
 pub mod WorkedSheet

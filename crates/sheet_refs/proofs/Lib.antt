@@ -12,3 +12,4 @@ pub mod SetLemmas
 pub mod SpanLemmas
 pub mod Subtraction
 pub mod Tiles
+pub mod VerticalRuns

@@ -1,5 +1,6 @@
 ghost use Rattle.sheet_refs.specs.NameLaws.{CellsPrintNames, RangesPrintNames, NamesOneCell};
 ghost use Rattle.sheet_refs.specs.NameLaws.{NamesOneRange, ReferencesPrintNames};
+ghost use Rattle.sheet_refs.specs.RunLaws.{MaximalRunsAreOne};
 
 /// What holds of names: what a cell, a range or a reference prints is a name of it, so that it can be read
 /// back, and no text names two cells or two ranges.
@@ -9,4 +10,10 @@ pub fn name_laws()
     ensures references_print_names { ReferencesPrintNames }
     ensures names_one_cell { NamesOneCell }
     ensures names_one_range { NamesOneRange }
+{}
+
+/// A set of cells has one list of maximal vertical runs, so that `RectSet::columns` answers the same for sets with the
+/// same cells, in whatever way they came.
+pub fn run_laws()
+    ensures one_list { MaximalRunsAreOne }
 {}

@@ -1,12 +1,10 @@
 -- A set of cells has one list of maximal vertical runs.
-use Rattle.std.proofs.Common.{◌≡◌, suc, ◌+◌, ◌<◌, ◌≤◌, ◌↔◌, ◌⊎◌, inl, inr, List, [], ◌∷◌, refl, sym, ap₂, subst, arith}
+use Rattle.std.proofs.Common.{◌≡◌, suc, ◌+◌, ◌<◌, ◌≤◌, ◌⊎◌, inl, inr, List, [], ◌∷◌, refl, sym, ap₂, subst, arith}
 use Rattle.std.proofs.lemmas.Bool.{cases_lt}
 use Rattle.sheet_refs.specs.Cells.{Position, Corners, IsIn}
 use Rattle.sheet_refs.specs.Rectangles.{IsAmong, IsVertical, IsBefore, AreMaximalRuns}
+use Rattle.sheet_refs.specs.RunLaws.{HaveSameCells}
 use Rattle.sheet_refs.proofs.ColumnLemmas.{among_cons, none_among}
-
-abbrev pub HaveSameCells : List Corners → List Corners → Type 0
-HaveSameCells xs ys = (cell : Position) → IsAmong xs cell ↔ IsAmong ys cell
 
 -- a cell stands to the right of a run, or below it with a cell between
 abbrev pub IsPast : Corners → Position → Type 0
