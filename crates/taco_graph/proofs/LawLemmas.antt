@@ -1,11 +1,5 @@
 -- How many ranges edges answer, and how many edges stand for some pairs.
-use Rattle.std.proofs.Common.{◌≡◌, ◌≢◌, ◌↔◌, false, ℕ, zero, suc, ◌+◌, ◌<◌, ◌≤◌, List, [], ◌∷◌, ◌++◌, map, length, get_or, refl, sym, ◌∙◌, ap, subst, arith}
-use Rattle.std.specs.List.Sorted.{IsNonDecreasingBy}
-use Rattle.std.specs.declared.cmp.Ordering.{Ordering}
-use Rattle.std.specs.declared.cmp.Ordering.TheVariants.{Less, Equal, Greater}
-use Rattle.std.specs.Ordering.{is_lt, nat_cmp, ordering_then}
-use Rattle.std.proofs.lemmas.List.Sorted.{IsNonDecreasingBy-from_sort}
-use Rattle.taco_graph.specs.Order.{AreInOrder}
+use Rattle.std.proofs.Common.{◌≡◌, ◌≢◌, ◌↔◌, ℕ, zero, suc, ◌+◌, ◌<◌, ◌≤◌, List, [], ◌∷◌, ◌++◌, map, length, get_or, refl, sym, ◌∙◌, ap, subst, arith}
 use Rattle.std.specs.List.{All, AllPairs, Contains}
 use Rattle.std.proofs.lemmas.List.{get_or-map, length-append, length-map}
 use Rattle.std.proofs.lemmas.List.Elements.{Contains-get_or}
@@ -73,15 +67,3 @@ each_has_one (edge ∷ edges) are =
 
 pub edges_few : (edges : List EdgeValue) (pairs : List Pair) → StandFor edges pairs → length edges ≤ length pairs
 edges_few edges pairs stand = omega (arith, each_has_one edges stand.are_edges, no_longer (pairs_of edges) pairs stand.once (λ pair listed. (stand.same pair).0 listed))
-
--- ---- order
-
-not_before : (first rest : Ordering) → is_lt (ordering_then first rest) ≡ false → is_lt first ≡ false
-not_before Less rest isnt = isnt
-not_before Equal rest isnt = refl
-not_before Greater rest isnt = refl
-
-pub by_columns : (edges : List EdgeValue) → AreInOrder edges → IsNonDecreasingBy (λ edge. edge.dep.head.col) edges
-by_columns edges order =
-    IsNonDecreasingBy-from_sort (λ (edge : EdgeValue). edge.dep.head.col) edges
-    (λ k d low within. not_before (nat_cmp (get_or edges (k + 1) d).dep.head.col (get_or edges k d).dep.head.col) _ (order k d low within))

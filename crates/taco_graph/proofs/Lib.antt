@@ -1,10 +1,11 @@
-pub mod LawLemmas
-pub mod ListLemmas
-mod StoreLemmas
 mod AnswerLemmas
-mod GraphLemmas
-mod GrowthLemmas
 mod ChainLemmas
 mod ChangeLemmas
 mod EdgeListLemmas
+mod GraphLemmas
+mod GrowthLemmas
 mod ReplaceLemmas
+mod StoreLemmas
+pub mod LawLemmas
+pub mod ListLemmas
+pub mod OrderLemmas

@@ -1,12 +1,11 @@
 -- What is true of what edges answer, and of edges that stand for pairs.
-use Rattle.std.specs.Prelude.{◌≡◌, ◌↔◌, ◌+◌, ◌≤◌, List, [], ◌∷◌, ◌++◌, length}
-use Rattle.std.specs.List.Sorted.{IsNonDecreasingBy}
+use Rattle.std.specs.Prelude.{◌≡◌, ◌≢◌, ◌↔◌, ◌⊎◌, ◌+◌, ◌≤◌, List, [], ◌∷◌, ◌++◌, length, Contains, AllPairs}
 use Rattle.sheet_refs.specs.Cells.{Position, Corners, IsIn}
 use Rattle.graph_walk.specs.Graphs.{Pair}
 use Rattle.edge_patterns.specs.Edges.{EdgeValue}
 use Rattle.taco_graph.specs.declared.answers.Question.{Question}
 use Rattle.taco_graph.specs.Answers.{AddsOneEach, IsMeant}
-use Rattle.taco_graph.specs.Order.{AreInOrder}
+use Rattle.taco_graph.specs.Order.{AreInOrder, IsListedBefore}
 use Rattle.taco_graph.specs.Pairs.{StandFor}
 
 -- a list gains no more ranges than there are edges
@@ -30,6 +29,23 @@ OneEdgeGivesOne =
 abbrev pub EdgesAreFew : Type 0
 EdgesAreFew = (edges : List EdgeValue) (pairs : List Pair) → StandFor edges pairs → length edges ≤ length pairs
 
--- edges in order stand by the columns of their first cells, before all else
-abbrev pub OrderIsByColumns : Type 0
-OrderIsByColumns = (edges : List EdgeValue) → AreInOrder edges → IsNonDecreasingBy (λ edge. edge.dep.head.col) edges
+-- no edge stands twice
+abbrev pub AreDistinct : List EdgeValue → Type 0
+AreDistinct edges = AllPairs (λ a b. a ≢ b) edges
+
+-- nor do edges that stand for some pairs
+abbrev pub StandingEdgesAreDistinct : Type 0
+StandingEdgesAreDistinct = (edges : List EdgeValue) (pairs : List Pair) → StandFor edges pairs → AreDistinct edges
+
+-- of two edges in order the later one is the same as the earlier one, or the earlier one is listed before it
+abbrev pub OrderIsByParts : Type 0
+OrderIsByParts = (edges : List EdgeValue) → AreInOrder edges → AllPairs (λ a b. (a ≡ b) ⊎ IsListedBefore a b) edges
+
+-- two lists have the same edges
+abbrev pub HaveSameEdges : List EdgeValue → List EdgeValue → Type 0
+HaveSameEdges some others = (edge : EdgeValue) → Contains some edge ↔ Contains others edge
+
+-- edges have one list in order
+abbrev pub ListsInOrderAreOne : Type 0
+ListsInOrderAreOne =
+    (some others : List EdgeValue) → AreInOrder some → AreInOrder others → AreDistinct some → AreDistinct others → HaveSameEdges some others → some ≡ others

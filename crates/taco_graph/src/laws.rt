@@ -1,12 +1,20 @@
-ghost use Rattle.taco_graph.specs.Laws.{AnswersAreFew, OneEdgeGivesOne, EdgesAreFew, OrderIsByColumns};
+ghost use Rattle.taco_graph.specs.Laws.{AnswersAreFew, OneEdgeGivesOne, EdgesAreFew};
+ghost use Rattle.taco_graph.specs.Laws.{StandingEdgesAreDistinct, OrderIsByParts, ListsInOrderAreOne};
 
 /// What holds of the answers of edges, and of the pairs that they stand for: a query adds no more ranges than there
-/// are edges; one edge of which a cell is meant gives one range, with exactly the cells that are meant; edges that
-/// stand for some pairs are no more than these; and edges in order stand by the columns of their first cells, before
-/// all else.
+/// are edges; one edge of which a cell is meant gives one range, with exactly the cells that are meant; and edges that
+/// stand for some pairs are no more than these.
 pub fn taco_laws()
     ensures few { AnswersAreFew }
     ensures one { OneEdgeGivesOne }
     ensures edges_are_few { EdgesAreFew }
-    ensures order { OrderIsByColumns }
+{}
+
+/// What holds of edges in order: of two the first of five parts in which they differ tells which stands first, the
+/// head and the tail of the run, those of the rectangle, and the pattern; edges that stand for some pairs are distinct;
+/// and distinct edges have one list in order.
+pub fn order_laws()
+    ensures by_parts { OrderIsByParts }
+    ensures distinct { StandingEdgesAreDistinct }
+    ensures one_list { ListsInOrderAreOne }
 {}

@@ -5,7 +5,8 @@
 //! with its run, in the other with the smallest rectangle that has its ranges (`specs/Stores.antt`). Its pairs are
 //! those of its edges (`specs/Pairs.antt`). What its calls promise is the contract of `Graph`, and that a query adds at
 //! most one range for each edge, with exactly its answer (`specs/Answers.antt`). `edges` lists edges that stand for the
-//! pairs, `pair_count` counts them, and `taco_laws` says that neither answers nor edges are more than they need be.
+//! pairs, `pair_count` counts them, `taco_laws` says that neither answers nor edges are more than they need be, and
+//! `order_laws` how they are listed.
 //!
 //! A query looks at the edges that an index names. A change takes the cell out of the edges that hold it and joins
 //! what is left and what comes with edges beside it.
@@ -25,5 +26,5 @@ mod taco;
 mod tests;
 
 pub use counting::pair_count;
-pub use laws::taco_laws;
+pub use laws::{order_laws, taco_laws};
 pub use taco::Taco;
