@@ -7,8 +7,12 @@ pub mod LawLemmas
 pub mod OneAnswer
 pub mod ReplyLemmas
 pub mod RowGraph
+pub mod RowPlay
 pub mod RowShow
 pub mod RunLemmas
 pub mod WordLemmas
 pub mod WorkedGraph
+pub mod WorkedPlay
+pub mod WorkedPrecedents
+pub mod WorkedScript
 pub mod WorkedSheet

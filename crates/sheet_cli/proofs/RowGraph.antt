@@ -1,4 +1,4 @@
--- Worked rows of `deps` and `check` over the worked sheet.
+-- Worked rows of `deps`, `precs` and `check` over the worked sheet.
 use Rattle.std.proofs.Common.{◌≡◌, ℕ, List, [], ◌∷◌, ◌++◌, codes, refl, sym, ◌∙◌, ap, subst, arith, length}
 use Rattle.std.specs.Prelude.{Option}
 use Rattle.std.specs.Fmt.{decimal, digits}
@@ -13,16 +13,17 @@ use Rattle.sheet_cli.specs.Answers.Answer.{output}
 use Rattle.sheet_cli.specs.Answers.AnswersCheck.{listed, unlisted}
 use Rattle.sheet_cli.specs.Answers.AnswersWindow.{written}
 use Rattle.sheet_cli.specs.Answers.Owes.{answers, usage}
-use Rattle.sheet_cli.specs.Answers.Writes.{dependents}
+use Rattle.sheet_cli.specs.Answers.Writes.{dependents, precedents}
 use Rattle.sheet_cli.specs.Requests.Request.{of_check, of_window}
-use Rattle.sheet_cli.specs.Rows.{CheckRow, DepsRow, ListedRow, TellsWorked, worked_words}
+use Rattle.sheet_cli.specs.Rows.{CheckRow, DepsRow, ListedRow, PrecsRow, TellsWorked, worked_words}
 use Rattle.sheet_cli.specs.Words.Asks.{asks_check}
-use Rattle.sheet_cli.specs.declared.words.WindowCommand.TheVariants.{Deps}
+use Rattle.sheet_cli.specs.declared.words.WindowCommand.TheVariants.{Deps, Precs}
 use Rattle.sheet_cli.proofs.LawLemmas.{behind, in_front, no_refusal, same_text}
 use Rattle.sheet_cli.proofs.OneAnswer.{as_many, one_request, one_sheet}
 use Rattle.sheet_cli.proofs.RowShow.{asks_window, just_written, no_option, not_check, tells, within_worked}
 use Rattle.sheet_cli.proofs.WorkedGraph.{at, dependents_of_a1, from_to, lists_worked, three_listed, worked_check, worked_runs}
-use Rattle.sheet_cli.proofs.WorkedSheet.{gives_worked, in_a, worked_sheet}
+use Rattle.sheet_cli.proofs.WorkedPrecedents.{precedents_of_b2, runs_before}
+use Rattle.sheet_cli.proofs.WorkedSheet.{gives_worked, in_a, in_b, worked_sheet}
 
 named_a1 : IsRangeName (codes "A1") (from_to (at 1 1) (at 1 1))
 named_a1 = one (codes "A1") (at 1 1) (in_a 49 1 (omega arith) (omega arith) refl)
@@ -37,6 +38,20 @@ deps_row =
     (λ holds here. answers (of_window Deps (codes "s") (from_to (at 1 1) (at 1 1))) (output (codes "A1:A1\nB1:B2\n")) (asks_window Deps (codes "A1") (from_to (at 1 1) (at 1 1)) named_a1)
     (subst (λ t. AnswersWindow holds Deps (codes "s") (from_to (at 1 1) (at 1 1)) (output t)) runs_shown
     (written worked_sheet (runs_text worked_runs) (gives_worked holds here) (within_worked (from_to (at 1 1) (at 1 1)) (omega arith) (omega arith) (omega arith) (omega arith)) (dependents worked_runs dependents_of_a1))))
+
+named_b2 : IsRangeName (codes "B2") (from_to (at 2 2) (at 2 2))
+named_b2 = one (codes "B2") (at 2 2) (in_b 50 2 (omega arith) (omega arith) refl)
+
+before_shown : runs_text runs_before ≡ codes "A1:A2\nB1:B2\n"
+unfolding digits
+before_shown = refl
+
+pub precs_row : PrecsRow
+precs_row =
+    just_written (worked_words (codes "precs") (codes "B2")) (codes "A1:A2\nB1:B2\n") (not_check (codes "precs") (codes "B2")) (tells Precs (codes "B2"))
+    (λ holds here. answers (of_window Precs (codes "s") (from_to (at 2 2) (at 2 2))) (output (codes "A1:A2\nB1:B2\n")) (asks_window Precs (codes "B2") (from_to (at 2 2) (at 2 2)) named_b2)
+    (subst (λ t. AnswersWindow holds Precs (codes "s") (from_to (at 2 2) (at 2 2)) (output t)) before_shown
+    (written worked_sheet (runs_text runs_before) (gives_worked holds here) (within_worked (from_to (at 2 2) (at 2 2)) (omega arith) (omega arith) (omega arith) (omega arith)) (precedents runs_before precedents_of_b2))))
 
 check_owed : (holds : List ℕ → Option (List ℕ)) → TellsWorked holds → Owes (codes "check" ∷ codes "s" ∷ []) holds (output worked_check)
 check_owed holds here = answers (of_check (codes "s")) (output worked_check) (asks_check (codes "s") refl no_option) (listed worked_sheet worked_check (gives_worked holds here) lists_worked)

@@ -1,11 +1,10 @@
 -- Worked rows of `show` over the worked sheet.
-use Rattle.std.proofs.Common.{◌≡◌, ℕ, ◌≤◌, ◌<◌, false, true, List, [], ◌∷◌, length, codes, refl, sym, ap, subst, arith, slice_index_or, inl, inr}
-use Rattle.std.specs.Prelude.{Option, Some, Ok}
+use Rattle.std.proofs.Common.{◌≡◌, ℕ, ◌≤◌, false, true, List, [], ◌∷◌, length, codes, refl, sym, ap, subst, arith, slice_index_or, inl, inr}
+use Rattle.std.specs.Prelude.{Option, Some}
 use Rattle.std.specs.Fmt.{digits}
-use Rattle.sheet_refs.specs.Cells.{Corners, IsIn, Position}
+use Rattle.sheet_refs.specs.Cells.{Corners}
 use Rattle.sheet_refs.specs.Names.{IsRangeName}
 use Rattle.sheet_refs.specs.Names.IsRangeName.{two}
-use Rattle.sheet_refs.specs.declared.sizes.Sizes.{Sizes}
 use Rattle.sheet_refs.proofs.Places.{inside_from}
 use Rattle.sheet_model.specs.Budget.{ev}
 use Rattle.sheet_model.specs.Values.{value_of}
@@ -16,7 +15,6 @@ use Rattle.sheet_cli.specs.Answers.AnswersWindow.{outside, written}
 use Rattle.sheet_cli.specs.Answers.Owes.{answers, usage}
 use Rattle.sheet_cli.specs.Answers.Writes.{values}
 use Rattle.sheet_cli.specs.Lines.{outside_line, usage_line}
-use Rattle.sheet_cli.specs.Requests.{Request}
 use Rattle.sheet_cli.specs.Requests.Request.{of_window}
 use Rattle.sheet_cli.specs.Rows.{AcceptedRow, OutsideRow, RefusedJust, ShowRow, TellsWorked, UsageRow, WritesJust, worked_words}
 use Rattle.sheet_cli.specs.Words.{Asks, AsksNothing, IsOption, command_word}
@@ -44,7 +42,7 @@ just_refused words given line tells owed holds status said here = (
   λ both. record { line = line; owed = subst (λ s. Owes words holds (refusal s line)) (sym both.0) (owed holds here); noted = sym both.1 },
 )
 
-same_byte : (a b : ℕ) → Some a ≡ Some b → a ≡ b
+pub same_byte : (a b : ℕ) → Some a ≡ Some b → a ≡ b
 same_byte a b same = cc
 
 pub no_option : ¬ IsOption (codes "s")

@@ -1,5 +1,5 @@
 -- The pairs of the worked sheet, the edges that stand for them, and what depends on A1.
-use Rattle.std.proofs.Common.{◌≡◌, ◌≢◌, ℕ, zero, suc, ◌<◌, ◌≤◌, Bool, true, false, inl, inr, All, Contains, List, [], ◌∷◌, length, codes, refl, sym, ap, subst, arith, if◌then◌else◌, slice_index_or}
+use Rattle.std.proofs.Common.{◌≡◌, ◌≢◌, ℕ, zero, suc, ◌<◌, ◌≤◌, Bool, true, false, inl, All, Contains, List, [], ◌∷◌, length, codes, refl, sym, ap, subst, arith, if◌then◌else◌, slice_index_or}
 use Rattle.std.specs.Fmt.{digits}
 use Rattle.sheet_refs.specs.Cells.{Corners, IsIn, Position}
 use Rattle.sheet_refs.specs.Rectangles.{AreMaximalRuns, IsAmong, IsBefore, IsVertical}
@@ -25,7 +25,7 @@ at row col = record { row = row; col = col }
 abbrev pub from_to : Position → Position → Corners
 from_to head tail = record { head = head; tail = tail }
 
-abbrev one_cell : Position → Corners
+abbrev pub one_cell : Position → Corners
 one_cell cell = from_to cell cell
 
 -- B1 refers to A1, and B2 to A2 and to B1
@@ -160,16 +160,16 @@ path_within : (from to : Position) (cells : List Position) → IsAmong worked_ru
 path_within from to [] among same = subst (IsAmong worked_runs) same among
 path_within from to (next ∷ cells) among (step, path) = path_within next to cells (step_within from next step) path
 
-same_at : (cell : Position) (row col : ℕ) → cell.row ≡ row → cell.col ≡ col → at row col ≡ cell
+pub same_at : (cell : Position) (row col : ℕ) → cell.row ≡ row → cell.col ≡ col → at row col ≡ cell
 same_at cell row col rows cols = λ i. at (sym rows i) (sym cols i)
 
-on_cell : (cell : Position) → IsIn cell (one_cell cell)
+pub on_cell : (cell : Position) → IsIn cell (one_cell cell)
 on_cell cell = record { row_from = omega arith; row_to = omega arith; col_from = omega arith; col_to = omega arith }
 
-to_b1 : Step worked_pairs (at 1 1) (at 1 2)
+pub to_b1 : Step worked_pairs (at 1 1) (at 1 2)
 to_b1 = record { pair = record { range = one_cell (at 1 1); cell = at 1 2 }; listed = (0, omega arith, refl); inside = on_cell (at 1 1); cell_is = refl }
 
-to_b2 : Step worked_pairs (at 1 2) (at 2 2)
+pub to_b2 : Step worked_pairs (at 1 2) (at 2 2)
 to_b2 = record { pair = record { range = one_cell (at 1 2); cell = at 2 2 }; listed = (2, omega arith, refl); inside = on_cell (at 1 2); cell_is = refl }
 
 reach_a1 : Reach worked_pairs (one_cell (at 1 1)) (at 1 1)
@@ -194,7 +194,7 @@ reached cell range (suc (suc k), within, is) inside = absurd (omega (arith, with
 begins_among : (cell : Position) → IsIn cell (one_cell (at 1 1)) → IsAmong worked_runs cell
 begins_among cell inside = record { range = one_cell (at 1 1); listed = (0, omega arith, refl); inside = inside }
 
-holds_reach : HoldsReach worked_pairs (one_cell (at 1 1)) worked_runs
+pub holds_reach : HoldsReach worked_pairs (one_cell (at 1 1)) worked_runs
 holds_reach cell = (
   λ among. reached cell among.range among.listed among.inside,
   λ reach. path_within reach.from cell reach.cells (begins_among reach.from reach.starts) reach.path,

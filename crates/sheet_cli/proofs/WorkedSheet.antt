@@ -1,6 +1,6 @@
 -- The worked sheet: what its text's fields write, and that they make a sheet.
-use Rattle.std.proofs.Common.{◌≡◌, ℕ, zero, suc, ◌+◌, ◌-◌, ◌<◌, ◌≤◌, pos, false, true, inl, inr, All, List, [], ◌∷◌, ◌++◌, length, take, codes, refl, sym, ◌∙◌, ap, subst, arith, ◌≢◌, ℤ, slice_index_or}
-use Rattle.std.specs.Prelude.{count_by, ◌==◌, Option, IfSome, Ok}
+use Rattle.std.proofs.Common.{◌≡◌, ℕ, zero, suc, ◌-◌, ◌<◌, ◌≤◌, pos, false, true, inl, inr, All, List, [], ◌∷◌, ◌++◌, length, take, codes, refl, sym, ◌∙◌, subst, arith, ◌≢◌, ℤ}
+use Rattle.std.specs.Prelude.{◌==◌, Option, IfSome, Ok}
 use Rattle.std.proofs.lemmas.Int.{ints}
 use Rattle.std.proofs.lemmas.List.{append-nil, length-take}
 use Rattle.std.proofs.lemmas.List.Sums.{count_by-le-length}
@@ -19,7 +19,7 @@ use Rattle.value_core.specs.declared.value.Value.TheVariants.{Number, Error}
 use Rattle.formula_syntax.specs.declared.tokens.Token.{Token}
 use Rattle.formula_syntax.specs.declared.tokens.Token.TheVariants as token
 use Rattle.formula_syntax.specs.Tree.{Tree, number, reference, binary}
-use Rattle.formula_syntax.specs.Lexing.{HasEnded, HasTokens, IsToken, IsWord}
+use Rattle.formula_syntax.specs.Lexing.{HasTokens, IsWord}
 use Rattle.formula_syntax.specs.Lexing.HasTokens.{nothing, next}
 use Rattle.formula_syntax.specs.Lexing.IsToken.{word as a_word, operator as an_operator}
 use Rattle.formula_syntax.specs.Lexing.IsWord.{number as a_count, reference as a_name}
@@ -57,12 +57,12 @@ worked_sheet = record {
   labels = [];
 }
 
-one_element : (P : ℕ → Type 0) (byte : ℕ) → P byte → All P (byte ∷ [])
+pub one_element : (P : ℕ → Type 0) (byte : ℕ) → P byte → All P (byte ∷ [])
 one_element P byte is zero d within = is
 one_element P byte is (suc k) d within = absurd (omega (arith, within))
 
 -- a digit writes a number
-digit_number : (digit most n : ℕ) → 48 ≤ digit → digit ≤ 57 → n ≡ digit - 48 → n ≤ most → IsDecimal (digit ∷ []) most n
+pub digit_number : (digit most n : ℕ) → 48 ≤ digit → digit ≤ 57 → n ≡ digit - 48 → n ≤ most → IsDecimal (digit ∷ []) most n
 digit_number digit most n from to is within = record {
   some = omega arith;
   digits = one_element IsDigit digit (from, to);
@@ -159,7 +159,7 @@ second_sum = record {
 }
 
 -- none of the fields is a label
-number_table : (text : List ℕ) (n : ℤ) → IsNumberField text n → IsTableAfter text [] []
+pub number_table : (text : List ℕ) (n : ℤ) → IsNumberField text n → IsTableAfter text [] []
 number_table text n is = other text [] [] (λ label. label.no_number n is) refl
 
 formula_table : (text rest : List ℕ) → text ≡ 61 ∷ rest → IsTableAfter text [] []

@@ -8,7 +8,7 @@ ghost use Rattle.sheet_cli.specs.Laws.{AcceptedIsNotRefused, BegunIsAPrefix, Che
 ghost use Rattle.sheet_cli.specs.Laws.{NoOutputAndRefusal, OneOutput, OneRefusal, RefusedIsOwed};
 ghost use Rattle.sheet_cli.specs.Laws.{WrittenIsOwed};
 ghost use Rattle.sheet_cli.specs.Rows.{AcceptedRow, CheckRow, DepsRow, ListedRow, OutsideRow};
-ghost use Rattle.sheet_cli.specs.Rows.{ShowRow, UsageRow};
+ghost use Rattle.sheet_cli.specs.Rows.{PlayRow, PrecsRow, RefusedScriptRow, ShowRow, UsageRow};
 
 /// Words ask for at most one thing; and words and the texts that they name, where the shelf tells these, are
 /// answered in one way, but for which edges `check` lists.
@@ -66,6 +66,14 @@ pub fn row_laws()
     ensures outside { OutsideRow }
     ensures usage { UsageRow }
     ensures deps { DepsRow }
+    ensures precs { PrecsRow }
     ensures check { CheckRow }
     ensures listed { ListedRow }
+{}
+
+/// The same of `play` over that sheet: a script that looks at its edit at once and after two turns, and one about a
+/// cell past the sheet.
+pub fn script_row_laws()
+    ensures play { PlayRow }
+    ensures refused { RefusedScriptRow }
 {}

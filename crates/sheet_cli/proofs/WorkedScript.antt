@@ -1,0 +1,216 @@
+-- What the texts of worked scripts say, and what they give over the worked sheet.
+use Rattle.std.proofs.Common.{◌≡◌, ℕ, zero, suc, pos, ◌≤◌, inl, inr, true, false, All, List, [], ◌∷◌, codes, refl, ap, arith, slice_index_or, subst, sym}
+use Rattle.bstr.specs.Text.{line_len, lines_from}
+use Rattle.sheet_refs.specs.Cells.{Corners}
+use Rattle.sheet_refs.specs.Names.{IsCellName, IsDigit, IsLetter, IsRangeName}
+use Rattle.sheet_refs.specs.Names.IsRangeName.{two}
+use Rattle.value_core.specs.declared.value.Value.TheVariants.{Number}
+use Rattle.formula_syntax.specs.Spelling.{IsIntroduced, HasTooManyRefs}
+use Rattle.formula_syntax.specs.Spelling.IsIntroduced.{plain, prefixed}
+use Rattle.sheet_model.specs.Fields.{IsNumberField}
+use Rattle.sheet_model.specs.Fields.IsNumberField.{unsigned}
+use Rattle.sheet_model.specs.Sheets.{Constant}
+use Rattle.sheet_model.specs.Tables.AddsLabels.{done, next as and_next}
+use Rattle.sheet_model.specs.declared.change.Edit.{Edit}
+use Rattle.edit_script.specs.Lines.{LineValue, Says, Set, Look, Work, script_lines}
+use Rattle.edit_script.specs.Lines.IsLineOf.{order}
+use Rattle.edit_script.specs.Lines.IsOrder.{set, look, work}
+use Rattle.edit_script.specs.Scripts.{AreLines, AreSteps, IsAllowed, IsFirstFault, IsLargeWindow, IsPartOutside, IsScript, ScriptValue, brought_by}
+use Rattle.edit_script.specs.Scripts.AreLines.{none as no_line, more as line_more}
+use Rattle.edit_script.specs.Scripts.AreSteps.{none as no_step, command as step_more}
+use Rattle.edit_script.specs.Scripts.IsCommand.{set as sets, look as looks, work as works}
+use Rattle.edit_script.specs.declared.refused.ScriptRefused.TheVariants.{OutOfSheet}
+use Rattle.edit_script.specs.declared.script.Mode.TheVariants.{Play}
+use Rattle.edit_script.specs.declared.script.Command.TheVariants as asks
+use Rattle.edit_script.specs.declared.script.Step.{Step}
+use Rattle.sheet_cli.specs.Rows.{outside_script, worked_script}
+use Rattle.sheet_cli.proofs.WorkedGraph.{at, from_to}
+use Rattle.sheet_cli.proofs.WorkedSheet.{digit_number, in_a, in_b, not_deep, number_table, one_element, worked_sheet}
+use Rattle.sheet_cli.proofs.RowShow.{within_worked}
+
+abbrev pub whole_window : Corners
+whole_window = from_to (at 1 1) (at 2 2)
+
+-- A1 is to hold 5
+abbrev pub worked_edit : Edit
+worked_edit = record { change = record { cell = at 1 1; content = Constant (Number (pos 5)) } }
+
+abbrev pub worked_steps : List Step
+worked_steps =
+    record { client = 0; command = asks.Put worked_edit } ∷ record { client = 0; command = asks.Look whole_window }
+    ∷ record { client = 0; command = asks.Work 2 } ∷ record { client = 0; command = asks.Look whole_window } ∷ []
+
+abbrev pub played_script : ScriptValue
+played_script = record { names = codes "main" ∷ []; steps = worked_steps }
+
+-- ---- the lines
+
+abbrev sets_five : LineValue
+sets_five = Set (at 1 1) (codes "5")
+
+abbrev looks_whole : LineValue
+looks_whole = Look whole_window
+
+lines_there : script_lines worked_script ≡ codes "set A1 5" ∷ codes "look A1:B2" ∷ codes "work 2" ∷ codes "look A1:B2" ∷ []
+unfolding lines_from line_len
+lines_there = refl
+
+says_set : Says Play (codes "set A1 5") sets_five
+unfolding lib.Utf8.encode
+says_set = (
+  order (codes "set A1 5") (codes "set") (codes "A1 5") sets_five refl
+      (set (codes "set") (codes "A1 5") (codes "5") (at 1 1) refl
+      (record { name = codes "A1"; text_is = refl; names = in_a 49 1 (omega arith) (omega arith) refl; utf8 = (codes "5", (refl, refl)); short = omega arith })),
+  tt,
+)
+
+named_window : IsRangeName (codes "A1:B2") whole_window
+named_window = two (codes "A1:B2") (codes "A1") (codes "B2") (at 1 1) (at 2 2) refl (in_a 49 1 (omega arith) (omega arith) refl) (in_b 50 2 (omega arith) (omega arith) refl)
+
+says_look : Says Play (codes "look A1:B2") looks_whole
+says_look = (order (codes "look A1:B2") (codes "look") (codes "A1:B2") looks_whole refl (look (codes "look") (codes "A1:B2") whole_window refl named_window), tt)
+
+says_work : Says Play (codes "work 2") (Work 2)
+says_work = (
+  order (codes "work 2") (codes "work") (codes "2") (Work 2) refl
+      (work (codes "work") (codes "2") 2 refl (record { short = omega arith; number = digit_number 50 1048576 2 (omega arith) (omega arith) refl (omega arith); some = omega arith })),
+  refl,
+)
+
+-- ---- nothing is wrong with them
+
+no_formula : (rest : List ℕ) → ¬ IsIntroduced (codes "5") rest
+no_formula rest (plain _ _ is) = (let first = ap (λ t. slice_index_or t 0 0) is in omega (arith, first))
+no_formula rest (prefixed _ _ is) = (let first = ap (λ t. slice_index_or t 0 0) is in omega (arith, first))
+
+no_references : ¬ HasTooManyRefs (codes "5")
+no_references (shallow, tree, spelt, many) = no_formula spelt.rest spelt.introduced
+
+set_allowed : IsAllowed worked_sheet.sizes (brought_by []) sets_five
+set_allowed = record {
+  inside = λ out. out refl;
+  client = λ none. none;
+  window = λ none. none;
+  edit = λ many. omega (arith, many);
+  shallow = λ deep. not_deep (codes "5") (omega arith) deep.deep;
+  few_refs = no_references;
+}
+
+not_outside : ¬ IsPartOutside worked_sheet.sizes whole_window
+not_outside (cell, here, out) = out (within_worked whole_window (omega arith) (omega arith) (omega arith) (omega arith) cell here)
+
+not_large : (lines : List LineValue) → (brought_by lines).cells ≤ 4 → ¬ IsLargeWindow (brought_by lines) whole_window
+not_large lines few (inl large) = omega (arith, large)
+not_large lines few (inr all) = omega (arith, few, all)
+
+look_allowed : (lines : List LineValue) → (brought_by lines).cells ≤ 4 → IsAllowed worked_sheet.sizes (brought_by lines) looks_whole
+look_allowed lines few = record {
+  inside = not_outside;
+  client = λ none. none;
+  window = not_large lines few;
+  edit = λ none. none;
+  shallow = λ none. none;
+  few_refs = λ none. none;
+}
+
+work_allowed : (lines : List LineValue) → IsAllowed worked_sheet.sizes (brought_by lines) (Work 2)
+work_allowed lines = record {
+  inside = λ none. none;
+  client = λ none. none;
+  window = λ none. none;
+  edit = λ none. none;
+  shallow = λ none. none;
+  few_refs = λ none. none;
+}
+
+abbrev one_line : List LineValue
+one_line = sets_five ∷ []
+
+abbrev two_lines : List LineValue
+two_lines = sets_five ∷ looks_whole ∷ []
+
+abbrev three_lines : List LineValue
+three_lines = sets_five ∷ looks_whole ∷ Work 2 ∷ []
+
+abbrev four_lines : List LineValue
+four_lines = sets_five ∷ looks_whole ∷ Work 2 ∷ looks_whole ∷ []
+
+all_said : AreLines Play worked_sheet.sizes (codes "set A1 5" ∷ codes "look A1:B2" ∷ codes "work 2" ∷ codes "look A1:B2" ∷ []) four_lines
+all_said =
+    line_more (codes "set A1 5" ∷ codes "look A1:B2" ∷ codes "work 2" ∷ []) _ (codes "look A1:B2") three_lines four_lines looks_whole
+    (line_more (codes "set A1 5" ∷ codes "look A1:B2" ∷ []) _ (codes "work 2") two_lines three_lines (Work 2)
+    (line_more (codes "set A1 5" ∷ []) _ (codes "look A1:B2") one_line two_lines looks_whole
+    (line_more [] _ (codes "set A1 5") [] one_line sets_five no_line says_set set_allowed refl refl)
+    says_look (look_allowed one_line (omega arith)) refl refl)
+    says_work (work_allowed two_lines) refl refl)
+    says_look (look_allowed three_lines (omega arith)) refl refl
+
+-- ---- the steps
+
+pub field_of_five : IsNumberField (codes "5") (pos 5)
+field_of_five = unsigned (codes "5") 5 (digit_number 53 9007199254740991 5 (omega arith) (omega arith) refl (omega arith))
+
+all_steps : AreSteps [] four_lines worked_steps
+all_steps =
+    step_more three_lines four_lines looks_whole _ worked_steps (record { client = 0; command = asks.Look whole_window })
+    (step_more two_lines three_lines (Work 2) _ _ (record { client = 0; command = asks.Work 2 })
+    (step_more one_line two_lines looks_whole _ _ (record { client = 0; command = asks.Look whole_window })
+    (step_more [] one_line sets_five [] _ (record { client = 0; command = asks.Put worked_edit }) no_step
+    (record { client = refl; command = sets (codes "5") worked_edit sets_five refl field_of_five }) refl refl)
+    (record { client = refl; command = looks whole_window looks_whole refl }) refl refl)
+    (record { client = refl; command = works 2 (Work 2) refl }) refl refl)
+    (record { client = refl; command = looks whole_window looks_whole refl }) refl refl
+
+pub is_script : IsScript Play worked_sheet.sizes [] [] worked_script played_script
+is_script = record {
+  lines = four_lines;
+  said = subst (λ texts. AreLines Play worked_sheet.sizes texts four_lines) (sym lines_there) all_said;
+  names = refl;
+  steps = all_steps;
+  labels = and_next _ (codes "5") [] [] [] [] refl (number_table (codes "5") (pos 5) field_of_five) (done [] [] [] refl refl);
+}
+
+-- ---- a cell past the sheet
+
+one_line_there : script_lines outside_script ≡ codes "set Z99 1" ∷ []
+unfolding lines_from line_len
+one_line_there = refl
+
+name_z99 : IsCellName (codes "Z99") (at 99 26)
+name_z99 = record {
+  letters = codes "Z";
+  digits = codes "99";
+  text_is = refl;
+  column = record { some = omega arith; few = omega arith; letters = one_element IsLetter 90 (inl (omega arith, omega arith)); value = refl; within = omega arith };
+  row = record { few = omega arith; first = λ (zero_digit : 57 ≡ 48). omega (arith, zero_digit); number = record { some = omega arith; digits = digits; value = refl; within = omega arith } };
+}
+  where
+    digits : All IsDigit (codes "99")
+    digits zero d within = (omega arith, omega arith)
+    digits (suc zero) d within = (omega arith, omega arith)
+    digits (suc (suc k)) d within = absurd (omega (arith, within))
+
+says_outside : Says Play (codes "set Z99 1") (Set (at 99 26) (codes "1"))
+unfolding lib.Utf8.encode
+says_outside = (
+  order (codes "set Z99 1") (codes "set") (codes "Z99 1") (Set (at 99 26) (codes "1")) refl
+      (set (codes "set") (codes "Z99 1") (codes "1") (at 99 26) refl
+      (record { name = codes "Z99"; text_is = refl; names = name_z99; utf8 = (codes "1", (refl, refl)); short = omega arith })),
+  tt,
+)
+
+leaves : ¬ (false ≡ true)
+leaves h = cc
+
+pub is_fault : IsFirstFault Play worked_sheet.sizes [] [] outside_script (OutOfSheet 1)
+is_fault = record {
+  before = [];
+  line = codes "set Z99 1";
+  behind = [];
+  lines = [];
+  all = one_line_there;
+  said = no_line;
+  number = refl;
+  fault = (Set (at 99 26) (codes "1"), says_outside, leaves);
+  labels = done [] [] [] refl refl;
+}
