@@ -18,9 +18,9 @@ pub fn touch_laws()
     ensures listed { TouchedCellsHaveOneList }
 {}
 
-/// What holds of places: a cell of a rectangle is the cell at its place, and a place is that of the cell there. An entry
-/// touches the place of a cell exactly where it touches the cell; so the places that it touches are those of the cells in
-/// the list of what it touches.
+/// What holds of places: a cell of a rectangle is the cell at its place, and a place is that of the cell there. An
+/// entry touches the place of a cell exactly where it touches the cell; so the places that it touches are those of the
+/// cells in the list of what it touches.
 pub fn place_laws()
     ensures cells { CellsAreAtTheirPlaces }
     ensures places { PlacesAreThoseOfTheirCells }
@@ -28,9 +28,9 @@ pub fn place_laws()
     ensures listed { TouchedPlacesAreListed }
 {}
 
-/// What holds of the pairs of a sheet: a cell of the sheet is an input of another exactly where the other depends directly
-/// on it, which is a step by the pairs. A cell is on a cycle of the pairs exactly where steps of inputs lead from it to
-/// itself, and its value is `#CIRC!` exactly where it is on one or depends on a cell that is.
+/// What holds of the pairs of a sheet: a cell of the sheet is an input of another exactly where the other depends
+/// directly on it, which is a step by the pairs. A cell is on a cycle of the pairs exactly where steps of inputs lead
+/// from it to itself, and its value is `#CIRC!` exactly where it is on one or depends on a cell that is.
 pub fn pair_laws()
     ensures inputs { InputsAreDirectDependences }
     ensures steps { DirectDependencesAreSteps }

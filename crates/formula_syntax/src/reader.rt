@@ -163,8 +163,8 @@ fn read(alloc: Global, text: &[u8]) -> Result<Formula, ReadRefused>
 /// Refuses with TooDeep exactly where some front of the text has more than 64 more `(` than `)`; else with
 /// NotFormula exactly where the text is outside the grammar; else with TooManyRefs exactly where it writes
 /// more than 255 references; and else reads it. Memory may come before any of them. The plain text of a
-/// formula that was read is such a text, and gives the same tree (`formula_laws`). The time is in proportion to the length of
-/// the text, but for the table of functions, which is gone through for each name.
+/// formula that was read is such a text, and gives the same tree (`formula_laws`). The time is in proportion to
+/// the length of the text, but for the table of functions, which is gone through for each name.
 pub fn read_formula(alloc: Global, text: &[u8]) -> Result<Formula, ReadRefused>
     requires { length text.now ≤ MAX_TEXT }
     ensures read { IfOk result (IsRead text.now) }

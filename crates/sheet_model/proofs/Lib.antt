@@ -1,3 +1,4 @@
+pub mod BoardLemmas
 pub mod BudgetLemmas
 pub mod ContentLemmas
 pub mod CycleLemmas

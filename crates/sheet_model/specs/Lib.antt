@@ -5,6 +5,7 @@ pub mod Fields
 pub mod Labels
 pub mod Logs
 pub mod Parts
+pub mod Seen
 pub mod Sheets
 pub mod Tables
 pub mod Values

@@ -2,6 +2,8 @@ ghost use Rattle.sheet_model.specs.Changes.{ChangesFillTheirCell, ChangesLeaveOt
 ghost use Rattle.sheet_model.specs.Fields.{WritesOneContent, RefusedWritesNone};
 ghost use Rattle.sheet_model.specs.Logs.{OneMoreEntryIsOneMoreEdit, LogsKeepSizes, LogsKeepLabels};
 ghost use Rattle.sheet_model.specs.Logs.{LogsKeepSheets};
+ghost use Rattle.sheet_model.specs.Seen.{CodesShowTheirValues, WorthsShowTheirValues};
+ghost use Rattle.sheet_model.specs.Seen.{NewerMarksAreShown, StaleMarksAreShown};
 ghost use Rattle.sheet_model.specs.Sheets.{SheetsAreTheirCells, LabelsAreInTheirTable};
 ghost use Rattle.sheet_model.specs.Sheets.{ConstantsAreInRange, FormulasCanBeRead};
 
@@ -32,4 +34,13 @@ pub fn log_laws()
     ensures sizes { LogsKeepSizes }
     ensures labels { LogsKeepLabels }
     ensures sheets { LogsKeepSheets }
+{}
+
+/// What a board shows of what was seen of a cell's words: of the code of a value that value, so of the worth of a
+/// cell's place the value that the cell has after the log; and of a mark its number.
+pub fn board_laws()
+    ensures codes { CodesShowTheirValues }
+    ensures worths { WorthsShowTheirValues }
+    ensures stale { StaleMarksAreShown }
+    ensures newer { NewerMarksAreShown }
 {}

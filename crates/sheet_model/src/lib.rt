@@ -37,7 +37,7 @@ mod walk;
 mod words;
 
 pub use board::{Board, Shown};
-pub use cell_laws::{field_laws, log_laws, sheet_laws};
+pub use cell_laws::{board_laws, field_laws, log_laws, sheet_laws};
 pub use change::{Change, Edit};
 pub use content::Content;
 pub use entry::Entry;

@@ -3,7 +3,7 @@ use Rattle.std.proofs.Common.{◌≡◌, suc, ◌+◌, ◌<◌, ◌≤◌, ◌�
 use Rattle.std.proofs.lemmas.Bool.{cases_lt}
 use Rattle.sheet_refs.specs.Cells.{Position, Corners, IsIn}
 use Rattle.sheet_refs.specs.Rectangles.{IsAmong, IsVertical, IsBefore, AreMaximalRuns}
-use Rattle.sheet_refs.specs.RunLaws.{HaveSameCells}
+use Rattle.sheet_refs.specs.SetLaws.{HaveSameCells}
 use Rattle.sheet_refs.proofs.ColumnLemmas.{among_cons, none_among}
 
 -- a cell stands to the right of a run, or below it with a cell between

@@ -5,6 +5,6 @@ pub mod NameLaws
 pub mod Names
 pub mod Rectangles
 pub mod Refs
-pub mod RunLaws
 pub mod Runs
+pub mod SetLaws
 pub mod Sizes

@@ -1,6 +1,6 @@
 ghost use Rattle.sheet_refs.specs.NameLaws.{CellsPrintNames, RangesPrintNames, NamesOneCell};
 ghost use Rattle.sheet_refs.specs.NameLaws.{NamesOneRange, ReferencesPrintNames};
-ghost use Rattle.sheet_refs.specs.RunLaws.{MaximalRunsAreOne};
+ghost use Rattle.sheet_refs.specs.SetLaws.{MaximalRunsAreOne};
 
 /// What holds of names: what a cell, a range or a reference prints is a name of it, so that it can be read
 /// back, and no text names two cells or two ranges.
@@ -14,6 +14,6 @@ pub fn name_laws()
 
 /// A set of cells has one list of maximal vertical runs, so that `RectSet::columns` answers the same for sets with the
 /// same cells, in whatever way they came.
-pub fn run_laws()
+pub fn set_laws()
     ensures one_list { MaximalRunsAreOne }
 {}

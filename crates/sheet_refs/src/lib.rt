@@ -33,7 +33,7 @@ mod tests;
 pub use cell::Cell;
 pub use end_names::ref_of;
 pub use ends::{End, Ref};
-pub use laws::{name_laws, run_laws};
+pub use laws::{name_laws, set_laws};
 pub use memory::Memory;
 pub use names::{cell_of, decimal_of, range_of};
 pub use pieces::Pieces;

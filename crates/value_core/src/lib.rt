@@ -21,7 +21,7 @@ mod whole;
 
 pub use codes::{code, decode};
 pub use convert::{as_number, as_truth, in_range, never_empty, truth_number};
-pub use laws::operator_laws;
+pub use laws::{code_laws, operator_laws};
 pub use operators::{BinaryOp, PrefixOp, binary, prefix};
 pub use value::{ErrorKind, Value};
 pub use whole::{MAX_WHOLE, Whole};
