@@ -2,12 +2,12 @@ pub mod Fitting
 pub mod Complete
 pub mod Depths
 pub mod Measures
-pub mod Pieces
 pub mod Printed
 pub mod PrintedWords
 pub mod Shorter
 pub mod Signs
 pub mod TokenLemmas
+pub mod LeftLemmas
 pub mod Lengths
 pub mod Lexemes
 pub mod Listings

@@ -11,7 +11,7 @@ use Rattle.sheet_refs.specs.Refs.{AreRefs, AreDistinct}
 use Rattle.formula_syntax.specs.declared.tree.Node.{Node}
 use Rattle.formula_syntax.specs.declared.tree.Nodes.{Nodes}
 use Rattle.formula_syntax.specs.Tree.{Tree, reference, prefix, binary, call, tree_of, trees_of, parameters_of, references_of, all_references}
-use Rattle.formula_syntax.specs.Printing.{piece_count, all_pieces}
+use Rattle.formula_syntax.specs.Listing.{visit_count, all_visits}
 use Rattle.formula_syntax.specs.Listing.{IsOnceEach, references_left, lists_left, Lists}
 use Rattle.formula_syntax.specs.Listing.IsOnceEach.{nothing, again, first}
 
@@ -92,11 +92,11 @@ nothing_listed own count left ranges none some = record {
   listed = λ all once. subst (λ (l : List Corners). IsOnceEach l ranges) (sym (append-nil all)) once;
 }
 
-pub leaf_listed : (t u : Tree) (left : List (Bor (List Node))) (ranges : List Corners) → t ≡ u → references_of u ≡ [] → piece_count u ≡ 1 → Lists (references_of t) (piece_count t) left left ranges ranges
-leaf_listed t u left ranges is none alone = rw is (nothing_listed (references_of u) (piece_count u) left ranges none (omega (arith, alone)))
+pub leaf_listed : (t u : Tree) (left : List (Bor (List Node))) (ranges : List Corners) → t ≡ u → references_of u ≡ [] → visit_count u ≡ 1 → Lists (references_of t) (visit_count t) left left ranges ranges
+leaf_listed t u left ranges is none alone = rw is (nothing_listed (references_of u) (visit_count u) left ranges none (omega (arith, alone)))
 
 -- a reference is listed
-pub reference_listed : (t : Tree) (r : Reference) (left : List (Bor (List Node))) (ranges more : List Corners) → t ≡ reference r → ((all : List Corners) → IsOnceEach all ranges → IsOnceEach (all ++ corners_of r ∷ []) more) → Lists (references_of t) (piece_count t) left left ranges more
+pub reference_listed : (t : Tree) (r : Reference) (left : List (Bor (List Node))) (ranges more : List Corners) → t ≡ reference r → ((all : List Corners) → IsOnceEach all ranges → IsOnceEach (all ++ corners_of r ∷ []) more) → Lists (references_of t) (visit_count t) left left ranges more
 reference_listed t r left ranges more is once = rw is (record {
   said = r ∷ [];
   added = [];
@@ -117,32 +117,32 @@ nodes_left own count left next added ranges kept whole fewer = record {
   listed = λ all once. subst (λ (l : List Corners). IsOnceEach l ranges) (sym (append-nil all)) once;
 }
 
-pub prefix_left : (t : Tree) (op : _) (operand : Node) (one : Bor (List Node)) (left next : List (Bor (List Node))) (ranges : List Corners) → t ≡ prefix op (tree_of operand) → one.now ≡ operand ∷ [] → next ≡ left ++ one ∷ [] → Lists (references_of t) (piece_count t) left next ranges ranges
+pub prefix_left : (t : Tree) (op : _) (operand : Node) (one : Bor (List Node)) (left next : List (Bor (List Node))) (ranges : List Corners) → t ≡ prefix op (tree_of operand) → one.now ≡ operand ∷ [] → next ≡ left ++ one ∷ [] → Lists (references_of t) (visit_count t) left next ranges ranges
 prefix_left t op operand one left next ranges is alone kept =
     let own : references_left (one ∷ []) ≡ references_of (tree_of operand) = ap (λ (l : List Node). all_references (trees_of l)) alone ∙ append-nil (references_of (tree_of operand)) in
-    let count : lists_left (one ∷ []) ≡ 3 + piece_count (tree_of operand) = omega (arith, ap (λ (l : List Node). all_pieces (trees_of l)) alone) in
-    rw is (nodes_left (references_of (tree_of operand)) (4 + piece_count (tree_of operand)) left next (one ∷ []) ranges kept (sym own) (omega (arith, count)))
+    let count : lists_left (one ∷ []) ≡ 3 + visit_count (tree_of operand) = omega (arith, ap (λ (l : List Node). all_visits (trees_of l)) alone) in
+    rw is (nodes_left (references_of (tree_of operand)) (4 + visit_count (tree_of operand)) left next (one ∷ []) ranges kept (sym own) (omega (arith, count)))
 
-pub binary_left : (t : Tree) (op : _) (l r : Node) (one two : Bor (List Node)) (left next : List (Bor (List Node))) (ranges : List Corners) → t ≡ binary op (tree_of l) (tree_of r) → one.now ≡ l ∷ [] → two.now ≡ r ∷ [] → next ≡ left ++ (two ∷ one ∷ []) → Lists (references_of t) (piece_count t) left next ranges ranges
+pub binary_left : (t : Tree) (op : _) (l r : Node) (one two : Bor (List Node)) (left next : List (Bor (List Node))) (ranges : List Corners) → t ≡ binary op (tree_of l) (tree_of r) → one.now ≡ l ∷ [] → two.now ≡ r ∷ [] → next ≡ left ++ (two ∷ one ∷ []) → Lists (references_of t) (visit_count t) left next ranges ranges
 binary_left t op l r one two left next ranges is one_is two_is kept =
     let own_one : all_references (trees_of one.now) ≡ references_of (tree_of l) = ap (λ (ns : List Node). all_references (trees_of ns)) one_is ∙ append-nil (references_of (tree_of l)) in
     let own_two : all_references (trees_of two.now) ≡ references_of (tree_of r) = ap (λ (ns : List Node). all_references (trees_of ns)) two_is ∙ append-nil (references_of (tree_of r)) in
     let whole : references_of (tree_of l) ++ references_of (tree_of r) ≡ references_left (two ∷ one ∷ []) = rw (own_one, own_two) refl in
-    let fewer : lists_left (two ∷ one ∷ []) < 7 + piece_count (tree_of l) + piece_count (tree_of r) =
-    omega (arith, ap (λ (ns : List Node). all_pieces (trees_of ns)) one_is, ap (λ (ns : List Node). all_pieces (trees_of ns)) two_is) in
-    rw is (nodes_left (references_of (tree_of l) ++ references_of (tree_of r)) (7 + piece_count (tree_of l) + piece_count (tree_of r)) left next (two ∷ one ∷ []) ranges kept whole fewer)
+    let fewer : lists_left (two ∷ one ∷ []) < 7 + visit_count (tree_of l) + visit_count (tree_of r) =
+    omega (arith, ap (λ (ns : List Node). all_visits (trees_of ns)) one_is, ap (λ (ns : List Node). all_visits (trees_of ns)) two_is) in
+    rw is (nodes_left (references_of (tree_of l) ++ references_of (tree_of r)) (7 + visit_count (tree_of l) + visit_count (tree_of r)) left next (two ∷ one ∷ []) ranges kept whole fewer)
 
-pub call_left : (t : Tree) (f : _) (ps : Nodes) (one : Bor (List Node)) (left next : List (Bor (List Node))) (ranges : List Corners) → t ≡ call f (parameters_of ps) → trees_of one.now ≡ parameters_of ps → next ≡ left ++ one ∷ [] → Lists (references_of t) (piece_count t) left next ranges ranges
+pub call_left : (t : Tree) (f : _) (ps : Nodes) (one : Bor (List Node)) (left next : List (Bor (List Node))) (ranges : List Corners) → t ≡ call f (parameters_of ps) → trees_of one.now ≡ parameters_of ps → next ≡ left ++ one ∷ [] → Lists (references_of t) (visit_count t) left next ranges ranges
 call_left t f ps one left next ranges is same kept =
-    rw is (nodes_left (all_references (parameters_of ps)) (4 + all_pieces (parameters_of ps)) left next (one ∷ []) ranges kept (ap all_references (sym same)) (omega (arith, ap all_pieces same)))
+    rw is (nodes_left (all_references (parameters_of ps)) (4 + all_visits (parameters_of ps)) left next (one ∷ []) ranges kept (ap all_references (sym same)) (omega (arith, ap all_visits same)))
 
 -- no nodes
-pub none_listed : (nodes : List Node) (left : List (Bor (List Node))) (ranges : List Corners) → length nodes ≡ 0 → Lists (all_references (trees_of nodes)) (1 + all_pieces (trees_of nodes)) left left ranges ranges
+pub none_listed : (nodes : List Node) (left : List (Bor (List Node))) (ranges : List Corners) → length nodes ≡ 0 → Lists (all_references (trees_of nodes)) (1 + all_visits (trees_of nodes)) left left ranges ranges
 none_listed [] left ranges none = nothing_listed [] 1 left ranges refl (omega arith)
 none_listed (x ∷ xs) left ranges none = absurd (omega (arith, none))
 
 -- the first of some nodes, before the others
-pub first_listed : (nodes : List Node) (node : Node) (rest : Bor (List Node)) (left middle next : List (Bor (List Node))) (ranges more : List Corners) → nodes ≡ node ∷ rest.now → middle ≡ left ++ rest ∷ [] → Lists (references_of (tree_of node)) (piece_count (tree_of node)) middle next ranges more → Lists (all_references (trees_of nodes)) (1 + all_pieces (trees_of nodes)) left next ranges more
+pub first_listed : (nodes : List Node) (node : Node) (rest : Bor (List Node)) (left middle next : List (Bor (List Node))) (ranges more : List Corners) → nodes ≡ node ∷ rest.now → middle ≡ left ++ rest ∷ [] → Lists (references_of (tree_of node)) (visit_count (tree_of node)) middle next ranges more → Lists (all_references (trees_of nodes)) (1 + all_visits (trees_of nodes)) left next ranges more
 first_listed nodes node rest left middle next ranges more split pushed lists =
     let behind = all_references (trees_of rest.now) in
     rw split (record {
@@ -166,7 +166,7 @@ listing_starts t node one left is alone kept =
     let own : references_left left ≡ references_of (tree_of node) = ap references_left kept ∙ (ap (λ (l : List Node). all_references (trees_of l)) alone ∙ append-nil (references_of (tree_of node))) in
     record { said = []; whole = ap references_of is ∙ sym own; listed = nothing }
 
-pub listing_step : (all : List Reference) (old left next : List (Bor (List Node))) (nodes : Bor (List Node)) (ranges more : List Corners) → old ≡ left ++ nodes ∷ [] → Lists (all_references (trees_of nodes.now)) (1 + all_pieces (trees_of nodes.now)) left next ranges more → IsListing all old ranges → IsListing all next more
+pub listing_step : (all : List Reference) (old left next : List (Bor (List Node))) (nodes : Bor (List Node)) (ranges more : List Corners) → old ≡ left ++ nodes ∷ [] → Lists (all_references (trees_of nodes.now)) (1 + all_visits (trees_of nodes.now)) left next ranges more → IsListing all old ranges → IsListing all next more
 listing_step all old left next nodes ranges more is lists at = record {
   said = at.said ++ lists.said;
   whole = at.whole
@@ -178,7 +178,7 @@ listing_step all old left next nodes ranges more is lists at = record {
   listed = subst (λ (l : List Corners). IsOnceEach l more) (sym (map_joined at.said lists.said)) (lists.listed (map corners_of at.said) at.listed);
 }
 
-pub listing_fewer : (old left next : List (Bor (List Node))) (nodes : Bor (List Node)) (ranges more : List Corners) → old ≡ left ++ nodes ∷ [] → Lists (all_references (trees_of nodes.now)) (1 + all_pieces (trees_of nodes.now)) left next ranges more → lists_left next < lists_left old
+pub listing_fewer : (old left next : List (Bor (List Node))) (nodes : Bor (List Node)) (ranges more : List Corners) → old ≡ left ++ nodes ∷ [] → Lists (all_references (trees_of nodes.now)) (1 + all_visits (trees_of nodes.now)) left next ranges more → lists_left next < lists_left old
 listing_fewer old left next nodes ranges more is lists =
     omega (arith, ap lists_left lists.kept, lists_joined left lists.added, lists.fewer, ap lists_left is, lists_joined left (nodes ∷ []))
 

@@ -2,6 +2,7 @@ pub mod Fixed
 pub mod Formula
 pub mod Functions
 pub mod Grammar
+pub mod Left
 pub mod Lexing
 pub mod Listing
 pub mod Printing

@@ -4,8 +4,8 @@ use Rattle.std.specs.Borrow.{Bor}
 use Rattle.sheet_refs.specs.Cells.{Corners}
 use Rattle.sheet_refs.specs.Ends.{Reference, corners_of}
 use Rattle.formula_syntax.specs.declared.tree.Node.{Node}
-use Rattle.formula_syntax.specs.Tree.{Tree, references_of, all_references, trees_of}
-use Rattle.formula_syntax.specs.Printing.{all_pieces}
+use Rattle.formula_syntax.specs.Tree.{Tree, Trees, number, truth, error, reference, prefix, binary, call, no_trees, and_trees}
+use Rattle.formula_syntax.specs.Tree.{references_of, all_references, trees_of}
 
 -- the ranges of a list, each once in the order in which it first stands: one that stood before adds nothing
 pub data IsOnceEach : List Corners → List Corners → Type 0 where
@@ -17,6 +17,21 @@ pub data IsOnceEach : List Corners → List Corners → Type 0 where
 abbrev pub ranges_of : Tree → List Corners
 ranges_of tree = map corners_of (references_of tree)
 
+-- how many steps a walk over a tree takes, at most
+abbrev mutual
+  pub visit_count : Tree → ℕ
+  visit_count (number n) = 1
+  visit_count (truth b) = 1
+  visit_count (error kind) = 1
+  visit_count (reference r) = 1
+  visit_count (prefix op operand) = 4 + visit_count operand
+  visit_count (binary op left right) = 7 + visit_count left + visit_count right
+  visit_count (call f parameters) = 4 + all_visits parameters
+
+  pub all_visits : Trees → ℕ
+  all_visits no_trees = 0
+  all_visits (and_trees tree rest) = 2 + visit_count tree + all_visits rest
+
 -- the references of the nodes that are left, of which the last list comes first; and a bound on the lists to come
 abbrev pub references_left : List (Bor (List Node)) → List Reference
 references_left [] = []
@@ -24,7 +39,7 @@ references_left (nodes ∷ rest) = references_left rest ++ all_references (trees
 
 abbrev pub lists_left : List (Bor (List Node)) → ℕ
 lists_left [] = 0
-lists_left (nodes ∷ rest) = 1 + all_pieces (trees_of nodes.now) + lists_left rest
+lists_left (nodes ∷ rest) = 1 + all_visits (trees_of nodes.now) + lists_left rest
 
 -- some references are listed up to a place, and the others are left as nodes of fewer lists
 pub record Lists (own : List Reference) (count : ℕ) (left next : List (Bor (List Node))) (ranges more : List Corners) : Type 0 where

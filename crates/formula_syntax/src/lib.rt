@@ -30,7 +30,7 @@ mod words;
 pub use functions::{Function, Place};
 pub use laws::formula_laws;
 pub use listing::refs;
-pub use printer::print;
+pub use printer::{print, send_formula};
 pub use reader::{MAX_DEPTH, MAX_REFERENCES, MAX_TEXT, ReadRefused, read_formula};
 pub use tokens::Token;
 pub use tree::{Formula, Node, Nodes};

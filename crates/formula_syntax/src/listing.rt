@@ -1,8 +1,7 @@
 ghost use Rattle.std.specs.Prelude.{◌≡◌, ◌++◌, ◌+◌, ◌∷◌, [], ◌↔◌, List, Contains, IfOk, IsTrue};
 ghost use Rattle.sheet_refs.specs.Cells.{Corners};
 ghost use Rattle.formula_syntax.specs.Tree.{tree_of, trees_of, references_of, all_references};
-ghost use Rattle.formula_syntax.specs.Listing.{IsOnceEach, ranges_of, Lists};
-ghost use Rattle.formula_syntax.specs.Printing.{piece_count, all_pieces};
+ghost use Rattle.formula_syntax.specs.Listing.{IsOnceEach, ranges_of, Lists, visit_count, all_visits};
 
 use crate::tree::{Formula, Node};
 use sheet_refs::{Memory, Range, Refs};
@@ -42,7 +41,7 @@ fn visit<'a>(
     ranges: &mut Vec<Range>,
 ) -> Result<(), AllocError>
     ensures { IfOk result (λ _. Lists
-        (references_of (tree_of node.now)) (piece_count (tree_of node.now))
+        (references_of (tree_of node.now)) (visit_count (tree_of node.now))
         left.old.items left.new.items ranges.old.items ranges.new.items) }
 {
     match node {
@@ -76,7 +75,7 @@ fn visit_first<'a>(
     ranges: &mut Vec<Range>,
 ) -> Result<(), AllocError>
     ensures { IfOk result (λ _. Lists
-        (all_references (trees_of nodes.now)) (1 + all_pieces (trees_of nodes.now))
+        (all_references (trees_of nodes.now)) (1 + all_visits (trees_of nodes.now))
         left.old.items left.new.items ranges.old.items ranges.new.items) }
 {
     let Some((first, rest)) = nodes.split_first() else {

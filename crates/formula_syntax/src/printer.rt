@@ -1,33 +1,23 @@
-ghost use Rattle.std.specs.Prelude.{◌≡◌, ◌++◌, ◌+◌, suc, ◌∷◌, [], IfOk, string_bytes};
-ghost use Rattle.formula_syntax.specs.Functions.{function_name};
+ghost use Rattle.std.specs.Prelude.{◌≡◌, ◌≤◌, ◌+◌, ◌∷◌, [], false, IfOk, MatchOption};
+ghost use Rattle.formula_syntax.specs.Formula.{IsFormula};
 ghost use Rattle.formula_syntax.specs.Grammar.{level_of, sign_written};
 ghost use Rattle.formula_syntax.specs.Lexing.{operator_text};
-ghost use Rattle.formula_syntax.specs.Tree.{tree_of, trees_of};
-ghost use Rattle.formula_syntax.specs.Printing.{top_level as level_at_top, tree_text, others_text};
-ghost use Rattle.formula_syntax.specs.Printing.{parameters_text, in_parentheses, piece_count};
-ghost use Rattle.formula_syntax.specs.Printing.{all_pieces, plain, text_of, count_of, Prints};
+ghost use Rattle.formula_syntax.specs.Left.{HasLeft, HasNoLeft, SendsFront, below, level_below};
+ghost use Rattle.formula_syntax.specs.Left.{closing, leaf_text, opening, right_text, text_behind};
+ghost use Rattle.formula_syntax.specs.Printing.{at_level, bracket_if, call_text, tree_text, others_text};
+ghost use Rattle.formula_syntax.specs.Printing.{parameters_text, plain, top_level as level_at_top};
 ghost use Rattle.formula_syntax.specs.Spelling.{Spells};
+ghost use Rattle.formula_syntax.specs.Tree.{all_nodes, node_count, tree_of, trees_of};
+ghost use Rattle.text_pieces.specs.Pieces.{HandsOut};
 
 use crate::functions::Function;
 use crate::reading::level;
 use crate::tree::{Formula, Node};
+use itoa::Buffer;
 use sheet_refs::Memory;
-use std::alloc::{AllocError, Global};
-use std::fmt::Write;
+use std::alloc::Global;
+use text_pieces::{send, send_reference};
 use value_core::{BinaryOp, PrefixOp};
-
-/// A part of a formula that is still to be printed.
-#[derive(Clone, Copy)]
-pub(crate) enum Piece<'a> {
-    /// A tree, in parentheses where its own operator is looser than this level.
-    Tree(&'a Node, u8),
-    /// Parameters, each behind a separator.
-    Others(&'a [Node]),
-    /// An operator between two operands.
-    Operator(BinaryOp),
-    /// A closing parenthesis.
-    Close,
-}
 
 // How an operator between two operands is written.
 fn symbol(op: BinaryOp) -> &'static str
@@ -70,166 +60,277 @@ fn top_level(node: &Node) -> u8
     }
 }
 
-// Leaves two operands and the operator between them.
-fn push_operands<'a>(
-    op: BinaryOp,
-    left: &'a Node,
-    right: &'a Node,
-    pieces: &mut Vec<Piece<'a>>,
-) -> Result<(), AllocError>
-    ensures { IfOk result (λ _. pieces.new.items ≡ pieces.old.items
-        ++ (Piece.Tree right.entry (suc (level_of op))
-        ∷ Piece.Operator op ∷ Piece.Tree left.entry (level_of op) ∷ [])) }
-{
-    let least = level(op);
-    pieces.push(Piece::Tree(right, least + 1))?;
-    pieces.push(Piece::Operator(op))?;
-    pieces.push(Piece::Tree(left, least))?;
-    Ok(())
-}
-
-// Leaves a parameter and those behind it.
-fn push_parameters<'a>(
-    first: &'a Node,
-    rest: &'a [Node],
-    pieces: &mut Vec<Piece<'a>>,
-) -> Result<(), AllocError>
-    ensures { IfOk result (λ _. pieces.new.items ≡ pieces.old.items
-        ++ (Piece.Others rest.entry ∷ Piece.Tree first.entry 0 ∷ [])) }
-{
-    pieces.push(Piece::Others(rest))?;
-    pieces.push(Piece::Tree(first, 0))?;
-    Ok(())
-}
-
-// Prints parameters, each behind a separator.
-fn write_others<'a>(
-    nodes: &'a [Node],
-    pieces: &mut Vec<Piece<'a>>,
-    text: &mut String,
-) -> Result<(), AllocError>
-    ensures { IfOk result (λ _. Prints
-        (others_text (trees_of nodes.now)) (1 + all_pieces (trees_of nodes.now))
-        (string_bytes text.old) (string_bytes text.new) pieces.old.items pieces.new.items) }
-{
-    let Some((first, rest)) = nodes.split_first() else {
-        return Ok(());
-    };
-    text.push_str(";")?;
-    push_parameters(first, rest, pieces)
-}
-
-// Prints a call of a function.
-fn write_call<'a>(
-    function: Function,
-    nodes: &'a [Node],
-    pieces: &mut Vec<Piece<'a>>,
-    text: &mut String,
-) -> Result<(), AllocError>
-    ensures { IfOk result (λ _. Prints
-        (function_name function ++ in_parentheses (parameters_text (trees_of nodes.now)))
-        (4 + all_pieces (trees_of nodes.now))
-        (string_bytes text.old) (string_bytes text.new) pieces.old.items pieces.new.items) }
-{
-    text.push_str(function.name())?;
-    text.push_str("(")?;
-    pieces.push(Piece::Close)?;
-    match nodes.split_first() {
-        Some((first, rest)) => push_parameters(first, rest, pieces),
-        None => Ok(()),
-    }
-}
-
-// Prints a tree without parentheses round it.
-fn write_tree<'a>(
-    node: &'a Node,
-    pieces: &mut Vec<Piece<'a>>,
-    text: &mut String,
-) -> Result<(), AllocError>
-    ensures { IfOk result (λ _. Prints
-        (tree_text (tree_of node.now)) (piece_count (tree_of node.now))
-        (string_bytes text.old) (string_bytes text.new) pieces.old.items pieces.new.items) }
-{
-    match node {
-        Node::Number(number) => write!(text, "{number}"),
-        Node::Truth(true) => text.push_str("TRUE"),
-        Node::Truth(false) => text.push_str("FALSE"),
-        Node::Error(kind) => write!(text, "{kind}"),
-        Node::Reference(reference) => write!(text, "{reference}"),
-        Node::Prefix(op, operand) => {
-            text.push_str(sign_symbol(*op))?;
-            pieces.push(Piece::Tree(operand, 4))?;
-            Ok(())
-        }
-        Node::Binary(op, left, right) => {
-            push_operands(*op, left, right, pieces)?;
-            Ok(())
-        }
-        Node::Call(function, parameters) => {
-            write_call(*function, parameters.items(), pieces, text)
-        }
-    }
-}
-
-// Prints a tree, in parentheses where its own operator is looser than a level.
-fn write_at_level<'a>(
-    level: u8,
-    node: &'a Node,
-    pieces: &mut Vec<Piece<'a>>,
-    text: &mut String,
-) -> Result<(), AllocError>
-    ensures { IfOk result (λ _. Prints
-        (text_of (Piece.Tree node.entry level)) (count_of (Piece.Tree node.entry level))
-        (string_bytes text.old) (string_bytes text.new) pieces.old.items pieces.new.items) }
+// Hands out a byte where a tree's own operator is looser than a level.
+fn send_bracket<F: FnMut(&[u8]) -> bool>(byte: &[u8], node: &Node, level: u8, to: &mut F) -> bool
+    requires callable { F.IsAlwaysCallable to.old }
+    ensures sent { HandsOut F.FnMut to.old
+        (bracket_if level (tree_of node.now) byte.now) result to.new }
+    ensures callable { F.IsAlwaysCallable to.new }
 {
     if top_level(node) < level {
-        text.push_str("(")?;
-        pieces.push(Piece::Close)?;
+        return send(byte, to);
     }
-    write_tree(node, pieces, text)
+    true
 }
 
-// Prints a piece up to a place, and leaves the rest of it as other pieces.
-fn write_piece<'a>(
-    piece: Piece<'a>,
-    pieces: &mut Vec<Piece<'a>>,
-    text: &mut String,
-) -> Result<(), AllocError>
-    ensures { IfOk result (λ _. Prints
-        (text_of piece.entry) (count_of piece.entry)
-        (string_bytes text.old) (string_bytes text.new) pieces.old.items pieces.new.items) }
+// Hands out what stands before the left operand of a tree, where this level is wanted.
+fn send_opening<F: FnMut(&[u8]) -> bool>(node: &Node, level: u8, to: &mut F) -> bool
+    requires callable { F.IsAlwaysCallable to.old }
+    ensures sent { HandsOut F.FnMut to.old (opening level (tree_of node.now)) result to.new }
+    ensures callable { F.IsAlwaysCallable to.new }
 {
-    match piece {
-        Piece::Tree(node, level) => write_at_level(level, node, pieces, text),
-        Piece::Others(nodes) => write_others(nodes, pieces, text),
-        Piece::Operator(op) => text.push_str(symbol(op)),
-        Piece::Close => text.push_str(")"),
+    if !send_bracket(b"(", node, level, to) {
+        return false;
+    }
+    match node {
+        Node::Prefix(op, _) => send(sign_symbol(*op).as_bytes(), to),
+        _ => true,
     }
 }
 
-// The plain text of a tree.
-fn print_tree(alloc: Global, root: &Node) -> Result<String, AllocError>
-    ensures { IfOk result (λ text. string_bytes text ≡ plain (tree_of root.now)) }
+// The operand of a sign, or the left operand of an operator, with the level that is wanted there.
+fn left_of(node: &Node) -> Option<(&Node, u8)>
+    ensures { MatchOption result (HasNoLeft (tree_of node.now))
+        (λ left. HasLeft (tree_of node.now) (tree_of left.0.now) left.1) }
 {
-    let mut text = String::from_str(alloc, "=")?;
-    let mut pieces = Vec::new(alloc);
-    pieces.push(Piece::Tree(root, 0))?;
-    while let Some(piece) = pieces.pop() {
-        write_piece(piece, &mut pieces, &mut text)?;
+    match node {
+        Node::Prefix(_, operand) => Some((operand, 4)),
+        Node::Binary(op, left, _) => Some((left, level(*op))),
+        _ => None,
     }
-    Ok(text)
 }
 
-/// Prints a formula in its plain text: `=` and its tree without white space, names and columns in upper
-/// case, parameters joined by `;`, and parentheses exactly where the tree needs them. The text is a formula
+// The tree so many left operands below another, and the level that is wanted there.
+fn below(root: &Node, level: u8, depth: usize) -> (&Node, u8)
+    ensures tree { tree_of result.0.now ≡ below depth (tree_of root.now) }
+    ensures level { result.1 ≡ level_below depth level (tree_of root.now) }
+    ensures few { node_count (tree_of result.0.now) ≤ node_count (tree_of root.now) }
+{
+    let mut node = root;
+    let mut at = level;
+    for _ in 0..depth {
+        if let Some((left, least)) = left_of(node) {
+            node = left;
+            at = least;
+        }
+    }
+    (node, at)
+}
+
+// Hands out what stands of a tree up to its outermost right operands, and answers how many left operands lie below
+// each other there; None where more isn't taken.
+#[cycle(printing)]
+fn send_front<F: FnMut(&[u8]) -> bool>(root: &Node, level: u8, to: &mut F) -> Option<usize>
+    requires callable { F.IsAlwaysCallable to.old }
+    requires small { node_count (tree_of root.now) ≤ 8192 }
+    ensures sent { MatchOption result
+        (HandsOut F.FnMut to.old
+        (at_level level (tree_of root.now) (tree_text (tree_of root.now))) false to.new)
+        (λ depth. SendsFront F.FnMut to.old level (tree_of root.now) depth to.new) }
+    ensures callable { F.IsAlwaysCallable to.new }
+{
+    let mut node = root;
+    let mut at = level;
+    let mut depth = 0;
+    if !send_opening(node, at, to) {
+        return None;
+    }
+    while let Some((left, least)) = left_of(node) {
+        node = left;
+        at = least;
+        depth += 1;
+        if !send_opening(node, at, to) {
+            return None;
+        }
+    }
+    if !send_leaf(node, to) {
+        return None;
+    }
+    Some(depth)
+}
+
+// Hands out what has no left operand.
+#[cycle(printing)]
+fn send_leaf<F: FnMut(&[u8]) -> bool>(node: &Node, to: &mut F) -> bool
+    requires callable { F.IsAlwaysCallable to.old }
+    requires small { node_count (tree_of node.now) ≤ 8192 }
+    ensures sent { HandsOut F.FnMut to.old (leaf_text (tree_of node.now)) result to.new }
+    ensures callable { F.IsAlwaysCallable to.new }
+{
+    match node {
+        Node::Number(number) => send(Buffer::new().format(number.get()).as_bytes(), to),
+        Node::Truth(true) => send(b"TRUE", to),
+        Node::Truth(false) => send(b"FALSE", to),
+        Node::Error(kind) => send(kind.name().as_bytes(), to),
+        Node::Reference(reference) => send_reference(reference, to),
+        Node::Call(function, parameters) => send_call(*function, parameters.items(), to),
+        Node::Prefix(_, _) => true,
+        Node::Binary(_, _, _) => true,
+    }
+}
+
+// Hands out a call of a function.
+#[cycle(printing)]
+fn send_call<F: FnMut(&[u8]) -> bool>(function: Function, nodes: &[Node], to: &mut F) -> bool
+    requires callable { F.IsAlwaysCallable to.old }
+    requires small { all_nodes (trees_of nodes.now) ≤ 8192 }
+    ensures sent { HandsOut F.FnMut to.old
+        (call_text function (parameters_text (trees_of nodes.now))) result to.new }
+    ensures callable { F.IsAlwaysCallable to.new }
+{
+    if !send(function.name().as_bytes(), to) {
+        return false;
+    }
+    if !send(b"(", to) {
+        return false;
+    }
+    if !send_parameters(nodes, to) {
+        return false;
+    }
+    send(b")", to)
+}
+
+// Hands out parameters, with a separator between two.
+#[cycle(printing)]
+fn send_parameters<F: FnMut(&[u8]) -> bool>(nodes: &[Node], to: &mut F) -> bool
+    requires callable { F.IsAlwaysCallable to.old }
+    requires small { all_nodes (trees_of nodes.now) ≤ 8192 }
+    ensures sent { HandsOut F.FnMut to.old (parameters_text (trees_of nodes.now)) result to.new }
+    ensures callable { F.IsAlwaysCallable to.new }
+{
+    let Some((first, rest)) = nodes.split_first() else {
+        return true;
+    };
+    if !send_tree(first, 0, to) {
+        return false;
+    }
+    send_others(rest, to)
+}
+
+// Hands out parameters, each behind a separator.
+#[cycle(printing)]
+fn send_others<F: FnMut(&[u8]) -> bool>(nodes: &[Node], to: &mut F) -> bool
+    requires callable { F.IsAlwaysCallable to.old }
+    requires small { all_nodes (trees_of nodes.now) ≤ 8192 }
+    ensures sent { HandsOut F.FnMut to.old (others_text (trees_of nodes.now)) result to.new }
+    ensures callable { F.IsAlwaysCallable to.new }
+{
+    let mut left = nodes;
+    while let Some((first, rest)) = left.split_first() {
+        if !send(b";", to) {
+            return false;
+        }
+        if !send_tree(first, 0, to) {
+            return false;
+        }
+        left = rest;
+    }
+    true
+}
+
+// Hands out what stands behind the left operand of a tree, where this level is wanted.
+#[cycle(printing)]
+fn send_closing<F: FnMut(&[u8]) -> bool>(node: &Node, level: u8, to: &mut F) -> bool
+    requires callable { F.IsAlwaysCallable to.old }
+    requires small { node_count (tree_of node.now) ≤ 8192 }
+    ensures sent { HandsOut F.FnMut to.old (closing level (tree_of node.now)) result to.new }
+    ensures callable { F.IsAlwaysCallable to.new }
+{
+    if !send_right(node, to) {
+        return false;
+    }
+    send_bracket(b")", node, level, to)
+}
+
+// Hands out an operator and its right operand, where a tree has them.
+#[cycle(printing)]
+fn send_right<F: FnMut(&[u8]) -> bool>(node: &Node, to: &mut F) -> bool
+    requires callable { F.IsAlwaysCallable to.old }
+    requires small { node_count (tree_of node.now) ≤ 8192 }
+    ensures sent { HandsOut F.FnMut to.old (right_text (tree_of node.now)) result to.new }
+    ensures callable { F.IsAlwaysCallable to.new }
+{
+    match node {
+        Node::Binary(op, _, right) => {
+            if !send(symbol(*op).as_bytes(), to) {
+                return false;
+            }
+            send_tree(right, level(*op) + 1, to)
+        }
+        Node::Number(_) => true,
+        Node::Truth(_) => true,
+        Node::Error(_) => true,
+        Node::Reference(_) => true,
+        Node::Prefix(_, _) => true,
+        Node::Call(_, _) => true,
+    }
+}
+
+// Hands out what stands behind so many left operands of a tree, from the innermost on.
+#[cycle(printing)]
+fn send_back<F: FnMut(&[u8]) -> bool>(root: &Node, level: u8, depth: usize, to: &mut F) -> bool
+    requires callable { F.IsAlwaysCallable to.old }
+    requires small { node_count (tree_of root.now) ≤ 8192 }
+    ensures sent { HandsOut F.FnMut to.old
+        (text_behind depth level (tree_of root.now)) result to.new }
+    ensures callable { F.IsAlwaysCallable to.new }
+{
+    let mut left = depth;
+    while left > 0 {
+        left -= 1;
+        let (node, at) = below(root, level, left);
+        if !send_closing(node, at, to) {
+            return false;
+        }
+    }
+    true
+}
+
+// Hands out a tree, in parentheses where its own operator is looser than a level.
+#[cycle(printing)]
+fn send_tree<F: FnMut(&[u8]) -> bool>(root: &Node, level: u8, to: &mut F) -> bool
+    requires callable { F.IsAlwaysCallable to.old }
+    requires small { node_count (tree_of root.now) ≤ 8192 }
+    ensures sent { HandsOut F.FnMut to.old
+        (at_level level (tree_of root.now) (tree_text (tree_of root.now))) result to.new }
+    ensures callable { F.IsAlwaysCallable to.new }
+{
+    match send_front(root, level, to) {
+        Some(depth) => send_back(root, level, depth + 1, to),
+        None => false,
+    }
+}
+
+/// Hands out the plain text of a formula in pieces: `=` and its tree without white space, names and columns in
+/// upper case, parameters joined by `;`, and parentheses exactly where the tree needs them. The text is a formula
 /// with the same tree.
 ///
-/// The time is in proportion to the length of the text. It goes by a list of what is left to print, and
-/// needs no deep stack.
+/// It takes no memory. Left operands and signs are gone through by a loop; the calls nest as deep as right operands
+/// and parameters do. The time is in proportion to the length of the text, and to the square of the longest chain
+/// of left operands, which are counted anew from the top for each.
+pub fn send_formula<F: FnMut(&[u8]) -> bool>(formula: &Formula, to: &mut F) -> bool
+    requires callable { F.IsAlwaysCallable to.old }
+    ensures sent { HandsOut F.FnMut to.old (plain formula.now) result to.new }
+    ensures reads_back { Spells (plain formula.now) formula.now }
+    ensures callable { F.IsAlwaysCallable to.new }
+{
+    let root = formula.root();
+    if !send(b"=", to) {
+        return false;
+    }
+    send_tree(root, 0, to)
+}
+
+/// The plain text of a formula, as `send_formula` hands it out.
 pub fn print(alloc: Global, formula: &Formula) -> Result<Vec<u8>, Memory>
     ensures plain { IfOk result (λ text. text.items ≡ plain formula.now) }
     ensures reads_back { IfOk result (λ text. Spells text.items formula.now) }
 {
-    let text = print_tree(alloc, formula.root())?;
-    Ok(text.into_bytes())
+    let mut text = Vec::new(alloc);
+    let mut keep = |piece: &[u8]| text.extend_from_slice(piece).is_ok();
+    if send_formula(formula, &mut keep) {
+        Ok(text)
+    } else {
+        Err(Memory)
+    }
 }

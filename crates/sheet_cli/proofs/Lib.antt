@@ -2,7 +2,6 @@ pub mod ClapLemmas
 pub mod ClapOne
 pub mod GraphLemmas
 pub mod InOrder
-pub mod KeepLemmas
 pub mod LawLemmas
 pub mod OneAnswer
 pub mod ReplyLemmas

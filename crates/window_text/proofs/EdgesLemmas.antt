@@ -4,10 +4,10 @@ use Rattle.std.specs.List.{flat_map}
 use Rattle.std.proofs.Math.ListN.{drop_of_length-le}
 use Rattle.std.proofs.lemmas.List.{drop_more}
 use Rattle.edge_patterns.specs.Edges.{EdgeValue}
-use Rattle.window_text.specs.Pieces.{Taker}
+use Rattle.text_pieces.specs.Pieces.{Taker}
 use Rattle.sheet_refs.specs.Names.{range_text}
 use Rattle.window_text.specs.Texts.{edge_line, pattern_text}
-use Rattle.window_text.proofs.PieceLemmas.{Completes}
+use Rattle.text_pieces.proofs.PieceLemmas.{Completes}
 
 -- what follows the rectangle in an edge's line, and what follows the run
 abbrev pub after_rectangle : EdgeValue → List ℕ

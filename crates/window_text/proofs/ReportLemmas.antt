@@ -2,10 +2,10 @@
 use Rattle.std.proofs.Common.{◌≡◌, ℕ, ◌+◌, ◌<◌, ◌≤◌, List, [], ◌++◌, length, drop, get_or, sym, subst, ◌∙◌, ap}
 use Rattle.std.proofs.Math.ListN.{drop_of_length-le}
 use Rattle.std.proofs.lemmas.List.{drop_more}
-use Rattle.window_text.specs.Pieces.{Taker}
+use Rattle.text_pieces.specs.Pieces.{Taker}
 use Rattle.window_text.specs.Reports.{play_text, report_text}
 use Rattle.window_text.specs.declared.report.Report.{Report}
-use Rattle.window_text.proofs.PieceLemmas.{Completes}
+use Rattle.text_pieces.proofs.PieceLemmas.{Completes}
 
 -- the text of the reports from a place on
 abbrev pub reports_rest : List (List ℕ) → List Report → ℕ → List ℕ

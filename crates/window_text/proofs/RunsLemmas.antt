@@ -4,9 +4,9 @@ use Rattle.std.proofs.Math.ListN.{drop_of_length-le}
 use Rattle.std.proofs.lemmas.List.{drop_more}
 use Rattle.sheet_refs.specs.Cells.{Corners}
 use Rattle.sheet_refs.specs.Names.{range_text}
-use Rattle.window_text.specs.Pieces.{Taker}
+use Rattle.text_pieces.specs.Pieces.{Taker}
 use Rattle.window_text.specs.Texts.{runs_text}
-use Rattle.window_text.proofs.PieceLemmas.{Completes}
+use Rattle.text_pieces.proofs.PieceLemmas.{Completes}
 
 -- the text of the ranges from a place on
 abbrev pub runs_rest : List Corners → ℕ → List ℕ

@@ -1,11 +1,11 @@
 // The lines of edges.
 ghost use Rattle.std.specs.Prelude.{◌≡◌};
-ghost use Rattle.window_text.specs.Pieces.{HandsOut};
+ghost use Rattle.text_pieces.specs.Pieces.{HandsOut};
 ghost use Rattle.window_text.specs.Texts.{count_line, edge_line, pattern_text};
 
-use crate::pieces::{send, send_range};
 use edge_patterns::{Edge, Pattern};
 use itoa::Buffer;
+use text_pieces::{send, send_range};
 
 /// Hands out a line of a word and a number.
 pub(crate) fn send_count<F: FnMut(&[u8]) -> bool>(word: &[u8], number: u64, to: &mut F) -> bool

@@ -1,21 +1,19 @@
 //! The texts that the commands print, handed out in pieces.
 //!
 //! `Printer` hands a text to a function that its caller gives, piece by piece, and stops where that answers
-//! false (`specs/Pieces.antt`). What the texts are stands in `specs/Texts.antt`: windows of values, lists of
+//! false, as `text_pieces` says it. What the texts are stands in `specs/Texts.antt`: windows of values, lists of
 //! ranges, and lists of edges; and in `specs/Reports.antt`: what was shown of windows after a number of
-//! edits. `piece_laws` says of all calls together what was handed out. No call takes memory.
+//! edits. No call takes memory.
 //!
-//! Below stand `sheet_refs`, `value_core`, `edge_patterns` and `sheet_model`; above stand `play_machine`, which
+//! Below stand `text_pieces`, `value_core`, `edge_patterns` and `sheet_model`; above stand `play_machine`, which
 //! makes the reports, and `sheet_cli`, which keeps the pieces.
 #![tactic(auto)]
 
 mod edges;
-mod laws;
 mod pieces;
 mod printer;
 mod report;
 mod reports;
 
-pub use laws::piece_laws;
 pub use printer::Printer;
 pub use report::Report;

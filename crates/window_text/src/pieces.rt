@@ -1,26 +1,16 @@
 ghost use Rattle.std.specs.Prelude.{◌≡◌, ◌++◌, ◌≤◌, ◌<◌, ◌≢◌, ◌∷◌, [], codes, All, MatchOption};
 ghost use Rattle.std.specs.Prelude.{length, take, slice_get, Some};
-ghost use Rattle.std.specs.Fmt.{decimal, signed_decimal};
-ghost use Rattle.sheet_refs.specs.Names.{cell_text, last_letters, range_text};
+ghost use Rattle.std.specs.Fmt.{signed_decimal};
 ghost use Rattle.value_core.specs.Values.{error_text, in_quotes};
-ghost use Rattle.window_text.specs.Pieces.{HandsOut};
+ghost use Rattle.text_pieces.specs.Pieces.{HandsOut};
 ghost use Rattle.window_text.specs.Texts.{shown_value};
 ghost use Rattle.sheet_model.specs.Labels.{label_text};
 ghost use Rattle.window_text.specs.Quotes.{HasNoQuote, IsFirstQuote};
 
 use itoa::Buffer;
 use sheet_model::Labels;
-use sheet_refs::{Cell, Range};
+use text_pieces::send;
 use value_core::{ErrorKind, Value};
-
-/// Hands out one piece.
-pub(crate) fn send<F: FnMut(&[u8]) -> bool>(piece: &[u8], to: &mut F) -> bool
-    requires callable { F.IsAlwaysCallable to.old }
-    ensures sent { HandsOut F.FnMut to.old piece.now result to.new }
-    ensures callable { F.IsAlwaysCallable to.new }
-{
-    to(piece)
-}
 
 /// Hands out a value, as it is printed beside a table of labels.
 pub(crate) fn send_value<F: FnMut(&[u8]) -> bool>(value: Value, labels: &Labels, to: &mut F) -> bool
@@ -80,50 +70,4 @@ fn quote_place(text: &[u8]) -> Option<usize>
     ensures { MatchOption result (HasNoQuote text.now) (IsFirstQuote text.now) }
 {
     text.iter().position(|byte| *byte == b'"')
-}
-
-/// Hands out a range: its corners, joined by a colon.
-pub(crate) fn send_range<F: FnMut(&[u8]) -> bool>(range: Range, to: &mut F) -> bool
-    requires callable { F.IsAlwaysCallable to.old }
-    ensures sent { HandsOut F.FnMut to.old (range_text range) result to.new }
-    ensures callable { F.IsAlwaysCallable to.new }
-{
-    if !send_cell(range.head(), to) {
-        return false;
-    }
-    if !send(b":", to) {
-        return false;
-    }
-    send_cell(range.tail(), to)
-}
-
-// Hands out a cell: its column in upper-case letters and its row.
-fn send_cell<F: FnMut(&[u8]) -> bool>(cell: Cell, to: &mut F) -> bool
-    requires callable { F.IsAlwaysCallable to.old }
-    ensures sent { HandsOut F.FnMut to.old (cell_text cell) result to.new }
-    ensures callable { F.IsAlwaysCallable to.new }
-{
-    if !send_letters(3, cell.col(), to) {
-        return false;
-    }
-    send(Buffer::new().format(cell.row()).as_bytes(), to)
-}
-
-// Hands out the letters of a column, of which no more than `most` are written; none stand for 0.
-fn send_letters<F: FnMut(&[u8]) -> bool>(most: u8, column: u32, to: &mut F) -> bool
-    requires callable { F.IsAlwaysCallable to.old }
-    ensures sent { HandsOut F.FnMut to.old (last_letters most column) result to.new }
-    ensures callable { F.IsAlwaysCallable to.new }
-{
-    if most == 0 {
-        return true;
-    }
-    if column == 0 {
-        return true;
-    }
-    if !send_letters(most - 1, (column - 1) / 26, to) {
-        return false;
-    }
-    let letter = [b'A' + ((column - 1) % 26) as u8];
-    send(letter.as_slice(), to)
 }

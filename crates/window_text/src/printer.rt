@@ -1,18 +1,19 @@
 ghost use Rattle.std.specs.Prelude.{◌≡◌, ◌≤◌, All, IsTrue};
 ghost use Rattle.sheet_refs.specs.Sizes.{is_inside};
 ghost use Rattle.sheet_model.specs.Values.{AreValues, value_of};
-ghost use Rattle.window_text.specs.Pieces.{HandsOut};
+ghost use Rattle.text_pieces.specs.Pieces.{HandsOut};
 ghost use Rattle.window_text.specs.Reports.{IsFull, play_text};
 ghost use Rattle.window_text.specs.Texts.{IsWithinSheet, row_text, runs_text, show_text};
 ghost use Rattle.window_text.specs.Texts.{check_text, shown_cell};
 
 use crate::edges::{send_count, send_edge};
-use crate::pieces::{send, send_range, send_value};
+use crate::pieces::send_value;
 use crate::report::Report;
 use crate::reports::send_report;
 use edge_patterns::Edge;
 use sheet_model::Sheet;
 use sheet_refs::{Cell, Range};
+use text_pieces::{send, send_range};
 use value_core::{Value, decode};
 
 /// Hands out the texts that the commands print, piece by piece, to a function that answers whether it takes

@@ -1,6 +1,6 @@
 use Rattle.std.proofs.Common.{rules, of_calls, ◌≡◌, ◌++◌, ap, ◌∙◌}
 use Rattle.window_text.specs.Reports.{play_text}
-use Rattle.sheet_cli.proofs.KeepLemmas.{kept, same}
+use Rattle.text_pieces.proofs.KeepLemmas.{kept, same}
 use Rattle.sheet_cli.specs.contracts.script.fn.reports_output.keep as closure
 use Rattle.sheet_cli.proofs.script.reports_output.Goals as goal
 

@@ -1,8 +1,8 @@
 use Rattle.std.proofs.Common.{◌≡◌, true, false, [], ◌∷◌, ◌++◌, ◌∙◌, subst}
 use Rattle.std.specs.Fmt.{decimal}
-use Rattle.window_text.specs.Pieces.{HandsOut}
+use Rattle.text_pieces.specs.Pieces.{HandsOut}
 use Rattle.window_text.specs.Texts.{count_line}
-use Rattle.window_text.proofs.PieceLemmas.{begun, next, ended, cut}
+use Rattle.text_pieces.proofs.PieceLemmas.{begun, next, ended, cut}
 use Rattle.window_text.proofs.edges.send_count.Goals as goal
 
 pub returns-then-not-send-clause-sent : goal.returns-then-not-send-clause-sent

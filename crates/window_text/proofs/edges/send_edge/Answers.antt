@@ -1,8 +1,8 @@
 use Rattle.std.proofs.Common.{◌≡◌, true, false, [], ◌∷◌, ◌++◌, ◌∙◌, ap, subst}
 use Rattle.sheet_refs.specs.Names.{range_text}
-use Rattle.window_text.specs.Pieces.{HandsOut}
+use Rattle.text_pieces.specs.Pieces.{HandsOut}
 use Rattle.window_text.specs.Texts.{edge_line, pattern_text}
-use Rattle.window_text.proofs.PieceLemmas.{begun, next, ended, cut}
+use Rattle.text_pieces.proofs.PieceLemmas.{begun, next, ended, cut}
 use Rattle.window_text.proofs.EdgesLemmas.{after_run, after_rectangle}
 use Rattle.window_text.proofs.edges.send_edge.Goals as goal
 

@@ -1,6 +1,6 @@
 use Rattle.std.proofs.Common.{[], ◌∷◌, ◌++◌, sym, subst}
 use Rattle.value_core.specs.Values.{in_quotes}
-use Rattle.window_text.proofs.PieceLemmas.{Completes, begun, next, ended, and_then, cut}
+use Rattle.text_pieces.proofs.PieceLemmas.{Completes, begun, next, ended, and_then, cut}
 use Rattle.window_text.proofs.QuoteLemmas.{with_double_quotes, double_quotes_clean, from_place, from_second}
 use Rattle.window_text.proofs.pieces.send_quoted.Goals as goal
 

@@ -1,6 +1,6 @@
 use Rattle.std.proofs.Common.{[], ◌∷◌, ◌++◌, length}
 use Rattle.value_core.specs.Values.{in_quotes}
-use Rattle.window_text.proofs.PieceLemmas.{Completes}
+use Rattle.text_pieces.proofs.PieceLemmas.{Completes}
 use Rattle.window_text.proofs.QuoteLemmas.{with_double_quotes}
 use Rattle.window_text.proofs.pieces.send_quoted.Given as goal
 

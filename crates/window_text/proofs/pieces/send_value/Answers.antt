@@ -1,7 +1,7 @@
 use Rattle.std.proofs.Common.{sym, subst, true}
-use Rattle.window_text.specs.Pieces.{HandsOut}
+use Rattle.text_pieces.specs.Pieces.{HandsOut}
 use Rattle.window_text.specs.Texts.{shown_value}
-use Rattle.window_text.proofs.PieceLemmas.{none}
+use Rattle.text_pieces.proofs.PieceLemmas.{none}
 use Rattle.window_text.proofs.pieces.send_value.Goals as goal
 
 pub returns-in-Empty-clause-sent : goal.returns-in-Empty-clause-sent

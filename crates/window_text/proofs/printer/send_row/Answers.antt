@@ -1,9 +1,9 @@
 use Rattle.std.proofs.Common.{◌≡◌, ◌≤◌, ◌<◌, ◌+◌, true, false, ℕ, [], ◌∷◌, ap, ap₂, sym, ◌∙◌, subst, arith}
 use Rattle.sheet_refs.specs.Cells.{Position}
 use Rattle.sheet_model.specs.Values.{value_of}
-use Rattle.window_text.specs.Pieces.{HandsOut}
+use Rattle.text_pieces.specs.Pieces.{HandsOut}
 use Rattle.window_text.specs.Texts.{row_text, shown_cell, shown_value}
-use Rattle.window_text.proofs.PieceLemmas.{Completes, begun, next, ended, cut}
+use Rattle.text_pieces.proofs.PieceLemmas.{Completes, begun, next, ended, cut}
 use Rattle.window_text.proofs.RowLemmas.{row_rest, row_begins, row_goes_on, row_ends, cell_made}
 use Rattle.window_text.proofs.printer.send_row.Goals as goal
 

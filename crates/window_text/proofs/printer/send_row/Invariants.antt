@@ -1,5 +1,5 @@
 use Rattle.window_text.specs.Texts.{row_text, shown_cell}
-use Rattle.window_text.proofs.PieceLemmas.{Completes}
+use Rattle.text_pieces.proofs.PieceLemmas.{Completes}
 use Rattle.window_text.proofs.RowLemmas.{row_rest}
 use Rattle.window_text.proofs.printer.send_row.Given as goal
 

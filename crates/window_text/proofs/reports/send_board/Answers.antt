@@ -1,10 +1,10 @@
 use Rattle.std.proofs.Common.{◌≡◌, ◌≤◌, ◌<◌, true, false, [], ◌∷◌, ap, sym, ◌∙◌, subst, arith}
 use Rattle.sheet_refs.specs.Cells.{Position, Corners}
 use Rattle.sheet_refs.specs.Names.{range_text}
-use Rattle.window_text.specs.Pieces.{HandsOut}
+use Rattle.text_pieces.specs.Pieces.{HandsOut}
 use Rattle.window_text.specs.Reports.{board_text, window_text}
 use Rattle.window_text.specs.Texts.{rows_text}
-use Rattle.window_text.proofs.PieceLemmas.{Completes, none, begun, next, ended, and_then, cut}
+use Rattle.text_pieces.proofs.PieceLemmas.{Completes, none, begun, next, ended, and_then, cut}
 use Rattle.window_text.proofs.RowLemmas.{rows_rest, rows_go_on, rows_end}
 use Rattle.window_text.proofs.reports.send_board.Goals as goal
 

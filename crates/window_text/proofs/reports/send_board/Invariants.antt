@@ -1,5 +1,5 @@
 use Rattle.window_text.specs.Reports.{board_text, window_text}
-use Rattle.window_text.proofs.PieceLemmas.{Completes}
+use Rattle.text_pieces.proofs.PieceLemmas.{Completes}
 use Rattle.window_text.proofs.RowLemmas.{rows_rest}
 use Rattle.window_text.proofs.reports.send_board.Given as goal
 

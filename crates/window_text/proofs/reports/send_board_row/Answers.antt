@@ -1,9 +1,9 @@
 use Rattle.std.proofs.Common.{◌≡◌, ◌≤◌, ◌<◌, ◌+◌, true, false, ℕ, [], ◌∷◌, ap, sym, ◌∙◌, subst, arith}
 use Rattle.sheet_refs.specs.Cells.{Position, Corners, IsOrdered}
-use Rattle.window_text.specs.Pieces.{HandsOut}
+use Rattle.text_pieces.specs.Pieces.{HandsOut}
 use Rattle.window_text.specs.Reports.{board_text, shown_text}
 use Rattle.window_text.specs.Texts.{row_text}
-use Rattle.window_text.proofs.PieceLemmas.{Completes, begun, next, ended, cut}
+use Rattle.text_pieces.proofs.PieceLemmas.{Completes, begun, next, ended, cut}
 use Rattle.window_text.proofs.RowLemmas.{row_rest, row_begins, row_goes_on, row_ends}
 use Rattle.window_text.proofs.reports.send_board_row.Goals as goal
 

@@ -1,6 +1,6 @@
 use Rattle.window_text.specs.Reports.{board_text}
 use Rattle.window_text.specs.Texts.{row_text}
-use Rattle.window_text.proofs.PieceLemmas.{Completes}
+use Rattle.text_pieces.proofs.PieceLemmas.{Completes}
 use Rattle.window_text.proofs.RowLemmas.{row_rest}
 use Rattle.window_text.proofs.reports.send_board_row.Given as goal
 

@@ -1,6 +1,6 @@
 use Rattle.std.proofs.Common.{◌++◌, ◌∙◌, subst}
-use Rattle.window_text.specs.Pieces.{HandsOut}
-use Rattle.window_text.proofs.PieceLemmas.{and_then}
+use Rattle.text_pieces.specs.Pieces.{HandsOut}
+use Rattle.text_pieces.proofs.PieceLemmas.{and_then}
 use Rattle.window_text.proofs.reports.send_number.Goals as goal
 
 pub returns-clause-sent : goal.returns-clause-sent

@@ -1,8 +1,8 @@
 use Rattle.std.proofs.Common.{true, false, [], ◌∷◌, ap, ◌∙◌, subst}
 use Rattle.std.specs.Fmt.{decimal}
-use Rattle.window_text.specs.Pieces.{HandsOut}
+use Rattle.text_pieces.specs.Pieces.{HandsOut}
 use Rattle.window_text.specs.Reports.{report_kind}
-use Rattle.window_text.proofs.PieceLemmas.{and_then, cut}
+use Rattle.text_pieces.proofs.PieceLemmas.{and_then, cut}
 use Rattle.window_text.proofs.reports.send_report.Goals as goal
 
 pub returns-then-not-send_kind-clause-sent : goal.returns-then-not-send_kind-clause-sent

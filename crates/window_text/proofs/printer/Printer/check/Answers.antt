@@ -1,8 +1,8 @@
 use Rattle.std.proofs.Common.{true, ◌++◌, codes, length, sym, subst}
 use Rattle.std.specs.List.{flat_map}
-use Rattle.window_text.specs.Pieces.{HandsOut}
+use Rattle.text_pieces.specs.Pieces.{HandsOut}
 use Rattle.window_text.specs.Texts.{check_text, count_line, edge_line}
-use Rattle.window_text.proofs.PieceLemmas.{none, begun, next, ended, cut}
+use Rattle.text_pieces.proofs.PieceLemmas.{none, begun, next, ended, cut}
 use Rattle.window_text.proofs.EdgesLemmas.{next_edge, edges_end}
 use Rattle.window_text.proofs.printer.Printer.check.Goals as goal
 

@@ -1,5 +1,5 @@
 use Rattle.window_text.specs.Texts.{check_text}
-use Rattle.window_text.proofs.PieceLemmas.{Completes}
+use Rattle.text_pieces.proofs.PieceLemmas.{Completes}
 use Rattle.window_text.proofs.EdgesLemmas.{edges_rest}
 use Rattle.window_text.proofs.printer.Printer.check.Given as goal
 

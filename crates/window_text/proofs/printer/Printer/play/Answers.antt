@@ -1,7 +1,7 @@
 use Rattle.std.proofs.Common.{true, false, sym, subst}
-use Rattle.window_text.specs.Pieces.{HandsOut}
+use Rattle.text_pieces.specs.Pieces.{HandsOut}
 use Rattle.window_text.specs.Reports.{report_text}
-use Rattle.window_text.proofs.PieceLemmas.{none, next, ended}
+use Rattle.text_pieces.proofs.PieceLemmas.{none, next, ended}
 use Rattle.window_text.proofs.ReportLemmas.{next_report, reports_end}
 use Rattle.window_text.proofs.printer.Printer.play.Goals as goal
 

@@ -1,5 +1,5 @@
 use Rattle.window_text.specs.Reports.{play_text}
-use Rattle.window_text.proofs.PieceLemmas.{Completes}
+use Rattle.text_pieces.proofs.PieceLemmas.{Completes}
 use Rattle.window_text.proofs.ReportLemmas.{reports_rest}
 use Rattle.window_text.proofs.printer.Printer.play.Given as goal
 

@@ -1,6 +1,6 @@
 use Rattle.std.proofs.Common.{true, [], ◌∷◌, sym, subst}
-use Rattle.window_text.specs.Pieces.{HandsOut}
-use Rattle.window_text.proofs.PieceLemmas.{none, next, ended}
+use Rattle.text_pieces.specs.Pieces.{HandsOut}
+use Rattle.text_pieces.proofs.PieceLemmas.{none, next, ended}
 use Rattle.window_text.proofs.RunsLemmas.{next_run, runs_end}
 use Rattle.window_text.proofs.printer.Printer.runs.Goals as goal
 

@@ -1,9 +1,9 @@
 use Rattle.std.proofs.Common.{◌≡◌, ◌≤◌, ◌<◌, true, [], ◌∷◌, ◌++◌, codes, ap, sym, ◌∙◌, subst, arith}
 use Rattle.sheet_refs.specs.Cells.{Position}
 use Rattle.sheet_refs.specs.Names.{range_text}
-use Rattle.window_text.specs.Pieces.{HandsOut}
+use Rattle.text_pieces.specs.Pieces.{HandsOut}
 use Rattle.window_text.specs.Texts.{show_text, rows_text, shown_cell}
-use Rattle.window_text.proofs.PieceLemmas.{Completes, none, begun, next, ended, and_then, cut}
+use Rattle.text_pieces.proofs.PieceLemmas.{Completes, none, begun, next, ended, and_then, cut}
 use Rattle.window_text.proofs.RowLemmas.{rows_rest, rows_go_on, rows_end}
 use Rattle.window_text.proofs.printer.Printer.show.Goals as goal
 

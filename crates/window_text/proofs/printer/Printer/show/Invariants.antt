@@ -1,5 +1,5 @@
 use Rattle.window_text.specs.Texts.{show_text, shown_cell}
-use Rattle.window_text.proofs.PieceLemmas.{Completes}
+use Rattle.text_pieces.proofs.PieceLemmas.{Completes}
 use Rattle.window_text.proofs.RowLemmas.{rows_rest}
 use Rattle.window_text.proofs.printer.Printer.show.Given as goal
 

@@ -1,0 +1,4 @@
+mod CallLemmas
+pub mod KeepLemmas
+mod LetterLemmas
+pub mod PieceLemmas
