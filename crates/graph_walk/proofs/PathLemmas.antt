@@ -56,7 +56,7 @@ pub reached_start : (step : Position → Position → Type 0) (start : Position 
 reached_start step start cell starts = record { from = cell; starts = starts; cells = []; path = refl }
 
 -- what is reached lies in each set that has the start and is closed under a step
-path_within : (step : Position → Position → Type 0) (set : Position → Type 0) → ((from to : Position) → step from to → set from → set to) → (a b : Position) (cells : List Position) → set a → IsPath step a cells b → set b
+pub path_within : (step : Position → Position → Type 0) (set : Position → Type 0) → ((from to : Position) → step from to → set from → set to) → (a b : Position) (cells : List Position) → set a → IsPath step a cells b → set b
 path_within step set closed a b [] has path = subst set path has
 path_within step set closed a b (next ∷ cells) has path = path_within step set closed next b cells (closed a next path.0 has) path.1
 

@@ -10,11 +10,12 @@
 //! It stands on `sheet_refs` alone; graphs of other crates implement the trait.
 #![tactic(auto)]
 
-mod gather;
+mod gathering;
 mod graph;
 mod laws;
 mod walk;
 
+pub use gathering::gather;
 pub use graph::Graph;
 pub use laws::{back_laws, change_laws, list_laws, reach_laws};
 pub use walk::{dependents, on_cycle, precedents};

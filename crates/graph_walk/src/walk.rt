@@ -2,7 +2,7 @@ ghost use Rattle.std.specs.Prelude.{◌↔◌, IfOk, OnOk, IsTrue};
 ghost use Rattle.graph_walk.specs.Graphs.{HoldsReach, HoldsBack, IsOnCycle};
 ghost use Rattle.graph_walk.specs.Walks.{AddsNext, IsWalk};
 
-use crate::gather::gather;
+use crate::gathering::gather;
 use crate::graph::Graph;
 use sheet_refs::{Cell, Memory, Range, RectSet};
 use std::alloc::Global;

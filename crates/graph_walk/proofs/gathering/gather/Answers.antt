@@ -1,6 +1,6 @@
 use Rattle.std.proofs.Common.{rules}
 use Rattle.graph_walk.proofs.GatherLemmas.{gathers_none, gathers_more, gathers_end}
-use Rattle.graph_walk.proofs.gather.gather.Goals as goal
+use Rattle.graph_walk.proofs.gathering.gather.Goals as goal
 
 pub loop-range-init : goal.loop-range-init
 loop-range-init c = gathers_none c.args.set.now c.args.waiting.now.items

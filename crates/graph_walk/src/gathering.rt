@@ -18,8 +18,8 @@ fn admit(set: &mut RectSet, waiting: &mut Vec<Range>, range: Range) -> Result<()
     Ok(())
 }
 
-// The same for each of some ranges.
-pub(crate) fn gather(
+/// Adds the cells of some ranges to a set, and the ranges of those that are new to the waiting ones.
+pub fn gather(
     set: &mut RectSet,
     waiting: &mut Vec<Range>,
     found: &[Range],

@@ -2,7 +2,7 @@ use Rattle.std.proofs.Common.{◌≡◌, rules}
 use Rattle.sheet_refs.specs.Cells.{IsNamed}
 use Rattle.sheet_refs.specs.Rectangles.{Tile, IsNew}
 use Rattle.graph_walk.proofs.GatherLemmas.{admitted_more, admitted_end, admitted_all}
-use Rattle.graph_walk.proofs.gather.admit.Goals as goal
+use Rattle.graph_walk.proofs.gathering.admit.Goals as goal
 
 pub loop-part-preserved : goal.loop-part-preserved
 loop-part-preserved c =
