@@ -8,8 +8,10 @@ pub mod JoinedLemmas
 pub mod LawLemmas
 pub mod NeighbourLemmas
 pub mod PartLemmas
+pub mod PartShapes
 pub mod QueryLemmas
 pub mod RectangleLemmas
 pub mod ReferredLemmas
 pub mod SplitLemmas
 pub mod UnionLemmas
+pub mod WithinLemmas

@@ -32,16 +32,16 @@ no_steps true first = omega arith
 no_steps false first = omega arith
 
 module _ (edge : EdgeValue) (is : IsEdge edge) (from to : ℕ) (order : from ≤ to) (within : to < run_length edge) where
-  run_cut : Cuts (axis_of edge.dep) edge.dep (along (axis_of edge.dep) edge.dep.head + from) (along (axis_of edge.dep) edge.dep.head + to) (part_of edge from to).dep
+  pub run_cut : Cuts (axis_of edge.dep) edge.dep (along (axis_of edge.dep) edge.dep.head + from) (along (axis_of edge.dep) edge.dep.head + to) (part_of edge from to).dep
   run_cut = cuts (axis_of edge.dep) edge.dep _ _
 
-  prec_cut : Cuts (axis_of edge.dep) edge.prec (first_along (axis_of edge.dep) edge from) (last_along (axis_of edge.dep) edge to) (part_of edge from to).prec
+  pub prec_cut : Cuts (axis_of edge.dep) edge.prec (first_along (axis_of edge.dep) edge from) (last_along (axis_of edge.dep) edge to) (part_of edge from to).prec
   prec_cut = cuts (axis_of edge.dep) edge.prec _ _
 
-  part_line : IsLine (axis_of edge.dep) (part_of edge from to).dep
+  pub part_line : IsLine (axis_of edge.dep) (part_of edge from to).dep
   part_line = run_cut.left ∙ is.line ∙ sym run_cut.right
 
-  part_count : count_along (axis_of edge.dep) (part_of edge from to).dep ≡ to + 1 - from
+  pub part_count : count_along (axis_of edge.dep) (part_of edge from to).dep ≡ to + 1 - from
   part_count = rw (run_cut.head, run_cut.tail) (omega (arith, order))
 
   part_cell : (index : ℕ) → cell_along (axis_of edge.dep) (part_of edge from to).dep index ≡ run_cell edge (from + index)

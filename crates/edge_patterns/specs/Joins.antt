@@ -27,6 +27,14 @@ pub record IsJoin (a b : EdgeValue) (joined : EdgeValue) : Type 0 where
   pub neighbours : AreNeighbours a.dep b.dep
   pub union : HasBothPairs a b joined
 
+-- two edges can be joined: their runs are neighbours in one line, and one edge has exactly the pairs of both
+abbrev pub CanBeJoined : EdgeValue → EdgeValue → Type 0
+CanBeJoined a b = (joined : EdgeValue) × IsJoin a b joined
+
+-- the pairs of an edge are pairs of another
+abbrev pub IsWithin : EdgeValue → EdgeValue → Type 0
+IsWithin part edge = (range : Corners) (cell : Position) → IsPair part range cell → IsPair edge range cell
+
 -- an edge with this run whose first and last cells have these ranges
 pub record HasEnds (axis : Axis) (dep first last : Corners) (edge : EdgeValue) : Type 0 where
   pub is_edge : IsEdge edge

@@ -6,7 +6,7 @@ use Rattle.edge_patterns.specs.declared.axis.Axis.{Axis}
 use Rattle.edge_patterns.specs.declared.edge.Pattern.TheVariants.{Single, Chain}
 use Rattle.edge_patterns.specs.Axes.{along, across, axis_of}
 use Rattle.edge_patterns.specs.Edges.{EdgeValue, IsEdge, IsPair, single_edge}
-use Rattle.edge_patterns.specs.Joins.{HasBothPairs}
+use Rattle.edge_patterns.specs.Joins.{AreNeighbours, HasBothPairs, CanBeJoined, IsWithin}
 use Rattle.edge_patterns.specs.Queries.{IsReferred}
 
 -- a cell has one range
@@ -66,3 +66,8 @@ PairsTellTheEdge =
 -- two edges are joined into one edge, in either order
 abbrev pub UnionsAreOne : Type 0
 UnionsAreOne = (a b joined other : EdgeValue) → HasBothPairs a b joined → HasBothPairs b a other → joined ≡ other
+
+-- two edges with pairs of one edge can be joined where their runs are neighbours
+abbrev pub PartsCanBeJoined : Type 0
+PartsCanBeJoined =
+    (edge a b : EdgeValue) → IsEdge edge → IsEdge a → IsEdge b → IsWithin a edge → IsWithin b edge → AreNeighbours a.dep b.dep → CanBeJoined a b
