@@ -1,15 +1,14 @@
 -- What happens to pairs where edges are joined, split and moved.
 use Rattle.std.proofs.Common.{◌≡◌, ◌≢◌, ◌↔◌, ◌⊎◌, inl, inr, ℕ, ◌+◌, ◌-◌, ◌≤◌, List, get_or, Option, Some, None, refl, sym, ◌∙◌, ap, subst, arith}
-use Rattle.std.specs.Prelude.{IfSome, IsSome}
-use Rattle.sheet_refs.specs.Names.{Finds}
+use Rattle.std.specs.Prelude.{IsSome}
 use Rattle.std.proofs.lemmas.Option.{same_Some}
 use Rattle.std.proofs.lemmas.List.{get_or_default}
 use Rattle.sheet_refs.specs.Cells.{Position, Corners, IsIn}
 use Rattle.edge_patterns.specs.Edges.{EdgeValue, IsEdge, IsPair}
-use Rattle.edge_patterns.specs.Joins.{HasPair, LeaveOut, IsJoin, IsPartOrNone, StandsBefore}
+use Rattle.edge_patterns.specs.Joins.{HasPair, LeaveOut, IsPartOrNone, StandsBefore}
 use Rattle.edge_patterns.proofs.UnionLemmas.{run_has_ranges}
-use Rattle.taco_graph.specs.Stores.{edge_at, IsKeptPair, IsApart, PutsEdge, Gains, LeavesApart}
-use Rattle.taco_graph.specs.Changes.{LacksCell, GainsPairs, MovesPairs, IsJoinedAt, HoldNoMore, HoldElsewhere, KeepsOthers, HasAtMost, HasRoomForParts, KeepsRoomForParts, IsPartApart, GainsPartPairs, PartLacksCell}
+use Rattle.taco_graph.specs.Stores.{edge_at, IsKeptPair, IsApart, PutsEdge, Gains}
+use Rattle.taco_graph.specs.Changes.{LacksCell, GainsPairs, HoldNoMore, HoldElsewhere, KeepsOthers, HasAtMost, HasRoomForParts, KeepsRoomForParts, IsPartApart, GainsPartPairs, PartLacksCell}
 use Rattle.std.proofs.lemmas.Bool.{cases_eq}
 use Rattle.range_index.proofs.DistinctLemmas.{without, length_without, still_listed}
 use Rattle.taco_graph.proofs.StoreLemmas.{still_here, here_more, not_free}
@@ -29,44 +28,6 @@ kept_or_gone old new key gone range cell puts here kept = elim (cases_eq kept.ke
   | inr other ↦ inr (record { edge = kept.edge; kept = record { key = kept.kept.key; here = puts.others kept.kept.key other ∙ kept.kept.here }; pair = kept.pair })
 ]
 
--- ---- an edge is joined with one that is taken out
-
-module _ (old new : List (Option EdgeValue)) (key : ℕ) (edge joined : EdgeValue) (cell : Position) (union : IsJoinedAt old key edge cell joined) (puts : PutsEdge old new key None) where
-  pub moves : MovesPairs old new edge joined
-  moves range at = (to, from)
-    where
-      to : IsPair joined range at ⊎ IsKeptPair new range at → IsPair edge range at ⊎ IsKeptPair old range at
-      to (inl pair) = elim ((union.union.pairs range at).0 pair) [
-        | inl of_edge ↦ inl of_edge
-        | inr of_other ↦ inr (record { edge = union.other; kept = record { key = key; here = union.here }; pair = of_other })
-      ]
-      to (inr kept) = inr (kept_still old new key range at puts kept)
-
-      from : IsPair edge range at ⊎ IsKeptPair old range at → IsPair joined range at ⊎ IsKeptPair new range at
-      from (inl pair) = inl ((union.union.pairs range at).1 (inl pair))
-      from (inr kept) = elim (kept_or_gone old new key union.other range at puts union.here kept) [
-        | inl of_other ↦ inl ((union.union.pairs range at).1 (inr of_other))
-        | inr still ↦ inr still
-      ]
-
-  pub joined_apart : IsApart old edge → LeavesApart old new key → IsApart new joined
-  joined_apart away leaves range at pair kept = elim ((union.union.pairs range at).0 pair) [
-    | inl of_edge ↦ away range at of_edge (kept_still old new key range at puts kept)
-    | inr of_other ↦ leaves union.other union.here range at of_other kept
-  ]
-
-  pub joined_lacks : LacksCell edge cell → LacksCell joined cell
-  joined_lacks lacks range pair = elim ((union.union.pairs range cell).0 pair) [
-    | inl of_edge ↦ lacks range of_edge
-    | inr of_other ↦ union.lacks range of_other
-  ]
-
-pub hold_less : (old new : List (Option EdgeValue)) (key : ℕ) (cell : Position) → PutsEdge old new key None → HoldNoMore old new cell
-hold_less old new key cell puts k edge range here pair = (still_here old new key k edge puts here).1
-
-pub moves_none : (slots : List (Option EdgeValue)) (edge : EdgeValue) → MovesPairs slots slots edge edge
-moves_none slots edge range cell = (λ p. p, λ p. p)
-
 -- ---- an edge is put in
 
 pub gains : (old new : List (Option EdgeValue)) (edge : EdgeValue) → Gains old new edge → GainsPairs old new edge
@@ -85,18 +46,6 @@ gains old new edge gained range cell = (to, from)
       kept = record { key = kept.kept.key; here = gained.puts.others kept.kept.key (not_free old gained.key kept.kept.key kept.edge gained.free kept.kept.here) ∙ kept.kept.here };
       pair = kept.pair;
     }
-
-module _ (old first second new : List (Option EdgeValue)) (edge once twice : EdgeValue) where
-  pub adds_pairs : MovesPairs old first edge once → MovesPairs first second once twice → Gains second new twice → GainsPairs old new edge
-  adds_pairs one two gained range cell =
-      let three = gains second new twice gained range cell in
-      (λ kept. (one range cell).0 ((two range cell).0 (three.0 kept)), λ pair. three.1 ((two range cell).1 ((one range cell).1 pair)))
-
-  pub adds_hold : (cell : Position) → HoldNoMore old first cell → HoldNoMore first second cell → (LacksCell edge cell → LacksCell once cell) → (LacksCell once cell → LacksCell twice cell) → Gains second new twice → LacksCell edge cell → HoldNoMore old new cell
-  adds_hold cell one two lacks_one lacks_two gained lacks key e range here pair = elim (here_more second new gained.key key twice e gained.puts here) [
-    | inl (same, is) ↦ absurd (lacks_two (lacks_one lacks) range (subst (λ (x : EdgeValue). IsPair x range cell) is pair))
-    | inr (other, was) ↦ one key e range (two key e range was pair) pair
-  ]
 
 -- ---- the cell is taken out of one edge
 
@@ -177,11 +126,6 @@ module _ (old rest first new : List (Option EdgeValue)) (key : ℕ) (edge : Edge
 
 pub at_least_one : (slots : List (Option EdgeValue)) (cell : Position) (most : ℕ) (range : Corners) → IsKeptPair slots range cell → HasAtMost slots cell most → 1 ≤ most
 at_least_one slots cell most range kept few = let there = few.listed range kept in omega (arith, there.1, few.few)
-
--- what joining with a neighbour answers
-pub joined_here : (slots : List (Option EdgeValue)) (key : ℕ) (edge other : EdgeValue) (cell : Position) (result : Option EdgeValue) → edge_at slots key ≡ Some other → LacksCell other cell → Finds result (IsJoin edge other) → IfSome result (IsJoinedAt slots key edge cell)
-joined_here slots key edge other cell None here lacks none = tt
-joined_here slots key edge other cell (Some joined) here lacks join = record { other = other; here = here; lacks = lacks; union = join.union }
 
 -- a part of an edge, which there may not be, is put in
 pub gains_none : (slots : List (Option EdgeValue)) → GainsPartPairs slots slots None

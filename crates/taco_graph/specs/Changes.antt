@@ -1,8 +1,8 @@
 -- How a change moves edges and their pairs.
 use Rattle.std.specs.Prelude.{◌≡◌, ◌≢◌, ◌↔◌, ◌⊎◌, ℕ, ◌+◌, ◌*◌, ◌≤◌, List, Option, Some, IfSome, length, Contains}
 use Rattle.sheet_refs.specs.Cells.{Position, Corners}
-use Rattle.edge_patterns.specs.Edges.{EdgeValue, IsPair}
-use Rattle.edge_patterns.specs.Joins.{HasBothPairs, HasPair}
+use Rattle.edge_patterns.specs.Edges.{EdgeValue, IsEdge, IsPair}
+use Rattle.edge_patterns.specs.Joins.{IsJoin, HasPair}
 use Rattle.taco_graph.specs.Stores.{edge_at, IsKeptPair}
 
 -- an edge has no pair of the cell
@@ -18,21 +18,21 @@ abbrev pub GainsPairs : List (Option EdgeValue) → List (Option EdgeValue) → 
 GainsPairs old new edge =
     (range : Corners) (cell : Position) → IsKeptPair new range cell ↔ (IsPair edge range cell ⊎ IsKeptPair old range cell)
 
--- an edge that isn't kept and those that are have together the pairs that another one and those had before
-abbrev pub MovesPairs : List (Option EdgeValue) → List (Option EdgeValue) → EdgeValue → EdgeValue → Type 0
-MovesPairs old new edge joined =
-    (range : Corners) (cell : Position) → (IsPair joined range cell ⊎ IsKeptPair new range cell) ↔ (IsPair edge range cell ⊎ IsKeptPair old range cell)
-
--- an edge has the pairs of two, of which the second is kept under this key and lacks the cell
+-- an edge is joined with the one that is kept under this key, which lacks the cell
 pub record IsJoinedAt (slots : List (Option EdgeValue)) (key : ℕ) (edge : EdgeValue) (cell : Position) (joined : EdgeValue) : Type 0 where
   pub other : EdgeValue
   pub here : edge_at slots key ≡ Some other
+  pub is_edge : IsEdge other
   pub lacks : LacksCell other cell
-  pub union : HasBothPairs edge other joined
+  pub join : IsJoin edge other joined
 
--- if anything is found, it is a key and an edge that has the pairs of the given one and of the one under the key
+-- if anything is found, it is a key and what an edge becomes with the one under it
 abbrev pub FindsJoined : List (Option EdgeValue) → EdgeValue → Position → Option (ℕ × EdgeValue) → Type 0
 FindsJoined slots edge cell found = IfSome found (λ (f : ℕ × EdgeValue). IsJoinedAt slots f.0 edge cell f.1)
+
+-- the same with the key's place in a list first
+abbrev pub FindsPlace : List (Option EdgeValue) → EdgeValue → Position → Option (ℕ × ℕ × EdgeValue) → Type 0
+FindsPlace slots edge cell found = IfSome found (λ (f : ℕ × ℕ × EdgeValue). IsJoinedAt slots f.1 edge cell f.2)
 
 -- each edge that has a pair of the cell was there before
 abbrev pub HoldNoMore : List (Option EdgeValue) → List (Option EdgeValue) → Position → Type 0

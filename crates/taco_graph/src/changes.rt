@@ -2,55 +2,16 @@
 ghost use Rattle.std.specs.Prelude.{◌≡◌, ◌+◌, ◌≤◌};
 ghost use Rattle.edge_patterns.specs.Edges.{single_edge};
 ghost use Rattle.taco_graph.specs.Stores.{IsApart};
-ghost use Rattle.taco_graph.specs.Changes.{LacksCell, LackCell, GainsPairs, MovesPairs, IsJoinedAt};
+ghost use Rattle.taco_graph.specs.Changes.{LacksCell, LackCell, GainsPairs, IsJoinedAt};
 ghost use Rattle.taco_graph.specs.Changes.{HoldNoMore, HoldElsewhere, KeepsOthers, HoldersAreAmong};
 ghost use Rattle.taco_graph.specs.Changes.{HasRoomForParts, KeepsRoomForParts};
 ghost use Rattle.taco_graph.specs.Changes.{IsPartApart, GainsPartPairs, PartLacksCell};
 
-use crate::neighbours::{joined_beyond, joined_neighbour, joined_single};
+use crate::neighbours::Sides;
 use crate::store::EdgeStore;
 use edge_patterns::{Edge, split};
 use range_index::RangeIndex;
 use sheet_refs::{Cell, Range};
-
-// Joins an edge with a neighbour that can be joined with it and doesn't hold the cell, and takes that one out.
-fn absorb<I: RangeIndex>(
-    store: &mut EdgeStore<I>,
-    near: &mut Vec<usize>,
-    edge: Edge,
-    cell: Cell,
-) -> Edge
-    requires apart { IsApart store.old.slots edge }
-    ensures pairs { MovesPairs store.old.slots store.new.slots edge result }
-    ensures apart { IsApart store.new.slots result }
-    ensures cell { LacksCell edge cell → LacksCell result cell }
-    ensures holders { HoldNoMore store.old.slots store.new.slots cell }
-    ensures room { store.old.room ≤ store.new.room }
-{
-    let Some(found) = joined_neighbour(store, near, &edge, cell) else {
-        return edge;
-    };
-    store.remove(found.0);
-    found.1
-}
-
-// Adds an edge, joined with up to two of its neighbours that don't hold the cell.
-fn add_between<I: RangeIndex>(
-    store: &mut EdgeStore<I>,
-    near: &mut Vec<usize>,
-    edge: Edge,
-    cell: Cell,
-)
-    requires apart { IsApart store.old.slots edge }
-    requires room { 1 ≤ store.old.room }
-    ensures pairs { GainsPairs store.old.slots store.new.slots edge }
-    ensures holders { LacksCell edge cell → HoldNoMore store.old.slots store.new.slots cell }
-    ensures room { store.old.room ≤ store.new.room + 1 }
-{
-    let once = absorb(store, near, edge, cell);
-    let twice = absorb(store, near, once, cell);
-    store.insert(twice);
-}
 
 // Adds an edge that isn't joined.
 fn add_alone<I: RangeIndex>(store: &mut EdgeStore<I>, edge: Edge, cell: Cell)
@@ -63,11 +24,9 @@ fn add_alone<I: RangeIndex>(store: &mut EdgeStore<I>, edge: Edge, cell: Cell)
     store.insert(edge);
 }
 
-// Adds an edge that can be joined with the one under a key: that one grows in its place, as where a column is built
-// from the top, or is joined with a third as well.
+// Adds an edge that can be joined with the one under a key: that one grows in its place.
 fn grow<I: RangeIndex>(
     store: &mut EdgeStore<I>,
-    near: &mut Vec<usize>,
     edge: Edge,
     key: usize,
     joined: Edge,
@@ -80,17 +39,37 @@ fn grow<I: RangeIndex>(
     ensures holders { LacksCell edge cell → HoldNoMore store.old.slots store.new.slots cell }
     ensures room { store.old.room ≤ store.new.room + 1 }
 {
-    if joined_beyond(store, near, &edge, &joined, cell).is_some() {
-        add_between(store, near, edge, cell);
-    } else {
-        store.change(key, joined);
-    }
+    store.change(key, joined);
 }
 
-/// Adds an edge, joined with up to two of its neighbours that don't hold the cell.
+// Adds an edge that can be joined with the one under a key, where the two can be joined with a third: the first one
+// grows in its place, and the third is taken out.
+fn grow_across<I: RangeIndex>(
+    store: &mut EdgeStore<I>,
+    edge: Edge,
+    key: usize,
+    joined: Edge,
+    beyond: usize,
+    last: Edge,
+    cell: Cell,
+)
+    requires apart { IsApart store.old.slots edge }
+    requires joined { IsJoinedAt store.old.slots key edge cell joined }
+    requires last { IsJoinedAt store.old.slots beyond joined cell last }
+    requires room { 1 ≤ store.old.room }
+    ensures pairs { GainsPairs store.old.slots store.new.slots edge }
+    ensures holders { LacksCell edge cell → HoldNoMore store.old.slots store.new.slots cell }
+    ensures room { store.old.room ≤ store.new.room + 1 }
+{
+    store.remove(beyond);
+    store.change(key, last);
+}
+
+/// Adds an edge, joined with up to two edges at the sides of its run that don't hold the cell. After a join the end at
+/// which the other edge hasn't grown is looked at.
 pub(crate) fn add<I: RangeIndex>(
     store: &mut EdgeStore<I>,
-    near: &mut Vec<usize>,
+    sides: &mut Sides,
     edge: Edge,
     cell: Cell,
 )
@@ -100,19 +79,21 @@ pub(crate) fn add<I: RangeIndex>(
     ensures holders { LacksCell edge cell → HoldNoMore store.old.slots store.new.slots cell }
     ensures room { store.old.room ≤ store.new.room + 1 }
 {
-    let Some(found) = joined_neighbour(store, near, &edge, cell) else {
+    let Some(found) = sides.find(store, &edge, cell) else {
         add_alone(store, edge, cell);
         return;
     };
-    grow(store, near, edge, found.0, found.1, cell);
+    let Some(third) = sides.find_beyond(store, &edge, &found.1, cell) else {
+        grow(store, edge, found.0, found.1, cell);
+        return;
+    };
+    grow_across(store, edge, found.0, found.1, third.0, third.1, cell);
 }
 
-/// Adds the edge of one cell and a range, given the keys of edges that hold the cell above: these are tried first, and
-/// then the other sides. A key may be stale, since each edge is looked at anew.
+/// Adds the edge of one cell and a range, where the sides are those of the cell.
 pub(crate) fn add_single<I: RangeIndex>(
     store: &mut EdgeStore<I>,
-    above: &[usize],
-    near: &mut Vec<usize>,
+    sides: &mut Sides,
     cell: Cell,
     range: Range,
 )
@@ -122,17 +103,13 @@ pub(crate) fn add_single<I: RangeIndex>(
     ensures room { store.old.room ≤ store.new.room + 1 }
 {
     let edge = Edge::single(cell, range);
-    let Some(found) = joined_single(store, above, near, &edge, cell) else {
-        add_alone(store, edge, cell);
-        return;
-    };
-    grow(store, near, edge, found.0, found.1, cell);
+    add(store, sides, edge, cell);
 }
 
 // Adds a part that is left of an edge, if there is one.
 fn add_part<I: RangeIndex>(
     store: &mut EdgeStore<I>,
-    near: &mut Vec<usize>,
+    sides: &mut Sides,
     part: Option<Edge>,
     cell: Cell,
 )
@@ -145,13 +122,14 @@ fn add_part<I: RangeIndex>(
     let Some(edge) = part else {
         return;
     };
-    add(store, near, edge, cell);
+    sides.turn_to(&edge.dep());
+    add(store, sides, edge, cell);
 }
 
 // Takes the cell out of the edge under a key, if that one holds it.
 fn take_out_at<I: RangeIndex>(
     store: &mut EdgeStore<I>,
-    near: &mut Vec<usize>,
+    sides: &mut Sides,
     key: usize,
     cell: Cell,
 )
@@ -169,15 +147,15 @@ fn take_out_at<I: RangeIndex>(
     }
     let (before, after) = split(&edge, cell);
     store.remove(key);
-    add_part(store, near, before, cell);
-    add_part(store, near, after, cell);
+    add_part(store, sides, before, cell);
+    add_part(store, sides, after, cell);
 }
 
 // Takes the cell out of the edges under these keys.
 fn take_out_listed<I: RangeIndex>(
     store: &mut EdgeStore<I>,
     held: &[usize],
-    near: &mut Vec<usize>,
+    sides: &mut Sides,
     cell: Cell,
 )
     requires all { HoldersAreAmong store.old.slots cell held.now }
@@ -188,12 +166,12 @@ fn take_out_listed<I: RangeIndex>(
         store.old.room store.new.room }
 {
     for key in held {
-        take_out_at(store, near, *key, cell);
+        take_out_at(store, sides, *key, cell);
     }
 }
 
 // Takes the cell out of all edges, each of which it looks at.
-fn take_out_of_all<I: RangeIndex>(store: &mut EdgeStore<I>, near: &mut Vec<usize>, cell: Cell)
+fn take_out_of_all<I: RangeIndex>(store: &mut EdgeStore<I>, sides: &mut Sides, cell: Cell)
     requires room { HasRoomForParts store.old.slots cell 0 store.old.room }
     ensures gone { LackCell store.new.slots cell }
     ensures others { KeepsOthers store.old.slots store.new.slots cell }
@@ -201,7 +179,7 @@ fn take_out_of_all<I: RangeIndex>(store: &mut EdgeStore<I>, near: &mut Vec<usize
         store.old.room store.new.room }
 {
     for key in 0..store.end() {
-        take_out_at(store, near, key, cell);
+        take_out_at(store, sides, key, cell);
     }
 }
 
@@ -210,7 +188,7 @@ fn take_out_of_all<I: RangeIndex>(store: &mut EdgeStore<I>, near: &mut Vec<usize
 pub(crate) fn take_out<I: RangeIndex>(
     store: &mut EdgeStore<I>,
     held: &mut Vec<usize>,
-    near: &mut Vec<usize>,
+    sides: &mut Sides,
     cell: Cell,
 )
     requires room { HasRoomForParts store.old.slots cell 0 store.old.room }
@@ -221,7 +199,7 @@ pub(crate) fn take_out<I: RangeIndex>(
 {
     held.clear();
     match store.keys_by_run(Range::of(cell, cell), held) {
-        Ok(()) => take_out_listed(store, held, near, cell),
-        Err(_) => take_out_of_all(store, near, cell),
+        Ok(()) => take_out_listed(store, held, sides, cell),
+        Err(_) => take_out_of_all(store, sides, cell),
     }
 }

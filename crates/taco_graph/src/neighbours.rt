@@ -1,21 +1,12 @@
 // Which edges beside an edge can be joined with it.
 ghost use Rattle.std.specs.Prelude.{IfSome};
-ghost use Rattle.taco_graph.specs.Changes.{IsJoinedAt, FindsJoined};
+ghost use Rattle.taco_graph.specs.Changes.{FindsJoined, FindsPlace, IsJoinedAt};
 
 use crate::store::EdgeStore;
 use edge_patterns::{Edge, join};
 use range_index::RangeIndex;
-use sheet_refs::{Cell, Range};
-
-/// Puts the keys of the edges that hold the cell above another into a list; some of them or none, where they want
-/// memory.
-pub(crate) fn keys_above<I: RangeIndex>(store: &EdgeStore<I>, above: &mut Vec<usize>, cell: Cell) {
-    above.clear();
-    let Some(beside) = Cell::new(cell.row() - 1, cell.col()) else {
-        return;
-    };
-    let _ = store.keys_by_run(Range::of(beside, beside), above);
-}
+use sheet_refs::{Cell, Memory, Range};
+use std::alloc::Global;
 
 // The edge with the pairs of an edge and of the one under a key, if there is one and the other doesn't hold the cell.
 fn joined_at<I: RangeIndex>(
@@ -35,166 +26,274 @@ fn joined_at<I: RangeIndex>(
     join(edge, &other)
 }
 
-// The first of these keys whose edge can be joined with an edge and doesn't hold the cell, with the edge that has the
-// pairs of both.
-fn first_joined<I: RangeIndex>(
+// The first of some places of a list at which the key of an edge stands that can be joined with an edge and doesn't
+// hold the cell, with that key and the edge that has the pairs of both.
+fn joined_between<I: RangeIndex>(
     store: &EdgeStore<I>,
-    near: &[usize],
+    keys: &[usize],
+    from: usize,
+    end: usize,
     edge: &Edge,
     cell: Cell,
-) -> Option<(usize, Edge)>
-    ensures { FindsJoined store.now.slots edge.now cell result }
+) -> Option<(usize, usize, Edge)>
+    ensures { FindsPlace store.now.slots edge.now cell result }
 {
-    for key in near {
+    for place in from..end {
+        let Some(key) = keys.get(place) else {
+            return None;
+        };
         if let Some(joined) = joined_at(store, *key, edge, cell) {
-            return Some((*key, joined));
+            return Some((place, *key, joined));
         }
     }
     None
 }
 
-// The same of the keys of the edges that hold the cell with these coordinates. Where the keys want memory, the list has
-// some of them or none: the edge may then not be joined.
-fn joined_beside<I: RangeIndex>(
+// The first of all keys whose edge can be joined with an edge and doesn't hold the cell. It looks at each key that
+// there is room for.
+fn joined_of_all<I: RangeIndex>(
     store: &EdgeStore<I>,
-    near: &mut Vec<usize>,
-    row: u32,
-    col: u32,
     edge: &Edge,
     cell: Cell,
 ) -> Option<(usize, Edge)>
     ensures { FindsJoined store.now.slots edge.now cell result }
 {
-    let Some(beside) = Cell::new(row, col) else {
-        return None;
-    };
-    near.clear();
-    let _ = store.keys_by_run(Range::of(beside, beside), near);
-    first_joined(store, near, edge, cell)
+    for key in 0..store.end() {
+        if let Some(joined) = joined_at(store, key, edge, cell) {
+            return Some((key, joined));
+        }
+    }
+    None
 }
 
-// The same of the cell above an edge's run, where it stands in one column.
-fn joined_above<I: RangeIndex>(
-    store: &EdgeStore<I>,
-    near: &mut Vec<usize>,
-    edge: &Edge,
-    cell: Cell,
-) -> Option<(usize, Edge)>
-    ensures { FindsJoined store.now.slots edge.now cell result }
-{
-    let (head, tail) = (edge.dep().head(), edge.dep().tail());
-    if head.col() != tail.col() {
-        return None;
-    }
-    joined_beside(store, near, head.row() - 1, head.col(), edge, cell)
+/// The keys of the edges that hold a cell beside a run, asked for when they are first needed. They may be stale, since
+/// each edge is looked at anew.
+#[derive(Drop)]
+pub(crate) struct Side {
+    // The cell beside the run, if there is one.
+    beside: Option<Cell>,
+    keys: Vec<usize>,
+    // Whether the keys have been asked for, and whether these are all: the answer may have wanted memory.
+    asked: bool,
+    whole: bool,
+    // The place of the key that was found last. The ranges of like cells come in one order, and so do the keys of the
+    // edges that they join.
+    next: usize,
 }
 
-// The same of the cell below it.
-fn joined_below<I: RangeIndex>(
-    store: &EdgeStore<I>,
-    near: &mut Vec<usize>,
-    edge: &Edge,
-    cell: Cell,
-) -> Option<(usize, Edge)>
-    ensures { FindsJoined store.now.slots edge.now cell result }
-{
-    let (head, tail) = (edge.dep().head(), edge.dep().tail());
-    if head.col() != tail.col() {
-        return None;
+impl Side {
+    pub(crate) fn new(alloc: Global) -> Side {
+        Side {
+            beside: None,
+            keys: Vec::new(alloc),
+            asked: false,
+            whole: false,
+            next: 0,
+        }
     }
-    joined_beside(store, near, tail.row() + 1, head.col(), edge, cell)
+
+    /// Makes room for so many keys.
+    pub(crate) fn reserve(&mut self, keys: usize) -> Result<(), Memory> {
+        self.keys.clear();
+        self.asked = false;
+        self.keys.reserve(keys)?;
+        Ok(())
+    }
+
+    // Turns to the side of a run that has this cell.
+    fn turn_to(&mut self, beside: Option<Cell>) {
+        self.beside = beside;
+        self.asked = false;
+    }
+
+    // Asks for the keys, where they haven't been asked for.
+    fn ask<I: RangeIndex>(&mut self, store: &EdgeStore<I>, beside: Cell) {
+        if self.asked {
+            return;
+        }
+        self.keys.clear();
+        self.asked = true;
+        self.next = 0;
+        self.whole = match store.keys_by_run(Range::of(beside, beside), &mut self.keys) {
+            Ok(()) => true,
+            Err(_) => false,
+        };
+    }
+
+    // Among the keys that were listed, from the one that was found last on.
+    fn find_listed<I: RangeIndex>(
+        &self,
+        store: &EdgeStore<I>,
+        edge: &Edge,
+        cell: Cell,
+    ) -> Option<(usize, usize, Edge)>
+        ensures { FindsPlace store.now.slots edge.now cell result }
+    {
+        let onward = joined_between(store, &self.keys, self.next, self.keys.len(), edge, cell);
+        if onward.is_some() {
+            return onward;
+        }
+        joined_between(store, &self.keys, 0, self.next, edge, cell)
+    }
+
+    // The same, and notes where it was found.
+    fn find_next<I: RangeIndex>(
+        &mut self,
+        store: &EdgeStore<I>,
+        edge: &Edge,
+        cell: Cell,
+    ) -> Option<(usize, Edge)>
+        ensures { FindsJoined store.now.slots edge.now cell result }
+    {
+        let Some((place, key, joined)) = self.find_listed(store, edge, cell) else {
+            return None;
+        };
+        self.next = place;
+        Some((key, joined))
+    }
+
+    /// An edge at this side that can be joined with an edge and doesn't hold the cell. Where the index wants memory for
+    /// the keys, it looks at all edges.
+    fn find<I: RangeIndex>(
+        &mut self,
+        store: &EdgeStore<I>,
+        edge: &Edge,
+        cell: Cell,
+    ) -> Option<(usize, Edge)>
+        ensures { FindsJoined store.now.slots edge.now cell result }
+    {
+        let Some(beside) = self.beside else {
+            return None;
+        };
+        self.ask(store, beside);
+        if !self.whole {
+            return joined_of_all(store, edge, cell);
+        }
+        self.find_next(store, edge, cell)
+    }
 }
 
-// The same of the cell to the left of it and then of the one to the right, where it stands in one row.
-fn joined_in_row<I: RangeIndex>(
-    store: &EdgeStore<I>,
-    near: &mut Vec<usize>,
-    edge: &Edge,
-    cell: Cell,
-) -> Option<(usize, Edge)>
-    ensures { FindsJoined store.now.slots edge.now cell result }
-{
-    let (head, tail) = (edge.dep().head(), edge.dep().tail());
-    if head.row() != tail.row() {
-        return None;
-    }
-    let left = joined_beside(store, near, head.row(), head.col() - 1, edge, cell);
-    if left.is_some() {
-        return left;
-    }
-    joined_beside(store, near, head.row(), tail.col() + 1, edge, cell)
+/// The sides of a run.
+#[derive(Drop)]
+pub(crate) struct Sides {
+    above: Side,
+    below: Side,
+    left: Side,
+    right: Side,
 }
 
-// The same of all sides but the one above.
-fn joined_elsewhere<I: RangeIndex>(
-    store: &EdgeStore<I>,
-    near: &mut Vec<usize>,
-    edge: &Edge,
-    cell: Cell,
-) -> Option<(usize, Edge)>
-    ensures { FindsJoined store.now.slots edge.now cell result }
-{
-    let below = joined_below(store, near, edge, cell);
-    if below.is_some() {
-        return below;
-    }
-    joined_in_row(store, near, edge, cell)
-}
-
-/// The same of all four, the one above first.
-pub(crate) fn joined_neighbour<I: RangeIndex>(
-    store: &EdgeStore<I>,
-    near: &mut Vec<usize>,
-    edge: &Edge,
-    cell: Cell,
-) -> Option<(usize, Edge)>
-    ensures { FindsJoined store.now.slots edge.now cell result }
-{
-    let above = joined_above(store, near, edge, cell);
-    if above.is_some() {
-        return above;
-    }
-    joined_elsewhere(store, near, edge, cell)
-}
-
-/// The same of these keys first, and then of all sides but the one above.
-pub(crate) fn joined_single<I: RangeIndex>(
-    store: &EdgeStore<I>,
-    above: &[usize],
-    near: &mut Vec<usize>,
-    edge: &Edge,
-    cell: Cell,
-) -> Option<(usize, Edge)>
-    ensures { FindsJoined store.now.slots edge.now cell result }
-{
-    let found = first_joined(store, above, edge, cell);
-    if found.is_some() {
-        return found;
-    }
-    joined_elsewhere(store, near, edge, cell)
-}
-
-/// The same of what an edge has grown into, at the end at which it hasn't grown. The ends are tried in order: so after
-/// it has grown down or to the right, nothing is left to be tried, since what could be joined with the whole could have
-/// been joined with the part that was there.
-pub(crate) fn joined_beyond<I: RangeIndex>(
-    store: &EdgeStore<I>,
-    near: &mut Vec<usize>,
-    edge: &Edge,
-    grown: &Edge,
-    cell: Cell,
-) -> Option<(usize, Edge)>
-    ensures { FindsJoined store.now.slots grown.now cell result }
-{
-    let (run, tail) = (grown.dep(), edge.dep().tail());
-    if run.tail().row() != tail.row() {
-        return None;
-    }
-    if run.tail().col() != tail.col() {
+// A cell beside a run, if the run has a side there.
+fn beside(has_side: bool, row: u32, col: u32) -> Option<Cell> {
+    if !has_side {
         return None;
     }
-    if run.head().col() == tail.col() {
-        return joined_beside(store, near, tail.row() + 1, tail.col(), grown, cell);
+    Cell::new(row, col)
+}
+
+impl Sides {
+    pub(crate) fn new(alloc: Global) -> Sides {
+        Sides {
+            above: Side::new(alloc),
+            below: Side::new(alloc),
+            left: Side::new(alloc),
+            right: Side::new(alloc),
+        }
     }
-    joined_beside(store, near, tail.row(), tail.col() + 1, grown, cell)
+
+    /// Makes room for so many keys at each side.
+    pub(crate) fn reserve(&mut self, keys: usize) -> Result<(), Memory> {
+        self.above.reserve(keys)?;
+        self.below.reserve(keys)?;
+        self.left.reserve(keys)?;
+        self.right.reserve(keys)?;
+        Ok(())
+    }
+
+    /// Turns to the sides of a run: above and below it where it stands in one column, left and right of it where it
+    /// stands in one row.
+    pub(crate) fn turn_to(&mut self, run: &Range) {
+        let (head, tail) = (run.head(), run.tail());
+        let in_column = head.col() == tail.col();
+        let in_row = head.row() == tail.row();
+        self.above.turn_to(beside(in_column, head.row() - 1, head.col()));
+        self.below.turn_to(beside(in_column, tail.row() + 1, head.col()));
+        self.left.turn_to(beside(in_row, head.row(), head.col() - 1));
+        self.right.turn_to(beside(in_row, head.row(), tail.col() + 1));
+    }
+
+    /// An edge at one of the sides that can be joined with an edge and doesn't hold the cell.
+    pub(crate) fn find<I: RangeIndex>(
+        &mut self,
+        store: &EdgeStore<I>,
+        edge: &Edge,
+        cell: Cell,
+    ) -> Option<(usize, Edge)>
+        ensures { FindsJoined store.now.slots edge.now cell result }
+    {
+        let above = self.above.find(store, edge, cell);
+        if above.is_some() {
+            return above;
+        }
+        let below = self.below.find(store, edge, cell);
+        if below.is_some() {
+            return below;
+        }
+        let left = self.left.find(store, edge, cell);
+        if left.is_some() {
+            return left;
+        }
+        self.right.find(store, edge, cell)
+    }
+
+    /// The same of what an edge has grown into, at the end at which it hasn't grown: what could be joined with the whole
+    /// at the other end could have been joined with the part that was there.
+    pub(crate) fn find_beyond<I: RangeIndex>(
+        &mut self,
+        store: &EdgeStore<I>,
+        edge: &Edge,
+        grown: &Edge,
+        cell: Cell,
+    ) -> Option<(usize, Edge)>
+        ensures { FindsJoined store.now.slots grown.now cell result }
+    {
+        let run = grown.dep();
+        let in_column = run.head().col() == run.tail().col();
+        if run.tail() == edge.dep().tail() {
+            self.find_after(in_column, store, grown, cell)
+        } else {
+            self.find_before(in_column, store, grown, cell)
+        }
+    }
+
+    fn find_after<I: RangeIndex>(
+        &mut self,
+        in_column: bool,
+        store: &EdgeStore<I>,
+        edge: &Edge,
+        cell: Cell,
+    ) -> Option<(usize, Edge)>
+        ensures { FindsJoined store.now.slots edge.now cell result }
+    {
+        if in_column {
+            self.below.find(store, edge, cell)
+        } else {
+            self.right.find(store, edge, cell)
+        }
+    }
+
+    fn find_before<I: RangeIndex>(
+        &mut self,
+        in_column: bool,
+        store: &EdgeStore<I>,
+        edge: &Edge,
+        cell: Cell,
+    ) -> Option<(usize, Edge)>
+        ensures { FindsJoined store.now.slots edge.now cell result }
+    {
+        if in_column {
+            self.above.find(store, edge, cell)
+        } else {
+            self.left.find(store, edge, cell)
+        }
+    }
 }

@@ -5,7 +5,7 @@ ghost use Rattle.taco_graph.specs.Pairs.{HaveFewPairs, StandFor};
 
 use crate::answers::Question;
 use crate::changes::{add_single, take_out};
-use crate::neighbours::keys_above;
+use crate::neighbours::Sides;
 use crate::order::sort_edges;
 use crate::store::EdgeStore;
 use edge_patterns::Edge;
@@ -28,7 +28,7 @@ pub struct Taco<I: RangeIndex> {
     store: EdgeStore<I>,
     // Where a change notes the keys of edges that it looks at.
     held: Vec<usize>,
-    near: Vec<usize>,
+    sides: Sides,
 }
 
 impl<I: RangeIndex> Model for Taco<I> {
@@ -58,7 +58,7 @@ impl<I: RangeIndex> Taco<I> {
         Taco {
             store: EdgeStore::new(alloc),
             held: Vec::new(alloc),
-            near: Vec::new(alloc),
+            sides: Sides::new(alloc),
         }
     }
 
@@ -76,11 +76,18 @@ impl<I: RangeIndex> Taco<I> {
     }
 }
 
+// Makes room for the keys of the edges that can hold one cell.
+fn reserve_lists(held: &mut Vec<usize>, sides: &mut Sides) -> Result<(), Memory> {
+    held.clear();
+    held.reserve(MOST_REFS as usize)?;
+    sides.reserve(MOST_REFS as usize)
+}
+
 impl<I: RangeIndex> Graph for Taco<I> {
-    ghost use Rattle.std.specs.Prelude.{OnOk};
+    ghost use Rattle.std.specs.Prelude.{◌≤◌, OnOk};
     ghost use Rattle.edge_patterns.specs.Queries.{IsDirect, IsReferred};
     ghost use Rattle.graph_walk.specs.Graphs.{AddsDirectDependents, AddsDirectPrecedents};
-    ghost use Rattle.graph_walk.specs.Graphs.{AddsAhead, AddsBehind, Keeps};
+    ghost use Rattle.graph_walk.specs.Graphs.{AddsAhead, AddsBehind, Keeps, SamePairs};
     ghost use Rattle.taco_graph.specs.Answers.{AddsOneEach, ahead_of, behind_of};
     ghost use Rattle.taco_graph.specs.Pairs.{pairs_of};
 
@@ -128,20 +135,22 @@ impl<I: RangeIndex> Graph for Taco<I> {
         self.store.ask(Question::Behind, q, out)
     }
 
-    fn reserve(&mut self, changes: u32) -> Result<(), Memory> {
+    fn reserve(&mut self, changes: u32) -> Result<(), Memory>
+        requires { changes ≤ 1048576 }
+        ensures room { OnOk result (changes ≤ self.new.spare) }
+        ensures keeps_room { self.old.spare ≤ self.new.spare }
+        ensures same { SamePairs (pairs_of self.old.edges) (pairs_of self.new.edges) }
+        ensures same_edges { self.new.edges ≡ self.old.edges }
+    {
         self.store.reserve(changes * MOST_EDGES)?;
-        self.held.clear();
-        self.held.reserve(MOST_REFS as usize)?;
-        self.near.clear();
-        self.near.reserve(4 * MOST_REFS as usize)?;
-        Ok(())
+        reserve_lists(&mut self.held, &mut self.sides)
     }
 
     fn replace(&mut self, cell: Cell, refs: &Refs) {
-        take_out(&mut self.store, &mut self.held, &mut self.near, cell);
-        keys_above(&self.store, &mut self.held, cell);
+        take_out(&mut self.store, &mut self.held, &mut self.sides, cell);
+        self.sides.turn_to(&Range::of(cell, cell));
         for range in refs.ranges() {
-            add_single(&mut self.store, &self.held, &mut self.near, cell, *range);
+            add_single(&mut self.store, &mut self.sides, cell, *range);
         }
     }
 }

@@ -8,8 +8,8 @@ change-requires-clause-there g c = is_there c.args.store.now.slots c.args.key c.
 pub change-requires-clause-apart : goal.change-requires-clause-apart
 change-requires-clause-apart g c = grown_apart c.args.store.now.slots c.args.key c.args.edge c.args.joined c.args.cell c.requires.joined c.requires.apart
 
-pub returns-else-is_some-clause-pairs : goal.returns-else-is_some-clause-pairs
-returns-else-is_some-clause-pairs g c = grown_pairs c.args.store.now.slots c.args.key c.args.edge c.args.joined c.args.cell c.requires.joined c.change.new.self.slots c.change.ensures.changed
+pub returns-clause-pairs : goal.returns-clause-pairs
+returns-clause-pairs g c = grown_pairs c.args.store.now.slots c.args.key c.args.edge c.args.joined c.args.cell c.requires.joined c.change.new.self.slots c.change.ensures.changed
 
-pub returns-else-is_some-clause-holders : goal.returns-else-is_some-clause-holders
-returns-else-is_some-clause-holders g c = grown_hold c.args.store.now.slots c.args.key c.args.edge c.args.joined c.args.cell c.requires.joined c.change.new.self.slots c.change.ensures.changed
+pub returns-clause-holders : goal.returns-clause-holders
+returns-clause-holders g c = grown_hold c.args.store.now.slots c.args.key c.args.edge c.args.joined c.args.cell c.requires.joined c.change.new.self.slots c.change.ensures.changed
