@@ -6,7 +6,7 @@ use Rattle.edge_patterns.specs.declared.axis.Axis.{Axis}
 use Rattle.edge_patterns.specs.declared.axis.Axis.TheVariants.{Down, Right}
 use Rattle.edge_patterns.specs.Axes.{along, across, IsLine, axis_of}
 use Rattle.edge_patterns.specs.Edges.{EdgeValue, IsEdge, IsPair, run_length, part_of}
-use Rattle.edge_patterns.specs.Joins.{Follows, AreNeighbours, HasBothPairs, IsWithin, CanBeJoined}
+use Rattle.edge_patterns.specs.Joins.{Follows, AreNeighbours, HasBothPairs, PairsAreOf, CanBeJoined}
 use Rattle.edge_patterns.specs.Indices.{StandsBetween}
 use Rattle.edge_patterns.proofs.Crossings.{Lies, lies, is_in, ordered, along_of}
 use Rattle.edge_patterns.proofs.PartLemmas.{part_pairs}
@@ -14,7 +14,7 @@ use Rattle.edge_patterns.proofs.PartShapes.{part_is_edge}
 use Rattle.edge_patterns.proofs.UnionLemmas.{run_has_ranges, one_range}
 
 -- the cells of a part's run are cells of the run
-run_within : (edge part : EdgeValue) → IsEdge edge → IsEdge part → IsWithin part edge → (cell : Position) → IsIn cell part.dep → IsIn cell edge.dep
+run_within : (edge part : EdgeValue) → IsEdge edge → IsEdge part → PairsAreOf part edge → (cell : Position) → IsIn cell part.dep → IsIn cell edge.dep
 run_within edge part edge_is part_is within cell inside =
     let has = (run_has_ranges part part_is cell).0 inside in (run_has_ranges edge edge_is cell).1 (has.0, within has.0 cell has.1)
 
@@ -25,12 +25,12 @@ last_in : (run : Corners) → IsOrdered run.head run.tail → IsIn run.tail run
 last_in run order = record { row_from = order.rows; row_to = omega arith; col_from = order.cols; col_to = omega arith }
 
 -- a pair of the edge whose cell lies in a part's run is a pair of the part
-pair_of_part : (edge part : EdgeValue) → IsEdge part → IsWithin part edge → (range : Corners) (cell : Position) → IsPair edge range cell → IsIn cell part.dep → IsPair part range cell
+pair_of_part : (edge part : EdgeValue) → IsEdge part → PairsAreOf part edge → (range : Corners) (cell : Position) → IsPair edge range cell → IsIn cell part.dep → IsPair part range cell
 pair_of_part edge part part_is within range cell pair inside =
     let has = (run_has_ranges part part_is cell).0 inside in
     subst (λ (r : Corners). IsPair part r cell) (one_range edge has.0 range cell (within has.0 cell has.1) pair) has.1
 
-module _ (edge a b : EdgeValue) (edge_is : IsEdge edge) (a_is : IsEdge a) (b_is : IsEdge b) (a_in : IsWithin a edge) (b_in : IsWithin b edge) (follows : Follows (axis_of edge.dep) a.dep b.dep) where
+module _ (edge a b : EdgeValue) (edge_is : IsEdge edge) (a_is : IsEdge a) (b_is : IsEdge b) (a_in : PairsAreOf a edge) (b_in : PairsAreOf b edge) (follows : Follows (axis_of edge.dep) a.dep b.dep) where
   abbrev axis : Axis
   axis = axis_of edge.dep
 
@@ -112,7 +112,7 @@ module _ (edge a b : EdgeValue) (edge_is : IsEdge edge) (a_is : IsEdge a) (b_is 
           (part_pairs edge edge_is from to in_order inside part range cell).1 (of_edge, stands range cell of_edge (omega (arith, c.from, follows.next, a_line)) c.to)
 
 -- the direction of two neighbours within an edge is the edge's
-axis_within : (axis : Axis) (edge a b : EdgeValue) → IsEdge edge → IsEdge a → IsEdge b → IsWithin a edge → IsWithin b edge → Follows axis a.dep b.dep → axis_of edge.dep ≡ axis
+axis_within : (axis : Axis) (edge a b : EdgeValue) → IsEdge edge → IsEdge a → IsEdge b → PairsAreOf a edge → PairsAreOf b edge → Follows axis a.dep b.dep → axis_of edge.dep ≡ axis
 axis_within axis edge a b edge_is a_is b_is a_in b_in follows =
     by_axis (axis_of edge.dep) axis edge_is.line
     (lies (axis_of edge.dep) a.dep.tail edge.dep (run_within edge a edge_is a_is a_in a.dep.tail (last_in a.dep a_is.dep.ordered)))
@@ -125,25 +125,28 @@ axis_within axis edge a b edge_is a_is b_is a_in b_in follows =
     by_axis Right Down line one two next = absurd (omega (arith, line, one.left, one.right, two.left, two.right, next))
 
 -- so they can be joined
-pub joins_before : (axis : Axis) (edge a b : EdgeValue) → IsEdge edge → IsEdge a → IsEdge b → IsWithin a edge → IsWithin b edge → Follows axis a.dep b.dep → CanBeJoined a b
+pub joins_before : (axis : Axis) (edge a b : EdgeValue) → IsEdge edge → IsEdge a → IsEdge b → PairsAreOf a edge → PairsAreOf b edge → Follows axis a.dep b.dep → CanBeJoined a b
 joins_before axis edge a b edge_is a_is b_is a_in b_in follows =
     let own = subst (λ (x : Axis). Follows x a.dep b.dep) (sym (axis_within axis edge a b edge_is a_is b_is a_in b_in follows)) follows in
     (part_of edge _ _, record { neighbours = (axis, inl follows); union = both edge a b edge_is a_is b_is a_in b_in own })
 
 -- the order of two edges doesn't matter
 pub joins_flipped : (a b : EdgeValue) → CanBeJoined a b → CanBeJoined b a
-joins_flipped a b (joined, join) = (joined, record {
-  neighbours = (join.neighbours.0, elim join.neighbours.1 [ inl after ↦ inr after | inr before ↦ inl before ]);
-  union = record {
-    is_edge = join.union.is_edge;
-    pairs = λ range cell. (
-      λ pair. elim ((join.union.pairs range cell).0 pair) [ inl of_a ↦ inr of_a | inr of_b ↦ inl of_b ],
-      λ either. elim either [ inl of_b ↦ (join.union.pairs range cell).1 (inr of_b) | inr of_a ↦ (join.union.pairs range cell).1 (inl of_a) ],
-    );
-  };
-})
+joins_flipped a b (joined, join) = (
+  joined,
+  record {
+    neighbours = (join.neighbours.0, elim join.neighbours.1 [ inl after ↦ inr after | inr before ↦ inl before ]);
+    union = record {
+      is_edge = join.union.is_edge;
+      pairs = λ range cell. (
+        λ pair. elim ((join.union.pairs range cell).0 pair) [ inl of_a ↦ inr of_a | inr of_b ↦ inl of_b ],
+        λ either. elim either [ inl of_b ↦ (join.union.pairs range cell).1 (inr of_b) | inr of_a ↦ (join.union.pairs range cell).1 (inl of_a) ],
+      );
+    };
+  },
+)
 
 -- two neighbours within one edge can be joined
-pub joins_within : (edge a b : EdgeValue) → IsEdge edge → IsEdge a → IsEdge b → IsWithin a edge → IsWithin b edge → AreNeighbours a.dep b.dep → CanBeJoined a b
+pub joins_within : (edge a b : EdgeValue) → IsEdge edge → IsEdge a → IsEdge b → PairsAreOf a edge → PairsAreOf b edge → AreNeighbours a.dep b.dep → CanBeJoined a b
 joins_within edge a b edge_is a_is b_is a_in b_in (axis, inl follows) = joins_before axis edge a b edge_is a_is b_is a_in b_in follows
 joins_within edge a b edge_is a_is b_is a_in b_in (axis, inr follows) = joins_flipped b a (joins_before axis edge b a edge_is b_is a_is b_in a_in follows)

@@ -32,8 +32,8 @@ abbrev pub CanBeJoined : EdgeValue → EdgeValue → Type 0
 CanBeJoined a b = (joined : EdgeValue) × IsJoin a b joined
 
 -- the pairs of an edge are pairs of another
-abbrev pub IsWithin : EdgeValue → EdgeValue → Type 0
-IsWithin part edge = (range : Corners) (cell : Position) → IsPair part range cell → IsPair edge range cell
+abbrev pub PairsAreOf : EdgeValue → EdgeValue → Type 0
+PairsAreOf part edge = (range : Corners) (cell : Position) → IsPair part range cell → IsPair edge range cell
 
 -- an edge with this run whose first and last cells have these ranges
 pub record HasEnds (axis : Axis) (dep first last : Corners) (edge : EdgeValue) : Type 0 where

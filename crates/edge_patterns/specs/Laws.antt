@@ -6,7 +6,7 @@ use Rattle.edge_patterns.specs.declared.axis.Axis.{Axis}
 use Rattle.edge_patterns.specs.declared.edge.Pattern.TheVariants.{Single, Chain}
 use Rattle.edge_patterns.specs.Axes.{along, across, axis_of}
 use Rattle.edge_patterns.specs.Edges.{EdgeValue, IsEdge, IsPair, single_edge}
-use Rattle.edge_patterns.specs.Joins.{AreNeighbours, HasBothPairs, CanBeJoined, IsWithin}
+use Rattle.edge_patterns.specs.Joins.{AreNeighbours, HasBothPairs, CanBeJoined, PairsAreOf}
 use Rattle.edge_patterns.specs.Queries.{IsReferred}
 
 -- a cell has one range
@@ -70,4 +70,4 @@ UnionsAreOne = (a b joined other : EdgeValue) → HasBothPairs a b joined → Ha
 -- two edges with pairs of one edge can be joined where their runs are neighbours
 abbrev pub PartsCanBeJoined : Type 0
 PartsCanBeJoined =
-    (edge a b : EdgeValue) → IsEdge edge → IsEdge a → IsEdge b → IsWithin a edge → IsWithin b edge → AreNeighbours a.dep b.dep → CanBeJoined a b
+    (edge a b : EdgeValue) → IsEdge edge → IsEdge a → IsEdge b → PairsAreOf a edge → PairsAreOf b edge → AreNeighbours a.dep b.dep → CanBeJoined a b

@@ -62,8 +62,7 @@ module _ (old : List (Option EdgeValue)) (key : ℕ) (edge joined : EdgeValue) (
     pub grown_pairs : GainsPairs old new edge
     grown_pairs range at =
         let wide = widened old new key union.other joined union.here other_within puts range at in
-        let both = union.join.union.pairs range at in
-        (
+        let both = union.join.union.pairs range at in (
           λ kept. elim (wide.0 kept) [
             | inl of_joined ↦ elim (both.0 of_joined) [ inl of_edge ↦ inl of_edge | inr of_other ↦ inr (kept_other range at of_other) ]
             | inr was ↦ inr was
@@ -83,8 +82,8 @@ module _ (old : List (Option EdgeValue)) (key : ℕ) (edge joined : EdgeValue) (
   -- ---- and over a third edge, which is taken out
 
   module _ (mid : List (Option EdgeValue)) (beyond : ℕ) (last : EdgeValue) (second : IsJoinedAt old beyond joined cell last) (gone : PutsEdge old mid beyond None) where
-    differ : key ≢ beyond
-    differ same =
+    pub across_differ : key ≢ beyond
+    across_differ same =
         let is : second.other ≡ union.other = same_Some second.other union.other (sym second.here ∙ (ap (edge_at old) (sym same) ∙ union.here)) in
         let (range, pair) = first_pair union.other union.is_edge in
         let inside = (run_has_ranges union.other union.is_edge union.other.dep.head).1 (range, pair) in
@@ -92,7 +91,7 @@ module _ (old : List (Option EdgeValue)) (key : ℕ) (edge joined : EdgeValue) (
         no_shared joined.dep union.other.dep union.other.dep.head (subst (λ (e : EdgeValue). AreNeighbours joined.dep e.dep) is second.join.neighbours) in_joined inside
 
     still : edge_at mid key ≡ Some union.other
-    still = gone.others key differ ∙ union.here
+    still = gone.others key across_differ ∙ union.here
 
     pub across_there : IsSome (edge_at mid key)
     across_there = is_there mid key union.other still

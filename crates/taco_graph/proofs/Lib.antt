@@ -4,7 +4,9 @@ mod ChangeLemmas
 mod EdgeListLemmas
 mod GraphLemmas
 mod GrowthLemmas
+mod JoinableLemmas
 mod ReplaceLemmas
+mod SideLemmas
 mod StoreLemmas
 pub mod LawLemmas
 pub mod ListLemmas

@@ -1,5 +1,5 @@
 -- How a change moves edges and their pairs.
-use Rattle.std.specs.Prelude.{◌≡◌, ◌≢◌, ◌↔◌, ◌⊎◌, ℕ, ◌+◌, ◌*◌, ◌≤◌, List, Option, Some, IfSome, length, Contains}
+use Rattle.std.specs.Prelude.{◌≡◌, ◌≢◌, ◌↔◌, ◌⊎◌, ℕ, ◌+◌, ◌*◌, ◌≤◌, List, Option, Some, MatchOption, length, Contains}
 use Rattle.sheet_refs.specs.Cells.{Position, Corners}
 use Rattle.edge_patterns.specs.Edges.{EdgeValue, IsEdge, IsPair}
 use Rattle.edge_patterns.specs.Joins.{IsJoin, HasPair}
@@ -8,6 +8,10 @@ use Rattle.taco_graph.specs.Stores.{edge_at, IsKeptPair}
 -- an edge has no pair of the cell
 abbrev pub LacksCell : EdgeValue → Position → Type 0
 LacksCell edge cell = (range : Corners) → ¬ IsPair edge range cell
+
+-- it has one
+abbrev pub HoldsCell : EdgeValue → Position → Type 0
+HoldsCell edge cell = (range : Corners) × IsPair edge range cell
 
 -- no edge that is kept has a pair of the cell
 abbrev pub LackCell : List (Option EdgeValue) → Position → Type 0
@@ -26,13 +30,13 @@ pub record IsJoinedAt (slots : List (Option EdgeValue)) (key : ℕ) (edge : Edge
   pub lacks : LacksCell other cell
   pub join : IsJoin edge other joined
 
--- if anything is found, it is a key and what an edge becomes with the one under it
-abbrev pub FindsJoined : List (Option EdgeValue) → EdgeValue → Position → Option (ℕ × EdgeValue) → Type 0
-FindsJoined slots edge cell found = IfSome found (λ (f : ℕ × EdgeValue). IsJoinedAt slots f.0 edge cell f.1)
+-- what is found is a key and what an edge becomes with the one under it; where nothing is found, this is so
+abbrev pub FindsJoined : List (Option EdgeValue) → EdgeValue → Position → Option (ℕ × EdgeValue) → Type 0 → Type 0
+FindsJoined slots edge cell found Nothing = MatchOption found Nothing (λ (f : ℕ × EdgeValue). IsJoinedAt slots f.0 edge cell f.1)
 
 -- the same with the key's place in a list first
-abbrev pub FindsPlace : List (Option EdgeValue) → EdgeValue → Position → Option (ℕ × ℕ × EdgeValue) → Type 0
-FindsPlace slots edge cell found = IfSome found (λ (f : ℕ × ℕ × EdgeValue). IsJoinedAt slots f.1 edge cell f.2)
+abbrev pub FindsPlace : List (Option EdgeValue) → EdgeValue → Position → Option (ℕ × ℕ × EdgeValue) → Type 0 → Type 0
+FindsPlace slots edge cell found Nothing = MatchOption found Nothing (λ (f : ℕ × ℕ × EdgeValue). IsJoinedAt slots f.1 edge cell f.2)
 
 -- each edge that has a pair of the cell was there before
 abbrev pub HoldNoMore : List (Option EdgeValue) → List (Option EdgeValue) → Position → Type 0

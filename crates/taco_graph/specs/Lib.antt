@@ -1,7 +1,9 @@
 pub mod Answers
 pub mod Changes
+pub mod Joinable
 pub mod Laws
 pub mod Order
 pub mod Pairs
+pub mod Sides
 pub mod Stores
 pub mod Taco

@@ -1,11 +1,15 @@
 // How edges are taken out and put back.
 ghost use Rattle.std.specs.Prelude.{◌≡◌, ◌+◌, ◌≤◌};
-ghost use Rattle.edge_patterns.specs.Edges.{single_edge};
-ghost use Rattle.taco_graph.specs.Stores.{IsApart};
-ghost use Rattle.taco_graph.specs.Changes.{LacksCell, LackCell, GainsPairs, IsJoinedAt};
+ghost use Rattle.sheet_refs.specs.Cells.{span_of};
+ghost use Rattle.edge_patterns.specs.Edges.{IsEdge, single_edge};
+ghost use Rattle.taco_graph.specs.Stores.{IsApart, AreEdges};
+ghost use Rattle.taco_graph.specs.Changes.{LacksCell, HoldsCell, LackCell, GainsPairs, IsJoinedAt};
 ghost use Rattle.taco_graph.specs.Changes.{HoldNoMore, HoldElsewhere, KeepsOthers, HoldersAreAmong};
 ghost use Rattle.taco_graph.specs.Changes.{HasRoomForParts, KeepsRoomForParts};
 ghost use Rattle.taco_graph.specs.Changes.{IsPartApart, GainsPartPairs, PartLacksCell};
+ghost use Rattle.taco_graph.specs.Joinable.{KeptAreJoined, OthersAreJoined, AddsJoined};
+ghost use Rattle.taco_graph.specs.Joinable.{CantJoinAny, CantJoinBeyond};
+ghost use Rattle.taco_graph.specs.Sides.{NameBeside, AreRound};
 
 use crate::neighbours::Sides;
 use crate::store::EdgeStore;
@@ -13,10 +17,19 @@ use edge_patterns::{Edge, split};
 use range_index::RangeIndex;
 use sheet_refs::{Cell, Range};
 
+// Tells the proofs around it that an edge is one of the table of patterns; it does nothing.
+fn check_edge(edge: &Edge)
+    ensures { IsEdge edge.now }
+{
+    let _ = edge.dep();
+}
+
 // Adds an edge that isn't joined.
 fn add_alone<I: RangeIndex>(store: &mut EdgeStore<I>, edge: Edge, cell: Cell)
     requires apart { IsApart store.old.slots edge }
+    requires none { CantJoinAny store.old.slots edge cell }
     requires room { 1 ≤ store.old.room }
+    ensures joined { AddsJoined store.old.slots store.new.slots edge cell }
     ensures pairs { GainsPairs store.old.slots store.new.slots edge }
     ensures holders { LacksCell edge cell → HoldNoMore store.old.slots store.new.slots cell }
     ensures room { store.old.room ≤ store.new.room + 1 }
@@ -25,16 +38,15 @@ fn add_alone<I: RangeIndex>(store: &mut EdgeStore<I>, edge: Edge, cell: Cell)
 }
 
 // Adds an edge that can be joined with the one under a key: that one grows in its place.
-fn grow<I: RangeIndex>(
-    store: &mut EdgeStore<I>,
-    edge: Edge,
-    key: usize,
-    joined: Edge,
-    cell: Cell,
-)
+fn grow<I: RangeIndex>(store: &mut EdgeStore<I>, edge: Edge, key: usize, joined: Edge, cell: Cell)
     requires apart { IsApart store.old.slots edge }
     requires joined { IsJoinedAt store.old.slots key edge cell joined }
+    requires beyond { CantJoinBeyond store.old.slots edge joined cell }
+    requires others { OthersAreJoined store.old.slots cell }
+    requires edges { AreEdges store.old.slots }
+    requires is_edge { IsEdge edge }
     requires room { 1 ≤ store.old.room }
+    ensures joined { AddsJoined store.old.slots store.new.slots edge cell }
     ensures pairs { GainsPairs store.old.slots store.new.slots edge }
     ensures holders { LacksCell edge cell → HoldNoMore store.old.slots store.new.slots cell }
     ensures room { store.old.room ≤ store.new.room + 1 }
@@ -56,7 +68,11 @@ fn grow_across<I: RangeIndex>(
     requires apart { IsApart store.old.slots edge }
     requires joined { IsJoinedAt store.old.slots key edge cell joined }
     requires last { IsJoinedAt store.old.slots beyond joined cell last }
+    requires others { OthersAreJoined store.old.slots cell }
+    requires edges { AreEdges store.old.slots }
+    requires is_edge { IsEdge edge }
     requires room { 1 ≤ store.old.room }
+    ensures joined { AddsJoined store.old.slots store.new.slots edge cell }
     ensures pairs { GainsPairs store.old.slots store.new.slots edge }
     ensures holders { LacksCell edge cell → HoldNoMore store.old.slots store.new.slots cell }
     ensures room { store.old.room ≤ store.new.room + 1 }
@@ -74,11 +90,19 @@ pub(crate) fn add<I: RangeIndex>(
     cell: Cell,
 )
     requires apart { IsApart store.old.slots edge }
+    requires others { OthersAreJoined store.old.slots cell }
+    requires names { NameBeside store.old.slots cell sides.old }
+    requires round { AreRound edge.dep sides.old }
     requires room { 1 ≤ store.old.room }
+    ensures joined { AddsJoined store.old.slots store.new.slots edge cell }
+    ensures names { HoldsCell edge cell → NameBeside store.new.slots cell sides.new }
+    ensures round { AreRound edge.dep sides.new }
     ensures pairs { GainsPairs store.old.slots store.new.slots edge }
     ensures holders { LacksCell edge cell → HoldNoMore store.old.slots store.new.slots cell }
     ensures room { store.old.room ≤ store.new.room + 1 }
 {
+    store.check_edges();
+    check_edge(&edge);
     let Some(found) = sides.find(store, &edge, cell) else {
         add_alone(store, edge, cell);
         return;
@@ -98,12 +122,19 @@ pub(crate) fn add_single<I: RangeIndex>(
     range: Range,
 )
     requires apart { IsApart store.old.slots (single_edge cell range) }
+    requires joined { KeptAreJoined store.old.slots }
+    requires names { NameBeside store.old.slots cell sides.old }
+    requires round { AreRound (span_of cell cell) sides.old }
     requires room { 1 ≤ store.old.room }
+    ensures joined { KeptAreJoined store.new.slots }
+    ensures names { NameBeside store.new.slots cell sides.new }
+    ensures round { AreRound (span_of cell cell) sides.new }
     ensures pairs { GainsPairs store.old.slots store.new.slots (single_edge cell range) }
     ensures room { store.old.room ≤ store.new.room + 1 }
 {
     let edge = Edge::single(cell, range);
     add(store, sides, edge, cell);
+    store.check_edges();
 }
 
 // Adds a part that is left of an edge, if there is one.
@@ -114,7 +145,9 @@ fn add_part<I: RangeIndex>(
     cell: Cell,
 )
     requires apart { IsPartApart store.old.slots part }
+    requires others { OthersAreJoined store.old.slots cell }
     requires room { 1 ≤ store.old.room }
+    ensures others { OthersAreJoined store.new.slots cell }
     ensures pairs { GainsPartPairs store.old.slots store.new.slots part }
     ensures holders { PartLacksCell part cell → HoldNoMore store.old.slots store.new.slots cell }
     ensures room { store.old.room ≤ store.new.room + 1 }
@@ -127,13 +160,10 @@ fn add_part<I: RangeIndex>(
 }
 
 // Takes the cell out of the edge under a key, if that one holds it.
-fn take_out_at<I: RangeIndex>(
-    store: &mut EdgeStore<I>,
-    sides: &mut Sides,
-    key: usize,
-    cell: Cell,
-)
+fn take_out_at<I: RangeIndex>(store: &mut EdgeStore<I>, sides: &mut Sides, key: usize, cell: Cell)
+    requires joined { OthersAreJoined store.old.slots cell }
     requires room { HasRoomForParts store.old.slots cell 0 store.old.room }
+    ensures joined { OthersAreJoined store.new.slots cell }
     ensures holders { HoldElsewhere store.old.slots store.new.slots cell key }
     ensures others { KeepsOthers store.old.slots store.new.slots cell }
     ensures room { KeepsRoomForParts store.old.slots store.new.slots cell
@@ -159,7 +189,9 @@ fn take_out_listed<I: RangeIndex>(
     cell: Cell,
 )
     requires all { HoldersAreAmong store.old.slots cell held.now }
+    requires joined { OthersAreJoined store.old.slots cell }
     requires room { HasRoomForParts store.old.slots cell 0 store.old.room }
+    ensures joined { OthersAreJoined store.new.slots cell }
     ensures gone { LackCell store.new.slots cell }
     ensures others { KeepsOthers store.old.slots store.new.slots cell }
     ensures room { KeepsRoomForParts store.old.slots store.new.slots cell
@@ -172,7 +204,9 @@ fn take_out_listed<I: RangeIndex>(
 
 // Takes the cell out of all edges, each of which it looks at.
 fn take_out_of_all<I: RangeIndex>(store: &mut EdgeStore<I>, sides: &mut Sides, cell: Cell)
+    requires joined { OthersAreJoined store.old.slots cell }
     requires room { HasRoomForParts store.old.slots cell 0 store.old.room }
+    ensures joined { OthersAreJoined store.new.slots cell }
     ensures gone { LackCell store.new.slots cell }
     ensures others { KeepsOthers store.old.slots store.new.slots cell }
     ensures room { KeepsRoomForParts store.old.slots store.new.slots cell
@@ -191,7 +225,9 @@ pub(crate) fn take_out<I: RangeIndex>(
     sides: &mut Sides,
     cell: Cell,
 )
+    requires joined { OthersAreJoined store.old.slots cell }
     requires room { HasRoomForParts store.old.slots cell 0 store.old.room }
+    ensures joined { OthersAreJoined store.new.slots cell }
     ensures gone { LackCell store.new.slots cell }
     ensures others { KeepsOthers store.old.slots store.new.slots cell }
     ensures room { KeepsRoomForParts store.old.slots store.new.slots cell

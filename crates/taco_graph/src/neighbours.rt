@@ -1,6 +1,12 @@
 // Which edges beside an edge can be joined with it.
-ghost use Rattle.std.specs.Prelude.{IfSome};
+ghost use Rattle.std.specs.Prelude.{◌≡◌, Some, true, List, Option, MatchOption};
+ghost use Rattle.sheet_refs.specs.Cells.{Position, IsNamed};
+ghost use Rattle.edge_patterns.specs.Edges.{EdgeValue};
 ghost use Rattle.taco_graph.specs.Changes.{FindsJoined, FindsPlace, IsJoinedAt};
+ghost use Rattle.taco_graph.specs.Joinable.{CantJoinAt, CantJoinAny, CantJoinBeyond};
+ghost use Rattle.taco_graph.specs.Sides.{CantJoinBetween, CantJoinListed, CantJoinBeside};
+ghost use Rattle.taco_graph.specs.Sides.{NamesBeside, NameBeside, AreRound, StandAsBefore};
+ghost use Rattle.taco_graph.specs.Sides.{cell_after, cell_before};
 
 use crate::store::EdgeStore;
 use edge_patterns::{Edge, join};
@@ -15,7 +21,8 @@ fn joined_at<I: RangeIndex>(
     edge: &Edge,
     cell: Cell,
 ) -> Option<Edge>
-    ensures { IfSome result (IsJoinedAt store.now.slots key edge.now cell) }
+    ensures { MatchOption result (CantJoinAt store.now.slots key edge.now cell)
+        (IsJoinedAt store.now.slots key edge.now cell) }
 {
     let Some(other) = store.get(key) else {
         return None;
@@ -27,7 +34,7 @@ fn joined_at<I: RangeIndex>(
 }
 
 // The first of some places of a list at which the key of an edge stands that can be joined with an edge and doesn't
-// hold the cell, with that key and the edge that has the pairs of both.
+// hold the cell, with that key and the edge that has the pairs of both; None where there is none.
 fn joined_between<I: RangeIndex>(
     store: &EdgeStore<I>,
     keys: &[usize],
@@ -36,7 +43,8 @@ fn joined_between<I: RangeIndex>(
     edge: &Edge,
     cell: Cell,
 ) -> Option<(usize, usize, Edge)>
-    ensures { FindsPlace store.now.slots edge.now cell result }
+    ensures { FindsPlace store.now.slots edge.now cell result
+        (CantJoinBetween store.now.slots keys.now from end edge.now cell) }
 {
     for place in from..end {
         let Some(key) = keys.get(place) else {
@@ -56,7 +64,8 @@ fn joined_of_all<I: RangeIndex>(
     edge: &Edge,
     cell: Cell,
 ) -> Option<(usize, Edge)>
-    ensures { FindsJoined store.now.slots edge.now cell result }
+    ensures { FindsJoined store.now.slots edge.now cell result
+        (CantJoinAny store.now.slots edge.now cell) }
 {
     for key in 0..store.end() {
         if let Some(joined) = joined_at(store, key, edge, cell) {
@@ -101,13 +110,23 @@ impl Side {
     }
 
     // Turns to the side of a run that has this cell.
-    fn turn_to(&mut self, beside: Option<Cell>) {
+    fn turn_to(&mut self, beside: Option<Cell>)
+        ensures beside { self.new.beside ≡ beside }
+        ensures names { (slots : List (Option EdgeValue)) (cell : Position) →
+            NamesBeside slots cell self.new }
+    {
         self.beside = beside;
         self.asked = false;
     }
 
     // Asks for the keys, where they haven't been asked for.
-    fn ask<I: RangeIndex>(&mut self, store: &EdgeStore<I>, beside: Cell) {
+    fn ask<I: RangeIndex>(&mut self, store: &EdgeStore<I>, beside: Cell)
+        requires { self.old.beside ≡ Some beside }
+        ensures asked { self.new.asked ≡ true }
+        ensures beside { self.new.beside ≡ self.old.beside }
+        ensures names { (cell : Position) → NamesBeside store.now.slots cell self.old →
+            NamesBeside store.now.slots cell self.new }
+    {
         if self.asked {
             return;
         }
@@ -127,7 +146,8 @@ impl Side {
         edge: &Edge,
         cell: Cell,
     ) -> Option<(usize, usize, Edge)>
-        ensures { FindsPlace store.now.slots edge.now cell result }
+        ensures { FindsPlace store.now.slots edge.now cell result
+            (CantJoinListed store.now.slots self.now.keys.items edge.now cell) }
     {
         let onward = joined_between(store, &self.keys, self.next, self.keys.len(), edge, cell);
         if onward.is_some() {
@@ -143,7 +163,11 @@ impl Side {
         edge: &Edge,
         cell: Cell,
     ) -> Option<(usize, Edge)>
-        ensures { FindsJoined store.now.slots edge.now cell result }
+        ensures found { FindsJoined store.now.slots edge.now cell result
+            (CantJoinListed store.now.slots self.old.keys.items edge.now cell) }
+        ensures beside { self.new.beside ≡ self.old.beside }
+        ensures names { NamesBeside store.now.slots cell self.old →
+            NamesBeside store.now.slots cell self.new }
     {
         let Some((place, key, joined)) = self.find_listed(store, edge, cell) else {
             return None;
@@ -160,7 +184,11 @@ impl Side {
         edge: &Edge,
         cell: Cell,
     ) -> Option<(usize, Edge)>
-        ensures { FindsJoined store.now.slots edge.now cell result }
+        requires { NamesBeside store.now.slots cell self.old }
+        ensures found { FindsJoined store.now.slots edge.now cell result
+            (CantJoinBeside store.now.slots self.old.beside edge.now cell) }
+        ensures beside { self.new.beside ≡ self.old.beside }
+        ensures names { NamesBeside store.now.slots cell self.new }
     {
         let Some(beside) = self.beside else {
             return None;
@@ -183,7 +211,9 @@ pub(crate) struct Sides {
 }
 
 // A cell beside a run, if the run has a side there.
-fn beside(has_side: bool, row: u32, col: u32) -> Option<Cell> {
+fn beside(has_side: bool, row: u32, col: u32) -> Option<Cell>
+    ensures { has_side ≡ true → IsNamed row col → result ≡ Some (record { row = row; col = col }) }
+{
     if !has_side {
         return None;
     }
@@ -211,14 +241,22 @@ impl Sides {
 
     /// Turns to the sides of a run: above and below it where it stands in one column, left and right of it where it
     /// stands in one row.
-    pub(crate) fn turn_to(&mut self, run: &Range) {
+    pub(crate) fn turn_to(&mut self, run: &Range)
+        ensures round { AreRound run.now self.new }
+        ensures names { (slots : List (Option EdgeValue)) (cell : Position) →
+            NameBeside slots cell self.new }
+    {
         let (head, tail) = (run.head(), run.tail());
         let in_column = head.col() == tail.col();
         let in_row = head.row() == tail.row();
-        self.above.turn_to(beside(in_column, head.row() - 1, head.col()));
-        self.below.turn_to(beside(in_column, tail.row() + 1, head.col()));
-        self.left.turn_to(beside(in_row, head.row(), head.col() - 1));
-        self.right.turn_to(beside(in_row, head.row(), tail.col() + 1));
+        self.above
+            .turn_to(beside(in_column, head.row() - 1, head.col()));
+        self.below
+            .turn_to(beside(in_column, tail.row() + 1, head.col()));
+        self.left
+            .turn_to(beside(in_row, head.row(), head.col() - 1));
+        self.right
+            .turn_to(beside(in_row, head.row(), tail.col() + 1));
     }
 
     /// An edge at one of the sides that can be joined with an edge and doesn't hold the cell.
@@ -228,8 +266,14 @@ impl Sides {
         edge: &Edge,
         cell: Cell,
     ) -> Option<(usize, Edge)>
-        ensures { FindsJoined store.now.slots edge.now cell result }
+        requires names { NameBeside store.now.slots cell self.old }
+        requires round { AreRound edge.now.dep self.old }
+        ensures found { FindsJoined store.now.slots edge.now cell result
+            (CantJoinAny store.now.slots edge.now cell) }
+        ensures names { NameBeside store.now.slots cell self.new }
+        ensures same { StandAsBefore self.old self.new }
     {
+        store.check_edges();
         let above = self.above.find(store, edge, cell);
         if above.is_some() {
             return above;
@@ -254,8 +298,14 @@ impl Sides {
         grown: &Edge,
         cell: Cell,
     ) -> Option<(usize, Edge)>
-        ensures { FindsJoined store.now.slots grown.now cell result }
+        requires names { NameBeside store.now.slots cell self.old }
+        requires round { AreRound edge.now.dep self.old }
+        ensures found { FindsJoined store.now.slots grown.now cell result
+            (CantJoinBeyond store.now.slots edge.now grown.now cell) }
+        ensures names { NameBeside store.now.slots cell self.new }
+        ensures same { StandAsBefore self.old self.new }
     {
+        store.check_edges();
         let run = grown.dep();
         let in_column = run.head().col() == run.tail().col();
         if run.tail() == edge.dep().tail() {
@@ -265,6 +315,7 @@ impl Sides {
         }
     }
 
+    // At the side behind a run.
     fn find_after<I: RangeIndex>(
         &mut self,
         in_column: bool,
@@ -272,7 +323,11 @@ impl Sides {
         edge: &Edge,
         cell: Cell,
     ) -> Option<(usize, Edge)>
-        ensures { FindsJoined store.now.slots edge.now cell result }
+        requires { NameBeside store.now.slots cell self.old }
+        ensures found { FindsJoined store.now.slots edge.now cell result
+            (CantJoinBeside store.now.slots (cell_after self.old in_column) edge.now cell) }
+        ensures names { NameBeside store.now.slots cell self.new }
+        ensures same { StandAsBefore self.old self.new }
     {
         if in_column {
             self.below.find(store, edge, cell)
@@ -281,6 +336,7 @@ impl Sides {
         }
     }
 
+    // At the side before a run.
     fn find_before<I: RangeIndex>(
         &mut self,
         in_column: bool,
@@ -288,7 +344,11 @@ impl Sides {
         edge: &Edge,
         cell: Cell,
     ) -> Option<(usize, Edge)>
-        ensures { FindsJoined store.now.slots edge.now cell result }
+        requires { NameBeside store.now.slots cell self.old }
+        ensures found { FindsJoined store.now.slots edge.now cell result
+            (CantJoinBeside store.now.slots (cell_before self.old in_column) edge.now cell) }
+        ensures names { NameBeside store.now.slots cell self.new }
+        ensures same { StandAsBefore self.old self.new }
     {
         if in_column {
             self.above.find(store, edge, cell)

@@ -120,6 +120,13 @@ impl<I: RangeIndex> EdgeStore<I> {
         self.edges.capacity()
     }
 
+    /// Tells the proofs around it that what is kept are edges; it does nothing.
+    pub(crate) fn check_edges(&self)
+        ensures { AreEdges self.now.slots }
+    {
+        let _ = &self.edges;
+    }
+
     /// Adds the keys of the edges whose runs overlap a query to a list.
     pub(crate) fn keys_by_run(&self, q: Range, keys: &mut Vec<usize>) -> Result<(), Memory>
         ensures named { OnOk result (NamesOverlapping self.now.slots q keys.new.items) }

@@ -1,5 +1,6 @@
 ghost use Rattle.std.specs.Prelude.{◌≡◌, [], IfOk};
 ghost use Rattle.std.specs.List.Sorted.{IsPermutation};
+ghost use Rattle.taco_graph.specs.Joinable.{NoneJoins};
 ghost use Rattle.taco_graph.specs.Order.{AreInOrder};
 ghost use Rattle.taco_graph.specs.Pairs.{HaveFewPairs, StandFor};
 
@@ -34,7 +35,7 @@ pub struct Taco<I: RangeIndex> {
 impl<I: RangeIndex> Model for Taco<I> {
     ghost use Rattle.std.specs.Prelude.{◌/◌};
     ghost use Rattle.taco_graph.specs.Stores.{edges_of};
-    ghost use Rattle.taco_graph.specs.Changes.{EachHasAtMost};
+    ghost use Rattle.taco_graph.specs.Joinable.{AreCompressed};
     ghost use Rattle.taco_graph.specs.Taco.{TacoValue};
 
     ghost Value = { TacoValue };
@@ -44,8 +45,8 @@ impl<I: RangeIndex> Model for Taco<I> {
       spare = t.store.room / 765;
     } };
 
-    // Each cell has at most 255 ranges, so that a change has room for what it puts back.
-    ghost invariant = { λ t. EachHasAtMost t.store.slots 255 };
+    // No two edges can be joined, and each cell has at most 255 ranges, so that a change has room for what it puts back.
+    ghost invariant = { λ t. AreCompressed t.store.slots 255 };
 }
 
 impl<I: RangeIndex> Taco<I> {
@@ -63,12 +64,17 @@ impl<I: RangeIndex> Taco<I> {
     }
 
     /// All edges, each once and no pair in two of them, in order: by the head and then the tail of the run, by
-    /// those of the rectangle, and by the pattern; cells stand by column and then by row.
+    /// those of the rectangle, and by the pattern; cells stand by column and then by row. No two of the edges can be
+    /// joined, whatever changes came before.
     pub fn edges(&self) -> Result<Vec<Edge>, Memory>
         ensures all { IfOk result (λ edges. IsPermutation self.now.edges edges.items) }
         ensures order { IfOk result (λ edges. AreInOrder edges.items) }
-        ensures stand { IfOk result (λ edges. StandFor edges.items (pairs_of self.now.edges)) }
         ensures few { IfOk result (λ edges. HaveFewPairs edges.items) }
+        ensures stand { StandFor self.now.edges (pairs_of self.now.edges) }
+        ensures joined { NoneJoins self.now.edges }
+        ensures listed_stand { IfOk result
+            (λ edges. StandFor edges.items (pairs_of self.now.edges)) }
+        ensures listed_joined { IfOk result (λ edges. NoneJoins edges.items) }
     {
         let mut edges = self.store.edges()?;
         sort_edges(&mut edges)?;

@@ -1,5 +1,6 @@
 use Rattle.taco_graph.proofs.ChangeLemmas.{is_there}
 use Rattle.taco_graph.proofs.GrowthLemmas.{grown_apart, grown_hold, grown_pairs}
+use Rattle.taco_graph.proofs.JoinableLemmas.{adds_grown}
 use Rattle.taco_graph.proofs.changes.grow.Goals as goal
 
 pub change-requires-clause-there : goal.change-requires-clause-there
@@ -13,3 +14,8 @@ returns-clause-pairs g c = grown_pairs c.args.store.now.slots c.args.key c.args.
 
 pub returns-clause-holders : goal.returns-clause-holders
 returns-clause-holders g c = grown_hold c.args.store.now.slots c.args.key c.args.edge c.args.joined c.args.cell c.requires.joined c.change.new.self.slots c.change.ensures.changed
+
+pub returns-clause-joined : goal.returns-clause-joined
+returns-clause-joined g c =
+    adds_grown c.args.store.now.slots c.change.new.self.slots c.args.key c.args.edge c.args.joined c.args.cell c.requires.edges c.requires.is_edge c.requires.joined c.requires.others c.requires.beyond
+    c.change.ensures.changed

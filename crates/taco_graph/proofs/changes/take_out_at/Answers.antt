@@ -3,6 +3,7 @@ use Rattle.sheet_refs.specs.Cells.{Corners, IsIn}
 use Rattle.edge_patterns.specs.Edges.{EdgeValue}
 use Rattle.taco_graph.specs.Stores.{edge_at}
 use Rattle.taco_graph.proofs.ChangeLemmas.{fewer, held_elsewhere, pair_of_held, room_for_two, room_left, taken_others}
+use Rattle.taco_graph.proofs.JoinableLemmas.{others_less}
 use Rattle.taco_graph.proofs.changes.take_out_at.Goals as goal
 
 pub add_part-requires-clause-room : goal.add_part-requires-clause-room
@@ -46,3 +47,6 @@ returns-clause-room g c =
     fewer c.args.store.now.slots c.remove.new.self.slots c.add_part.new.store.slots c.add_part-2.new.store.slots c.args.key edge c.split-before.result.0 c.split-before.result.1 c.args.cell
     here c.remove.ensures.removed (c.remove.ensures.apart edge here) c.split-before.ensures.parts c.add_part.ensures.pairs c.add_part-2.ensures.pairs most range held.0 few)
     (omega (arith, c.remove.ensures.room, c.add_part.ensures.room, c.add_part-2.ensures.room))
+
+pub add_part-requires-clause-others : goal.add_part-requires-clause-others
+add_part-requires-clause-others g c = others_less c.args.store.now.slots c.remove.new.self.slots c.args.key c.args.cell c.remove.ensures.removed c.requires.joined

@@ -8,6 +8,7 @@ loop-key-init g c = (
   swept_none c.args.store.now.slots c.args.cell (λ key. key < 0) (λ key below. omega (arith, below)),
   keeps_same c.args.store.now.slots c.args.cell,
   λ beside room. room,
+  c.requires.joined,
 )
 
 pub loop-key-preserved : goal.loop-key-preserved
@@ -17,9 +18,13 @@ loop-key-preserved g c =
           (next_below place) c.take_out_at.ensures.holders c.loop-key.invariant.0,
       others_on c.args.store.now.slots c.loop-key.store.slots c.take_out_at.new.store.slots c.args.cell c.loop-key.invariant.1 c.take_out_at.ensures.others,
       λ beside room. c.take_out_at.ensures.room beside (c.loop-key.invariant.2 beside room),
+      c.take_out_at.ensures.joined,
     )
 
 pub returns-clause-gone : goal.returns-clause-gone
 returns-clause-gone g c =
     swept_all c.args.store.now.slots c.loop-key.store.slots c.args.cell (λ key. key < c.loop-key.key)
     (λ key edge range here pair. omega (arith, key_below c.args.store.now.slots key edge here, c.loop-key-test.false, c.end-key-end.ensures)) c.loop-key.invariant.0
+
+pub take_out_at-requires-clause-joined : goal.take_out_at-requires-clause-joined
+take_out_at-requires-clause-joined g c = c.loop-key.invariant.3

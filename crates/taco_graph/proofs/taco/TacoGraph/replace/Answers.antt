@@ -10,21 +10,29 @@ use Rattle.taco_graph.specs.Taco.{TacoValue}
 use Rattle.taco_graph.proofs.ChangeLemmas.{keeps_same}
 use Rattle.taco_graph.proofs.ReplaceLemmas.{AreReplaced, at_most_still, replaced_more, replaced_none, replaced_on, replaces_pairs, single_apart}
 use Rattle.taco_graph.proofs.ListLemmas.{not_before}
+use Rattle.taco_graph.specs.Sides.{AreRound}
+use Rattle.taco_graph.proofs.JoinableLemmas.{kept_of_others, others_of_kept}
 use Rattle.taco_graph.proofs.taco.TacoGraph.replace.Goals as goal
 
 pub take_out-requires : goal.take_out-requires
 take_out-requires g c =
     let spare : c.self.inside.store.room / 765 ≡ c.args.self.now.spare = ap (λ (t : TacoValue). t.spare) c.self.view_is in
-    record { room = record { most = 255; few = c.self.invariant c.args.cell; fits = omega (arith, spare, c.requires) } }
+    record {
+      joined = others_of_kept c.self.inside.store.slots c.args.cell c.self.invariant.joined;
+      room = record { most = 255; few = c.self.invariant.few c.args.cell; fits = omega (arith, spare, c.requires) };
+    }
 
 pub loop-range-init : goal.loop-range-init
 loop-range-init g c =
     let spare : c.self.inside.store.room / 765 ≡ c.args.self.now.spare = ap (λ (t : TacoValue). t.spare) c.self.view_is in
-    let left = c.take_out.ensures.room 255 (record { most = 255; few = c.self.invariant c.args.cell; fits = omega (arith, spare, c.requires) }) in (
+    let left = c.take_out.ensures.room 255 (record { most = 255; few = c.self.invariant.few c.args.cell; fits = omega (arith, spare, c.requires) }) in (
       subst (λ (l : List Corners). AreRefs l) (sym c.ranges-range-items.ensures.ranges) c.ranges-range-items.ensures.distinct_and_few,
       replaced_none c.take_out.new.store.slots c.take_out.new.store.slots c.args.cell c.take_out.ensures.gone (keeps_same c.take_out.new.store.slots c.args.cell),
       omega arith,
       omega (arith, left.fits),
+      kept_of_others c.take_out.new.store.slots c.args.cell c.take_out.ensures.gone c.take_out.ensures.joined,
+      c.turn_to.ensures.names c.take_out.new.store.slots c.args.cell,
+      subst (λ (r : Corners). AreRound r c.turn_to.new.self) c.of.ensures.corners c.turn_to.ensures.round,
     )
 
 pub add_single-requires-clause-apart : goal.add_single-requires-clause-apart
@@ -49,6 +57,9 @@ loop-range-preserved g c =
           (replaced_more mid now next c.args.cell (take k items) one c.add_single.ensures.pairs c.loop-range.invariant.1),
       omega (arith, c.add_single.ensures.room, c.loop-range.invariant.2),
       c.loop-range.invariant.3,
+      c.add_single.ensures.joined,
+      c.add_single.ensures.names,
+      c.add_single.ensures.round,
     )
 
 pub invariant_of-self : goal.invariant_of-self
@@ -59,8 +70,11 @@ invariant_of-self g c =
     let replaced : AreReplaced c.self.inside.store.slots now c.args.cell c.args.refs.now =
     replaced_on c.self.inside.store.slots c.take_out.new.store.slots now c.args.cell c.args.refs.now c.take_out.ensures.others
     (subst (λ (l : List Corners). AreReplaced c.take_out.new.store.slots now c.args.cell l) all c.loop-range.invariant.1) in
-    at_most_still c.self.inside.store.slots now c.args.cell c.args.refs.now
-    (subst (λ (l : List Corners). AreRefs l) c.ranges-range-items.ensures.ranges c.loop-range.invariant.0) replaced c.self.invariant
+    record {
+      few = at_most_still c.self.inside.store.slots now c.args.cell c.args.refs.now
+          (subst (λ (l : List Corners). AreRefs l) c.ranges-range-items.ensures.ranges c.loop-range.invariant.0) replaced c.self.invariant.few;
+      joined = c.loop-range.invariant.4;
+    }
 
 pub returns-clause-replaced : goal.returns-clause-replaced
 returns-clause-replaced g c =
@@ -77,5 +91,14 @@ returns-clause-replaced g c =
 pub returns-clause-room : goal.returns-clause-room
 returns-clause-room g c =
     let spare : c.self.inside.store.room / 765 ≡ c.args.self.now.spare = ap (λ (t : TacoValue). t.spare) c.self.view_is in
-    let left = c.take_out.ensures.room (c.self.inside.store.room - 510) (record { most = 255; few = c.self.invariant c.args.cell; fits = omega (arith, spare, c.requires) }) in
+    let left = c.take_out.ensures.room (c.self.inside.store.room - 510) (record { most = 255; few = c.self.invariant.few c.args.cell; fits = omega (arith, spare, c.requires) }) in
     omega (arith, spare, left.fits, c.loop-range.invariant.2, c.loop-range.invariant.0.few, c.loop-range-test.false)
+
+pub add_single-requires-clause-joined : goal.add_single-requires-clause-joined
+add_single-requires-clause-joined g c = c.loop-range.invariant.4
+
+pub add_single-requires-clause-names : goal.add_single-requires-clause-names
+add_single-requires-clause-names g c = c.loop-range.invariant.5
+
+pub add_single-requires-clause-round : goal.add_single-requires-clause-round
+add_single-requires-clause-round g c = c.loop-range.invariant.6
