@@ -14,18 +14,18 @@ use Rattle.edge_patterns.proofs.PartShapes.{part_is_edge}
 use Rattle.edge_patterns.proofs.UnionLemmas.{run_has_ranges, one_range}
 
 -- the cells of a part's run are cells of the run
-run_within : (edge part : EdgeValue) → IsEdge edge → IsEdge part → PairsAreOf part edge → (cell : Position) → IsIn cell part.dep → IsIn cell edge.dep
+pub run_within : (edge part : EdgeValue) → IsEdge edge → IsEdge part → PairsAreOf part edge → (cell : Position) → IsIn cell part.dep → IsIn cell edge.dep
 run_within edge part edge_is part_is within cell inside =
     let has = (run_has_ranges part part_is cell).0 inside in (run_has_ranges edge edge_is cell).1 (has.0, within has.0 cell has.1)
 
-first_in : (run : Corners) → IsOrdered run.head run.tail → IsIn run.head run
+pub first_in : (run : Corners) → IsOrdered run.head run.tail → IsIn run.head run
 first_in run order = record { row_from = omega arith; row_to = order.rows; col_from = omega arith; col_to = order.cols }
 
-last_in : (run : Corners) → IsOrdered run.head run.tail → IsIn run.tail run
+pub last_in : (run : Corners) → IsOrdered run.head run.tail → IsIn run.tail run
 last_in run order = record { row_from = order.rows; row_to = omega arith; col_from = order.cols; col_to = omega arith }
 
 -- a pair of the edge whose cell lies in a part's run is a pair of the part
-pair_of_part : (edge part : EdgeValue) → IsEdge part → PairsAreOf part edge → (range : Corners) (cell : Position) → IsPair edge range cell → IsIn cell part.dep → IsPair part range cell
+pub pair_of_part : (edge part : EdgeValue) → IsEdge part → PairsAreOf part edge → (range : Corners) (cell : Position) → IsPair edge range cell → IsIn cell part.dep → IsPair part range cell
 pair_of_part edge part part_is within range cell pair inside =
     let has = (run_has_ranges part part_is cell).0 inside in
     subst (λ (r : Corners). IsPair part r cell) (one_range edge has.0 range cell (within has.0 cell has.1) pair) has.1

@@ -71,7 +71,7 @@ stored_apart slots edges apart = record {
 
 -- ---- in whatever order
 
-flipped : (a b : EdgeValue) → AreApart a b → AreApart b a
+pub flipped : (a b : EdgeValue) → AreApart a b → AreApart b a
 flipped a b apart range cell of_b of_a = apart range cell of_a of_b
 
 all_moved : (edges moved : List EdgeValue) → IsPermutation edges moved → All IsEdge edges → All IsEdge moved

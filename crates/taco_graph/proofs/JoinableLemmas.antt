@@ -1,5 +1,5 @@
 -- Where edges can be joined: at the ends of a union, and after an edge has come.
-use Rattle.std.proofs.Common.{◌≡◌, ◌≢◌, ◌⊎◌, inl, inr, ℕ, ◌+◌, ◌<◌, ◌≤◌, suc, List, [], ◌∷◌, get_or, Option, Some, None, refl, sym, ◌∙◌, ap, subst, arith}
+use Rattle.std.proofs.Common.{◌≡◌, ◌≢◌, ◌⊎◌, inl, inr, ℕ, ◌+◌, ◌≤◌, suc, List, [], ◌∷◌, get_or, Option, Some, None, refl, sym, ◌∙◌, ap, subst, arith}
 use Rattle.std.proofs.lemmas.Bool.{cases_eq, cases_lt}
 use Rattle.std.proofs.lemmas.Option.{same_Some}
 use Rattle.std.specs.List.{All}
@@ -245,27 +245,28 @@ others_still old new edge cell others adds key other a b differ here there lacks
   ]
 ]
 
--- each edge holds the cell or lacks it
-decided : (cell : Position) (b : EdgeValue) → IsEdge b → LacksCell b cell ⊎ HoldsCell b cell
-decided cell b is = elim (cases_le b.dep.head.row cell.row) [
-  | inr out ↦ inl (outside (λ inside. omega (arith, out, inside.row_from)))
-  | inl row_from ↦ elim (cases_le cell.row b.dep.tail.row) [
-    | inr out ↦ inl (outside (λ inside. omega (arith, out, inside.row_to)))
-    | inl row_to ↦ elim (cases_le b.dep.head.col cell.col) [
-      | inr out ↦ inl (outside (λ inside. omega (arith, out, inside.col_from)))
-      | inl col_from ↦ elim (cases_le cell.col b.dep.tail.col) [
-        | inr out ↦ inl (outside (λ inside. omega (arith, out, inside.col_to)))
-        | inl col_to ↦ inr ((run_has_ranges b is cell).0 (record { row_from = row_from; row_to = row_to; col_from = col_from; col_to = col_to }))
+-- a cell is in a range or not
+pub decide_in : (cell : Position) (range : Corners) → IsIn cell range ⊎ ¬ IsIn cell range
+decide_in cell range = elim (cases_lt cell.row range.head.row) [
+  | inl out ↦ inr (λ inside. omega (arith, out, inside.row_from))
+  | inr row_from ↦ elim (cases_lt range.tail.row cell.row) [
+    | inl out ↦ inr (λ inside. omega (arith, out, inside.row_to))
+    | inr row_to ↦ elim (cases_lt cell.col range.head.col) [
+      | inl out ↦ inr (λ inside. omega (arith, out, inside.col_from))
+      | inr col_from ↦ elim (cases_lt range.tail.col cell.col) [
+        | inl out ↦ inr (λ inside. omega (arith, out, inside.col_to))
+        | inr col_to ↦ inl (record { row_from = omega (arith, row_from); row_to = omega (arith, row_to); col_from = omega (arith, col_from); col_to = omega (arith, col_to) })
       ]
     ]
   ]
 ]
-  where
-    cases_le : (x y : ℕ) → (x ≤ y) ⊎ (y < x)
-    cases_le x y = elim (cases_lt y x) [ inl less ↦ inr less | inr not ↦ inl (omega (arith, not)) ]
 
-    outside : ¬ IsIn cell b.dep → LacksCell b cell
-    outside out range pair = out ((run_has_ranges b is cell).1 (range, pair))
+-- each edge holds the cell or lacks it
+decided : (cell : Position) (b : EdgeValue) → IsEdge b → LacksCell b cell ⊎ HoldsCell b cell
+decided cell b is = elim (decide_in cell b.dep) [
+  | inl inside ↦ inr ((run_has_ranges b is cell).0 inside)
+  | inr outside ↦ inl (λ range pair. outside ((run_has_ranges b is cell).1 (range, pair)))
+]
 
 -- and when it gets its ranges: two edges that hold it are no neighbours
 pub all_still : (old new : List (Option EdgeValue)) (edge : EdgeValue) (cell : Position) (range : Corners) → AreEdges new → IsPair edge range cell → KeptAreJoined old → AddsJoined old new edge cell → KeptAreJoined new

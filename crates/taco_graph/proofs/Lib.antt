@@ -2,9 +2,11 @@ mod AnswerLemmas
 mod ChainLemmas
 mod ChangeLemmas
 mod EdgeListLemmas
+mod FilledLemmas
 mod GraphLemmas
-mod GrowthLemmas
+pub mod GrowthLemmas
 mod JoinableLemmas
+mod OneEdgeLemmas
 mod ReplaceLemmas
 mod SideLemmas
 mod StoreLemmas

@@ -1,15 +1,21 @@
 -- Which edges can be joined with one another.
-use Rattle.std.specs.Prelude.{◌≡◌, ◌≢◌, ◌⊎◌, ℕ, List, Option, Some, AllPairs}
+use Rattle.std.specs.Prelude.{◌≡◌, ◌≢◌, ◌⊎◌, ℕ, List, [], ◌∷◌, Option, Some, AllPairs}
 use Rattle.sheet_refs.specs.Cells.{Position, Corners}
 use Rattle.edge_patterns.specs.declared.axis.Axis.{Axis}
 use Rattle.edge_patterns.specs.Edges.{EdgeValue, IsEdge, IsPair}
 use Rattle.edge_patterns.specs.Joins.{Follows, IsJoin, CanBeJoined}
+use Rattle.graph_walk.specs.Graphs.{SamePairs}
+use Rattle.taco_graph.specs.Pairs.{pairs_of}
 use Rattle.taco_graph.specs.Stores.{edge_at}
 use Rattle.taco_graph.specs.Changes.{LacksCell, EachHasAtMost}
 
 -- no two edges of a list can be joined
 abbrev pub NoneJoins : List EdgeValue → Type 0
 NoneJoins edges = AllPairs (λ a b. ¬ CanBeJoined a b) edges
+
+-- edges whose pairs are those of one edge are just that one
+abbrev pub AreJustOne : List EdgeValue → Type 0
+AreJustOne edges = (edge : EdgeValue) → IsEdge edge → SamePairs (pairs_of (edge ∷ [])) (pairs_of edges) → edges ≡ edge ∷ []
 
 -- no two edges that are kept can be joined
 abbrev pub KeptAreJoined : List (Option EdgeValue) → Type 0

@@ -2,11 +2,14 @@
 use Rattle.std.specs.Prelude.{◌≡◌, ◌≢◌, ◌↔◌, ◌⊎◌, ◌+◌, ◌≤◌, List, [], ◌∷◌, ◌++◌, length, Contains, AllPairs}
 use Rattle.sheet_refs.specs.Cells.{Position, Corners, IsIn}
 use Rattle.graph_walk.specs.Graphs.{Pair}
+use Rattle.graph_walk.specs.Calls.{Call, After}
 use Rattle.edge_patterns.specs.Edges.{EdgeValue}
 use Rattle.taco_graph.specs.declared.answers.Question.{Question}
 use Rattle.taco_graph.specs.Answers.{AddsOneEach, IsMeant}
 use Rattle.taco_graph.specs.Order.{AreInOrder, IsListedBefore}
-use Rattle.taco_graph.specs.Pairs.{StandFor}
+use Rattle.taco_graph.specs.Filled.{CanBeFilled, FillDown, IsOneEdgeOver}
+use Rattle.taco_graph.specs.Joinable.{AreJustOne, NoneJoins}
+use Rattle.taco_graph.specs.Pairs.{StandFor, pairs_of}
 
 -- a list gains no more ranges than there are edges
 abbrev pub AnswersAreFew : Type 0
@@ -49,3 +52,13 @@ HaveSameEdges some others = (edge : EdgeValue) → Contains some edge ↔ Contai
 abbrev pub ListsInOrderAreOne : Type 0
 ListsInOrderAreOne =
     (some others : List EdgeValue) → AreInOrder some → AreInOrder others → AreDistinct some → AreDistinct others → HaveSameEdges some others → some ≡ others
+
+-- where edges that stand for their pairs, of which no two can be joined, have the pairs of one edge, there is just that one
+abbrev pub OneEdgeStandsAlone : Type 0
+OneEdgeStandsAlone = (edges : List EdgeValue) → StandFor edges (pairs_of edges) → NoneJoins edges → AreJustOne edges
+
+-- a column that is filled down, of whatever length and in whatever order of its cells, is one edge
+abbrev pub FilledColumnsAreOneEdge : Type 0
+FilledColumnsAreOneEdge =
+    (calls : List Call) (edges : List EdgeValue) (run first : Corners) → CanBeFilled run first → FillDown calls run first → After [] calls (pairs_of edges) → StandFor edges (pairs_of edges) → NoneJoins edges
+    → IsOneEdgeOver edges run

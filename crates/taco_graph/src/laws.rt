@@ -1,5 +1,6 @@
 ghost use Rattle.taco_graph.specs.Laws.{AnswersAreFew, OneEdgeGivesOne, EdgesAreFew};
 ghost use Rattle.taco_graph.specs.Laws.{StandingEdgesAreDistinct, OrderIsByParts, ListsInOrderAreOne};
+ghost use Rattle.taco_graph.specs.Laws.{OneEdgeStandsAlone, FilledColumnsAreOneEdge};
 
 /// What holds of the answers of edges, and of the pairs that they stand for: a query adds no more ranges than there
 /// are edges; one edge of which a cell is meant gives one range, with exactly the cells that are meant; and edges that
@@ -17,4 +18,12 @@ pub fn order_laws()
     ensures by_parts { OrderIsByParts }
     ensures distinct { StandingEdgesAreDistinct }
     ensures one_list { ListsInOrderAreOne }
+{}
+
+/// What holds of edges of which no two can be joined: where their pairs are those of one edge, they are just that one;
+/// and a column that is filled down from its first cell, of whatever length and in whatever order of its cells, is one
+/// edge.
+pub fn join_laws()
+    ensures alone { OneEdgeStandsAlone }
+    ensures filled { FilledColumnsAreOneEdge }
 {}

@@ -26,5 +26,5 @@ mod taco;
 mod tests;
 
 pub use counting::pair_count;
-pub use laws::{order_laws, taco_laws};
+pub use laws::{join_laws, order_laws, taco_laws};
 pub use taco::Taco;

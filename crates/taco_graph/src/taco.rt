@@ -1,6 +1,6 @@
 ghost use Rattle.std.specs.Prelude.{◌≡◌, [], IfOk};
 ghost use Rattle.std.specs.List.Sorted.{IsPermutation};
-ghost use Rattle.taco_graph.specs.Joinable.{NoneJoins};
+ghost use Rattle.taco_graph.specs.Joinable.{AreJustOne, NoneJoins};
 ghost use Rattle.taco_graph.specs.Order.{AreInOrder};
 ghost use Rattle.taco_graph.specs.Pairs.{HaveFewPairs, StandFor};
 
@@ -65,13 +65,14 @@ impl<I: RangeIndex> Taco<I> {
 
     /// All edges, each once and no pair in two of them, in order: by the head and then the tail of the run, by
     /// those of the rectangle, and by the pattern; cells stand by column and then by row. No two of the edges can be
-    /// joined, whatever changes came before.
+    /// joined, whatever changes came before, and where the pairs are those of one edge, there is just that one.
     pub fn edges(&self) -> Result<Vec<Edge>, Memory>
         ensures all { IfOk result (λ edges. IsPermutation self.now.edges edges.items) }
         ensures order { IfOk result (λ edges. AreInOrder edges.items) }
         ensures few { IfOk result (λ edges. HaveFewPairs edges.items) }
         ensures stand { StandFor self.now.edges (pairs_of self.now.edges) }
         ensures joined { NoneJoins self.now.edges }
+        ensures just_one { AreJustOne self.now.edges }
         ensures listed_stand { IfOk result
             (λ edges. StandFor edges.items (pairs_of self.now.edges)) }
         ensures listed_joined { IfOk result (λ edges. NoneJoins edges.items) }

@@ -3,11 +3,12 @@ use Rattle.std.specs.List.Sorted.{IsPermutation}
 use Rattle.std.proofs.lemmas.List.Sorted.{IsPermutation-refl}
 use Rattle.edge_patterns.specs.Edges.{EdgeValue}
 use Rattle.taco_graph.specs.Pairs.{StandFor, pairs_of}
-use Rattle.taco_graph.specs.Joinable.{NoneJoins}
+use Rattle.taco_graph.specs.Joinable.{AreJustOne, NoneJoins}
 use Rattle.taco_graph.specs.Stores.{edges_of}
 use Rattle.taco_graph.specs.Taco.{TacoValue}
 use Rattle.taco_graph.proofs.EdgeListLemmas.{few_pairs, stand_for}
 use Rattle.taco_graph.proofs.JoinableLemmas.{none_joins, none_joins_moved}
+use Rattle.taco_graph.proofs.OneEdgeLemmas.{one_alone}
 use Rattle.taco_graph.proofs.taco.Taco.edges.Goals as goal
 
 pub returns-in_err-edges-clause-stand : goal.returns-in_err-edges-clause-stand
@@ -64,3 +65,21 @@ returns-clause-few g c =
     let sorted = c.sort_edges.new.edges.items in
     let moved = subst (λ (edges : List EdgeValue). IsPermutation edges sorted) c.in_ok-edges.ensures.all c.in_ok-sort_edges.ensures.same in
     few_pairs slots sorted c.in_ok-edges.ensures.apart c.self.invariant.few moved
+
+pub returns-in_err-edges-clause-just_one : goal.returns-in_err-edges-clause-just_one
+returns-in_err-edges-clause-just_one g c =
+    let slots = c.self.inside.store.slots in
+    let view : edges_of slots ≡ c.args.self.now.edges = ap (λ (t : TacoValue). t.edges) c.self.view_is in
+    subst AreJustOne view (λ edge is same. one_alone (edges_of slots) edge is c.edges.ensures.apart.are_edges c.edges.ensures.apart.apart (none_joins slots c.self.invariant.joined) same)
+
+pub returns-in_err-sort_edges-clause-just_one : goal.returns-in_err-sort_edges-clause-just_one
+returns-in_err-sort_edges-clause-just_one g c =
+    let slots = c.self.inside.store.slots in
+    let view : edges_of slots ≡ c.args.self.now.edges = ap (λ (t : TacoValue). t.edges) c.self.view_is in
+    subst AreJustOne view (λ edge is same. one_alone (edges_of slots) edge is c.edges.ensures.apart.are_edges c.edges.ensures.apart.apart (none_joins slots c.self.invariant.joined) same)
+
+pub returns-clause-just_one : goal.returns-clause-just_one
+returns-clause-just_one g c =
+    let slots = c.self.inside.store.slots in
+    let view : edges_of slots ≡ c.args.self.now.edges = ap (λ (t : TacoValue). t.edges) c.self.view_is in
+    subst AreJustOne view (λ edge is same. one_alone (edges_of slots) edge is c.edges.ensures.apart.are_edges c.edges.ensures.apart.apart (none_joins slots c.self.invariant.joined) same)
