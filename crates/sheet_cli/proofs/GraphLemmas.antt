@@ -62,3 +62,8 @@ if_listed items (Err e) set P is maximal shows = tt
 pub if_written : {V E : Type 0} (items : V → List ℕ) (result : Result V E) (sheet : SheetValue) (window : Corners) (command given : WindowCommand) (text : List ℕ) → command ≡ given → IfOk result (λ v. items v ≡ text) → Writes sheet window given text → IfOk result (λ v. Writes sheet window command (items v))
 if_written items (Ok v) sheet window command given text same is writes = subst (λ c. Writes sheet window c (items v)) (sym same) (subst (Writes sheet window given) (sym is) writes)
 if_written items (Err e) sheet window command given text same is writes = tt
+
+-- what follows from a clause on Ok
+pub if_ok : {V E : Type 0} (P Q : V → Type 0) (result : Result V E) → ((v : V) → P v → Q v) → IfOk result P → IfOk result Q
+if_ok P Q (Ok v) follows is = follows v is
+if_ok P Q (Err e) follows is = is

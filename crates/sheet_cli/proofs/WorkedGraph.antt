@@ -13,9 +13,11 @@ use Rattle.edit_log.specs.Pairs.{ArePairsOf, IsPairOf, ranges_in}
 use Rattle.edge_patterns.specs.Edges.{EdgeValue, IsBeside, IsEdge, IsRange}
 use Rattle.edge_patterns.specs.declared.axis.Axis.TheVariants.{Down}
 use Rattle.edge_patterns.specs.declared.edge.Pattern.TheVariants.{Rr, Single}
+use Rattle.taco_graph.specs.Joinable.{NoneJoins}
 use Rattle.taco_graph.specs.Order.{AreInOrder}
 use Rattle.taco_graph.specs.Pairs.{StandFor, pairs_of}
 use Rattle.window_text.specs.Texts.{check_text}
+use Rattle.taco_graph.proofs.GrowthLemmas.{no_shared}
 use Rattle.sheet_cli.specs.Graphs.{AreDependents, ListsEdges}
 use Rattle.sheet_cli.proofs.WorkedSheet.{worked_sheet}
 
@@ -116,6 +118,15 @@ apart i (suc (suc (suc j))) d less within same = omega (arith, within)
 stand_for : StandFor worked_edges worked_pairs
 stand_for = record { are_edges = are_edges; same = λ pair. (λ there. there, λ there. there); once = apart }
 
+-- the two runs share B2, so that they are no neighbours
+none_joins : NoneJoins worked_edges
+none_joins zero (suc zero) d less within (joined, join) =
+    no_shared (from_to (at 1 2) (at 2 2)) (one_cell (at 2 2)) (at 2 2) join.neighbours
+    (record { row_from = omega arith; row_to = omega arith; col_from = omega arith; col_to = omega arith }) (record { row_from = omega arith; row_to = omega arith; col_from = omega arith; col_to = omega arith })
+none_joins i zero d less within able = omega (arith, less)
+none_joins (suc i) (suc zero) d less within able = omega (arith, less)
+none_joins i (suc (suc j)) d less within able = omega (arith, within)
+
 in_order : AreInOrder worked_edges
 in_order zero d from within = refl
 in_order (suc k) d from within = absurd (omega (arith, within))
@@ -128,7 +139,7 @@ unfolding digits
 printed = refl
 
 pub lists_worked : ListsEdges worked_sheet worked_check
-lists_worked = record { pairs = worked_pairs; of_sheet = of_worked; edges = worked_edges; stand = stand_for; order = in_order; text_is = printed }
+lists_worked = record { pairs = worked_pairs; of_sheet = of_worked; edges = worked_edges; stand = stand_for; joined = none_joins; order = in_order; text_is = printed }
 
 pub three_listed : length (pairs_of lists_worked.edges) ≡ 3
 unfolding lists_worked

@@ -6,6 +6,7 @@ use Rattle.sheet_model.specs.Sheets.{SheetValue}
 use Rattle.graph_walk.specs.Graphs.{Pair, HoldsReach, HoldsBack}
 use Rattle.edge_patterns.specs.Edges.{EdgeValue}
 use Rattle.taco_graph.specs.Pairs.{StandFor, pairs_of}
+use Rattle.taco_graph.specs.Joinable.{NoneJoins}
 use Rattle.taco_graph.specs.Order.{AreInOrder}
 use Rattle.window_text.specs.Texts.{check_text}
 use Rattle.edit_log.specs.Pairs.{ArePairsOf}
@@ -25,12 +26,13 @@ pub record ArePrecedents (sheet : SheetValue) (window : Corners) (runs : List Co
   pub reached : HoldsBack pairs window runs
   pub maximal : AreMaximalRuns runs
 
--- a text of edges: these stand for the pairs of a sheet, each pair in one of them, and are listed in order, with the number of pairs
--- in front
+-- a text of edges: these stand for the pairs of a sheet, each pair in one of them, no two of them can be joined, and they are listed
+-- in order, with the number of pairs in front
 pub record ListsEdges (sheet : SheetValue) (text : List ℕ) : Type 0 where
   pub pairs : List Pair
   pub of_sheet : ArePairsOf sheet pairs
   pub edges : List EdgeValue
   pub stand : StandFor edges pairs
+  pub joined : NoneJoins edges
   pub order : AreInOrder edges
   pub text_is : text ≡ check_text (length (pairs_of edges)) edges
