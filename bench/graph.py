@@ -7,6 +7,7 @@ runs each (5 by default), the commands in turn:
     show      seconds of processor time of `show` of one cell
     deps      the time of `deps A1`, divided by that
     check     the time of `check`, divided by that
+    us/pair   microseconds of `check` for each pair
     edges     how many edges stand for how many pairs
     B/pair    the most memory that `check` had resident, divided by the pairs
 
@@ -50,12 +51,20 @@ def chain(count):
     return SHOW.lines(count, lambda r: f"=A{r - 1}+1" if r > 1 else "1")
 
 
+def alike(references):
+    """5,000 rows, in each of which the first cell refers to so many cells behind it."""
+    return SHOW.lines(5_000, lambda r: "=SUM(" + ";".join(SHOW.name(r, col) for col in range(2, references + 2)) + ")")
+
+
 # What is measured: the sheet's text, and the cell that is shown.
 MEASURED = {
     "100,000 formulas =$A$1*2": (lambda: SHOW.lines(100_000, lambda r: f"{r},=$A$1*2"), "B100000"),
     "a chain of 100,000": (lambda: chain(100_000), "A100000"),
     "5,000 sums =SUM($A$1:Ar)": (lambda: SHOW.lines(5_000, lambda r: f"{r},=SUM($A$1:A{r})"), "B5000"),
     "a ledger of 50,000 rows with five formulas": (lambda: SHOW.lines(50_000, books), "G50000"),
+    "5,000 rows of 32 references": (lambda: alike(32), "A5000"),
+    "5,000 rows of 128 references": (lambda: alike(128), "A5000"),
+    "5,000 rows of 255 references": (lambda: alike(255), "A5000"),
     "a fan of 10,000": (lambda: fan(10_000), "A10000"),
     "a fan of 1,000,000": (lambda: fan(1_000_000), "A1000000"),
     "a chain of 10,000": (lambda: chain(10_000), "A10000"),
@@ -93,7 +102,7 @@ def main():
     if built.returncode:
         sys.exit("bench/graph.py: the program could not be built")
     print(f"{len(os.sched_getaffinity(0))} processors, load {os.getloadavg()[0]:.1f}, least of {runs} runs each")
-    print(f"{'show':>8} {'deps':>7} {'check':>7} {'B/pair':>8}  edges of pairs")
+    print(f"{'show':>8} {'deps':>7} {'check':>7} {'us/pair':>8} {'B/pair':>8}  edges of pairs")
     with tempfile.TemporaryDirectory(prefix="antifreeze-bench-") as folder:
         folder = pathlib.Path(folder)
         for what, (text, cell) in MEASURED.items():
@@ -101,7 +110,7 @@ def main():
                 continue
             (folder / "sheet.csv").write_text(text())
             show, deps, check, pairs, edges, peak = measure(folder, cell, runs)
-            print(f"{show:8.3f} {deps / show:7.2f} {check / show:7.2f} {peak / pairs:8.0f}  {edges:,} of {pairs:,}: {what}", flush=True)
+            print(f"{show:8.3f} {deps / show:7.2f} {check / show:7.2f} {check / pairs * 1e6:8.2f} {peak / pairs:8.0f}  {edges:,} of {pairs:,}: {what}", flush=True)
 
 
 if __name__ == "__main__":

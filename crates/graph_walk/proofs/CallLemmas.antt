@@ -29,7 +29,7 @@ leave_reserved : (calls : List Call) (cell : Position) → LeaveCell calls cell 
 leave_reserved calls cell leave ranges (zero, within, is) = absurd (let e : reservation ≡ replacement cell ranges = is in cc)
 leave_reserved calls cell leave ranges (suc k, within, is) = leave ranges (k, omega (arith, within), is)
 
-leave_more : (other : Position) (given : List Corners) (calls : List Call) (cell : Position) → cell ≢ other → LeaveCell calls cell → LeaveCell (replacement other given ∷ calls) cell
+pub leave_more : (other : Position) (given : List Corners) (calls : List Call) (cell : Position) → cell ≢ other → LeaveCell calls cell → LeaveCell (replacement other given ∷ calls) cell
 leave_more other given calls cell differ leave ranges (zero, within, is) = differ (sym (ap (λ (call : Call). cell_of call cell) is))
 leave_more other given calls cell differ leave ranges (suc k, within, is) = leave ranges (k, omega (arith, within), is)
 

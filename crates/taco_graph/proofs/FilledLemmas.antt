@@ -1,12 +1,12 @@
 -- A column that is filled down is one edge.
-use Rattle.std.proofs.Common.{◌≡◌, ◌⊎◌, inl, inr, ℕ, zero, suc, ◌+◌, ◌-◌, ◌≤◌, List, [], ◌∷◌, true, Contains, refl, sym, ◌∙◌, subst, arith}
+use Rattle.std.proofs.Common.{◌≡◌, ◌⊎◌, inl, inr, ℕ, zero, suc, ◌+◌, ◌-◌, ◌≤◌, List, [], ◌∷◌, true, Contains, refl, sym, ap, ◌∙◌, subst, arith}
 use Rattle.std.proofs.lemmas.Bool.{cases_eq}
 use Rattle.std.proofs.lemmas.Bool.Decides.{nat_tests}
 use Rattle.sheet_refs.specs.Cells.{Position, Corners, IsIn}
 use Rattle.sheet_refs.proofs.Grid.{same_position}
 use Rattle.graph_walk.specs.Graphs.{Pair}
-use Rattle.graph_walk.specs.Calls.{Call, After}
-use Rattle.graph_walk.proofs.CallLemmas.{last_left, others_kept}
+use Rattle.graph_walk.specs.Calls.{Call, replacement, After, IsLastFor, LeaveCell}
+use Rattle.graph_walk.proofs.CallLemmas.{last_left, leave_more, others_kept}
 use Rattle.edge_patterns.specs.declared.axis.Axis.{Axis}
 use Rattle.edge_patterns.specs.declared.axis.Axis.TheVariants.{Down}
 use Rattle.edge_patterns.specs.declared.edge.Pattern.{Pattern}
@@ -14,7 +14,7 @@ use Rattle.edge_patterns.specs.declared.edge.Pattern.TheVariants.{Single, Rr, Ch
 use Rattle.edge_patterns.specs.Axes.{IsLine, axis_of}
 use Rattle.edge_patterns.specs.Edges.{EdgeValue, IsEdge, IsBeside, IsRange, IsShapeOf, IsPair, edge_of, range_along, head_moves, tail_moves}
 use Rattle.edge_patterns.proofs.AxisLemmas.{to_along, from_along}
-use Rattle.taco_graph.specs.Filled.{CanBeFilled, FillDown, IsOneEdgeOver, cell_below, moved_down}
+use Rattle.taco_graph.specs.Filled.{CanBeFilled, FillDown, IsOneEdgeOver, cell_below, moved_down, one_cell, two_calls, two_cells}
 use Rattle.taco_graph.specs.Joinable.{NoneJoins}
 use Rattle.taco_graph.specs.Pairs.{StandFor, pairs_of}
 use Rattle.taco_graph.proofs.GraphLemmas.{pair_of}
@@ -161,3 +161,48 @@ filled_is_one calls edges run first can fill after stand none =
           (listed run first can calls edges fill after pattern fits) (lists run first can calls edges fill after pattern fits);
       over = refl;
     }
+
+-- ---- two cells
+
+two_named : CanBeFilled two_cells (one_cell 1 1)
+two_named = record {
+  run_named = record {
+    head = record { row_from = omega arith; row_to = omega arith; col_from = omega arith; col_to = omega arith };
+    tail = record { row_from = omega arith; row_to = omega arith; col_from = omega arith; col_to = omega arith };
+    ordered = record { rows = omega arith; cols = omega arith };
+  };
+  column = refl;
+  first_named = record {
+    head = record { row_from = omega arith; row_to = omega arith; col_from = omega arith; col_to = omega arith };
+    tail = record { row_from = omega arith; row_to = omega arith; col_from = omega arith; col_to = omega arith };
+    ordered = record { rows = omega arith; cols = omega arith };
+  };
+  last_named = omega arith;
+}
+
+two_each : (rows : ℕ) → 1 + rows ≤ 2 → IsLastFor two_calls (cell_below two_cells rows) (moved_down (one_cell 1 1) rows ∷ [])
+two_each zero within = record {
+  later = [];
+  earlier = replacement (record { row = 2; col = 2 }) (one_cell 2 1 ∷ []) ∷ [];
+  split = refl;
+  none_later = λ ranges there. omega (arith, there.1);
+}
+two_each (suc zero) within = record {
+  later = replacement (record { row = 1; col = 2 }) (one_cell 1 1 ∷ []) ∷ [];
+  earlier = [];
+  split = refl;
+  none_later =
+      leave_more (record { row = 1; col = 2 }) (one_cell 1 1 ∷ []) [] (record { row = 2; col = 2 }) (λ same. let rows = ap (λ (p : Position). p.row) same in omega (arith, rows)) (λ ranges there. omega (arith, there.1));
+}
+two_each (suc (suc rows)) within = absurd (omega (arith, within))
+
+two_others : (cell : Position) → ¬ IsIn cell two_cells → LeaveCell two_calls cell
+two_others cell outside =
+    leave_more (record { row = 1; col = 2 }) (one_cell 1 1 ∷ []) (replacement (record { row = 2; col = 2 }) (one_cell 2 1 ∷ []) ∷ []) cell
+    (λ same. outside (subst (λ (c : Position). IsIn c two_cells) (sym same) (record { row_from = omega arith; row_to = omega arith; col_from = omega arith; col_to = omega arith })))
+    (leave_more (record { row = 2; col = 2 }) (one_cell 2 1 ∷ []) [] cell
+    (λ same. outside (subst (λ (c : Position). IsIn c two_cells) (sym same) (record { row_from = omega arith; row_to = omega arith; col_from = omega arith; col_to = omega arith })))
+    (λ ranges there. omega (arith, there.1)))
+
+pub two_filled : CanBeFilled two_cells (one_cell 1 1) × FillDown two_calls two_cells (one_cell 1 1)
+two_filled = (two_named, record { each = two_each; others = λ cell outside. inl (two_others cell outside) })

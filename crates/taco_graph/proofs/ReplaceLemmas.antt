@@ -1,13 +1,13 @@
 -- The cell is taken out of one edge after another, and then gets one range after another.
-use Rattle.std.proofs.Common.{◌≡◌, ◌≢◌, ◌↔◌, ◌⊎◌, inl, inr, ℕ, zero, suc, ◌+◌, ◌<◌, ◌≤◌, List, [], ◌∷◌, ◌++◌, length, get_or, take, Option, Some, Contains, sym, ◌∙◌, ap, subst, arith}
+use Rattle.std.proofs.Common.{◌≡◌, ◌≢◌, ◌↔◌, ◌⊎◌, inl, inr, ℕ, zero, suc, ◌+◌, ◌<◌, ◌≤◌, List, [], ◌∷◌, ◌++◌, length, get_or, take, Option, Some, Contains, sym, ◌∙◌, subst, arith}
 use Rattle.std.proofs.lemmas.Bool.{cases_eq}
 use Rattle.std.proofs.lemmas.Option.{none-some}
 use Rattle.std.proofs.lemmas.List.{take_all, take_more}
 use Rattle.std.proofs.lemmas.List.Elements.{Contains-push_cases, Contains-append_left, Contains-append_right, Contains-append_cases}
 use Rattle.sheet_refs.specs.Cells.{Position, Corners, IsIn}
 use Rattle.sheet_refs.specs.Refs.{AreRefs}
-use Rattle.sheet_refs.proofs.Grid.{same_position}
 use Rattle.graph_walk.specs.Graphs.{Replaces}
+use Rattle.graph_walk.proofs.CallLemmas.{same_or}
 use Rattle.edge_patterns.specs.Edges.{EdgeValue, IsEdge, IsPair, single_edge}
 use Rattle.edge_patterns.proofs.UnionLemmas.{run_has_ranges}
 use Rattle.edge_patterns.proofs.RectangleLemmas.{single_pair}
@@ -99,13 +99,6 @@ single_apart old now cell refs one absent replaced range at came kept =
       | inl (same, listed) ↦ absent (subst (λ (r : Corners). Contains refs r) is.0 listed)
       | inr (differ, was) ↦ differ is.1
     ]
-
--- two cells are the same or not
-same_or : (a b : Position) → (a ≡ b) ⊎ (a ≢ b)
-same_or a b = elim (cases_eq a.row b.row) [
-  | inl rows ↦ elim (cases_eq a.col b.col) [ inl cols ↦ inl (same_position rows cols) | inr differ ↦ inr (λ same. differ (ap (λ (p : Position). p.col) same)) ]
-  | inr differ ↦ inr (λ same. differ (ap (λ (p : Position). p.row) same))
-]
 
 -- each cell still has at most 255 pairs
 pub at_most_still : (old now : List (Option EdgeValue)) (cell : Position) (refs : List Corners) → AreRefs refs → AreReplaced old now cell refs → ((at : Position) → HasAtMost old at 255) → (at : Position) → HasAtMost now at 255

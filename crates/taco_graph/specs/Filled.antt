@@ -1,7 +1,7 @@
 -- Columns that are filled down.
 use Rattle.std.specs.Prelude.{◌≡◌, ◌⊎◌, ℕ, ◌+◌, ◌-◌, ◌≤◌, List, [], ◌∷◌}
 use Rattle.sheet_refs.specs.Cells.{Position, Corners, IsIn}
-use Rattle.graph_walk.specs.Calls.{Call, IsLastFor, LeaveCell}
+use Rattle.graph_walk.specs.Calls.{Call, replacement, IsLastFor, LeaveCell}
 use Rattle.edge_patterns.specs.Edges.{EdgeValue, IsRange}
 
 -- the cell so many rows below the first one of a column
@@ -27,6 +27,18 @@ pub record CanBeFilled (run first : Corners) : Type 0 where
 pub record FillDown (calls : List Call) (run first : Corners) : Type 0 where
   pub each : (rows : ℕ) → run.head.row + rows ≤ run.tail.row → IsLastFor calls (cell_below run rows) (moved_down first rows ∷ [])
   pub others : (cell : Position) → ¬ IsIn cell run → LeaveCell calls cell ⊎ IsLastFor calls cell []
+
+-- the range of one cell
+abbrev pub one_cell : ℕ → ℕ → Corners
+one_cell row col = record { head = record { row = row; col = col }; tail = record { row = row; col = col } }
+
+-- B1 and B2
+abbrev pub two_cells : Corners
+two_cells = record { head = record { row = 1; col = 2 }; tail = record { row = 2; col = 2 } }
+
+-- they get the cells to their left, B1 last
+abbrev pub two_calls : List Call
+two_calls = replacement (record { row = 1; col = 2 }) (one_cell 1 1 ∷ []) ∷ replacement (record { row = 2; col = 2 }) (one_cell 2 1 ∷ []) ∷ []
 
 -- there is one edge, over a run
 pub record IsOneEdgeOver (edges : List EdgeValue) (run : Corners) : Type 0 where

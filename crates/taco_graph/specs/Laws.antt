@@ -7,7 +7,7 @@ use Rattle.edge_patterns.specs.Edges.{EdgeValue}
 use Rattle.taco_graph.specs.declared.answers.Question.{Question}
 use Rattle.taco_graph.specs.Answers.{AddsOneEach, IsMeant}
 use Rattle.taco_graph.specs.Order.{AreInOrder, IsListedBefore}
-use Rattle.taco_graph.specs.Filled.{CanBeFilled, FillDown, IsOneEdgeOver}
+use Rattle.taco_graph.specs.Filled.{CanBeFilled, FillDown, IsOneEdgeOver, one_cell, two_cells, two_calls}
 use Rattle.taco_graph.specs.Joinable.{AreJustOne, NoneJoins}
 use Rattle.taco_graph.specs.Pairs.{StandFor, pairs_of}
 
@@ -56,6 +56,10 @@ ListsInOrderAreOne =
 -- where edges that stand for their pairs, of which no two can be joined, have the pairs of one edge, there is just that one
 abbrev pub OneEdgeStandsAlone : Type 0
 OneEdgeStandsAlone = (edges : List EdgeValue) → StandFor edges (pairs_of edges) → NoneJoins edges → AreJustOne edges
+
+-- two cells that get the ranges left of them, from below, are filled down
+abbrev pub TwoCellsAreFilled : Type 0
+TwoCellsAreFilled = CanBeFilled two_cells (one_cell 1 1) × FillDown two_calls two_cells (one_cell 1 1)
 
 -- a column that is filled down, of whatever length and in whatever order of its cells, is one edge
 abbrev pub FilledColumnsAreOneEdge : Type 0

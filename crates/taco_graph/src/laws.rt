@@ -1,6 +1,7 @@
 ghost use Rattle.taco_graph.specs.Laws.{AnswersAreFew, OneEdgeGivesOne, EdgesAreFew};
 ghost use Rattle.taco_graph.specs.Laws.{StandingEdgesAreDistinct, OrderIsByParts, ListsInOrderAreOne};
 ghost use Rattle.taco_graph.specs.Laws.{OneEdgeStandsAlone, FilledColumnsAreOneEdge};
+ghost use Rattle.taco_graph.specs.Laws.{TwoCellsAreFilled};
 
 /// What holds of the answers of edges, and of the pairs that they stand for: a query adds no more ranges than there
 /// are edges; one edge of which a cell is meant gives one range, with exactly the cells that are meant; and edges that
@@ -22,8 +23,9 @@ pub fn order_laws()
 
 /// What holds of edges of which no two can be joined: where their pairs are those of one edge, they are just that one;
 /// and a column that is filled down from its first cell, of whatever length and in whatever order of its cells, is one
-/// edge.
+/// edge, as where B2 is given A2 and then B1 is given A1.
 pub fn join_laws()
     ensures alone { OneEdgeStandsAlone }
     ensures filled { FilledColumnsAreOneEdge }
+    ensures example { TwoCellsAreFilled }
 {}

@@ -20,6 +20,8 @@ mod counting;
 mod laws;
 mod neighbours;
 mod order;
+#[cfg(test)]
+mod random;
 mod store;
 mod taco;
 #[cfg(test)]

@@ -1,4 +1,4 @@
-// What no clause says: how far edges are joined, and that calls succeed where memory is ample. The expected edges were
+// What no clause says: which edges are joined, and that calls succeed where memory is ample. The expected edges were
 // worked out by hand.
 use crate::Taco;
 use edge_patterns::Pattern;
@@ -102,5 +102,45 @@ fn a_chain_answers_one_range(rt: HostRuntime) -> Result<(), Fail> {
         write!(text, "{range} ")?;
     }
     assert_eq!(rt; text.as_str(), "A5:A6 A3:A4 A5:A11 A1:A4 ");
+    Ok(())
+}
+
+// The row that comes at a step: from the top, from the bottom, or with others between neighbours.
+fn row_at(order: u32, step: u32) -> u32 {
+    match order {
+        0 => step,
+        1 => 13 - step.min(12),
+        _ => step.min(12) * 5 % 13,
+    }
+}
+
+// In a row, A refers to the cell above it, B to column A down to the row, and D to A and B.
+fn fill_row(alloc: Global, graph: &mut Compressed, row: u32) -> Result<(), Fail> {
+    let left = at(row, 1)?;
+    if row > 1 {
+        let above = at(row - 1, 1)?;
+        refer(alloc, graph, left, Range::of(above, above))?;
+    }
+    let middle = at(row, 2)?;
+    refer(alloc, graph, middle, Range::of(at(1, 1)?, left))?;
+    refer(alloc, graph, at(row, 4)?, Range::of(left, middle))
+}
+
+// The edges of twelve such rows, built in one of the orders.
+fn built(alloc: Global, order: u32) -> Result<String, Fail> {
+    let mut graph = Taco::new(alloc);
+    for step in 1..13 {
+        fill_row(alloc, &mut graph, row_at(order, step))?;
+    }
+    shown(alloc, &graph)
+}
+
+#[test]
+fn the_order_of_cells_does_not_matter(rt: HostRuntime) -> Result<(), Fail> {
+    for order in 0..3 {
+        let text = built(rt.alloc(), order)?;
+        let wanted = "A2:A12 A1:A11 Chain; B1:B12 A1:A12 FR; D1:D12 A1:B12 RR; ";
+        assert_eq!(rt; text.as_str(), wanted);
+    }
     Ok(())
 }
