@@ -192,11 +192,11 @@ fn change<I: RangeIndex>(
     Ok(has_pairs(&edges, pairs) && !joins_two(&edges))
 }
 
-// Makes so many changes, and tells whether the edges were right after each.
-fn walk<I: RangeIndex + Drop>(alloc: Global, changes: u32) -> Result<bool, Fail> {
+// Makes so many changes, drawn from a number, and tells whether the edges were right after each.
+fn walk<I: RangeIndex + Drop>(alloc: Global, changes: u32, first: u32) -> Result<bool, Fail> {
     let mut graph = Taco::<I>::new(alloc);
     let mut pairs = Vec::new(alloc);
-    let mut seed = 1;
+    let mut seed = first;
     for _ in 0..changes {
         seed = next(seed);
         if !change(alloc, &mut graph, &mut pairs, seed)? {
@@ -208,12 +208,31 @@ fn walk<I: RangeIndex + Drop>(alloc: Global, changes: u32) -> Result<bool, Fail>
 
 #[test]
 fn no_two_edges_can_be_joined(rt: HostRuntime) -> Result<(), Fail> {
-    assert!(rt; walk::<GridIndex>(rt.alloc(), 1000)?);
+    assert!(rt; walk::<GridIndex>(rt.alloc(), 5000, 1)?);
+    Ok(())
+}
+
+// The same where all edges are looked at, which takes longer, in four parts.
+#[test]
+fn nor_where_the_index_wants_memory(rt: HostRuntime) -> Result<(), Fail> {
+    assert!(rt; walk::<Refusing>(rt.alloc(), 1250, 1)?);
     Ok(())
 }
 
 #[test]
-fn nor_where_the_index_wants_memory(rt: HostRuntime) -> Result<(), Fail> {
-    assert!(rt; walk::<Refusing>(rt.alloc(), 100)?);
+fn nor_where_it_wants_memory_in_a_second_part(rt: HostRuntime) -> Result<(), Fail> {
+    assert!(rt; walk::<Refusing>(rt.alloc(), 1250, 2)?);
+    Ok(())
+}
+
+#[test]
+fn nor_where_it_wants_memory_in_a_third_part(rt: HostRuntime) -> Result<(), Fail> {
+    assert!(rt; walk::<Refusing>(rt.alloc(), 1250, 3)?);
+    Ok(())
+}
+
+#[test]
+fn nor_where_it_wants_memory_in_a_fourth_part(rt: HostRuntime) -> Result<(), Fail> {
+    assert!(rt; walk::<Refusing>(rt.alloc(), 1250, 4)?);
     Ok(())
 }
