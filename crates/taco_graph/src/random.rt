@@ -212,27 +212,33 @@ fn no_two_edges_can_be_joined(rt: HostRuntime) -> Result<(), Fail> {
     Ok(())
 }
 
-// The same where all edges are looked at, which takes longer, in four parts.
+// The same where all edges are looked at, which takes longer, in five parts.
 #[test]
 fn nor_where_the_index_wants_memory(rt: HostRuntime) -> Result<(), Fail> {
-    assert!(rt; walk::<Refusing>(rt.alloc(), 1250, 1)?);
+    assert!(rt; walk::<Refusing>(rt.alloc(), 1000, 1)?);
     Ok(())
 }
 
 #[test]
 fn nor_where_it_wants_memory_in_a_second_part(rt: HostRuntime) -> Result<(), Fail> {
-    assert!(rt; walk::<Refusing>(rt.alloc(), 1250, 2)?);
+    assert!(rt; walk::<Refusing>(rt.alloc(), 1000, 2)?);
     Ok(())
 }
 
 #[test]
 fn nor_where_it_wants_memory_in_a_third_part(rt: HostRuntime) -> Result<(), Fail> {
-    assert!(rt; walk::<Refusing>(rt.alloc(), 1250, 3)?);
+    assert!(rt; walk::<Refusing>(rt.alloc(), 1000, 3)?);
     Ok(())
 }
 
 #[test]
 fn nor_where_it_wants_memory_in_a_fourth_part(rt: HostRuntime) -> Result<(), Fail> {
-    assert!(rt; walk::<Refusing>(rt.alloc(), 1250, 4)?);
+    assert!(rt; walk::<Refusing>(rt.alloc(), 1000, 4)?);
+    Ok(())
+}
+
+#[test]
+fn nor_where_it_wants_memory_in_a_fifth_part(rt: HostRuntime) -> Result<(), Fail> {
+    assert!(rt; walk::<Refusing>(rt.alloc(), 1000, 5)?);
     Ok(())
 }
