@@ -80,7 +80,7 @@ pub data AnswersWindow (holds : Texts) (command : WindowCommand) (name : List �
 
 -- what `check` is answered
 pub data AnswersCheck (holds : Texts) (name : List ℕ) : Answer → Type 0 where
-  -- it lists edges that stand for the sheet's pairs
+  -- it lists edges that stand for the sheet's pairs, of which no two can be joined
   listed : (sheet : SheetValue) (text : List ℕ) → GivesSheet holds name (Ok sheet) → ListsEdges sheet text
       → AnswersCheck holds name (output text)
   -- or there is no sheet

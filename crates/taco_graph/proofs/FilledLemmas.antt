@@ -4,7 +4,7 @@ use Rattle.std.proofs.lemmas.Bool.{cases_eq}
 use Rattle.std.proofs.lemmas.Bool.Decides.{nat_tests}
 use Rattle.sheet_refs.specs.Cells.{Position, Corners, IsIn}
 use Rattle.sheet_refs.proofs.Grid.{same_position}
-use Rattle.graph_walk.specs.Graphs.{Pair}
+use Rattle.graph_walk.specs.Graphs.{Pair, SamePairs}
 use Rattle.graph_walk.specs.Calls.{Call, replacement, After, IsLastFor, LeaveCell}
 use Rattle.graph_walk.proofs.CallLemmas.{last_left, leave_more, others_kept}
 use Rattle.edge_patterns.specs.declared.axis.Axis.{Axis}
@@ -14,12 +14,12 @@ use Rattle.edge_patterns.specs.declared.edge.Pattern.TheVariants.{Single, Rr, Ch
 use Rattle.edge_patterns.specs.Axes.{IsLine, axis_of}
 use Rattle.edge_patterns.specs.Edges.{EdgeValue, IsEdge, IsBeside, IsRange, IsShapeOf, IsPair, edge_of, range_along, head_moves, tail_moves}
 use Rattle.edge_patterns.proofs.AxisLemmas.{to_along, from_along}
-use Rattle.taco_graph.specs.Filled.{CanBeFilled, FillDown, IsOneEdgeOver, cell_below, moved_down, one_cell, two_calls, two_cells}
-use Rattle.taco_graph.specs.Joinable.{NoneJoins}
-use Rattle.taco_graph.specs.Pairs.{StandFor, pairs_of}
-use Rattle.taco_graph.proofs.GraphLemmas.{pair_of}
+use Rattle.taco_graph.specs.Filled.{CanBeFilled, FillDown, cell_below, moved_down, one_cell, two_calls, two_cells}
+use Rattle.taco_graph.specs.Joinable.{AreJustOne}
+use Rattle.taco_graph.specs.Pairs.{pairs_of}
+use Rattle.taco_graph.proofs.GraphLemmas.{list_all, pair_of}
 use Rattle.taco_graph.proofs.JoinableLemmas.{decide_in}
-use Rattle.taco_graph.proofs.OneEdgeLemmas.{apart_of, one_edge}
+use Rattle.taco_graph.proofs.OneEdgeLemmas.{pairs_of_one}
 
 -- a range stands beside a column, or not
 decide_beside : (run range : Corners) → IsBeside Down run range ⊎ ¬ IsBeside Down run range
@@ -150,17 +150,17 @@ module _ (run first : Corners) (can : CanBeFilled run first) where
         let given = (last_left [] calls (pairs_of edges) (cell_below run at.index) (moved_down first at.index ∷ []) after (fill.each at.index (omega (arith, w, o))) pair.range).1 (0, omega arith, range) in
         subst (λ (c : Position). Contains (pairs_of edges) (pair_of pair.range c)) (sym at.cell_is) given
 
-pub filled_is_one : (calls : List Call) (edges : List EdgeValue) (run first : Corners) → CanBeFilled run first → FillDown calls run first → After [] calls (pairs_of edges) → StandFor edges (pairs_of edges) → NoneJoins edges → IsOneEdgeOver edges run
-filled_is_one calls edges run first can fill after stand none =
+pub filled_is_one : (calls : List Call) (edges : List EdgeValue) (run first : Corners) → CanBeFilled run first → FillDown calls run first → After [] calls (pairs_of edges) → AreJustOne edges → (edge : EdgeValue) × ((edges ≡ edge ∷ []) × (edge.dep ≡ run))
+filled_is_one calls edges run first can fill after just =
     let chosen = pattern_is run first can in
     let pattern = chosen.0 in
     let fits = chosen.1 in
-    record {
-      edge = edge_of run (prec run first can) pattern;
-      alone = one_edge edges (edge_of run (prec run first can) pattern) (edge_is run first can pattern fits.0) stand.are_edges (apart_of edges stand.once) none
-          (listed run first can calls edges fill after pattern fits) (lists run first can calls edges fill after pattern fits);
-      over = refl;
-    }
+    let edge : EdgeValue = edge_of run (prec run first can) pattern in
+    let same : SamePairs (pairs_of (edge ∷ [])) (pairs_of edges) = λ pair. (
+      λ there. list_all (edge ∷ []) edge pair (0, omega arith, refl) (listed run first can calls edges fill after pattern fits pair there),
+      λ there. lists run first can calls edges fill after pattern fits pair (pairs_of_one edge pair there),
+    ) in
+    (edge, (just edge (edge_is run first can pattern fits.0) same, refl))
 
 -- ---- two cells
 

@@ -2,7 +2,7 @@
 use Rattle.std.specs.Prelude.{◌≡◌, ◌⊎◌, ℕ, ◌+◌, ◌-◌, ◌≤◌, List, [], ◌∷◌}
 use Rattle.sheet_refs.specs.Cells.{Position, Corners, IsIn}
 use Rattle.graph_walk.specs.Calls.{Call, replacement, IsLastFor, LeaveCell}
-use Rattle.edge_patterns.specs.Edges.{EdgeValue, IsRange}
+use Rattle.edge_patterns.specs.Edges.{IsRange}
 
 -- the cell so many rows below the first one of a column
 abbrev pub cell_below : Corners → ℕ → Position
@@ -39,9 +39,3 @@ two_cells = record { head = record { row = 1; col = 2 }; tail = record { row = 2
 -- they get the cells to their left, B1 last
 abbrev pub two_calls : List Call
 two_calls = replacement (record { row = 1; col = 2 }) (one_cell 1 1 ∷ []) ∷ replacement (record { row = 2; col = 2 }) (one_cell 2 1 ∷ []) ∷ []
-
--- there is one edge, over a run
-pub record IsOneEdgeOver (edges : List EdgeValue) (run : Corners) : Type 0 where
-  pub edge : EdgeValue
-  pub alone : edges ≡ edge ∷ []
-  pub over : edge.dep ≡ run

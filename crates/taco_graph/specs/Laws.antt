@@ -7,7 +7,7 @@ use Rattle.edge_patterns.specs.Edges.{EdgeValue}
 use Rattle.taco_graph.specs.declared.answers.Question.{Question}
 use Rattle.taco_graph.specs.Answers.{AddsOneEach, IsMeant}
 use Rattle.taco_graph.specs.Order.{AreInOrder, IsListedBefore}
-use Rattle.taco_graph.specs.Filled.{CanBeFilled, FillDown, IsOneEdgeOver, one_cell, two_cells, two_calls}
+use Rattle.taco_graph.specs.Filled.{CanBeFilled, FillDown, one_cell, two_cells, two_calls}
 use Rattle.taco_graph.specs.Joinable.{AreJustOne, NoneJoins}
 use Rattle.taco_graph.specs.Pairs.{StandFor, pairs_of}
 
@@ -64,5 +64,5 @@ TwoCellsAreFilled = CanBeFilled two_cells (one_cell 1 1) × FillDown two_calls t
 -- a column that is filled down, of whatever length and in whatever order of its cells, is one edge
 abbrev pub FilledColumnsAreOneEdge : Type 0
 FilledColumnsAreOneEdge =
-    (calls : List Call) (edges : List EdgeValue) (run first : Corners) → CanBeFilled run first → FillDown calls run first → After [] calls (pairs_of edges) → StandFor edges (pairs_of edges) → NoneJoins edges
-    → IsOneEdgeOver edges run
+    (calls : List Call) (edges : List EdgeValue) (run first : Corners) → CanBeFilled run first → FillDown calls run first → After [] calls (pairs_of edges) → AreJustOne edges
+    → (edge : EdgeValue) × ((edges ≡ edge ∷ []) × (edge.dep ≡ run))
