@@ -20,7 +20,7 @@ use Rattle.edit_log.specs.Inputs.{DependsOnCycle}
 use Rattle.edit_log.specs.Kept.{input_step}
 use Rattle.edit_log.specs.Pairs.{ranges_in, ArePairsOf}
 use Rattle.edit_log.specs.Touches.{DependsDirectly}
-use Rattle.edit_log.proofs.ListMembers.{mapped_from, no_member}
+use Rattle.sheet_model.proofs.ListMembers.{mapped_from, no_member}
 use Rattle.edit_log.proofs.PairLemmas.{pair_inside}
 use Rattle.edit_log.proofs.TouchLemmas.{one_cell, in_one_cell}
 

@@ -1,6 +1,5 @@
 pub mod BookLemmas
 pub mod InputLemmas
-pub mod ListMembers
 pub mod PairLemmas
 pub mod PlaceLemmas
 pub mod RowLemmas

@@ -12,7 +12,7 @@ use Rattle.sheet_model.specs.declared.entry.Entry.{Entry}
 use Rattle.sheet_model.proofs.LogLemmas.{after-sizes}
 use Rattle.edit_log.specs.Kept.{cell_at-inside, cell_at-place_of, cell_at-place}
 use Rattle.edit_log.specs.Touches.{Touches, AreTouched, TouchesPlace, cell_at}
-use Rattle.edit_log.proofs.ListMembers.{first_member, later_member, no_member, mapped_from, mapped_to}
+use Rattle.sheet_model.proofs.ListMembers.{first_member, later_member, no_member, mapped_from, mapped_to}
 use Rattle.edit_log.proofs.TouchLemmas.{depends_inside}
 
 -- lists with the same elements, whose numbers rise along both, are one

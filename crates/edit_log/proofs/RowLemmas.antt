@@ -20,7 +20,7 @@ use Rattle.sheet_refs.proofs.Grid.{cells_listed}
 use Rattle.sheet_refs.proofs.Places.{place-lt, place_same, range_place, place_inside}
 use Rattle.edit_log.specs.Rows.{run_places, IsInside, AreInside, AreCellsAt}
 use Rattle.edit_log.specs.Touches.{ListsRowByRow}
-use Rattle.edit_log.proofs.ListMembers.{all_from, first_member, later_member, mapped_from, mapped_to, joined_from, joined_to, pairs_append}
+use Rattle.sheet_model.proofs.ListMembers.{all_from, first_member, later_member, mapped_from, mapped_to, joined_from, joined_to, pairs_append}
 
 -- one place more
 pub places_more : (sizes : Sizes) (cells : List Position) (k : ℕ) (cell : Position) (old now : List ℕ) (place : ℕ) → now ≡ old ++ map (place_of sizes) (take k cells) → slice_get cells k ≡ Some cell → place ≡ place_of sizes cell → now ++ place ∷ [] ≡ old ++ map (place_of sizes) (take (k + 1) cells)

@@ -20,7 +20,7 @@ use Rattle.edit_log.specs.Books.{BookValue, IsBookOf, IsPreparedFor, IsStoredEdi
 use Rattle.edit_log.specs.Kept.{Depends, one_or_two, content-kept}
 use Rattle.edit_log.specs.Pairs.{ranges_in, IsPairOf, ArePairsOf}
 use Rattle.edit_log.specs.Touches.{DependsDirectly, Touches, AreTouched, ListsRowByRow}
-use Rattle.edit_log.proofs.ListMembers.{all_from}
+use Rattle.sheet_model.proofs.ListMembers.{all_from}
 use Rattle.edit_log.proofs.PairLemmas.{pair_inside}
 
 -- the range of one cell has that cell alone

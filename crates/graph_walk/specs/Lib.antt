@@ -3,4 +3,5 @@ pub mod Gathers
 pub mod Graphs
 pub mod Laws
 pub mod Paths
+pub mod Starts
 pub mod Walks

@@ -3,6 +3,7 @@ ghost use Rattle.graph_walk.specs.Laws.{ReachHasTheRange, ReachIsClosed, ReachIs
 ghost use Rattle.graph_walk.specs.Laws.{BackHasTheRange, BackIsClosed, BackIsLeast};
 ghost use Rattle.graph_walk.specs.Laws.{KeptRangesStand};
 ghost use Rattle.graph_walk.specs.Laws.{AddedAreDirectDependents, AddedAreDirectPrecedents};
+ghost use Rattle.graph_walk.specs.Starts.{AllReachWhatEachReaches};
 
 /// What is true of the cells that a range reaches: they have the range, they are closed under a step, and
 /// they lie in every set that has the range and is closed under a step.
@@ -10,6 +11,11 @@ pub fn reach_laws()
     ensures starts { ReachHasTheRange }
     ensures steps { ReachIsClosed }
     ensures least { ReachIsLeast }
+{}
+
+/// What is true of the cells that several ranges reach together: they are those that one of them reaches.
+pub fn start_laws()
+    ensures { AllReachWhatEachReaches }
 {}
 
 /// The same of the cells from which a range is reached.

@@ -1,5 +1,6 @@
 ghost use Rattle.std.specs.Prelude.{◌↔◌, IfOk, OnOk, IsTrue};
 ghost use Rattle.graph_walk.specs.Graphs.{HoldsReach, HoldsBack, IsOnCycle};
+ghost use Rattle.graph_walk.specs.Starts.{HoldsReachOfAll};
 ghost use Rattle.graph_walk.specs.Walks.{AddsNext, IsWalk};
 
 use crate::gathering::gather;
@@ -58,6 +59,17 @@ pub fn dependents<G: Graph>(alloc: Global, graph: &G, q: Range) -> Result<RectSe
     ensures { IfOk result (HoldsReach (G.pairs graph.now) q) }
 {
     walk(alloc, graph, Direction::Ahead, &[q])
+}
+
+/// The cells of some ranges and all cells that depend on them in any number of steps, by one walk from all of them.
+pub fn dependents_of_all<G: Graph>(
+    alloc: Global,
+    graph: &G,
+    ranges: &[Range],
+) -> Result<RectSet, Memory>
+    ensures { IfOk result (HoldsReachOfAll (G.pairs graph.now) ranges.now) }
+{
+    walk(alloc, graph, Direction::Ahead, ranges)
 }
 
 /// The cells of a range and all cells on which they depend in any number of steps.

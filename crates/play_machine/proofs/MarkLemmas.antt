@@ -99,9 +99,3 @@ marks_more sizes done cell number old mid new first second = record {
         before : Contains done c ⊎ Contains (cell ∷ []) c → Contains done c
         before (inl there) = there
         before (inr last) = absurd (differs (only_member cell c last))
-
--- the cells up to a place, and the one there
-pub taken_more : {A : Type 0} (xs : List A) (k : ℕ) (x : A) → k < length xs → x ≡ get_or xs k x → take (k + 1) xs ≡ take k xs ++ x ∷ []
-taken_more xs k x below at =
-    let more : k + 1 ≡ suc k = omega arith in
-    ap (λ n. take n xs) more ∙ take-suc xs k x below ∙ ap (λ y. take k xs ++ y ∷ []) (sym at)

@@ -12,7 +12,7 @@ use Rattle.std.proofs.lemmas.List.Sums.{count_by-le-length, count_by_more_no, co
 use Rattle.std.proofs.lemmas.Option.{get_or_from_slice_get, slice_get_within}
 use Rattle.sheet_model.specs.Boards.{BoardValue, with_shown}
 use Rattle.sheet_model.specs.declared.board.Shown.{Shown}
-use Rattle.play_machine.proofs.MarkLemmas.{taken_more}
+use Rattle.sheet_model.proofs.ListLemmas.{taken_more}
 use Rattle.play_machine.proofs.TurnLemmas.{none_marked, turns_clear}
 use Rattle.sheet_model.specs.Logs.{after, after_edit}
 use Rattle.sheet_model.specs.Sheets.{SheetValue, HasLabel}

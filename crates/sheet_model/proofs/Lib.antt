@@ -1,12 +1,17 @@
+pub mod ApplyLemmas
 pub mod BoardLemmas
 pub mod BudgetLemmas
 pub mod ContentLemmas
+pub mod ChangeLemmas
 pub mod CycleLemmas
+pub mod DistinctLemmas
+pub mod EditLemmas
 pub mod FieldLemmas
 pub mod HonestLemmas
 pub mod LabelLemmas
 pub mod LeftLemmas
 pub mod ListLemmas
+pub mod ListMembers
 pub mod LogLemmas
 pub mod LookLemmas
 pub mod LoopLemmas

@@ -1,8 +1,9 @@
 -- What stands at a place of a list after a push or a write.
-use Rattle.std.proofs.Common.{◌≡◌, ◌≢◌, ℕ, zero, suc, ◌+◌, ◌<◌, ◌≤◌, take, get_or, ◌∙◌, ◌⊎◌, inl, inr, List, [], ◌∷◌, ◌++◌, length, map, slice_get, set, count_by, Result, Ok, Err, OnOk, Some, Bool, true, false, cond, refl, sym, ap, arith}
+use Rattle.std.proofs.Common.{◌≡◌, ◌≢◌, ℕ, zero, suc, ◌+◌, ◌<◌, ◌≤◌, take, get_or, ◌∙◌, ◌⊎◌, inl, inr, subst, All, List, [], ◌∷◌, ◌++◌, length, map, slice_get, set, count_by, Result, Ok, Err, OnOk, Some, Bool, true, false, cond, refl, sym, ap, arith}
 use Rattle.std.specs.List.{AllZip}
 use Rattle.std.proofs.Math.Seq.{take-suc}
 use Rattle.std.proofs.lemmas.List.{map-append}
+use Rattle.std.proofs.lemmas.List.Elements.{All-push}
 use Rattle.std.proofs.lemmas.List.Sums.{sum_by-cons}
 
 pub slice_get-append : {A : Type 0} (xs ys : List A) (i : ℕ) (x : A) → slice_get xs i ≡ Some x → slice_get (xs ++ ys) i ≡ Some x
@@ -119,3 +120,19 @@ seen_more f xs ys i x y so_far below at same =
     let more : i + 1 ≡ suc i = omega arith in
     map-append f ys (y ∷ []) ∙ ap (λ zs. zs ++ f y ∷ []) so_far ∙ ap (λ z. map f (take i xs) ++ z ∷ []) same
     ∙ sym (rw (more, take-suc xs i x below, ← at) (map-append f (take i xs) (x ∷ [])))
+
+-- the first elements of a list, and one more
+pub taken_more : {A : Type 0} (xs : List A) (k : ℕ) (x : A) → k < length xs → x ≡ get_or xs k x → take (k + 1) xs ≡ take k xs ++ x ∷ []
+taken_more xs k x below at =
+    let more : k + 1 ≡ suc k = omega arith in
+    ap (λ n. take n xs) more ∙ take-suc xs k x below ∙ ap (λ y. take k xs ++ y ∷ []) (sym at)
+
+-- what holds of them, and of the one more
+pub all_taken_more : {A : Type 0} (P : A → Type 0) (xs : List A) (k : ℕ) (x : A) → k < length xs → x ≡ get_or xs k x → All P (take k xs) → P x → All P (take (k + 1) xs)
+all_taken_more P xs k x below at all holds = subst (All P) (sym (taken_more xs k x below at)) (All-push P (take k xs) x all holds)
+
+-- the first elements as they are seen, and one more as it is seen
+pub mapped_more : {A B : Type 0} (f : A → B) (xs : List A) (ys : List B) (k : ℕ) (x : A) (y : B) → ys ≡ map f (take k xs) → k < length xs → x ≡ get_or xs k x → y ≡ f x → ys ++ y ∷ [] ≡ map f (take (k + 1) xs)
+mapped_more f xs ys k x y so_far below at same =
+    ap (λ zs. zs ++ y ∷ []) so_far ∙ ap (λ z. map f (take k xs) ++ z ∷ []) same
+    ∙ sym (ap (map f) (taken_more xs k x below at) ∙ map-append f (take k xs) (x ∷ []))

@@ -152,10 +152,10 @@ on_ok (Err e) P holds = tt
 
 module _ (sheet : SheetValue) (cell : Position) (content : ContentValue) (inside : IsTrue (is_inside sheet.sizes cell)) where
   -- after a write a cell has what was written to it, and every other cell what it had
-  pub content_of-same : IsSheet sheet → content_of (with_content sheet cell content) cell ≡ content
-  content_of-same is =
+  pub content_of-filled : length sheet.contents ≡ cell_count sheet.sizes → content_of (with_content sheet cell content) cell ≡ content
+  content_of-filled filled =
       let lt = place-lt sheet.sizes cell inside in
-      let within : place_of sheet.sizes cell < length sheet.contents = (let e = is.filled in omega arith) in
+      let within : place_of sheet.sizes cell < length sheet.contents = omega (arith, lt, filled) in
       rw (inside, get_or-set_same sheet.contents (place_of sheet.sizes cell) content (Constant value.Empty) within) refl
 
   pub content_of-other : (another : Position) → another ≢ cell → content_of (with_content sheet cell content) another ≡ content_of sheet another

@@ -1,6 +1,7 @@
 pub mod Boards
 pub mod Budget
 pub mod Changes
+pub mod Edits
 pub mod Fields
 pub mod Labels
 pub mod Logs

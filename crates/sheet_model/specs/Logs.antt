@@ -3,17 +3,12 @@ use Rattle.std.specs.Prelude.{◌≡◌, ℕ, IsTrue, List, [], ◌∷◌, ◌++
 use Rattle.sheet_refs.specs.Cells.{Position}
 use Rattle.sheet_refs.specs.Sizes.{is_inside, cell_count, place_of}
 use Rattle.value_core.specs.Values.{code_of}
-use Rattle.sheet_model.specs.Changes.{after_change}
-use Rattle.sheet_model.specs.Sheets.{SheetValue, IsSheet, IsHeld}
+use Rattle.sheet_model.specs.Edits.{after_edit, AreHeldBeside}
+use Rattle.sheet_model.specs.Sheets.{SheetValue, IsSheet}
 use Rattle.sheet_model.specs.Values.{value_of}
-use Rattle.sheet_model.specs.declared.change.Edit.{Edit}
 use Rattle.sheet_model.specs.declared.entry.Entry.{Entry}
 
--- the sheet after an edit
-abbrev pub after_edit : SheetValue → Edit → SheetValue
-after_edit sheet edit = after_change sheet edit.change
-
--- the sheet after the edits of a log's entries, in order
+-- the sheet after the edits of a log's entries, in order, all changes of an entry together
 abbrev pub after : SheetValue → List Entry → SheetValue
 after sheet [] = sheet
 after sheet (entry ∷ log) = after (after_edit sheet entry.edit) log
@@ -30,9 +25,9 @@ LogsKeepSizes = (sheet : SheetValue) (log : List Entry) → (after sheet log).si
 abbrev pub LogsKeepLabels : Type 0
 LogsKeepLabels = (sheet : SheetValue) (log : List Entry) → (after sheet log).labels ≡ sheet.labels
 
--- what each entry of a log puts into its cell may stand beside a table of so many labels
+-- what each entry of a log puts into its cells may stand beside a table of so many labels
 abbrev pub AreHeld : ℕ → List Entry → Type 0
-AreHeld labels log = All (λ (entry : Entry). IsHeld labels entry.edit.change.content) log
+AreHeld labels log = All (λ (entry : Entry). AreHeldBeside labels entry.edit) log
 
 -- a log of such entries leaves a sheet
 abbrev pub LogsKeepSheets : Type 0

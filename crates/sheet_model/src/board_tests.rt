@@ -46,9 +46,7 @@ fn small(alloc: Global) -> Result<Sheet, Fail> {
         let Ok(content) = sheet.read(field) else {
             return Err(Fail::from("a field that is not read"));
         };
-        let _ = sheet.apply(Edit {
-            change: Change { cell, content },
-        });
+        let _ = sheet.put(Change { cell, content });
     }
     Ok(sheet)
 }
@@ -74,11 +72,12 @@ fn entries_are_copied(rt: HostRuntime) -> Result<(), Fail> {
     };
     let entry = Entry {
         client: 3,
-        edit: Edit { change },
+        edit: Edit::one(rt.alloc(), change)?,
     };
     let copy = entry.copy()?;
     assert_eq!(rt; copy.client, 3);
-    let change = &copy.edit.change;
+    assert_eq!(rt; copy.edit.changes().len(), 1);
+    let change = &copy.edit.changes()[0];
     assert_eq!(rt; change.cell, cell("C1")?);
     assert!(rt; matches!(&change.content, Content::Formula(_)));
     Ok(())

@@ -1,4 +1,6 @@
 ghost use Rattle.sheet_model.specs.Changes.{ChangesFillTheirCell, ChangesLeaveOtherCells};
+ghost use Rattle.sheet_model.specs.Edits.{EditsFillTheirCells, EditsLeaveOtherCells};
+ghost use Rattle.sheet_model.specs.Edits.{OrderOfChangesIsFree, ReplacedContentsUndoEdits};
 ghost use Rattle.sheet_model.specs.Fields.{WritesOneContent, RefusedWritesNone};
 ghost use Rattle.sheet_model.specs.Logs.{OneMoreEntryIsOneMoreEdit, LogsKeepSizes, LogsKeepLabels};
 ghost use Rattle.sheet_model.specs.Logs.{LogsKeepSheets};
@@ -24,13 +26,23 @@ pub fn sheet_laws()
     ensures formulas { FormulasCanBeRead }
 {}
 
-/// What holds of sheets after logs of edits: a log with one more entry makes one more edit, which fills its cell
-/// and leaves every other cell as it was, and no log changes the sizes or the labels of a sheet. Where what each entry
-/// puts into its cell may stand beside the labels, the sheet after the log is one.
+/// What holds of sheets after changes and edits: a change fills its cell and leaves every other cell as it was. After an
+/// edit each changed cell holds what its change says, and every other cell what it held; the order of the changes means
+/// nothing; and what the edit replaced, put back, leaves the sheet as it was.
+pub fn edit_laws()
+    ensures change { ChangesFillTheirCell }
+    ensures beside { ChangesLeaveOtherCells }
+    ensures here { EditsFillTheirCells }
+    ensures others { EditsLeaveOtherCells }
+    ensures order { OrderOfChangesIsFree }
+    ensures undone { ReplacedContentsUndoEdits }
+{}
+
+/// What holds of sheets after logs of edits: a log with one more entry makes one more edit, and no log changes the sizes
+/// or the labels of a sheet. Where what each entry puts into its cells may stand beside the labels, the sheet after the
+/// log is one.
 pub fn log_laws()
     ensures more { OneMoreEntryIsOneMoreEdit }
-    ensures here { ChangesFillTheirCell }
-    ensures others { ChangesLeaveOtherCells }
     ensures sizes { LogsKeepSizes }
     ensures labels { LogsKeepLabels }
     ensures sheets { LogsKeepSheets }

@@ -41,22 +41,3 @@ impl Change {
         })
     }
 }
-
-/// What is done to a sheet in one step.
-#[derive(Drop)]
-pub struct Edit {
-    /// The change that it makes.
-    pub change: Change,
-}
-
-impl Edit {
-    ghost use Rattle.std.specs.Prelude.{◌≡◌, IfOk};
-
-    /// An equal edit. A formula is shared, so that it takes no time by its length.
-    pub fn copy(&self) -> Result<Edit, Memory>
-        ensures { IfOk result (λ edit. edit ≡ self.now) }
-    {
-        let change = self.change.copy()?;
-        Ok(Edit { change })
-    }
-}

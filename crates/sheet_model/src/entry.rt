@@ -1,4 +1,4 @@
-use crate::change::Edit;
+use crate::edit::Edit;
 use sheet_refs::Memory;
 
 /// An edit with the client that made it, as a log keeps it.

@@ -1,4 +1,4 @@
-use crate::change::{Change, Edit};
+use crate::change::Change;
 use crate::content::Content;
 use crate::labels::Labels;
 use crate::sheet::Sheet;
@@ -96,8 +96,7 @@ fn a_change_gives_back_what_the_cell_held(rt: HostRuntime) -> Result<(), Fail> {
             return Err(Fail::from("too much for a test"));
         }
         let content = sheet.read(field)?;
-        let change = Change { cell, content };
-        let before = sheet.apply(Edit { change });
+        let before = sheet.put(Change { cell, content });
         push_content(&mut text, &sheet, &before)?;
     }
     push_content(&mut text, &sheet, sheet.content(cell))?;

@@ -2,8 +2,9 @@
 //!
 //! A sheet is a rectangle of cells with a content in each, and a table of labels, in which each text
 //! stands once. What a field holds, `specs/Fields.antt` says, one line a kind of content; `read_content`
-//! reads it. `Sheet::apply` makes an edit; what a log of edits makes of a sheet, and what a subject of
-//! marks over it is (`SheetSubject`), `specs/Logs.antt` says. A `Board` shows the cells of a window.
+//! reads it. An `Edit` is a list of changes of distinct cells (`specs/Edits.antt`), and `Sheet::apply` makes one;
+//! what a log of edits makes of a sheet, and what a subject of marks over it is (`SheetSubject`),
+//! `specs/Logs.antt` says. A `Board` shows the cells of a window.
 //!
 //! What the value of a cell is, `specs/Values.antt` says by a budget of steps of evaluation: with
 //! none every cell is circular, and with one more a formula has its value over the values with the
@@ -11,7 +12,7 @@
 //! with a list of open cells. `value_laws` says what is true of values, however they are computed.
 //!
 //! Below stand `sheet_refs`, `value_core`, `formula_syntax`, `formula_eval`, `mark_core` and the kit's
-//! `indexmap`; above, `csv_sheet`, `window_text`, `edit_log`, `edit_script`, `play_machine`, `sheet_cli`.
+//! `indexmap` and `arrayvec`; above, `csv_sheet`, `window_text`, `edit_log`, `edit_script`, `play_machine`, `sheet_cli`.
 #![tactic(auto)]
 
 mod board;
@@ -20,6 +21,9 @@ mod board_tests;
 mod cell_laws;
 mod change;
 mod content;
+mod edit;
+#[cfg(test)]
+mod edit_tests;
 mod entry;
 mod eval;
 #[cfg(test)]
@@ -37,9 +41,10 @@ mod walk;
 mod words;
 
 pub use board::{Board, Shown};
-pub use cell_laws::{board_laws, field_laws, log_laws, sheet_laws};
-pub use change::{Change, Edit};
+pub use cell_laws::{board_laws, edit_laws, field_laws, log_laws, sheet_laws};
+pub use change::Change;
 pub use content::Content;
+pub use edit::{Edit, MOST_CHANGES};
 pub use entry::Entry;
 pub use fields::{ContentRefused, read_content};
 pub use labels::Labels;

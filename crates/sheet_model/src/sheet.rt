@@ -3,13 +3,15 @@ ghost use Rattle.std.specs.Prelude.{OnErr, IsTrue};
 ghost use Rattle.sheet_refs.specs.Sizes.{is_inside, cell_count, place_of};
 ghost use Rattle.formula_syntax.specs.Spelling.{HasTooManyRefs};
 ghost use Rattle.sheet_model.specs.Changes.{after_change};
+ghost use Rattle.sheet_model.specs.Edits.{IsChangeFor, IsFor, after_edit, held_in, replaced_by};
 ghost use Rattle.sheet_model.specs.Fields.{IsContent, IsDeepFormula, IsTableAfter};
-ghost use Rattle.sheet_model.specs.Sheets.{IsSheetSize, IsSheet, IsHeld, HasLabel, content_of};
+ghost use Rattle.sheet_model.specs.Sheets.{IsSheetSize, IsSheet, IsHeld, IsWritten, content_of};
 ghost use Rattle.sheet_model.specs.Sheets.{blank_sheet, with_labels, content_value};
 ghost use Rattle.sheet_model.specs.declared.fields.ContentRefused.TheVariants as refused;
 
-use crate::change::Edit;
+use crate::change::Change;
 use crate::content::{Content, copy_all};
+use crate::edit::Edit;
 use crate::fields::{ContentRefused, read_content};
 use crate::labels::Labels;
 use sheet_refs::{Cell, Memory, Sizes};
@@ -179,16 +181,47 @@ impl Sheet {
         read_content(self.alloc, text, &mut self.labels)
     }
 
-    /// Makes an edit, and gives back what the changed cell held. It takes no memory.
-    pub fn apply(&mut self, edit: Edit) -> Content
-        requires inside { IsTrue (is_inside self.old.sizes edit.change.cell) }
-        requires label { HasLabel (length self.old.labels) edit.change.content }
-        ensures replaced { content_value result ≡ content_of self.old edit.change.cell }
-        ensures placed { self.new ≡ after_change self.old edit.change }
+    /// Puts a content into a cell, and gives back what the cell held. It takes no memory.
+    pub fn put(&mut self, change: Change) -> Content
+        requires { IsChangeFor self.old change }
+        ensures replaced { content_value result ≡ content_of self.old change.cell }
+        ensures held { IsHeld (length self.old.labels) (content_value result) }
+        ensures placed { self.new ≡ after_change self.old change }
         ensures sheet { IsSheet self.new }
     {
-        let Edit { change } = edit;
         let place = self.sizes.place(change.cell);
         mem::replace(&mut self.contents[place], change.content)
+    }
+
+    // Makes a change, which then holds what its cell held.
+    fn exchange(&mut self, change: &mut Change)
+        requires { IsChangeFor self.old change.old }
+        ensures replaced { change.new ≡ held_in self.old change.old }
+        ensures written { IsWritten change.new.content }
+        ensures placed { self.new ≡ after_change self.old change.old }
+        ensures sheet { IsSheet self.new }
+    {
+        let cell = change.cell;
+        let nothing = Change {
+            cell,
+            content: Content::Empty,
+        };
+        let content = self.put(mem::replace(change, nothing));
+        *change = Change { cell, content };
+    }
+
+    /// Makes an edit, and gives back an edit of the same cells, in the same order, with what they held. It takes no
+    /// memory, and the time of its changes.
+    pub fn apply(&mut self, edit: Edit) -> Edit
+        requires { IsFor self.old edit }
+        ensures replaced { result ≡ replaced_by self.old edit }
+        ensures placed { self.new ≡ after_edit self.old edit }
+        ensures sheet { IsSheet self.new }
+    {
+        let Edit { mut changes } = edit;
+        for place in 0..changes.len() {
+            self.exchange(&mut changes[place]);
+        }
+        Edit { changes }
     }
 }

@@ -3,7 +3,7 @@
 ghost use Rattle.std.specs.Prelude.{◌≡◌};
 ghost use Rattle.sheet_model.specs.Sheets.{IsSheetSize};
 
-use crate::{Change, Edit, Sheet, all_values};
+use crate::{Change, Sheet, all_values};
 use sheet_refs::Cell;
 use std::alloc::Global;
 use std::fmt::Write;
@@ -21,9 +21,7 @@ fn put(sheet: &mut Sheet, row: u32, col: u32, field: &str) -> Result<(), Fail> {
     let Ok(content) = sheet.read(field) else {
         return Err(Fail::from("a field that is not read"));
     };
-    let _ = sheet.apply(Edit {
-        change: Change { cell, content },
-    });
+    let _ = sheet.put(Change { cell, content });
     Ok(())
 }
 

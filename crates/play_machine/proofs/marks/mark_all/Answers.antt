@@ -1,6 +1,7 @@
 use Rattle.std.proofs.Common.{arith, sym, subst}
 use Rattle.play_machine.specs.Marking.{SetsMarks}
-use Rattle.play_machine.proofs.MarkLemmas.{marks_more, taken_more}
+use Rattle.sheet_model.proofs.ListLemmas.{taken_more}
+use Rattle.play_machine.proofs.MarkLemmas.{marks_more}
 use Rattle.play_machine.proofs.marks.mark_all.Goals as goal
 
 pub loop-cell-preserved : goal.loop-cell-preserved

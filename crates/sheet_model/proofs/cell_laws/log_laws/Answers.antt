@@ -1,14 +1,8 @@
-use Rattle.sheet_model.proofs.LogLemmas.{after-more, change-here, change-others, after-sizes, after-labels, after-sheet}
+use Rattle.sheet_model.proofs.LogLemmas.{after-more, after-sizes, after-labels, after-sheet}
 use Rattle.sheet_model.proofs.cell_laws.log_laws.Goals as goal
 
 pub returns-clause-more : goal.returns-clause-more
 returns-clause-more c = after-more
-
-pub returns-clause-here : goal.returns-clause-here
-returns-clause-here c = change-here
-
-pub returns-clause-others : goal.returns-clause-others
-returns-clause-others c = change-others
 
 pub returns-clause-sizes : goal.returns-clause-sizes
 returns-clause-sizes c = after-sizes

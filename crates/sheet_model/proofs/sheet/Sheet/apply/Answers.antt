@@ -1,25 +1,27 @@
-use Rattle.std.proofs.Common.{◌≡◌, length, sym, ap, subst}
-use Rattle.std.proofs.lemmas.List.{map-set}
-use Rattle.sheet_model.specs.Sheets.{HasLabel, IsHeld, content_value, sheet_value}
-use Rattle.sheet_model.proofs.SheetLemmas.{sheet_with_content}
+use Rattle.std.proofs.Common.{◌≡◌, ◌<◌, ◌≤◌, length, ap, subst, arith}
+use Rattle.sheet_model.specs.Edits.{IsEdit}
+use Rattle.sheet_model.proofs.ApplyLemmas.{exchange_for, exchanged_more, exchanged_stored}
 use Rattle.sheet_model.proofs.sheet.Sheet.apply.Goals as goal
 
-pub invariant_of-self : goal.invariant_of-self
-invariant_of-self c =
-    let content : content_value c.change.inside.content ≡ c.args.edit.change.content = ap (λ x. x.content) c.change.view_is in
-    let labels : c.args.self.now.labels ≡ c.self.inside.labels = ap (λ s. s.labels) (sym c.self.view_is) in
-    let has : HasLabel (length c.args.self.now.labels) (content_value c.change.inside.content) = subst (HasLabel (length c.args.self.now.labels)) (sym content) c.requires.label in
-    let held : IsHeld (length c.self.inside.labels) (content_value c.change.inside.content) =
-    record { label = subst (λ ls. HasLabel (length ls) (content_value c.change.inside.content)) labels has; written = c.change.invariant } in
-    let changed = sheet_with_content (sheet_value c.self.inside.sizes c.self.inside.contents.items c.self.inside.labels) c.change.inside.cell (content_value c.change.inside.content) c.self.invariant.sheet held in
-    record {
-      sheet = rw (c.replace.ensures.after, c.place-place.ensures.place, map-set) changed;
-      nothing = c.self.invariant.nothing;
-    }
+pub exchange-requires : goal.exchange-requires
+exchange-requires c =
+    let same : c.edit.inside.changes.items ≡ c.args.edit = c.edit.view_is in
+    let count : length c.edit.inside.changes.items ≡ length c.args.edit = ap length same in
+    let below : c.loop-place.place < length c.args.edit = omega (arith, c.loop-place-test.true, c.len-place-end.ensures, c.edit.inside.changes.ok, count) in
+    exchange_for c.args.self.now c.loop-place.self c.args.edit c.loop-place.changes.items c.loop-place.place c.index_mut.result.now c.loop-place.invariant below c.index_mut.ensures.value c.requires
 
-pub returns-clause-placed : goal.returns-clause-placed
-returns-clause-placed c =
-    rw (c.requires.inside, c.place-place.ensures.place, c.replace.ensures.after, ← c.self.view_is, ← c.change.view_is) (simp map-set)
+pub loop-place-preserved : goal.loop-place-preserved
+loop-place-preserved c =
+    let same : c.edit.inside.changes.items ≡ c.args.edit = c.edit.view_is in
+    let count : length c.edit.inside.changes.items ≡ length c.args.edit = ap length same in
+    let below : c.loop-place.place < length c.args.edit = omega (arith, c.loop-place-test.true, c.len-place-end.ensures, c.edit.inside.changes.ok, count) in
+    let is : IsEdit c.args.edit = subst IsEdit same c.edit.invariant.edit in
+    exchanged_more c.args.self.now c.loop-place.self c.args.edit c.loop-place.changes.items c.loop-place.place c.index_mut.result.now c.loop-place.invariant below c.index_mut.ensures.value
+    c.exchange.new.self c.exchange.new.change is.distinct c.exchange.ensures.replaced c.exchange.ensures.written c.exchange.ensures.placed c.exchange.ensures.sheet
 
-pub returns-clause-sheet : goal.returns-clause-sheet
-returns-clause-sheet c = (invariant_of-self c).sheet
+pub invariant_of-result : goal.invariant_of-result
+invariant_of-result c =
+    let same : c.edit.inside.changes.items ≡ c.args.edit = c.edit.view_is in
+    let count : length c.edit.inside.changes.items ≡ length c.args.edit = ap length same in
+    let past : length c.args.edit ≤ c.loop-place.place = omega (arith, c.loop-place-test.false, c.len-place-end.ensures, c.edit.inside.changes.ok, count) in
+    exchanged_stored c.args.self.now c.loop-place.self c.args.edit c.loop-place.changes.items c.loop-place.place c.loop-place.invariant past (subst IsEdit same c.edit.invariant.edit)
