@@ -3,8 +3,9 @@ use Rattle.std.proofs.Common.{◌≡◌, ℕ, List, [], ◌∷◌, ◌++◌, len
 use Rattle.std.proofs.lemmas.List.{append-nil}
 use Rattle.std.proofs.lemmas.List.Elements.{All-take}
 use Rattle.graph_walk.specs.Graphs.{Pair}
-use Rattle.sheet_model.specs.Logs.{after, after_edit}
-use Rattle.sheet_model.specs.Sheets.{SheetValue, IsSheet, IsHeld}
+use Rattle.sheet_model.specs.Edits.{AreHeldBeside, after_edit}
+use Rattle.sheet_model.specs.Logs.{after}
+use Rattle.sheet_model.specs.Sheets.{SheetValue, IsSheet}
 use Rattle.sheet_model.specs.declared.entry.Entry.{Entry}
 use Rattle.sheet_model.proofs.LogLemmas.{after-more, after-sheet}
 use Rattle.edit_log.specs.Books.{BookValue, IsBookOf, HasApplied, ComesByEdits}
@@ -34,4 +35,4 @@ edits_log {G} (entry ∷ entries) old new (between, applied, rest) replayed =
 
 pub earlier_sheets : (opening sheet : SheetValue) (log : List Entry) (pairs : List Pair) → IsBookOf opening sheet log pairs → (k : ℕ) → IsSheet (after opening (take k log))
 earlier_sheets opening sheet log pairs is k =
-    after-sheet opening (take k log) is.opened (All-take (λ (entry : Entry). IsHeld (length opening.labels) entry.edit.change.content) k log is.held)
+    after-sheet opening (take k log) is.opened (All-take (λ (entry : Entry). AreHeldBeside (length opening.labels) entry.edit) k log is.held)

@@ -2,6 +2,8 @@ pub mod BookLemmas
 pub mod InputLemmas
 pub mod PairLemmas
 pub mod PlaceLemmas
+pub mod RefusalLemmas
+pub mod ReplaceLemmas
 pub mod RowLemmas
 pub mod Sent
 pub mod TouchLemmas

@@ -1,14 +1,17 @@
 -- The places of the cells that an entry touches, and that these have one list.
-use Rattle.std.proofs.Common.{◌≡◌, ◌↔◌, ◌⊎◌, inl, inr, ℕ, zero, suc, ◌+◌, ◌-◌, ◌*◌, ◌/◌, ◌%◌, ◌<◌, List, [], ◌∷◌, map, IsTrue, Contains, arith, refl, sym, ap, subst, ◌∙◌}
+use Rattle.std.proofs.Common.{◌≡◌, ◌↔◌, ◌⊎◌, inl, inr, ℕ, suc, ◌+◌, ◌-◌, ◌*◌, ◌/◌, ◌%◌, ◌<◌, List, [], ◌∷◌, map, All, IsTrue, Contains, arith, refl, sym, ap, subst, ◌∙◌}
 use Rattle.std.specs.Prelude.{AllPairs}
 use Rattle.std.proofs.lemmas.List.Kept.{AllPairs-from_increasing}
 use Rattle.sheet_refs.specs.Cells.{Position}
 use Rattle.sheet_refs.specs.Sizes.{is_inside, place_of, cell_count}
 use Rattle.sheet_refs.specs.declared.sizes.Sizes.{Sizes}
 use Rattle.sheet_refs.proofs.Places.{place-lt}
+use Rattle.sheet_model.specs.Changes.{ChangeValue}
+use Rattle.sheet_model.specs.Edits.{AreInSheet}
 use Rattle.sheet_model.specs.Logs.{after}
 use Rattle.sheet_model.specs.Sheets.{SheetValue}
 use Rattle.sheet_model.specs.declared.entry.Entry.{Entry}
+use Rattle.sheet_model.proofs.EditLemmas.{first_or_later}
 use Rattle.sheet_model.proofs.LogLemmas.{after-sizes}
 use Rattle.edit_log.specs.Kept.{cell_at-inside, cell_at-place_of, cell_at-place}
 use Rattle.edit_log.specs.Touches.{Touches, AreTouched, TouchesPlace, cell_at}
@@ -28,10 +31,6 @@ module _ {A : Type 0} (f : A → ℕ) where
   tail_rises : (x : A) (xs : List A) → Rises (x ∷ xs) → Rises xs
   tail_rises x xs up i j d lt within = up (suc i) (suc j) d (omega (arith, lt)) (omega (arith, within))
 
-  head_or_later : (x y : A) (ys : List A) → Contains (y ∷ ys) x → (y ≡ x) ⊎ Contains ys x
-  head_or_later x y ys (zero, below, at) = inl at
-  head_or_later x y ys (suc k, below, at) = inr (k, omega (arith, below), at)
-
   same_head : (x y : A) (xs ys : List A) → Rises (x ∷ xs) → Rises (y ∷ ys) → (y ≡ x) ⊎ Contains ys x → (x ≡ y) ⊎ Contains xs y → x ≡ y
   same_head x y xs ys up_x up_y (inl same) other = sym same
   same_head x y xs ys up_x up_y (inr later) (inl same) = same
@@ -46,10 +45,10 @@ module _ {A : Type 0} (f : A → ℕ) where
   one_list [] (y ∷ ys) up_x up_y forth back = absurd (no_member y (back y (first_member y ys)))
   one_list (x ∷ xs) [] up_x up_y forth back = absurd (no_member x (forth x (first_member x xs)))
   one_list (x ∷ xs) (y ∷ ys) up_x up_y forth back =
-      let heads : x ≡ y = same_head x y xs ys up_x up_y (head_or_later x y ys (forth x (first_member x xs))) (head_or_later y x xs (back y (first_member y ys))) in
+      let heads : x ≡ y = same_head x y xs ys up_x up_y (first_or_later x y ys (forth x (first_member x xs))) (first_or_later y x xs (back y (first_member y ys))) in
       let tails : xs ≡ ys = one_list xs ys (tail_rises x xs up_x) (tail_rises y ys up_y)
-      (λ z there. later_too x y z xs ys heads up_x there (head_or_later z y ys (forth z (later_member x z xs there))))
-      (λ z there. later_too y x z ys xs (sym heads) up_y there (head_or_later z x xs (back z (later_member y z ys there)))) in
+      (λ z there. later_too x y z xs ys heads up_x there (first_or_later z y ys (forth z (later_member x z xs there))))
+      (λ z there. later_too y x z ys xs (sym heads) up_y there (first_or_later z x xs (back z (later_member y z ys there)))) in
       λ i. heads i ∷ tails i
 
 pub one_touched_list : (opening : SheetValue) (log : List Entry) (entry : Entry) (a b : List Position) → AreTouched opening log entry a → AreTouched opening log entry b → a ≡ b
@@ -61,11 +60,11 @@ one_touched_list opening log entry a b a_is b_is =
     (λ cell there. (a_is.exact cell).1 ((b_is.exact cell).0 there))
 
 -- the cells that an entry of the sheet touches lie in it
-pub touches_inside : (opening : SheetValue) (log : List Entry) (entry : Entry) (cell : Position) → IsTrue (is_inside opening.sizes entry.edit.change.cell) → Touches opening log entry cell → IsTrue (is_inside opening.sizes cell)
+pub touches_inside : (opening : SheetValue) (log : List Entry) (entry : Entry) (cell : Position) → AreInSheet opening entry.edit → Touches opening log entry cell → IsTrue (is_inside opening.sizes cell)
 touches_inside opening log entry cell inside touches =
     let sizes = after-sizes opening log in
     subst (λ (s : Sizes). IsTrue (is_inside s cell)) sizes
-    (depends_inside (after opening log) entry.edit.change.cell (subst (λ (s : Sizes). IsTrue (is_inside s entry.edit.change.cell)) (sym sizes) inside) cell touches)
+    (depends_inside (after opening log) entry.edit (subst (λ (s : Sizes). All (λ (c : ChangeValue). IsTrue (is_inside s c.cell)) entry.edit) (sym sizes) inside) cell touches)
 
 pub places_of_cells : (sizes : Sizes) (place : ℕ) → place < cell_count sizes → IsTrue (is_inside sizes (cell_at sizes place)) × (place_of sizes (cell_at sizes place) ≡ place)
 places_of_cells sizes place below = (cell_at-inside sizes place below, cell_at-place_of sizes place below)
@@ -86,7 +85,7 @@ cell_at-back sizes place inside = back place sizes.cols (cell_count sizes) (plac
         let here : place / cols * cols + place % cols < count = rw (row, col) at below in
         grind (arith, here)
 
-module _ (opening : SheetValue) (log : List Entry) (entry : Entry) (cells : List Position) (inside : IsTrue (is_inside opening.sizes entry.edit.change.cell)) (are : AreTouched opening log entry cells) (place : ℕ) where
+module _ (opening : SheetValue) (log : List Entry) (entry : Entry) (cells : List Position) (inside : AreInSheet opening entry.edit) (are : AreTouched opening log entry cells) (place : ℕ) where
   there : TouchesPlace opening log entry place → IsTrue (is_inside opening.sizes (cell_at opening.sizes place))
   there touches = touches_inside opening log entry (cell_at opening.sizes place) inside touches
 

@@ -1,13 +1,14 @@
 -- Books: a sheet, its graph, and the log of its edits.
 use Rattle.std.specs.Prelude.{◌≡◌, ℕ, ◌+◌, ◌<◌, ◌≤◌, IsTrue, List, [], ◌∷◌, ◌++◌, length, take, All}
+use Rattle.std.specs.List.{AllZip}
 use Rattle.sheet_refs.specs.Cells.{Position, Corners}
 use Rattle.sheet_refs.specs.Sizes.{is_inside}
 use Rattle.formula_syntax.specs.Listing.{IsOnceEach}
 use Rattle.graph_walk.specs.Graphs.{Pair, SamePairs}
 use Rattle.sheet_model.specs.Changes.{ChangeValue}
-use Rattle.sheet_model.specs.Logs.{after, after_edit, AreHeld}
-use Rattle.sheet_model.specs.Sheets.{SheetValue, IsSheet, IsHeld}
-use Rattle.sheet_model.specs.declared.change.Edit.{Edit}
+use Rattle.sheet_model.specs.Edits.{EditValue, AreHeldBeside, AreInSheet, IsEdit, after_edit}
+use Rattle.sheet_model.specs.Logs.{after, AreHeld}
+use Rattle.sheet_model.specs.Sheets.{SheetValue, IsSheet}
 use Rattle.sheet_model.specs.declared.entry.Entry.{Entry}
 use Rattle.edit_log.specs.Pairs.{ArePairsOf, ranges_in}
 use Rattle.edit_log.specs.Touches.{AreTouched}
@@ -20,11 +21,12 @@ pub record BookValue (G : Type 0) : Type 0 where
   pub log : List Entry
   pub spare : ℕ
 
--- a sheet is the opening sheet after the log, of which each entry's content may stand beside the opening sheet's labels, and
--- the pairs are those of the sheet
+-- a sheet is the opening sheet after the log, of which each entry changes distinct cells to contents that may stand beside
+-- the opening sheet's labels, and the pairs are those of the sheet
 pub record IsBookOf (opening sheet : SheetValue) (log : List Entry) (pairs : List Pair) : Type 0 where
   pub opened : IsSheet opening
   pub held : AreHeld (length opening.labels) log
+  pub edits : All (λ (entry : Entry). IsEdit entry.edit) log
   pub replayed : sheet ≡ after opening log
   pub pairs_are : ArePairsOf sheet pairs
   pub few : length log ≤ 1048576
@@ -46,7 +48,7 @@ pub record IsUnchanged {G : Type 0} (pairs_of : G → List Pair) (old new : Book
   pub pairs : SamePairs (pairs_of old.graph) (pairs_of new.graph)
 
 -- the client with its edit
-abbrev pub client_entry : ℕ → Edit → Entry
+abbrev pub client_entry : ℕ → EditValue → Entry
 client_entry client edit = record { client = client; edit = edit }
 
 -- an edit that is ready to be made: the entry, its number, and the cells that it touches
@@ -56,20 +58,28 @@ pub record PreparedValue : Type 0 where
   pub touched : List Position
 
 -- it is for the next place of a log: it has the number of that place and the cells that the entry touches there, all of them
--- in the sheet as its own cell is; its content may stand beside the labels; and the log isn't full
+-- in the sheet as its own cells are; its contents may stand beside the labels; and the log isn't full
 pub record IsPreparedFor (opening : SheetValue) (log : List Entry) (prepared : PreparedValue) : Type 0 where
   pub number : prepared.number ≡ length log + 1
   pub touched : AreTouched opening log prepared.entry prepared.touched
-  pub inside : IsTrue (is_inside opening.sizes prepared.entry.edit.change.cell)
+  pub edit : IsEdit prepared.entry.edit
+  pub inside : AreInSheet opening prepared.entry.edit
   pub touched_inside : All (λ cell. IsTrue (is_inside opening.sizes cell)) prepared.touched
-  pub held : IsHeld (length opening.labels) prepared.entry.edit.change.content
+  pub held : AreHeldBeside (length opening.labels) prepared.entry.edit
   pub room : length log < 1048576
 
--- a prepared edit in memory: the change for the sheet is that of the entry, and the ranges are those to which its
--- formula refers
-pub record IsStoredEdit (entry : Entry) (change : ChangeValue) (ranges : List Corners) : Type 0 where
-  pub same : change ≡ entry.edit.change
-  pub refs : IsOnceEach (ranges_in change.content) ranges
+-- the ranges to which the content of a change refers, each once; and those of each change of an edit
+abbrev pub AreRefsOf : ChangeValue → List Corners → Type 0
+AreRefsOf change ranges = IsOnceEach (ranges_in change.content) ranges
+
+abbrev pub HaveRefs : EditValue → List (List Corners) → Type 0
+HaveRefs edit refs = AllZip AreRefsOf edit refs
+
+-- a prepared edit in memory: the edit for the sheet is that of the entry, and the ranges are those to which its formulas
+-- refer
+pub record IsStoredEdit (entry : Entry) (edit : EditValue) (refs : List (List Corners)) : Type 0 where
+  pub same : edit ≡ entry.edit
+  pub whole : HaveRefs edit refs
 
 -- a book after an edit: the entry is the last of the log, and the edit is made
 pub record HasApplied {G : Type 0} (entry : Entry) (old new : BookValue G) : Type 0 where

@@ -1,6 +1,5 @@
 -- Which cells an entry touches, and that all others keep their values: proofs that the subject of a sheet needs for its laws.
-use Rattle.std.proofs.Common.{◌≡◌, ◌≢◌, ◌↔◌, ◌⊎◌, inl, inr, ℕ, zero, suc, ◌+◌, ◌-◌, ◌*◌, ◌/◌, ◌%◌, ◌<◌, Bool, true, false, cond, List, [], ◌∷◌, ◌++◌, map, slice_get, Some, IsTrue, Contains, eqb, arith, refl, sym, ap, subst, ◌∙◌}
-use Rattle.std.proofs.lemmas.Bool.Decides.{nat_tests}
+use Rattle.std.proofs.Common.{◌≡◌, ◌↔◌, inl, inr, ℕ, zero, suc, ◌+◌, ◌-◌, ◌*◌, ◌/◌, ◌%◌, ◌<◌, List, [], ◌∷◌, ◌++◌, map, slice_get, Some, IsTrue, Contains, arith, refl, sym, ap, subst, ◌∙◌}
 use Rattle.sheet_refs.specs.Cells.{Position}
 use Rattle.sheet_refs.specs.Ends.{Reference, corners_of}
 use Rattle.sheet_refs.specs.Sizes.{is_inside, place_of, cell_count}
@@ -11,17 +10,17 @@ use Rattle.value_core.specs.declared.value.Value.{Value}
 use Rattle.formula_syntax.specs.Tree.{references_of}
 use Rattle.graph_walk.specs.Paths.{IsReached}
 use Rattle.graph_walk.proofs.PathLemmas.{reached_start, reached_step, reached_within}
-use Rattle.sheet_model.specs.Changes.{ChangeValue, after_change}
+use Rattle.sheet_model.specs.Edits.{EditValue, after_edit}
 use Rattle.sheet_model.specs.Logs.{after, IsOfSheet}
-use Rattle.sheet_model.specs.Sheets.{SheetValue, ContentValue, Constant, Computed, content_of, with_content}
+use Rattle.sheet_model.specs.Sheets.{SheetValue, ContentValue, Constant, Computed, content_of}
 use Rattle.sheet_model.specs.Values.{value_of, step, step_content, circular_value, budget_value, content_references, IsInput}
 use Rattle.sheet_model.specs.declared.entry.Entry.{Entry}
-use Rattle.sheet_model.proofs.LogLemmas.{after-more, change-sizes}
+use Rattle.sheet_model.proofs.EditLemmas.{changed_or_not, edit-others, edit-sizes}
+use Rattle.sheet_model.proofs.LogLemmas.{after-more}
 use Rattle.sheet_model.proofs.LoopLemmas.{agree_on}
-use Rattle.sheet_model.proofs.SheetLemmas.{content_of-other}
 use Rattle.sheet_model.proofs.ValueLemmas.{step_local}
 use Rattle.edit_log.specs.Pairs.{ranges_in}
-use Rattle.edit_log.specs.Touches.{DependsDirectly, Touches, place_worth, TouchesPlace, cell_at}
+use Rattle.edit_log.specs.Touches.{DependsDirectly, IsChangedBy, Touches, place_worth, TouchesPlace, cell_at}
 
 -- an element at a place is in the list, and so is what it is mapped to
 mapped_member : {A B : Type 0} (f : A → B) (xs : List A) (i : ℕ) (x : A) → slice_get xs i ≡ Some x → Contains (map f xs) (f x)
@@ -37,29 +36,13 @@ named_listed (Constant value) through place at = absurd (nothing place through a
     nothing i x at = cc
 named_listed (Computed tree) through place at = mapped_member corners_of (references_of tree) place through at
 
--- the cells that depend on a cell, by the formulas of a sheet
-abbrev pub Depends : SheetValue → Position → Position → Type 0
-Depends sheet start cell = IsReached (DependsDirectly sheet) (λ from. from ≡ start) cell
+-- the cells that depend on the cells that an edit changes, by the formulas of a sheet
+abbrev pub Depends : SheetValue → EditValue → Position → Type 0
+Depends sheet edit cell = IsReached (DependsDirectly sheet) (IsChangedBy edit) cell
 
--- two cells are one, or differ
-pub one_or_two : (a b : Position) → (a ≡ b) ⊎ (a ≢ b)
-one_or_two a b = by_row (eqb a.row b.row) refl (eqb a.col b.col) refl
-  where
-    by_row : (r : Bool) → eqb a.row b.row ≡ r → (c : Bool) → eqb a.col b.col ≡ c → (a ≡ b) ⊎ (a ≢ b)
-    by_row true row true col =
-        let rows : a.row ≡ b.row = grind (arith, nat_tests, row) in
-        let cols : a.col ≡ b.col = grind (arith, nat_tests, col) in
-        inl (λ i. record { row = rows i; col = cols i })
-    by_row false row c col = inr (λ same. let rows : a.row ≡ b.row = ap (λ (p : Position). p.row) same in absurd (grind (arith, nat_tests, row, rows)))
-    by_row true row false col = inr (λ same. let cols : a.col ≡ b.col = ap (λ (p : Position). p.col) same in absurd (grind (arith, nat_tests, col, cols)))
-
--- a change of another cell leaves what stands in a cell
-pub content-kept : (sheet : SheetValue) (change : ChangeValue) (cell : Position) → cell ≢ change.cell → content_of (after_change sheet change) cell ≡ content_of sheet cell
-content-kept sheet change cell differs = go (is_inside sheet.sizes change.cell) refl
-  where
-    go : (b : Bool) → is_inside sheet.sizes change.cell ≡ b → content_of (cond b (with_content sheet change.cell change.content) sheet) cell ≡ content_of sheet cell
-    go true inside = content_of-other sheet change.cell change.content inside cell differs
-    go false outside = refl
+-- an edit of other cells leaves what stands in a cell
+pub content-kept : (sheet : SheetValue) (edit : EditValue) (cell : Position) → ¬ IsChangedBy edit cell → content_of (after_edit sheet edit) cell ≡ content_of sheet cell
+content-kept sheet edit cell differs = edit-others sheet edit cell (λ change there same. differs (change, there, same))
 
 -- an input of a cell leads to it by a step
 pub input_step : (sheet : SheetValue) (cell input : Position) → IsInput sheet cell input → DependsDirectly sheet input cell
@@ -71,47 +54,47 @@ input_step sheet cell input is =
       cell_is = refl;
     }
 
--- where a cell doesn't depend on the changed one, one step gives the same before the change and after it
-module _ (sheet : SheetValue) (change : ChangeValue) where
+-- where a cell doesn't depend on the changed ones, one step gives the same before the edit and after it
+module _ (sheet : SheetValue) (edit : EditValue) where
   abbrev Kept : Position → Type 0
-  Kept cell = ¬ Depends sheet change.cell cell
+  Kept cell = ¬ Depends sheet edit cell
 
-  step-kept : (cell : Position) (f : Position → Value) → Kept cell → step (after_change sheet change) cell f ≡ step sheet cell f
+  step-kept : (cell : Position) (f : Position → Value) → Kept cell → step (after_edit sheet edit) cell f ≡ step sheet cell f
   step-kept cell f kept =
-      let differs : cell ≢ change.cell = λ same. kept (reached_start (DependsDirectly sheet) (λ from. from ≡ change.cell) cell same) in
-      ap (λ s. step_content s f (content_of (after_change sheet change) cell)) (change-sizes sheet change)
-      ∙ ap (step_content sheet.sizes f) (content-kept sheet change cell differs)
+      let differs : ¬ IsChangedBy edit cell = λ changed. kept (reached_start (DependsDirectly sheet) (IsChangedBy edit) cell changed) in
+      ap (λ s. step_content s f (content_of (after_edit sheet edit) cell)) (edit-sizes sheet edit)
+      ∙ ap (step_content sheet.sizes f) (content-kept sheet edit cell differs)
 
   inputs-kept : (cell input : Position) → Kept cell → IsInput sheet cell input → Kept input
-  inputs-kept cell input kept is depends = kept (reached_step (DependsDirectly sheet) (λ from. from ≡ change.cell) input cell depends (input_step sheet cell input is))
+  inputs-kept cell input kept is depends = kept (reached_step (DependsDirectly sheet) (IsChangedBy edit) input cell depends (input_step sheet cell input is))
 
-  same-kept : (cell : Position) (f g : Position → Value) → Kept cell → ((input : Position) → IsInput sheet cell input → f input ≡ g input) → step (after_change sheet change) cell f ≡ step sheet cell g
+  same-kept : (cell : Position) (f g : Position → Value) → Kept cell → ((input : Position) → IsInput sheet cell input → f input ≡ g input) → step (after_edit sheet edit) cell f ≡ step sheet cell g
   same-kept cell f g kept same = step-kept cell f kept ∙ step_local sheet cell f g same
 
-  -- a cell that doesn't depend on the changed one keeps its value
-  pub value-kept : (cell : Position) → ¬ Depends sheet change.cell cell → value_of (after_change sheet change) cell ≡ value_of sheet cell
+  -- a cell that doesn't depend on a changed one keeps its value
+  pub value-kept : (cell : Position) → ¬ Depends sheet edit cell → value_of (after_edit sheet edit) cell ≡ value_of sheet cell
   unfolding value_of
   value-kept cell kept =
-      ap (λ s. budget_value (after_change sheet change) (suc (cell_count s)) cell) (change-sizes sheet change)
-      ∙ agree_on (IsInput sheet) circular_value Kept (step (after_change sheet change)) (step sheet) inputs-kept same-kept (suc (cell_count sheet.sizes)) cell kept
+      ap (λ s. budget_value (after_edit sheet edit) (suc (cell_count s)) cell) (edit-sizes sheet edit)
+      ∙ agree_on (IsInput sheet) circular_value Kept (step (after_edit sheet edit)) (step sheet) inputs-kept same-kept (suc (cell_count sheet.sizes)) cell kept
 
 pub untouched : (opening : SheetValue) (log : List Entry) (entry : Entry) (cell : Position) → ¬ Touches opening log entry cell → value_of (after opening (log ++ entry ∷ [])) cell ≡ value_of (after opening log) cell
 untouched opening log entry cell spared =
-    ap (λ s. value_of s cell) (after-more opening log entry) ∙ value-kept (after opening log) entry.edit.change cell spared
+    ap (λ s. value_of s cell) (after-more opening log entry) ∙ value-kept (after opening log) entry.edit cell spared
 
--- where two sheets differ in one cell alone, the same cells depend on that cell
-pub depends-same : (a b : SheetValue) (start : Position) → ((cell : Position) → cell ≢ start → content_of a cell ≡ content_of b cell) → (cell : Position) → Depends a start cell → Depends b start cell
-depends-same a b start same = reached_within (DependsDirectly a) (λ from. from ≡ start) (Depends b start)
-    (λ cell is. reached_start (DependsDirectly b) (λ from. from ≡ start) cell is)
-    (λ from to one depends. elim (one_or_two to start) [
-      | inl is ↦ reached_start (DependsDirectly b) (λ from. from ≡ start) to is
-      | inr differs ↦ reached_step (DependsDirectly b) (λ from. from ≡ start) from to depends (step_in from to one differs)
+-- where two sheets differ in changed cells alone, the same cells depend on these
+pub depends-same : (a b : SheetValue) (edit : EditValue) → ((cell : Position) → ¬ IsChangedBy edit cell → content_of a cell ≡ content_of b cell) → (cell : Position) → Depends a edit cell → Depends b edit cell
+depends-same a b edit same = reached_within (DependsDirectly a) (IsChangedBy edit) (Depends b edit)
+    (λ cell is. reached_start (DependsDirectly b) (IsChangedBy edit) cell is)
+    (λ from to one depends. elim (changed_or_not edit to) [
+      | inl is ↦ reached_start (DependsDirectly b) (IsChangedBy edit) to is
+      | inr differs ↦ reached_step (DependsDirectly b) (IsChangedBy edit) from to depends (step_in from to one (λ changed. differs changed.0 changed.1 changed.2))
     ])
   where
-    step_in : (from to : Position) → DependsDirectly a from to → to ≢ start → DependsDirectly b from to
+    step_in : (from to : Position) → DependsDirectly a from to → ¬ IsChangedBy edit to → DependsDirectly b from to
     step_in from to one differs = record {
       pair = one.pair;
-      of_sheet = subst (λ (content : ContentValue). Contains (ranges_in content) one.pair.range) (same one.pair.cell (λ is. differs (sym one.cell_is ∙ is))) one.of_sheet;
+      of_sheet = subst (λ (content : ContentValue). Contains (ranges_in content) one.pair.range) (same one.pair.cell (λ changed. differs (subst (IsChangedBy edit) one.cell_is changed))) one.of_sheet;
       inside = one.inside;
       cell_is = one.cell_is;
     }
@@ -120,11 +103,11 @@ depends-same a b start same = reached_within (DependsDirectly a) (λ from. from 
 pub before_after : (opening : SheetValue) (log : List Entry) (entry : Entry) (cell : Position) → Touches opening log entry cell ↔ Touches opening (log ++ entry ∷ []) entry cell
 before_after opening log entry cell =
     let before : SheetValue = after opening log in
-    let change : ChangeValue = entry.edit.change in
-    let P : SheetValue → Type 0 = λ s. Depends s change.cell cell in
-    let kept = content-kept before change in (
-      λ depends. subst P (sym (after-more opening log entry)) (depends-same before (after_change before change) change.cell (λ c differs. sym (kept c differs)) cell depends),
-      λ depends. depends-same (after_change before change) before change.cell kept cell (subst P (after-more opening log entry) depends),
+    let edit : EditValue = entry.edit in
+    let P : SheetValue → Type 0 = λ s. Depends s edit cell in
+    let kept = content-kept before edit in (
+      λ depends. subst P (sym (after-more opening log entry)) (depends-same before (after_edit before edit) edit (λ c differs. sym (kept c differs)) cell depends),
+      λ depends. depends-same (after_edit before edit) before edit kept cell (subst P (after-more opening log entry) depends),
     )
 
 -- the cell at the place of a cell is that cell

@@ -1,6 +1,7 @@
 -- The pairs of a sheet: each cell whose formula refers to a range, with that range.
-use Rattle.std.specs.Prelude.{◌≡◌, ◌↔◌, ◌⊎◌, ◌<◌, ℕ, List, [], Contains}
+use Rattle.std.specs.Prelude.{◌≡◌, ◌↔◌, ◌⊎◌, ◌<◌, ℕ, List, [], length, Contains}
 use Rattle.sheet_refs.specs.Cells.{Position, Corners}
+use Rattle.sheet_refs.specs.Sizes.{cell_count}
 use Rattle.formula_syntax.specs.Listing.{ranges_of}
 use Rattle.sheet_model.specs.Sheets.{SheetValue, ContentValue, Constant, Computed, content_of}
 use Rattle.graph_walk.specs.Graphs.{Pair}
@@ -17,6 +18,10 @@ IsPairOf sheet pair = Contains (ranges_in (content_of sheet pair.cell)) pair.ran
 -- the pairs of a graph are those of a sheet
 abbrev pub ArePairsOf : SheetValue → List Pair → Type 0
 ArePairsOf sheet pairs = (pair : Pair) → Contains pairs pair ↔ IsPairOf sheet pair
+
+-- something stands in each cell
+abbrev pub IsFilled : SheetValue → Type 0
+IsFilled sheet = length sheet.contents ≡ cell_count sheet.sizes
 
 -- there is no pair
 abbrev pub HasNoPairs : List Pair → Type 0

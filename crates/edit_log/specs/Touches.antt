@@ -1,12 +1,15 @@
--- Which cells an entry touches: the one that it changes, and all that depend on it.
+-- Which cells an entry touches: those that it changes, and all that depend on them.
 use Rattle.std.specs.Prelude.{◌≡◌, ℕ, ◌+◌, ◌/◌, ◌%◌, ◌<◌, ◌↔◌, IsTrue, List, [], ◌∷◌, ◌++◌, map, Contains}
 use Rattle.std.specs.List.Sorted.{IsStrictlyIncreasing}
-use Rattle.sheet_refs.specs.Cells.{Position, Corners, IsIn}
+use Rattle.sheet_refs.specs.Cells.{Position, Corners, IsIn, span_of}
 use Rattle.sheet_refs.specs.Sizes.{is_inside, place_of, cell_count}
 use Rattle.sheet_refs.specs.declared.sizes.Sizes.{Sizes}
 use Rattle.value_core.specs.Values.{code_of}
-use Rattle.graph_walk.specs.Graphs.{Pair, Reach}
+use Rattle.graph_walk.specs.Graphs.{Pair}
 use Rattle.graph_walk.specs.Paths.{IsReached}
+use Rattle.graph_walk.specs.Starts.{ReachOfAll}
+use Rattle.sheet_model.specs.Changes.{ChangeValue}
+use Rattle.sheet_model.specs.Edits.{EditValue, AreInSheet}
 use Rattle.sheet_model.specs.Logs.{after}
 use Rattle.sheet_model.specs.Sheets.{SheetValue}
 use Rattle.sheet_model.specs.Values.{value_of}
@@ -20,14 +23,30 @@ pub record DependsDirectly (sheet : SheetValue) (from to : Position) : Type 0 wh
   pub inside : IsIn from pair.range
   pub cell_is : pair.cell ≡ to
 
--- the cell that an entry changes
-abbrev pub IsChanged : Entry → Position → Type 0
-IsChanged entry cell = cell ≡ entry.edit.change.cell
+-- a cell that an edit changes
+abbrev pub IsChangedBy : EditValue → Position → Type 0
+IsChangedBy edit cell = (change : ChangeValue) × Contains edit change × (cell ≡ change.cell)
 
--- an entry touches its cell, and all cells that depend on it in any number of steps, by the formulas that stand in
--- the sheet after the log, before the entry
+-- an entry touches its cells, and all cells that depend on one of them in any number of steps, by the formulas that
+-- stand in the sheet after the log, before the entry
 abbrev pub Touches : SheetValue → List Entry → Entry → Position → Type 0
-Touches opening log entry cell = IsReached (DependsDirectly (after opening log)) (IsChanged entry) cell
+Touches opening log entry cell = IsReached (DependsDirectly (after opening log)) (IsChangedBy entry.edit) cell
+
+-- the entry of one change of an entry, alone
+abbrev pub of_change : Entry → ChangeValue → Entry
+of_change entry change = record { client = entry.client; edit = change ∷ [] }
+
+-- an entry touches exactly what each of its changes would touch alone
+abbrev pub TouchedByOneOfTheChanges : Type 0
+TouchedByOneOfTheChanges =
+    (opening : SheetValue) (log : List Entry) (entry : Entry) (cell : Position)
+    → Touches opening log entry cell ↔ ((change : ChangeValue) × Contains entry.edit change × Touches opening log (of_change entry change) cell)
+
+-- each of its changed cells is among them
+abbrev pub ChangedCellsAreTouched : Type 0
+ChangedCellsAreTouched =
+    (opening : SheetValue) (log : List Entry) (entry : Entry) (change : ChangeValue)
+    → Contains entry.edit change → Touches opening log entry change.cell
 
 -- a cell that an entry doesn't touch keeps its value
 abbrev pub UntouchedCellsKeepTheirValues : Type 0
@@ -35,21 +54,28 @@ UntouchedCellsKeepTheirValues =
     (opening : SheetValue) (log : List Entry) (entry : Entry) (cell : Position) → ¬ Touches opening log entry cell
     → value_of (after opening (log ++ entry ∷ [])) cell ≡ value_of (after opening log) cell
 
--- by the formulas before an entry the same cells depend on its cell as by those after it
+-- by the formulas before an entry the same cells depend on its cells as by those after it
 abbrev pub TouchedBeforeAndAfter : Type 0
 TouchedBeforeAndAfter =
     (opening : SheetValue) (log : List Entry) (entry : Entry) (cell : Position)
     → Touches opening log entry cell ↔ Touches opening (log ++ entry ∷ []) entry cell
 
--- an entry that changes a cell of the sheet touches cells of the sheet alone
+-- an entry that changes cells of the sheet touches cells of the sheet alone
 abbrev pub TouchedCellsAreInside : Type 0
 TouchedCellsAreInside =
     (opening : SheetValue) (log : List Entry) (entry : Entry) (cell : Position)
-    → IsTrue (is_inside opening.sizes entry.edit.change.cell) → Touches opening log entry cell → IsTrue (is_inside opening.sizes cell)
+    → AreInSheet opening entry.edit → Touches opening log entry cell → IsTrue (is_inside opening.sizes cell)
 
--- all cells that a range reaches lie in the rectangle
-abbrev pub IsReachInside : Sizes → List Pair → Corners → Type 0
-IsReachInside sizes pairs range = (cell : Position) → Reach pairs range cell → IsTrue (is_inside sizes cell)
+-- the ranges of the single cells that changes change
+abbrev pub cell_range : ChangeValue → Corners
+cell_range change = span_of change.cell change.cell
+
+abbrev pub cell_ranges : EditValue → List Corners
+cell_ranges edit = map cell_range edit
+
+-- all cells that some ranges reach lie in the rectangle
+abbrev pub IsReachInside : Sizes → List Pair → List Corners → Type 0
+IsReachInside sizes pairs ranges = (cell : Position) → ReachOfAll pairs ranges cell → IsTrue (is_inside sizes cell)
 
 -- a list has exactly the cells of a set, row by row, each once
 pub record ListsRowByRow (sizes : Sizes) (cells : List Position) (set : Position → Type 0) : Type 0 where
@@ -93,11 +119,11 @@ TouchedPlacesAreTouchedCells =
     (opening : SheetValue) (log : List Entry) (entry : Entry) (cell : Position) → IsTrue (is_inside opening.sizes cell)
     → TouchesPlace opening log entry (place_of opening.sizes cell) ↔ Touches opening log entry cell
 
--- the places that an entry touches, which changes a cell of the sheet, are those of the cells in the list of what it touches,
+-- the places that an entry touches, which changes cells of the sheet, are those of the cells in the list of what it touches,
 -- and places of the sheet
 abbrev pub TouchedPlacesAreListed : Type 0
 TouchedPlacesAreListed =
     (opening : SheetValue) (log : List Entry) (entry : Entry) (cells : List Position)
-    → IsTrue (is_inside opening.sizes entry.edit.change.cell) → AreTouched opening log entry cells → (place : ℕ)
+    → AreInSheet opening entry.edit → AreTouched opening log entry cells → (place : ℕ)
     → (TouchesPlace opening log entry place ↔ Contains (map (place_of opening.sizes) cells) place)
     × (TouchesPlace opening log entry place → place < cell_count opening.sizes)

@@ -4,8 +4,9 @@ ghost use Rattle.edit_log.specs.Pairs.{HasNoPairs};
 
 use crate::graphs::graph_of;
 use crate::prepared::{Applied, Prepared};
+use crate::replacing::replace_all;
 use graph_walk::Graph;
-use sheet_model::{Edit, Entry, Sheet};
+use sheet_model::{Entry, Sheet};
 use sheet_refs::Memory;
 use std::alloc::Global;
 use std::marker::Model;
@@ -13,10 +14,10 @@ use std::snapshot::Snapshot;
 
 /// A sheet that is edited, with its dependency graph and the log of its edits.
 ///
-/// Contracts see besides these the sheet with which it was opened, and for how many edits there is room (`spare`).
-/// Its type keeps that the sheet is the opening one after the log, that what each entry puts into its cell may stand
-/// beside the labels of the opening sheet, that the graph's pairs are those of the sheet, and that the log has at most
-/// 1,048,576 entries.
+/// Contracts see besides these the sheet with which it was opened, and for how many changes of one edit there is room
+/// (`spare`). Its type keeps that the sheet is the opening one after the log, that each entry changes distinct cells,
+/// that what it puts into them may stand beside the labels of the opening sheet, that the graph's pairs are those of the
+/// sheet, and that the log has at most 1,048,576 entries.
 #[derive(Drop)]
 pub struct Book<G: Graph> {
     pub(crate) opening: Snapshot<Sheet>,
@@ -27,7 +28,7 @@ pub struct Book<G: Graph> {
 }
 
 impl<G: Graph> Model for Book<G> {
-    ghost use Rattle.std.specs.Prelude.{min, ◌-◌, vec_len, vec_capacity};
+    ghost use Rattle.std.specs.Prelude.{min, ◌*◌, ◌-◌, vec_len, vec_capacity};
     ghost use Rattle.std.specs.Coded.{codes};
     ghost use Rattle.formula_syntax.specs.TreeCode.{tree_code};
     ghost use Rattle.edit_log.specs.Books.{BookValue, IsBookOf};
@@ -41,7 +42,7 @@ impl<G: Graph> Model for Book<G> {
       sheet = b.sheet;
       graph = b.graph;
       log = b.log.items;
-      spare = min (G.spare b.graph) (vec_capacity b.log - vec_len b.log);
+      spare = min (G.spare b.graph) (1024 * (vec_capacity b.log - vec_len b.log));
     } };
 
     ghost invariant = { λ b. IsBookOf b.opening.value b.sheet b.log.items (G.pairs b.graph) };
@@ -101,11 +102,11 @@ impl<G: Graph> Book<G> {
         self.log.len() as u64
     }
 
-    /// Makes a prepared edit: changes the cell, gives the graph its references, and adds the entry to the log. It takes
-    /// no memory, and the time of the graph's `replace`.
+    /// Makes a prepared edit: changes its cells, gives the graph their references, and adds the entry to the log. It
+    /// takes no memory, and the time of the graph's `replace` for each change.
     pub fn apply(&mut self, prepared: Prepared) -> Applied
         requires prepared { IsPreparedFor self.old.opening self.old.log prepared }
-        requires room { 1 ≤ self.old.spare }
+        requires room { length prepared.entry.edit ≤ self.old.spare }
         ensures applied { HasApplied prepared.entry self.old self.new }
         ensures kept { IsBook G.pairs self.new }
         ensures number { result.number ≡ prepared.number }
@@ -115,11 +116,11 @@ impl<G: Graph> Book<G> {
             entry,
             number,
             touched,
-            change,
+            edit,
             refs,
         } = prepared;
-        self.graph.replace(change.cell, &refs);
-        let _ = self.sheet.apply(Edit { change });
+        replace_all(&mut self.graph, edit.changes(), &refs);
+        let _ = self.sheet.apply(edit);
         self.log.push_reserved(entry);
         Applied { number, touched }
     }

@@ -25,12 +25,11 @@ fn book(alloc: Global, fields: &[(&str, &str)]) -> Result<Book<PlainGraph>, Fail
 
 // Makes an edit, and gives its number and the names of the cells that it touches.
 fn touched<G: Graph>(alloc: Global, book: &mut Book<G>, name: &str) -> Result<String, Fail> {
-    let edit = Edit {
-        change: Change {
-            cell: cell(name)?,
-            content: Content::Truth(true),
-        },
+    let change = Change {
+        cell: cell(name)?,
+        content: Content::Truth(true),
     };
+    let edit = Edit::one(alloc, change)?;
     let Ok(prepared) = book.prepare(2, edit) else {
         return Err(Fail::from("an edit that is refused"));
     };
@@ -71,11 +70,13 @@ fn edits_touch_their_dependents_row_by_row(rt: HostRuntime) -> Result<(), Fail> 
 }
 
 // Empties a cell of a book, and tells whether that was prepared.
-pub(crate) fn clears<G: Graph>(book: &mut Book<G>, cell: Cell) -> Result<u64, PrepareRefused> {
+pub(crate) fn clears<G: Graph>(
+    alloc: Global,
+    book: &mut Book<G>,
+    cell: Cell,
+) -> Result<u64, PrepareRefused> {
     let content = Content::Empty;
-    let edit = Edit {
-        change: Change { cell, content },
-    };
+    let edit = Edit::one(alloc, Change { cell, content })?;
     let prepared = book.prepare(0, edit)?;
     let applied = book.apply(prepared);
     Ok(applied.number)
@@ -88,13 +89,13 @@ fn a_log_takes_a_million_entries(rt: HostRuntime) -> Result<(), Fail> {
     let mut book = Book::open(alloc, sheet, PlainGraph::new(alloc))?;
     let first = cell("A1")?;
     for _ in 0..1_048_576 {
-        if clears(&mut book, first).is_err() {
+        if clears(alloc, &mut book, first).is_err() {
             return Err(Fail::from("an edit that is refused"));
         }
     }
-    let full = clears(&mut book, first);
+    let full = clears(alloc, &mut book, first);
     assert!(rt; matches!(full, Err(PrepareRefused::LogFull { length: 1_048_576 })));
-    let outside = clears(&mut book, cell("A2")?);
+    let outside = clears(alloc, &mut book, cell("A2")?);
     assert!(rt; matches!(outside, Err(PrepareRefused::OutOfSheet { .. })));
     Ok(())
 }

@@ -2,6 +2,7 @@ ghost use Rattle.edit_log.specs.Books.{EarlierSheetsAreSheets, EditsMakeTheLog};
 ghost use Rattle.edit_log.specs.Inputs.{InputsAreDirectDependences, DirectDependencesAreSteps};
 ghost use Rattle.edit_log.specs.Inputs.{CyclesOfPairsAreThoseOfInputs, CircularCellsDependOnCycles};
 ghost use Rattle.edit_log.specs.Touches.{UntouchedCellsKeepTheirValues, TouchedBeforeAndAfter};
+ghost use Rattle.edit_log.specs.Touches.{TouchedByOneOfTheChanges, ChangedCellsAreTouched};
 ghost use Rattle.edit_log.specs.Touches.{TouchedCellsAreInside, TouchedCellsHaveOneList};
 ghost use Rattle.edit_log.specs.Touches.{CellsAreAtTheirPlaces, PlacesAreThoseOfTheirCells};
 ghost use Rattle.edit_log.specs.Touches.{TouchedPlacesAreTouchedCells, TouchedPlacesAreListed};
@@ -9,11 +10,14 @@ ghost use Rattle.edit_log.specs.Touches.{TouchedPlacesAreTouchedCells, TouchedPl
 use graph_walk::Graph;
 
 /// What holds of every sheet, log and entry: a cell that the entry doesn't touch keeps its value, and the entry touches
-/// the same cells whether their references are taken before it or after it. An entry that changes a cell of the sheet
+/// the same cells whether their references are taken before it or after it. It touches each cell that it changes, and
+/// besides these exactly what its changes would touch, each of them alone. An entry that changes cells of the sheet
 /// touches cells of the sheet alone. Two lists of what an entry touches are one.
 pub fn touch_laws()
     ensures untouched { UntouchedCellsKeepTheirValues }
     ensures both { TouchedBeforeAndAfter }
+    ensures changed { ChangedCellsAreTouched }
+    ensures each { TouchedByOneOfTheChanges }
     ensures inside { TouchedCellsAreInside }
     ensures listed { TouchedCellsHaveOneList }
 {}

@@ -1,4 +1,4 @@
-use sheet_model::{Change, Entry};
+use sheet_model::{Edit, Entry};
 use sheet_refs::{Cell, Refs};
 use std::marker::Model;
 
@@ -8,10 +8,10 @@ pub struct Prepared {
     pub(crate) entry: Entry,
     pub(crate) number: u64,
     pub(crate) touched: Vec<Cell>,
-    /// The entry's change once more, which goes into the sheet.
-    pub(crate) change: Change,
-    /// The ranges to which its formula refers.
-    pub(crate) refs: Refs,
+    /// The entry's edit once more, which goes into the sheet.
+    pub(crate) edit: Edit,
+    /// The ranges to which the formula of each of its changes refers.
+    pub(crate) refs: Vec<Refs>,
 }
 
 impl Model for Prepared {
@@ -25,7 +25,7 @@ impl Model for Prepared {
 
     ghost view = { λ p. record { entry = p.entry; number = p.number; touched = p.touched.items } };
 
-    ghost invariant = { λ p. IsStoredEdit p.entry p.change p.refs };
+    ghost invariant = { λ p. IsStoredEdit p.entry p.edit p.refs.items };
 }
 
 impl Prepared {
@@ -45,7 +45,7 @@ impl Prepared {
         self.number
     }
 
-    /// The changed cell and all cells that depend on it, row by row, each once.
+    /// The changed cells and all cells that depend on them, row by row, each once.
     pub fn touched(&self) -> &[Cell]
         ensures { result.now ≡ self.now.touched }
     {
@@ -58,6 +58,6 @@ impl Prepared {
 pub struct Applied {
     /// The number of the entry in the log, counted from 1: how many entries the log has now.
     pub number: u64,
-    /// The changed cell and all cells that depend on it, row by row, each once.
+    /// The changed cells and all cells that depend on them, row by row, each once.
     pub touched: Vec<Cell>,
 }

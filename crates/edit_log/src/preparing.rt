@@ -1,14 +1,15 @@
-ghost use Rattle.std.specs.Prelude.{◌≡◌, ◌<◌, ◌≤◌, length, Err, Some, IsTrue, IsFalse, IfOk};
-ghost use Rattle.std.specs.Prelude.{OnOk, IfErr, IfSome, IsNone};
-ghost use Rattle.sheet_refs.specs.Cells.{Position, span_of};
-ghost use Rattle.sheet_refs.specs.Sizes.{is_inside, AreNamed};
+ghost use Rattle.std.specs.Prelude.{◌≡◌, ◌<◌, ◌≤◌, length, Err, Some, IfOk};
+ghost use Rattle.std.specs.Prelude.{MatchOption, OnOk, IfErr, IfSome, IsNone};
+ghost use Rattle.sheet_refs.specs.Cells.{Position};
+ghost use Rattle.sheet_refs.specs.Sizes.{AreNamed};
 ghost use Rattle.formula_syntax.specs.Listing.{IsOnceEach};
-ghost use Rattle.graph_walk.specs.Graphs.{Reach};
-ghost use Rattle.sheet_model.specs.Sheets.{HasLabel, content_value};
-ghost use Rattle.edit_log.specs.Books.{IsPreparedFor, IsUnchanged, client_entry};
+ghost use Rattle.graph_walk.specs.Starts.{ReachOfAll};
+ghost use Rattle.sheet_model.specs.Edits.{AreInSheet, HaveLabels};
+ghost use Rattle.sheet_model.specs.Sheets.{content_value};
+ghost use Rattle.edit_log.specs.Books.{HaveRefs, IsPreparedFor, IsUnchanged, client_entry};
 ghost use Rattle.edit_log.specs.Pairs.{ranges_in};
-ghost use Rattle.edit_log.specs.Refusals.{IsCause};
-ghost use Rattle.edit_log.specs.Touches.{ListsRowByRow, IsReachInside};
+ghost use Rattle.edit_log.specs.Refusals.{IsCause, IsFirstOutside};
+ghost use Rattle.edit_log.specs.Touches.{ListsRowByRow, IsReachInside, cell_ranges};
 ghost use Rattle.edit_log.specs.declared.refused.PrepareRefused.TheVariants as refused;
 
 use crate::book::Book;
@@ -16,8 +17,8 @@ use crate::prepared::Prepared;
 use crate::refused::PrepareRefused;
 use crate::rows::cells_by_row;
 use formula_syntax::refs;
-use graph_walk::{Graph, dependents};
-use sheet_model::{Change, Content, Edit, Entry};
+use graph_walk::{Graph, dependents_of_all};
+use sheet_model::{Change, Content, Edit, Entry, Sheet};
 use sheet_refs::{Cell, Memory, Range, Refs, Sizes};
 use std::alloc::Global;
 
@@ -34,36 +35,72 @@ fn refs_in(alloc: Global, content: &Content) -> Result<Refs, Memory>
     }
 }
 
-// A cell and all cells that depend on it, row by row.
+// The ranges to which the formula of each change refers.
+fn refs_of_all(alloc: Global, changes: &[Change]) -> Result<Vec<Refs>, Memory>
+    ensures { IfOk result (λ refs. HaveRefs changes.now refs.items) }
+{
+    let mut all = Vec::with_capacity(alloc, changes.len())?;
+    for change in changes {
+        let refs = refs_in(alloc, &change.content)?;
+        all.push(refs)?;
+    }
+    Ok(all)
+}
+
+// The ranges of the single cells that some changes change.
+fn changed_ranges(alloc: Global, changes: &[Change]) -> Result<Vec<Range>, Memory>
+    ensures { IfOk result (λ ranges. ranges.items ≡ cell_ranges changes.now) }
+{
+    let mut ranges = Vec::with_capacity(alloc, changes.len())?;
+    for change in changes {
+        let cell = change.cell;
+        ranges.push(Range::of(cell, cell))?;
+    }
+    Ok(ranges)
+}
+
+// The cells of some ranges and all cells that depend on them, row by row.
 fn dependents_by_row<G: Graph>(
     alloc: Global,
     graph: &G,
     sizes: Sizes,
-    cell: Cell,
+    ranges: &[Range],
 ) -> Result<Vec<Cell>, Memory>
     requires named { AreNamed sizes }
-    requires inside { IsReachInside sizes (G.pairs graph.now) (span_of cell cell) }
+    requires inside { IsReachInside sizes (G.pairs graph.now) ranges.now }
     ensures { IfOk result
-        (λ cells. ListsRowByRow sizes cells.items (Reach (G.pairs graph.now) (span_of cell cell))) }
+        (λ cells. ListsRowByRow sizes cells.items (ReachOfAll (G.pairs graph.now) ranges.now)) }
 {
-    let reached = dependents(alloc, graph, Range::of(cell, cell))?;
+    let reached = dependents_of_all(alloc, graph, ranges)?;
     let runs = reached.columns()?;
     cells_by_row(alloc, sizes, &runs)
 }
 
+// The first changed cell outside the sheet.
+fn first_outside(sheet: &Sheet, changes: &[Change]) -> Option<Cell>
+    ensures { MatchOption result (AreInSheet sheet.now changes.now)
+        (IsFirstOutside sheet.now changes.now) }
+{
+    for change in changes {
+        if !sheet.holds(change.cell) {
+            return Some(change.cell);
+        }
+    }
+    None
+}
+
 impl<G: Graph> Book<G> {
-    // Why a change is refused, however much memory there is.
-    fn refusal(&self, change: &Change) -> Option<PrepareRefused>
-        ensures out_of_sheet { IsFalse (is_inside self.now.sheet.sizes change.now.cell)
-            → result ≡ Some (refused.OutOfSheet change.now.cell) }
-        ensures log_full { IsTrue (is_inside self.now.sheet.sizes change.now.cell)
+    // Why an edit is refused, however much memory there is.
+    fn refusal(&self, edit: &Edit) -> Option<PrepareRefused>
+        ensures out_of_sheet { (cell : Position) → IsFirstOutside self.now.sheet edit.now cell
+            → result ≡ Some (refused.OutOfSheet cell) }
+        ensures log_full { AreInSheet self.now.sheet edit.now
             → length self.now.log ≡ 1048576 → result ≡ Some (refused.LogFull 1048576) }
-        ensures why { IfSome result (IsCause self.now.sheet self.now.log change.now.cell) }
-        ensures inside { IsNone result → IsTrue (is_inside self.now.sheet.sizes change.now.cell) }
+        ensures why { IfSome result (IsCause self.now.sheet self.now.log edit.now) }
+        ensures inside { IsNone result → AreInSheet self.now.sheet edit.now }
         ensures few { IsNone result → length self.now.log < 1048576 }
     {
-        let cell = change.cell;
-        if !self.sheet.holds(cell) {
+        if let Some(cell) = first_outside(&self.sheet, edit.changes()) {
             return Some(PrepareRefused::OutOfSheet { cell });
         }
         let length = self.log.len();
@@ -75,33 +112,43 @@ impl<G: Graph> Book<G> {
         None
     }
 
-    // An edit of a cell of the sheet, with all that `apply` needs of it.
+    // The cells that an edit of cells of the sheet touches, row by row.
+    fn touched_by(&self, changes: &[Change]) -> Result<Vec<Cell>, Memory>
+        requires { AreInSheet self.now.sheet changes.now }
+        ensures { IfOk result (λ cells. ListsRowByRow self.now.sheet.sizes cells.items
+            (ReachOfAll (G.pairs self.now.graph) (cell_ranges changes.now))) }
+    {
+        let ranges = changed_ranges(self.alloc, changes)?;
+        dependents_by_row(self.alloc, &self.graph, self.sheet.sizes(), &ranges)
+    }
+
+    // An edit of cells of the sheet, with all that `apply` needs of it.
     fn ready(&self, client: u32, edit: Edit) -> Result<Prepared, Memory>
-        requires inside { IsTrue (is_inside self.now.sheet.sizes edit.change.cell) }
-        requires label { HasLabel (length self.now.sheet.labels) edit.change.content }
+        requires inside { AreInSheet self.now.sheet edit }
+        requires label { HaveLabels (length self.now.sheet.labels) edit }
         requires room { length self.now.log < 1048576 }
         ensures prepared { IfOk result (IsPreparedFor self.now.opening self.now.log) }
         ensures entry { IfOk result (λ prepared. prepared.entry ≡ client_entry client edit) }
     {
-        let change = edit.change.copy()?;
-        let refs = refs_in(self.alloc, &change.content)?;
-        let cell = change.cell;
-        let touched = dependents_by_row(self.alloc, &self.graph, self.sheet.sizes(), cell)?;
+        let copy = edit.copy()?;
+        let refs = refs_of_all(self.alloc, copy.changes())?;
+        let touched = self.touched_by(copy.changes())?;
         Ok(Prepared {
             entry: Entry { client, edit },
             number: self.log.len() as u64 + 1,
             touched,
-            change,
+            edit: copy,
             refs,
         })
     }
 
-    // Takes the memory that one edit needs in the graph and in the log.
-    fn reserve(&mut self) -> Result<(), Memory>
+    // Takes the memory that an edit of so many changes needs in the graph and in the log.
+    fn reserve(&mut self, changes: usize) -> Result<(), Memory>
+        requires { changes ≤ 1024 }
         ensures same { IsUnchanged G.pairs self.old self.new }
-        ensures room { OnOk result (1 ≤ self.new.spare) }
+        ensures room { OnOk result (changes ≤ self.new.spare) }
     {
-        self.graph.reserve(1)?;
+        self.graph.reserve(changes as u32)?;
         self.log.reserve(1)?;
         Ok(())
     }
@@ -109,25 +156,26 @@ impl<G: Graph> Book<G> {
     /// Makes an edit ready, so that `apply` can't fail: it finds the cells that the edit touches, and takes all memory
     /// that is needed. It changes no content, no pair and no entry, whether it answers Ok or is refused.
     ///
-    /// That the cell is in the sheet is looked at first, then the length of the log. It takes the time of the walk of
-    /// the graph over the dependents of the cell, and of a sort of as many numbers.
+    /// That the cells are in the sheet is looked at first, then the length of the log. It takes the time of one walk of
+    /// the graph over the dependents of all changed cells, and of a sort of as many numbers.
     pub fn prepare(&mut self, client: u32, edit: Edit) -> Result<Prepared, PrepareRefused>
-        requires { HasLabel (length self.old.sheet.labels) edit.change.content }
+        requires { HaveLabels (length self.old.sheet.labels) edit }
         ensures prepared { IfOk result (IsPreparedFor self.new.opening self.new.log) }
         ensures entry { IfOk result (λ prepared. prepared.entry ≡ client_entry client edit) }
-        ensures room { OnOk result (1 ≤ self.new.spare) }
+        ensures room { OnOk result (length edit ≤ self.new.spare) }
         ensures same { IsUnchanged G.pairs self.old self.new }
-        ensures out_of_sheet { IsFalse (is_inside self.old.sheet.sizes edit.change.cell)
-            → result ≡ Err (refused.OutOfSheet edit.change.cell) }
-        ensures log_full { IsTrue (is_inside self.old.sheet.sizes edit.change.cell)
+        ensures out_of_sheet { (cell : Position) → IsFirstOutside self.old.sheet edit cell
+            → result ≡ Err (refused.OutOfSheet cell) }
+        ensures log_full { AreInSheet self.old.sheet edit
             → length self.old.log ≡ 1048576 → result ≡ Err (refused.LogFull 1048576) }
-        ensures why { IfErr result (IsCause self.old.sheet self.old.log edit.change.cell) }
+        ensures why { IfErr result (IsCause self.old.sheet self.old.log edit) }
     {
-        if let Some(refused) = self.refusal(&edit.change) {
+        if let Some(refused) = self.refusal(&edit) {
             return Err(refused);
         }
+        let changes = edit.changes().len();
         let prepared = self.ready(client, edit)?;
-        self.reserve()?;
+        self.reserve(changes)?;
         Ok(prepared)
     }
 }

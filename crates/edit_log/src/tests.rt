@@ -3,7 +3,7 @@
 use crate::graph_of;
 use graph_walk::{dependents, on_cycle, precedents};
 use plain_graph::PlainGraph;
-use sheet_model::{Change, Edit, Sheet};
+use sheet_model::{Change, Sheet};
 use sheet_refs::{Cell, Range, RectSet, cell_of, range_of};
 use std::alloc::Global;
 use std::fmt::Write;
@@ -26,9 +26,7 @@ pub(crate) fn put(sheet: &mut Sheet, name: &str, field: &str) -> Result<(), Fail
     let Ok(content) = sheet.read(field) else {
         return Err(Fail::from("a field that is not read"));
     };
-    let _ = sheet.apply(Edit {
-        change: Change { cell, content },
-    });
+    let _ = sheet.put(Change { cell, content });
     Ok(())
 }
 

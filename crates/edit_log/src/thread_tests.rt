@@ -5,6 +5,7 @@ use graph_walk::Graph;
 use plain_graph::PlainGraph;
 use sheet_model::Sheet;
 use sheet_refs::{Cell, cell_of};
+use std::alloc::Global;
 use std::sync::{Mutex, Wait};
 use std::test::Fail;
 use std::thread::{Threads, join};
@@ -12,24 +13,26 @@ use std::thread::{Threads, join};
 // Empties a cell of a book that other threads share.
 fn clears_shared<R: Wait, G: Graph>(
     rt: &R,
+    alloc: Global,
     book: &Mutex<Book<G>>,
     cell: Cell,
 ) -> Result<u64, PrepareRefused> {
     let mut held = book.lock(rt);
-    clears(&mut *held, cell)
+    clears(alloc, &mut *held, cell)
 }
 
 // Two edits, each in a thread of its own.
 fn clears_both<R: Threads + Wait + Sync, G: Graph + Send>(
     rt: &R,
+    alloc: Global,
     book: &Mutex<Book<G>>,
     cell: Cell,
 ) -> (Result<u64, PrepareRefused>, Result<u64, PrepareRefused>) {
     book_crosses::<G>();
     join(
         rt,
-        || clears_shared(rt, book, cell),
-        || clears_shared(rt, book, cell),
+        || clears_shared(rt, alloc, book, cell),
+        || clears_shared(rt, alloc, book, cell),
     )
 }
 
@@ -39,7 +42,7 @@ fn threads_share_a_book(rt: HostRuntime) -> Result<(), Fail> {
     let sheet = Sheet::blank(alloc, 1, 1)?;
     let cell = cell_of(b"A1").ok_or("no cell")?;
     let book = Mutex::new(Book::open(alloc, sheet, PlainGraph::new(alloc))?);
-    let (Ok(one), Ok(other)) = clears_both(&rt, &book, cell) else {
+    let (Ok(one), Ok(other)) = clears_both(&rt, alloc, &book, cell) else {
         return Err(Fail::from("an edit that is refused"));
     };
     assert_eq!(rt; (one.min(other), one.max(other)), (1, 2));

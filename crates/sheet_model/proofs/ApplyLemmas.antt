@@ -6,7 +6,7 @@ use Rattle.std.proofs.lemmas.List.Elements.{All-set}
 use Rattle.formula_eval.proofs.NodeLemmas.{take-all}
 use Rattle.sheet_refs.specs.Sizes.{is_inside}
 use Rattle.sheet_model.specs.Changes.{ChangeValue, after_change}
-use Rattle.sheet_model.specs.Edits.{EditValue, AreOfDistinctCells, AreWritten, IsChangeFor, IsEdit, IsFor, IsStoredEdit, after_edit, held_in, replaced_by}
+use Rattle.sheet_model.specs.Edits.{EditValue, AreOfDistinctCells, AreWritten, IsChangeFor, IsEdit, IsFor, IsWholeEdit, after_edit, held_in, replaced_by}
 use Rattle.sheet_model.specs.Sheets.{SheetValue, HasLabel, IsSheet, IsWritten, content_of}
 use Rattle.sheet_model.proofs.EditLemmas.{edit-labels, edit-more, edit-others, edit-sizes, replaced_distinct}
 use Rattle.sheet_model.proofs.ListLemmas.{taken_more}
@@ -93,7 +93,7 @@ module _ (start sheet : SheetValue) (edit changes : EditValue) (k : ℕ) (so_far
   pub exchanged_made : sheet ≡ after_edit start edit
   exchanged_made = so_far.made ∙ ap (after_edit start) (take-all edit k past)
 
-  pub exchanged_stored : IsEdit edit → IsStoredEdit changes
+  pub exchanged_stored : IsEdit edit → IsWholeEdit changes
   exchanged_stored is =
       let lengths : length (replaced_by start edit) ≡ length edit = length-map edit (held_in start) in
       record {

@@ -25,7 +25,7 @@ abbrev pub AreWritten : EditValue → Type 0
 AreWritten changes = All (λ (change : ChangeValue). IsWritten change.content) changes
 
 -- an edit in memory
-pub record IsStoredEdit (changes : EditValue) : Type 0 where
+pub record IsWholeEdit (changes : EditValue) : Type 0 where
   pub edit : IsEdit changes
   pub written : AreWritten changes
 

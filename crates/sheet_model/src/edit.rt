@@ -20,7 +20,7 @@ pub struct Edit {
 impl Model for Edit {
     ghost use Rattle.std.specs.Coded.{codes};
     ghost use Rattle.formula_syntax.specs.TreeCode.{tree_code};
-    ghost use Rattle.sheet_model.specs.Edits.{EditValue, IsStoredEdit};
+    ghost use Rattle.sheet_model.specs.Edits.{EditValue, IsWholeEdit};
 
     ghost Value = { EditValue };
 
@@ -28,7 +28,7 @@ impl Model for Edit {
 
     ghost view = { λ e. e.changes.items };
 
-    ghost invariant = { λ e. IsStoredEdit e.changes.items };
+    ghost invariant = { λ e. IsWholeEdit e.changes.items };
 }
 
 impl Edit {
