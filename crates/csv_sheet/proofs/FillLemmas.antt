@@ -13,7 +13,7 @@ use Rattle.sheet_model.specs.Fields.{IsContent, IsTableAfter}
 use Rattle.sheet_model.specs.Sheets.{SheetValue, ContentValue, IsSheet, IsSheetSize, content_of, with_content, with_labels, blank_sheet}
 use Rattle.sheet_model.specs.Tables.{AddsLabels}
 use Rattle.sheet_model.specs.Tables.AddsLabels.{done as adds_none}
-use Rattle.sheet_model.proofs.SheetLemmas.{sheet_blank, sheet_with_labels, sheet_with_content, held_content, table_after, grown_table, content_of-same, content_of-other, content_of-blank, IsContent-after}
+use Rattle.sheet_model.proofs.SheetLemmas.{sheet_blank, sheet_with_labels, sheet_with_content, held_content, table_after, grown_table, content_of-filled, content_of-other, content_of-blank, IsContent-after}
 use Rattle.sheet_model.proofs.ContentLemmas.{refused_none}
 use Rattle.sheet_model.proofs.TableLemmas.{adds_one_more, one_more}
 use Rattle.csv_sheet.specs.Filling.{HoldsRecords, PutsField, IsPartFilled, IsRecordFor}
@@ -87,7 +87,7 @@ module _ (rows : Rows) (fields : List (List ℕ)) (field : List ℕ) (old new : 
       | inl col_is ↦
           let here : content_of new (cell_there (length rows) (length fields)) ≡ put.content =
           ap (λ s. content_of s (cell_there (length rows) (length fields))) put.placed
-          ∙ content_of-same labelled (cell_there (length rows) (length fields)) put.content inside is in
+          ∙ content_of-filled labelled (cell_there (length rows) (length fields)) put.content inside is.filled in
           subst (λ k. IsContent new.labels (field_at (rows ++ (fields ++ field ∷ []) ∷ []) k col) (content_of new (cell_there k col))) (sym row_is)
           (subst (λ k. IsContent new.labels (field_at (rows ++ (fields ++ field ∷ []) ∷ []) (length rows) k) (content_of new (cell_there (length rows) k))) (sym col_is)
           (subst (λ f. IsContent new.labels f (content_of new (cell_there (length rows) (length fields)))) (sym (field_new rows fields field))

@@ -14,7 +14,7 @@ ghost use Rattle.csv_sheet.specs.declared.refused.SheetRefused.TheVariants as re
 use crate::records::{field, read_next, reader_of};
 use crate::refused::SheetRefused;
 use csv::ByteRecord;
-use sheet_model::{Change, ContentRefused, Edit, Sheet};
+use sheet_model::{Change, ContentRefused, Sheet};
 use sheet_refs::Cell;
 use std::alloc::Global;
 
@@ -32,9 +32,7 @@ fn fill_cell(sheet: &mut Sheet, cell: Cell, field: &[u8]) -> Result<(), SheetRef
     };
     match sheet.read(text) {
         Ok(content) => {
-            let _ = sheet.apply(Edit {
-                change: Change { cell, content },
-            });
+            let _ = sheet.put(Change { cell, content });
             Ok(())
         }
         Err(ContentRefused::TooDeep) => Err(SheetRefused::FormulaTooDeep { cell }),

@@ -103,18 +103,20 @@ touched_cells opening sheet log pairs entry cells is rows =
 pub changed_touched : (opening : SheetValue) (log : List Entry) (entry : Entry) (change : ChangeValue) → Contains entry.edit change → Touches opening log entry change.cell
 changed_touched opening log entry change there = reached_start (DependsDirectly (after opening log)) (IsChangedBy entry.edit) change.cell (change, there, refl)
 
+-- an edit of one change changes one cell
+pub sole_change : (change : ChangeValue) (cell : Position) → IsChangedBy (change ∷ []) cell → cell ≡ change.cell
+sole_change change cell (only, listed, is) = elim (first_or_later only change [] listed) [
+  | inl same ↦ is ∙ ap (λ (c : ChangeValue). c.cell) (sym same)
+  | inr later ↦ absurd (no_member only later)
+]
+
 pub touched_by_one : (opening : SheetValue) (log : List Entry) (entry : Entry) (cell : Position) → Touches opening log entry cell ↔ ((change : ChangeValue) × Contains entry.edit change × Touches opening log (of_change entry change) cell)
 touched_by_one opening log entry cell = (
   λ touches.
   (let (change, there, is) = touches.starts in
   (change, there, record { from = touches.from; starts = (change, first_member change [], is); cells = touches.cells; path = touches.path })),
-  λ (change, there, touches).
-  (let (only, listed, is) = touches.starts in
-  record { from = touches.from; starts = (change, there, is ∙ ap (λ (c : ChangeValue). c.cell) (alone change only listed)); cells = touches.cells; path = touches.path }),
+  λ (change, there, touches). record { from = touches.from; starts = (change, there, sole_change change touches.from touches.starts); cells = touches.cells; path = touches.path },
 )
-  where
-    alone : (change only : ChangeValue) → Contains (change ∷ []) only → only ≡ change
-    alone change only listed = elim (first_or_later only change [] listed) [ inl same ↦ sym same | inr later ↦ absurd (no_member only later) ]
 
 -- the pairs after a change, where the graph was given the ranges of the new content
 pub pairs_after : (sheet : SheetValue) (change : ChangeValue) (old new : List Pair) (refs : List Corners) → IsFilled sheet → IsTrue (is_inside sheet.sizes change.cell) → IsOnceEach (ranges_in change.content) refs → ArePairsOf sheet old → Replaces old new change.cell refs → ArePairsOf (after_change sheet change) new

@@ -6,7 +6,7 @@ use Rattle.std.proofs.lemmas.Option.{slice_get_within, get_or_from_slice_get}
 use Rattle.sheet_refs.specs.declared.sizes.Sizes.{Sizes}
 use Rattle.sheet_model.specs.Labels.{IsTable}
 use Rattle.sheet_model.specs.Fields.{IsContent}
-use Rattle.sheet_model.specs.declared.change.Edit.{Edit}
+use Rattle.sheet_model.specs.Changes.{ChangeValue}
 use Rattle.sheet_model.proofs.ContentLemmas.{one_content}
 use Rattle.sheet_model.proofs.LabelLemmas.{distinct-with_label}
 use Rattle.edit_script.specs.Lines.{LineValue, Skip, Client, Set, Clear, Look, Firm, Work, Says}
@@ -113,52 +113,52 @@ one_place names name a b apart x y = elim (cases_order a b) [
 ]
 
 module _ (labels : List (List ℕ)) (table : IsTable labels) where
-  same_edit : (a b : Edit) → a.change.cell ≡ b.change.cell → a.change.content ≡ b.change.content → a ≡ b
-  same_edit a b cell content = λ i. record { change = record { cell = cell i; content = content i } }
+  same_edit : (a b : ChangeValue) → a.cell ≡ b.cell → a.content ≡ b.content → a ∷ [] ≡ b ∷ []
+  same_edit a b cell content = λ i. record { cell = cell i; content = content i } ∷ []
 
   -- a line gives one command
   one_command : (line : LineValue) (a b : Command) → IsCommand labels line a → IsCommand labels line b → a ≡ b
-  one_command _ _ _ (set text edit line is writes) (set text' edit' _ is' writes') =
-      let cell : edit.change.cell ≡ edit'.change.cell = cc in
+  one_command _ _ _ (set text change line is writes) (set text' change' _ is' writes') =
+      let cell : change.cell ≡ change'.cell = cc in
       let said : text' ≡ text = cc in
-      let content = one_content labels text edit.change.content edit'.change.content table writes (subst (λ t. IsContent labels t edit'.change.content) said writes') in
-      ap asks.Put (same_edit edit edit' cell content)
-  one_command _ _ _ (set text edit line is writes) (clear edit' _ is' empty) = cc
-  one_command _ _ _ (set text edit line is writes) (look range _ is') = cc
-  one_command _ _ _ (set text edit line is writes) (firm range _ is') = cc
-  one_command _ _ _ (set text edit line is writes) (work turns _ is') = cc
-  one_command _ _ _ (clear edit line is empty) (set text edit' _ is' writes) = cc
-  one_command _ _ _ (clear edit line is empty) (clear edit' _ is' empty') =
-      let cell : edit.change.cell ≡ edit'.change.cell = cc in
-      ap asks.Put (same_edit edit edit' cell (empty ∙ sym empty'))
-  one_command _ _ _ (clear edit line is empty) (look range _ is') = cc
-  one_command _ _ _ (clear edit line is empty) (firm range _ is') = cc
-  one_command _ _ _ (clear edit line is empty) (work turns _ is') = cc
-  one_command _ _ _ (look range line is) (set text edit' _ is' writes) = cc
-  one_command _ _ _ (look range line is) (clear edit' _ is' empty) = cc
+      let content = one_content labels text change.content change'.content table writes (subst (λ t. IsContent labels t change'.content) said writes') in
+      ap asks.Put (same_edit change change' cell content)
+  one_command _ _ _ (set text change line is writes) (clear change' _ is' empty) = cc
+  one_command _ _ _ (set text change line is writes) (look range _ is') = cc
+  one_command _ _ _ (set text change line is writes) (firm range _ is') = cc
+  one_command _ _ _ (set text change line is writes) (work turns _ is') = cc
+  one_command _ _ _ (clear change line is empty) (set text change' _ is' writes) = cc
+  one_command _ _ _ (clear change line is empty) (clear change' _ is' empty') =
+      let cell : change.cell ≡ change'.cell = cc in
+      ap asks.Put (same_edit change change' cell (empty ∙ sym empty'))
+  one_command _ _ _ (clear change line is empty) (look range _ is') = cc
+  one_command _ _ _ (clear change line is empty) (firm range _ is') = cc
+  one_command _ _ _ (clear change line is empty) (work turns _ is') = cc
+  one_command _ _ _ (look range line is) (set text change' _ is' writes) = cc
+  one_command _ _ _ (look range line is) (clear change' _ is' empty) = cc
   one_command _ _ _ (look range line is) (look range' _ is') = (let same : range ≡ range' = cc in ap asks.Look same)
   one_command _ _ _ (look range line is) (firm range' _ is') = cc
   one_command _ _ _ (look range line is) (work turns _ is') = cc
-  one_command _ _ _ (firm range line is) (set text edit' _ is' writes) = cc
-  one_command _ _ _ (firm range line is) (clear edit' _ is' empty) = cc
+  one_command _ _ _ (firm range line is) (set text change' _ is' writes) = cc
+  one_command _ _ _ (firm range line is) (clear change' _ is' empty) = cc
   one_command _ _ _ (firm range line is) (look range' _ is') = cc
   one_command _ _ _ (firm range line is) (firm range' _ is') = (let same : range ≡ range' = cc in ap asks.Firm same)
   one_command _ _ _ (firm range line is) (work turns _ is') = cc
-  one_command _ _ _ (work turns line is) (set text edit' _ is' writes) = cc
-  one_command _ _ _ (work turns line is) (clear edit' _ is' empty) = cc
+  one_command _ _ _ (work turns line is) (set text change' _ is' writes) = cc
+  one_command _ _ _ (work turns line is) (clear change' _ is' empty) = cc
   one_command _ _ _ (work turns line is) (look range _ is') = cc
   one_command _ _ _ (work turns line is) (firm range _ is') = cc
   one_command _ _ _ (work turns line is) (work turns' _ is') = (let same : turns ≡ turns' = cc in ap asks.Work same)
 
   -- a line that gives none gives no command
   silent_none : (line : LineValue) (command : Command) → IsSilent line → IsCommand labels line command → ⊥
-  silent_none Skip _ quiet (set text edit _ is writes) = cc
-  silent_none Skip _ quiet (clear edit _ is empty) = cc
+  silent_none Skip _ quiet (set text change _ is writes) = cc
+  silent_none Skip _ quiet (clear change _ is empty) = cc
   silent_none Skip _ quiet (look range _ is) = cc
   silent_none Skip _ quiet (firm range _ is) = cc
   silent_none Skip _ quiet (work turns _ is) = cc
-  silent_none (Client name) _ quiet (set text edit _ is writes) = cc
-  silent_none (Client name) _ quiet (clear edit _ is empty) = cc
+  silent_none (Client name) _ quiet (set text change _ is writes) = cc
+  silent_none (Client name) _ quiet (clear change _ is empty) = cc
   silent_none (Client name) _ quiet (look range _ is) = cc
   silent_none (Client name) _ quiet (firm range _ is) = cc
   silent_none (Client name) _ quiet (work turns _ is) = cc

@@ -18,7 +18,7 @@ use Rattle.edit_script.specs.declared.refused.ScriptRefused.TheVariants.{Memory}
 use Rattle.edit_script.specs.declared.script.Command.{Command}
 use Rattle.edit_script.specs.declared.script.Command.TheVariants as asks
 use Rattle.edit_script.specs.Lines.{LineValue, Skip, Client, Set}
-use Rattle.edit_script.specs.Progress.{brought, edit_of, IsWithinLimits, AddsCommand, AddsSet, IsPlainlyAllowed, IsTextFault, Takes}
+use Rattle.edit_script.specs.Progress.{brought, change_of, edit_of, IsWithinLimits, AddsCommand, AddsSet, IsPlainlyAllowed, IsTextFault, Takes}
 use Rattle.edit_script.specs.Progress.AddsStep.{silent as adds_none, command as adds_one}
 use Rattle.edit_script.specs.Scripts.{Brought, IsAllowed, IsCommand, IsDeepEdit, HasManyRefs, IsLineFault, line_number, with_client, with_line, set_text}
 use Rattle.edit_script.specs.Scripts.IsCommand.{set}
@@ -82,7 +82,7 @@ module _ {T E : Type 0} (sizes : Sizes) (labels : List (List ℕ)) (old new : Pr
     brought_is = brought_is;
     sound = sound;
     step = adds_one (record { client = adds.adds.client; command = asks.Put (edit_of cell adds.content) })
-        (record { client = adds.adds.place; command = set text (edit_of cell adds.content) (Set cell text) refl adds.writes }) adds.adds.added;
+        (record { client = adds.adds.place; command = set text (change_of cell adds.content) (Set cell text) refl adds.writes }) adds.adds.added;
     labels = next (text ∷ []) text [] labels after after refl table (done [] after after refl refl);
   }
   set_taken (Err e) after cell text plain sound brought_is adds table = tt

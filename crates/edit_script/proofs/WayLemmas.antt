@@ -34,9 +34,9 @@ content_grows _ old new text content (next texts first rest _ middle _ split aft
     content_grows rest middle new text content after_rest (IsContent-after first old middle text content after_first writes)
 
 command_grows : (texts old new : List (List ℕ)) (line : LineValue) (command : Command) → AddsLabels texts old new → IsCommand old line command → IsCommand new line command
-command_grows texts old new _ _ table (set text edit line says writes) =
-    set text edit line says (content_grows texts old new text edit.change.content table writes)
-command_grows texts old new _ _ table (clear edit line says empty) = clear edit line says empty
+command_grows texts old new _ _ table (set text change line says writes) =
+    set text change line says (content_grows texts old new text change.content table writes)
+command_grows texts old new _ _ table (clear change line says empty) = clear change line says empty
 command_grows texts old new _ _ table (look range line says) = look range line says
 command_grows texts old new _ _ table (firm range line says) = firm range line says
 command_grows texts old new _ _ table (work turns line says) = work turns line says

@@ -7,7 +7,8 @@ use Rattle.formula_syntax.specs.Spelling.{HasTooManyRefs}
 use Rattle.sheet_model.specs.Fields.{IsContent, IsDeepFormula}
 use Rattle.sheet_model.specs.Sheets.{ContentValue}
 use Rattle.sheet_model.specs.Tables.{AddsLabels}
-use Rattle.sheet_model.specs.declared.change.Edit.{Edit}
+use Rattle.sheet_model.specs.Changes.{ChangeValue}
+use Rattle.sheet_model.specs.Edits.{EditValue}
 use Rattle.edit_script.specs.Lines.{LineValue, Set, script_lines}
 use Rattle.edit_script.specs.Scripts.{Brought, AreLines, AreSteps, IsSilent, IsStepOfLine, IsAllowed, LeavesSheet, IsClientTooMany, IsWindowTooLarge, IsEditTooMany, IsPartOutside, IsLargeWindow, with_line, brought_by, set_text, set_texts}
 use Rattle.edit_script.specs.declared.refused.ScriptRefused.{ScriptRefused}
@@ -54,9 +55,12 @@ abbrev pub HoldsShortText : LineValue → Type 0
 HoldsShortText (Set cell text) = length text ≤ 8192
 HoldsShortText _ = Unit {0}
 
--- an edit of one cell
-abbrev pub edit_of : Position → ContentValue → Edit
-edit_of cell content = record { change = record { cell = cell; content = content } }
+-- a change of a cell, and an edit of one cell
+abbrev pub change_of : Position → ContentValue → ChangeValue
+change_of cell content = record { cell = cell; content = content }
+
+abbrev pub edit_of : Position → ContentValue → EditValue
+edit_of cell content = change_of cell content ∷ []
 
 -- the table has become longer, or is as it was
 abbrev pub Extends : List (List ℕ) → List (List ℕ) → Type 0

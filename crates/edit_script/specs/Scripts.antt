@@ -6,7 +6,7 @@ use Rattle.sheet_refs.specs.declared.sizes.Sizes.{Sizes}
 use Rattle.sheet_refs.specs.Sizes.{is_inside}
 use Rattle.value_core.specs.declared.value.Value.TheVariants.{Empty}
 use Rattle.formula_syntax.specs.Spelling.{HasTooManyRefs}
-use Rattle.sheet_model.specs.declared.change.Edit.{Edit}
+use Rattle.sheet_model.specs.Changes.{ChangeValue}
 use Rattle.sheet_model.specs.Fields.{IsContent, IsDeepFormula}
 use Rattle.sheet_model.specs.Labels.{IsTable, with_label}
 use Rattle.sheet_model.specs.Sheets.{Constant}
@@ -149,8 +149,8 @@ pub data AreLines (mode : Mode) (sizes : Sizes) : List (List ℕ) → List LineV
 
 -- the command that a line gives, beside a table of labels
 pub data IsCommand (labels : List (List ℕ)) : LineValue → Command → Type 0 where
-  set : (text : List ℕ) (edit : Edit) (line : LineValue) → line ≡ Set edit.change.cell text → IsContent labels text edit.change.content → IsCommand labels line (asks.Put edit)
-  clear : (edit : Edit) (line : LineValue) → line ≡ Clear edit.change.cell → edit.change.content ≡ Constant Empty → IsCommand labels line (asks.Put edit)
+  set : (text : List ℕ) (change : ChangeValue) (line : LineValue) → line ≡ Set change.cell text → IsContent labels text change.content → IsCommand labels line (asks.Put (change ∷ []))
+  clear : (change : ChangeValue) (line : LineValue) → line ≡ Clear change.cell → change.content ≡ Constant Empty → IsCommand labels line (asks.Put (change ∷ []))
   look : (range : Corners) (line : LineValue) → line ≡ Look range → IsCommand labels line (asks.Look range)
   firm : (range : Corners) (line : LineValue) → line ≡ Firm range → IsCommand labels line (asks.Firm range)
   work : (turns : ℕ) (line : LineValue) → line ≡ Work turns → IsCommand labels line (asks.Work turns)

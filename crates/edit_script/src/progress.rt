@@ -304,7 +304,10 @@ impl Progress {
     {
         self.edits += 1;
         let change = Change { cell, content };
-        self.push(alloc, Command::Put(Edit { change }))
+        let Ok(edit) = Edit::one(alloc, change) else {
+            return Err(ScriptRefused::Memory);
+        };
+        self.push(alloc, Command::Put(edit))
     }
 
     // Adds an edit by which a cell is to hold what a text writes.

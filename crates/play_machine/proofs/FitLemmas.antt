@@ -7,7 +7,11 @@ use Rattle.sheet_refs.specs.Cells.{Position, Corners, IsIn, height, width}
 use Rattle.sheet_refs.specs.Sizes.{is_inside}
 use Rattle.sheet_refs.specs.declared.sizes.Sizes.{Sizes}
 use Rattle.sheet_refs.proofs.Grid.{rows_length}
+use Rattle.sheet_model.specs.Changes.{ChangeValue}
+use Rattle.sheet_model.specs.Edits.{IsChangeFor, IsFor}
 use Rattle.sheet_model.specs.Sheets.{SheetValue, HasLabel, with_labels}
+use Rattle.sheet_model.proofs.EditLemmas.{first_or_later}
+use Rattle.sheet_model.proofs.ListMembers.{all_from, no_member}
 use Rattle.sheet_model.proofs.SheetLemmas.{label_content, held_empty}
 use Rattle.edit_script.specs.Lines.{LineValue, Skip, Client, Set, Clear, Look, Firm, Work}
 use Rattle.edit_script.specs.Scripts.{AreLines, AreSteps, Brought, IsAllowed, IsCommand, IsScript, IsSilent, ScriptValue, brought_by, nothing_yet, with_line}
@@ -79,17 +83,24 @@ module _ (sheet : SheetValue) where
     few = (let count = rows_length range range.head.row (height range) in let most : height range * width range ≤ 65536 = omega (arith, small) in omega (arith, count, most));
   }
 
+  -- an edit of one change is for the sheet where that change is
+  one_for : (change : ChangeValue) → IsChangeFor sheet change → IsFor sheet (change ∷ [])
+  one_for change for = all_from (IsChangeFor sheet) (change ∷ []) (λ c there. elim (first_or_later c change [] there) [
+    | inl same ↦ subst (IsChangeFor sheet) same for
+    | inr later ↦ absurd (no_member c later)
+  ])
+
   -- a line that is allowed gives a command that fits, and its edits
   command_fits : (now : Brought) (line : LineValue) (command : Command) → IsAllowed sheet.sizes now line → IsCommand sheet.labels line command → IsCommandOfSheet sheet command × (one_of (is_put command) ≡ edit_count line)
   command_fits now line command allowed given = go line command allowed given
     where
       go : (said : LineValue) (asked : Command) → IsAllowed sheet.sizes now said → IsCommand sheet.labels said asked → IsCommandOfSheet sheet asked × (one_of (is_put asked) ≡ edit_count said)
-      go said _ fine (set text edit named is content) =
+      go said _ fine (set text change named is content) =
           let ok = subst (IsAllowed sheet.sizes now) is fine in
-          (record { inside = stable (is_inside sheet.sizes edit.change.cell) ok.inside; label = label_content sheet.labels text edit.change.content content }, ap edit_count (sym is))
-      go said _ fine (clear edit named is content) =
+          (one_for change (record { inside = stable (is_inside sheet.sizes change.cell) ok.inside; label = label_content sheet.labels text change.content content }), ap edit_count (sym is))
+      go said _ fine (clear change named is content) =
           let ok = subst (IsAllowed sheet.sizes now) is fine in
-          (record { inside = stable (is_inside sheet.sizes edit.change.cell) ok.inside; label = subst (HasLabel (length sheet.labels)) (sym content) (held_empty (length sheet.labels)).label }, ap edit_count (sym is))
+          (one_for change (record { inside = stable (is_inside sheet.sizes change.cell) ok.inside; label = subst (HasLabel (length sheet.labels)) (sym content) (held_empty (length sheet.labels)).label }), ap edit_count (sym is))
       go said _ fine (look range named is) =
           let ok = subst (IsAllowed sheet.sizes now) is fine in
           (window_fits now range (λ cell there outside. ok.inside (cell, there, outside)) (λ large. ok.window (inl large)), ap edit_count (sym is))

@@ -9,7 +9,7 @@ use Rattle.sheet_refs.specs.Cells.{Position}
 use Rattle.sheet_refs.specs.Sizes.{is_inside, cell_count, place_of}
 use Rattle.sheet_refs.specs.declared.sizes.Sizes.{Sizes}
 use Rattle.sheet_refs.proofs.Places.{place-lt, place_same}
-use Rattle.edit_log.specs.Kept.{one_or_two}
+use Rattle.sheet_model.proofs.EditLemmas.{one_or_two}
 use Rattle.play_machine.specs.Machine.{mark_of}
 use Rattle.play_machine.specs.Marking.{SetsMarks}
 

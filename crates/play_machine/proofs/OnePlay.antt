@@ -8,7 +8,7 @@ use Rattle.sheet_refs.specs.Sizes.{cell_count, is_inside, place_of}
 use Rattle.sheet_refs.specs.declared.sizes.Sizes.{Sizes}
 use Rattle.sheet_refs.proofs.Places.{place_same}
 use Rattle.sheet_model.specs.Sheets.{SheetValue}
-use Rattle.sheet_model.specs.declared.change.Edit.{Edit}
+use Rattle.sheet_model.specs.Edits.{EditValue}
 use Rattle.edit_log.specs.Books.{client_entry}
 use Rattle.edit_log.specs.Touches.{Touches, cell_at}
 use Rattle.edit_script.specs.declared.script.Command.{Command}
@@ -65,7 +65,7 @@ turns_one sheet count old a b first second = go count old a first count b second
         turn_one sheet between x y (subst (λ ms. IsTurn sheet ms x) mids turn) also
 
 -- and an edit
-touched_one : (sheet : SheetValue) (client : ℕ) (edit : Edit) (number : ℕ) (old a b : List ℕ) → length old ≡ cell_count sheet.sizes → MarksTouched sheet client edit number old a → MarksTouched sheet client edit number old b → a ≡ b
+touched_one : (sheet : SheetValue) (client : ℕ) (edit : EditValue) (number : ℕ) (old a b : List ℕ) → length old ≡ cell_count sheet.sizes → MarksTouched sheet client edit number old a → MarksTouched sheet client edit number old b → a ≡ b
 touched_one sheet client edit number old a b filled x y = same_number_lists a b (x.count ∙ sym y.count) at
   where
     at : (k : ℕ) → k < length a → get_or a k 0 ≡ get_or b k 0
@@ -101,7 +101,7 @@ kind (Work turns) = 3
 other_kind : {A : Type 0} (command a b : Command) → command ≡ a → command ≡ b → (kind a ≡ kind b → ⊥) → A
 other_kind command a b is also differs = absurd (differs (ap kind (sym is ∙ also)))
 
-abbrev edit_in : Command → Edit → Edit
+abbrev edit_in : Command → EditValue → EditValue
 edit_in (Put edit) other = edit
 edit_in (Look window) other = other
 edit_in (Firm window) other = other

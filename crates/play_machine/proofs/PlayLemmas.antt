@@ -1,6 +1,6 @@
 -- What steps do to the machine.
 use Rattle.std.proofs.Common.{◌≡◌, ℕ, zero, suc, ◌+◌, ◌<◌, ◌≤◌, Bool, true, false, cond, List, [], ◌∷◌, ◌++◌, length, length-append, get_or, take, map, replicate, count_by, IsTrue, All, arith, refl, sym, ap, subst, ◌∙◌}
-use Rattle.std.specs.Prelude.{Some, slice_get}
+use Rattle.std.specs.Prelude.{IfSome, None, Some, slice_get}
 use Rattle.sheet_refs.specs.Cells.{Position, Corners, cells_of}
 use Rattle.sheet_refs.specs.Sizes.{cell_count, is_inside}
 use Rattle.sheet_refs.specs.declared.sizes.Sizes.{Sizes}
@@ -14,13 +14,14 @@ use Rattle.sheet_model.specs.Boards.{BoardValue, with_shown}
 use Rattle.sheet_model.specs.declared.board.Shown.{Shown}
 use Rattle.sheet_model.proofs.ListLemmas.{taken_more}
 use Rattle.play_machine.proofs.TurnLemmas.{none_marked, turns_clear}
-use Rattle.sheet_model.specs.Logs.{after, after_edit}
+use Rattle.sheet_model.specs.Changes.{ChangeValue}
+use Rattle.sheet_model.specs.Edits.{EditValue, IsChangeFor, after_edit}
+use Rattle.sheet_model.specs.Logs.{after}
 use Rattle.sheet_model.specs.Sheets.{SheetValue, HasLabel}
-use Rattle.sheet_model.specs.declared.change.Edit.{Edit}
 use Rattle.sheet_model.specs.declared.entry.Entry.{Entry}
-use Rattle.sheet_model.proofs.LogLemmas.{change-labels, change-sizes}
+use Rattle.sheet_model.proofs.EditLemmas.{edit-labels, edit-sizes}
 use Rattle.edit_log.specs.Books.{client_entry}
-use Rattle.edit_log.specs.Touches.{AreTouched, IsChanged, DependsDirectly, Touches}
+use Rattle.edit_log.specs.Touches.{AreTouched, IsChangedBy, DependsDirectly, Touches}
 use Rattle.edit_script.specs.declared.script.Command.{Command}
 use Rattle.edit_script.specs.declared.script.Command.TheVariants.{Put, Look, Firm, Work}
 use Rattle.edit_script.specs.declared.script.Step.{Step}
@@ -29,11 +30,13 @@ use Rattle.window_text.specs.declared.report.Report.{Report}
 use Rattle.play_machine.specs.Machine.{AreTurns, FollowsCommand, IsMarked, IsNowhere, Machine, MarksTouched, Plays, machine_after, opening, report_of, shown_of, with_marks}
 use Rattle.play_machine.specs.Machine.FollowsCommand.{puts, looks, settles, works}
 use Rattle.play_machine.specs.Machine.Plays.{more, none as no_steps}
-use Rattle.play_machine.specs.Marking.{SetsMarks}
+use Rattle.play_machine.specs.Marking.{SetsMarks, marked_count}
+use Rattle.play_machine.specs.Waiting.{AreKept, IsQueue, nothing}
+use Rattle.play_machine.specs.declared.marked.MarkedCells.{MarkedCells}
 use Rattle.play_machine.specs.Playing.{IsCommandOfSheet, TellsReports, is_put}
 
 -- cells that an entry touches, marked with a number
-pub touched_marks : (opening sheet : SheetValue) (log : List Entry) (entry : Entry) (client : ℕ) (edit : Edit) (cells : List Position) (number : ℕ) (old new : List ℕ) → sheet ≡ after opening log → AreTouched opening log entry cells → entry ≡ client_entry client edit → SetsMarks sheet.sizes cells number old new → MarksTouched sheet client edit number old new
+pub touched_marks : (opening sheet : SheetValue) (log : List Entry) (entry : Entry) (client : ℕ) (edit : EditValue) (cells : List Position) (number : ℕ) (old new : List ℕ) → sheet ≡ after opening log → AreTouched opening log entry cells → entry ≡ client_entry client edit → SetsMarks sheet.sizes cells number old new → MarksTouched sheet client edit number old new
 touched_marks opening sheet log entry client edit cells number old new replayed are entry_is marks = record {
   count = marks.count;
   touched = λ cell inside touches. marks.listed cell inside ((are.exact cell).1 (to cell touches));
@@ -43,15 +46,15 @@ touched_marks opening sheet log entry client edit cells number old new replayed 
     to : (cell : Position) → Touches sheet [] (client_entry client edit) cell → Touches opening log entry cell
     to cell touches =
         subst (λ e. Touches opening log e cell) (sym entry_is)
-        (subst (λ s. IsReached (DependsDirectly s) (IsChanged (client_entry client edit)) cell) replayed touches)
+        (subst (λ s. IsReached (DependsDirectly s) (IsChangedBy edit) cell) replayed touches)
 
     from : (cell : Position) → Touches opening log entry cell → Touches sheet [] (client_entry client edit) cell
     from cell touches =
-        subst (λ s. IsReached (DependsDirectly s) (IsChanged (client_entry client edit)) cell) (sym replayed)
+        subst (λ s. IsReached (DependsDirectly s) (IsChangedBy edit) cell) (sym replayed)
         (subst (λ e. Touches opening log e cell) entry_is touches)
 
 -- the same from what the calls say
-pub put_marks : (opening sheet opened : SheetValue) (log kept : List Entry) (sizes : Sizes) (entry : Entry) (client : ℕ) (edit : Edit) (touched cells : List Position) (number : ℕ) (old new : List ℕ) → sheet ≡ after opening log → opened ≡ opening → kept ≡ log → AreTouched opened kept entry touched → entry ≡ client_entry client edit → sizes ≡ sheet.sizes → cells ≡ touched → number ≡ length kept + 1 → SetsMarks sizes cells number old new → MarksTouched sheet client edit (length log + 1) old new
+pub put_marks : (opening sheet opened : SheetValue) (log kept : List Entry) (sizes : Sizes) (entry : Entry) (client : ℕ) (edit : EditValue) (touched cells : List Position) (number : ℕ) (old new : List ℕ) → sheet ≡ after opening log → opened ≡ opening → kept ≡ log → AreTouched opened kept entry touched → entry ≡ client_entry client edit → sizes ≡ sheet.sizes → cells ≡ touched → number ≡ length kept + 1 → SetsMarks sizes cells number old new → MarksTouched sheet client edit (length log + 1) old new
 put_marks opening sheet opened log kept sizes entry client edit touched cells number old new replayed opened_is kept_is are entry_is sizes_is cells_are number_is marks =
     let are_of : AreTouched opening log entry cells =
     subst (λ cs. AreTouched opening log entry cs) (sym cells_are) (subst (λ o. AreTouched o log entry touched) opened_is (subst (λ l. AreTouched opened l entry touched) kept_is are)) in
@@ -63,11 +66,22 @@ put_marks opening sheet opened log kept sizes entry client edit touched cells nu
 abbrev pub machine_with : SheetValue → ℕ → List ℕ → Machine
 machine_with sheet number marks = record { sheet = sheet; number = number; marks = marks }
 
-pub put_machine : (sheet edited kept : SheetValue) (log before after : List Entry) (entry : Entry) (client : ℕ) (edit : Edit) (old marks : List ℕ) → kept ≡ sheet → before ≡ log → edited ≡ after_edit kept entry.edit → after ≡ before ++ entry ∷ [] → entry ≡ client_entry client edit → machine_with edited (length after) marks ≡ machine_after (machine_with sheet (length log) old) edit marks
+pub put_machine : (sheet edited kept : SheetValue) (log before after : List Entry) (entry : Entry) (client : ℕ) (edit : EditValue) (old marks : List ℕ) → kept ≡ sheet → before ≡ log → edited ≡ after_edit kept entry.edit → after ≡ before ++ entry ∷ [] → entry ≡ client_entry client edit → machine_with edited (length after) marks ≡ machine_after (machine_with sheet (length log) old) edit marks
 put_machine sheet edited kept log before after entry client edit old marks kept_is before_is edited_is after_is entry_is =
     let sheets : edited ≡ after_edit sheet edit = edited_is ∙ ap (λ (s : SheetValue). after_edit s entry.edit) kept_is ∙ ap (λ (e : Entry). after_edit sheet e.edit) entry_is in
     let number : length after ≡ length log + 1 = ap length after_is ∙ length-append before (entry ∷ []) ∙ ap (λ (l : List Entry). length l + 1) before_is in
     λ i. record { sheet = sheets i; number = number i; marks = marks }
+
+-- what is kept of marks after an edit, which leaves the sizes
+pub put_kept : (sheet edited kept : SheetValue) (edit : EditValue) (sizes : Sizes) (old new : MarkedCells) (cells : List Position) (number : ℕ) → kept ≡ sheet → edited ≡ after_edit kept edit → sizes ≡ sheet.sizes → length old.marks.items ≡ cell_count sheet.sizes
+    → SetsMarks sizes cells number old.marks.items new.marks.items → new.left ≡ marked_count new.marks.items → new.queue ≡ None → AreKept edited new
+put_kept sheet edited kept edit sizes old new cells number kept_is edited_is sizes_is count marks left queue =
+    let same : edited.sizes ≡ sheet.sizes = ap (λ (s : SheetValue). s.sizes) edited_is ∙ edit-sizes kept edit ∙ ap (λ (s : SheetValue). s.sizes) kept_is in
+    record {
+      count = marks.count ∙ count ∙ sym (ap cell_count same);
+      left = left;
+      queue = subst (λ q. IfSome q (IsQueue edited new.marks.items nothing)) (sym queue) tt;
+    }
 
 -- one cell more is shown
 abbrev pub board_of : Machine → Corners → ℕ → BoardValue
@@ -92,7 +106,7 @@ board_more machine window place cell shown mid new mid_is at shown_is new_is =
 
 -- each kind of step, as the code follows it
 module _ (old new : Machine) (step : Step) (reports after : List Report) where
-  pub tells_put : (edit : Edit) (marks : List ℕ) → step.command ≡ Put edit → MarksTouched old.sheet step.client edit (old.number + 1) old.marks marks → new ≡ machine_after old edit marks → after ≡ reports → TellsReports old new step reports after
+  pub tells_put : (edit : EditValue) (marks : List ℕ) → step.command ≡ Put edit → MarksTouched old.sheet step.client edit (old.number + 1) old.marks marks → new ≡ machine_after old edit marks → after ≡ reports → TellsReports old new step reports after
   tells_put edit marks is touched new_is after_is = record { told = []; follows = puts edit marks is touched new_is refl; joined = after_is ∙ sym (append-nil reports) }
 
   pub tells_look : (window : Corners) (report : Report) → step.command ≡ Look window → new ≡ old → report ≡ report_of old false window → after ≡ reports ++ report ∷ [] → TellsReports old new step reports after
@@ -129,8 +143,8 @@ pub record Keeps (old new : Machine) (command : Command) : Type 0 where
 
 pub follows_keeps : (old new : Machine) (client : ℕ) (command : Command) (told : List Report) → FollowsCommand old client command new told → Keeps old new command
 follows_keeps old new client command told (puts edit marks is touched new_is told_is) = record {
-  sizes = ap (λ (m : Machine). m.sheet.sizes) new_is ∙ change-sizes old.sheet edit.change;
-  labels = ap (λ (m : Machine). m.sheet.labels) new_is ∙ change-labels old.sheet edit.change;
+  sizes = ap (λ (m : Machine). m.sheet.sizes) new_is ∙ edit-sizes old.sheet edit;
+  labels = ap (λ (m : Machine). m.sheet.labels) new_is ∙ edit-labels old.sheet edit;
   number = ap (λ (m : Machine). m.number) new_is ∙ ap (λ c. old.number + one_of (is_put c)) (sym is);
 }
 follows_keeps old new client command told (looks window is new_is told_is) = record {
@@ -151,10 +165,13 @@ follows_keeps old new client command told (works count marks is made new_is told
 
 -- a command that fits a sheet fits every sheet with its sizes and labels
 pub fit_moves : (a b : SheetValue) (command : Command) → b.sizes ≡ a.sizes → b.labels ≡ a.labels → IsCommandOfSheet a command → IsCommandOfSheet b command
-fit_moves a b (Put edit) sizes labels fit = record {
-  inside = subst (λ s. IsTrue (is_inside s edit.change.cell)) (sym sizes) fit.inside;
-  label = subst (λ (l : List (List ℕ)). HasLabel (length l) edit.change.content) (sym labels) fit.label;
-}
+fit_moves a b (Put edit) sizes labels fit = λ k d within. (
+  let one : IsChangeFor a (get_or edit k d) = fit k d within in
+  record {
+    inside = subst (λ s. IsTrue (is_inside s (get_or edit k d).cell)) (sym sizes) one.inside;
+    label = subst (λ (l : List (List ℕ)). HasLabel (length l) (get_or edit k d).content) (sym labels) one.label;
+  }
+)
 fit_moves a b (Look window) sizes labels fit = record {
   inside = λ cell there. subst (λ s. IsTrue (is_inside s cell)) (sym sizes) (fit.inside cell there);
   few = fit.few;

@@ -15,7 +15,7 @@ use Rattle.sheet_refs.specs.declared.sizes.Sizes.{Sizes}
 use Rattle.sheet_refs.proofs.Places.{place-lt, place_same}
 use Rattle.sheet_refs.proofs.RunLemmas.{not_at}
 use Rattle.sheet_model.specs.Sheets.{SheetValue}
-use Rattle.edit_log.specs.Kept.{one_or_two}
+use Rattle.sheet_model.proofs.EditLemmas.{one_or_two}
 use Rattle.play_machine.specs.Machine.{IsFirstCell, IsMarked, IsNowhere, IsReady, is_marked, mark_of, without_mark}
 use Rattle.play_machine.specs.Marking.{SetsMarks}
 use Rattle.play_machine.specs.Waiting.{AddsWaiter, AreWaiters, HasNoMarkedInput, IsKeptAt, IsMarkedInput, HasWaiter, IsQueue, IsUnplaced, IsWaiter, NoneMarked, Places, TakesWaiters, Unplaced, WaitAt, Waits, WaitsOn}

@@ -15,7 +15,8 @@ use Rattle.play_machine.specs.Machine.{is_marked, mark_of}
 use Rattle.play_machine.specs.Marking.{HasNoMark, NoneHasMark}
 use Rattle.play_machine.specs.Waiting.{HasNoMarkedInput, IsMarkedInput, IsNextMarked, IsSeen, IsWaiter}
 use Rattle.play_machine.specs.declared.waiter.Waiter.{Waiter}
-use Rattle.play_machine.proofs.MarkLemmas.{marked_from, taken_more, unmarked_from}
+use Rattle.sheet_model.proofs.ListLemmas.{taken_more}
+use Rattle.play_machine.proofs.MarkLemmas.{marked_from, unmarked_from}
 use Rattle.play_machine.proofs.ReadyLemmas.{none_pushed, part_unmarked}
 
 module _ (sizes : Sizes) (marks : List ℕ) (range part : Corners) (is : part ≡ part_inside sizes range) where

@@ -3,12 +3,11 @@ use Rattle.std.specs.Prelude.{◌≡◌, ◌<◌, ℕ, suc, ◌+◌, Bool, false
 use Rattle.sheet_refs.specs.Cells.{Position, Corners, cells_of}
 use Rattle.sheet_refs.specs.Sizes.{is_inside, cell_count, place_of}
 use Rattle.sheet_refs.specs.declared.sizes.Sizes.{Sizes}
-use Rattle.sheet_model.specs.Logs.{after_edit}
+use Rattle.sheet_model.specs.Edits.{EditValue, after_edit}
 use Rattle.sheet_model.specs.Sheets.{SheetValue}
 use Rattle.sheet_model.specs.Values.{value_of}
 use Rattle.sheet_model.specs.declared.board.Shown.{Shown}
 use Rattle.sheet_model.specs.declared.board.Shown.TheVariants as shown
-use Rattle.sheet_model.specs.declared.change.Edit.{Edit}
 use Rattle.edit_log.specs.Books.{client_entry}
 use Rattle.edit_log.specs.Touches.{DependsDirectly, Touches}
 use Rattle.edit_script.specs.declared.script.Command.{Command}
@@ -67,14 +66,14 @@ pub data AreTurns (sheet : SheetValue) : ℕ → List ℕ → List ℕ → Type 
   none : (marks : List ℕ) → AreTurns sheet 0 marks marks
   more : (count next : ℕ) (old mid new : List ℕ) → AreTurns sheet count old mid → IsTurn sheet mid new → next ≡ suc count → AreTurns sheet next old new
 
--- an edit marks its cell and all that depend on it with its number, and no other cell
-pub record MarksTouched (sheet : SheetValue) (client : ℕ) (edit : Edit) (number : ℕ) (old new : List ℕ) : Type 0 where
+-- an edit marks its cells and all that depend on them with its number, and no other cell
+pub record MarksTouched (sheet : SheetValue) (client : ℕ) (edit : EditValue) (number : ℕ) (old new : List ℕ) : Type 0 where
   pub count : length new ≡ length old
   pub touched : (cell : Position) → IsTrue (is_inside sheet.sizes cell) → Touches sheet [] (client_entry client edit) cell → mark_of sheet.sizes new cell ≡ number
   pub others : (cell : Position) → ¬ Touches sheet [] (client_entry client edit) cell → mark_of sheet.sizes new cell ≡ mark_of sheet.sizes old cell
 
 -- the machine after an edit, and with other marks
-abbrev pub machine_after : Machine → Edit → List ℕ → Machine
+abbrev pub machine_after : Machine → EditValue → List ℕ → Machine
 machine_after machine edit marks = record { sheet = after_edit machine.sheet edit; number = machine.number + 1; marks = marks }
 
 abbrev pub with_marks : Machine → List ℕ → Machine
@@ -96,7 +95,7 @@ report_of machine firm window = record {
 -- a command of a client, the machine after it, and what is reported
 pub data FollowsCommand (old : Machine) (client : ℕ) (command : Command) (new : Machine) (told : List Report) : Type 0 where
   -- an edit
-  puts : (edit : Edit) (marks : List ℕ) → command ≡ asks.Put edit
+  puts : (edit : EditValue) (marks : List ℕ) → command ≡ asks.Put edit
       → MarksTouched old.sheet client edit (old.number + 1) old.marks marks
       → new ≡ machine_after old edit marks → told ≡ [] → FollowsCommand old client command new told
   -- a look

@@ -1,9 +1,8 @@
 -- Which steps may be played over a sheet, and what is played of a book.
 use Rattle.std.specs.Prelude.{◌≡◌, ℕ, ◌≤◌, IsTrue, Bool, true, false, List, ◌++◌, length, All, count_by}
 use Rattle.sheet_refs.specs.Cells.{Corners, cells_of}
-use Rattle.sheet_refs.specs.Sizes.{is_inside}
-use Rattle.sheet_model.specs.Sheets.{SheetValue, HasLabel}
-use Rattle.sheet_model.specs.declared.change.Edit.{Edit}
+use Rattle.sheet_model.specs.Sheets.{SheetValue}
+use Rattle.sheet_model.specs.Edits.{IsFor}
 use Rattle.edit_log.specs.Books.{BookValue}
 use Rattle.edit_script.specs.declared.script.Command.{Command}
 use Rattle.edit_script.specs.declared.script.Command.TheVariants.{Put, Look, Firm, Work}
@@ -12,11 +11,6 @@ use Rattle.window_text.specs.declared.report.Report.{Report}
 use Rattle.window_text.specs.Texts.{IsWithinSheet}
 use Rattle.play_machine.specs.Machine.{Machine, FollowsCommand}
 
--- an edit of a cell of the sheet, to a content whose label is in the table
-pub record FitsSheet (sheet : SheetValue) (edit : Edit) : Type 0 where
-  pub inside : IsTrue (is_inside sheet.sizes edit.change.cell)
-  pub label : HasLabel (length sheet.labels) edit.change.content
-
 -- a window of at most 65536 cells of the sheet
 pub record IsWindow (sheet : SheetValue) (window : Corners) : Type 0 where
   pub inside : IsWithinSheet window sheet
@@ -24,7 +18,7 @@ pub record IsWindow (sheet : SheetValue) (window : Corners) : Type 0 where
 
 -- a command about cells of the sheet
 abbrev pub IsCommandOfSheet : SheetValue → Command → Type 0
-IsCommandOfSheet sheet (Put edit) = FitsSheet sheet edit
+IsCommandOfSheet sheet (Put edit) = IsFor sheet edit
 IsCommandOfSheet sheet (Look window) = IsWindow sheet window
 IsCommandOfSheet sheet (Firm window) = IsWindow sheet window
 IsCommandOfSheet sheet (Work turns) = Unit {0}

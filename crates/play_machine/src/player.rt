@@ -1,9 +1,10 @@
 ghost use Rattle.std.specs.Prelude.{◌≡◌, ◌+◌, ◌<◌, ◌≤◌, [], length, IfOk, IfSome, IsTrue, OnOk};
 ghost use Rattle.sheet_refs.specs.Sizes.{is_inside};
+ghost use Rattle.sheet_model.specs.Edits.{IsFor};
 ghost use Rattle.sheet_model.specs.Values.{AreValues, value_of};
 ghost use Rattle.edit_log.specs.Books.{IsPreparedFor, IsUnchanged, client_entry};
 ghost use Rattle.play_machine.specs.Machine.{MarksTouched, machine_after, opening, report_of, shown_of};
-ghost use Rattle.play_machine.specs.Playing.{FitsSheet, IsWindow, machine_of};
+ghost use Rattle.play_machine.specs.Playing.{IsWindow, machine_of};
 ghost use Rattle.play_machine.specs.Waiting.{AreKept};
 
 use crate::marked::MarkedCells;
@@ -28,11 +29,11 @@ pub(crate) struct Player<G: Graph> {
 
 // An edit that is ready to be made. It can't be refused but for want of memory.
 fn prepare_edit<G: Graph>(book: &mut Book<G>, client: u32, edit: &Edit) -> Result<Prepared, Memory>
-    requires fits { FitsSheet book.old.sheet edit.now }
+    requires fits { IsFor book.old.sheet edit.now }
     requires few { length book.old.log < 1048576 }
     ensures prepared { IfOk result (IsPreparedFor book.new.opening book.new.log) }
     ensures entry { IfOk result (λ prepared. prepared.entry ≡ client_entry client edit.now) }
-    ensures room { OnOk result (1 ≤ book.new.spare) }
+    ensures room { OnOk result (length edit.now ≤ book.new.spare) }
     ensures same { IsUnchanged G.pairs book.old book.new }
 {
     let edit = edit.copy()?;
@@ -75,7 +76,7 @@ impl<G: Graph> Player<G> {
 
     /// Makes an edit, and marks all that it touches.
     pub(crate) fn put(&mut self, client: u32, edit: &Edit) -> Result<(), Memory>
-        requires fits { FitsSheet self.old.book.sheet edit.now }
+        requires fits { IsFor self.old.book.sheet edit.now }
         requires few { length self.old.book.log < 1048576 }
         requires kept { AreKept self.old.book.sheet self.old.cells }
         ensures marks { OnOk result (MarksTouched self.old.book.sheet client edit.now

@@ -7,14 +7,16 @@ use Rattle.sheet_refs.specs.Rectangles.{IsAmong}
 use Rattle.sheet_refs.specs.Sizes.{is_inside, place_of}
 use Rattle.sheet_refs.proofs.Places.{inside_bounds}
 use Rattle.sheet_model.specs.Budget.{ev}
-use Rattle.sheet_model.specs.Logs.{after_edit}
+use Rattle.sheet_model.specs.Edits.{after_edit}
 use Rattle.sheet_model.specs.Sheets.{SheetValue, content_of}
 use Rattle.sheet_model.specs.Values.{value_of}
+use Rattle.sheet_model.proofs.ListMembers.{first_member}
 use Rattle.graph_walk.specs.Graphs.{Step}
 use Rattle.graph_walk.specs.Paths.{IsPath}
 use Rattle.edit_log.specs.Books.{client_entry}
 use Rattle.edit_log.specs.Pairs.{ranges_in}
 use Rattle.edit_log.specs.Touches.{DependsDirectly, Touches}
+use Rattle.edit_log.proofs.TouchLemmas.{sole_change}
 use Rattle.edit_script.specs.declared.script.Command.TheVariants as asks
 use Rattle.play_machine.specs.Machine.{ArePlayed, AreTurns, IsReady, IsTurn, Machine, MarksTouched, is_marked, machine_after, mark_of, opening, report_of, with_marks}
 use Rattle.play_machine.specs.Machine.AreTurns.{none as no_turns, more as turn_more}
@@ -24,7 +26,7 @@ use Rattle.play_machine.specs.Machine.Plays.{none as nothing_played, more as pla
 use Rattle.window_text.specs.Reports.{play_text}
 use Rattle.window_text.specs.declared.report.Report.{Report}
 use Rattle.sheet_cli.proofs.WorkedGraph.{at, from_to, holds_reach, of_worked, on_cell, one_cell, same_at, worked_pairs, worked_runs}
-use Rattle.sheet_cli.proofs.WorkedScript.{whole_window, worked_edit, worked_steps}
+use Rattle.sheet_cli.proofs.WorkedScript.{whole_window, worked_change, worked_edit, worked_steps}
 use Rattle.sheet_cli.proofs.WorkedSheet.{worked_sheet}
 
 -- ---- the edit touches A1, B1 and B2
@@ -49,7 +51,7 @@ of_path from to (next ∷ cells) (step, path) = (of_step from next step, of_path
 among_touched : (cell : Position) → IsTouched cell → IsAmong worked_runs cell
 among_touched cell touched = (holds_reach cell).1 (record {
   from = touched.from;
-  starts = subst (λ from. IsIn from (one_cell (at 1 1))) (sym touched.starts) (on_cell (at 1 1));
+  starts = subst (λ from. IsIn from (one_cell (at 1 1))) (sym (sole_change worked_change touched.from touched.starts)) (on_cell (at 1 1));
   cells = touched.cells;
   path = as_path touched.from cell touched.cells touched.path;
 })
@@ -59,7 +61,10 @@ touched_among cell among =
     let reach = (holds_reach cell).0 among in
     record {
       from = reach.from;
-      starts = sym (same_at reach.from 1 1 (omega (arith, reach.starts.row_from, reach.starts.row_to)) (omega (arith, reach.starts.col_from, reach.starts.col_to)));
+      starts = (
+        worked_change, first_member worked_change [],
+        sym (same_at reach.from 1 1 (omega (arith, reach.starts.row_from, reach.starts.row_to)) (omega (arith, reach.starts.col_from, reach.starts.col_to))),
+      );
       cells = reach.cells;
       path = of_path reach.from cell reach.cells reach.path;
     }

@@ -11,7 +11,8 @@ use Rattle.sheet_model.specs.Fields.{IsNumberField}
 use Rattle.sheet_model.specs.Fields.IsNumberField.{unsigned}
 use Rattle.sheet_model.specs.Sheets.{Constant}
 use Rattle.sheet_model.specs.Tables.AddsLabels.{done, next as and_next}
-use Rattle.sheet_model.specs.declared.change.Edit.{Edit}
+use Rattle.sheet_model.specs.Changes.{ChangeValue}
+use Rattle.sheet_model.specs.Edits.{EditValue}
 use Rattle.edit_script.specs.Lines.{LineValue, Says, Set, Look, Work, script_lines}
 use Rattle.edit_script.specs.Lines.IsLineOf.{order}
 use Rattle.edit_script.specs.Lines.IsOrder.{set, look, work}
@@ -32,8 +33,11 @@ abbrev pub whole_window : Corners
 whole_window = from_to (at 1 1) (at 2 2)
 
 -- A1 is to hold 5
-abbrev pub worked_edit : Edit
-worked_edit = record { change = record { cell = at 1 1; content = Constant (Number (pos 5)) } }
+abbrev pub worked_change : ChangeValue
+worked_change = record { cell = at 1 1; content = Constant (Number (pos 5)) }
+
+abbrev pub worked_edit : EditValue
+worked_edit = worked_change ∷ []
 
 abbrev pub worked_steps : List Step
 worked_steps =
@@ -156,7 +160,7 @@ all_steps =
     (step_more two_lines three_lines (Work 2) _ _ (record { client = 0; command = asks.Work 2 })
     (step_more one_line two_lines looks_whole _ _ (record { client = 0; command = asks.Look whole_window })
     (step_more [] one_line sets_five [] _ (record { client = 0; command = asks.Put worked_edit }) no_step
-    (record { client = refl; command = sets (codes "5") worked_edit sets_five refl field_of_five }) refl refl)
+    (record { client = refl; command = sets (codes "5") worked_change sets_five refl field_of_five }) refl refl)
     (record { client = refl; command = looks whole_window looks_whole refl }) refl refl)
     (record { client = refl; command = works 2 (Work 2) refl }) refl refl)
     (record { client = refl; command = looks whole_window looks_whole refl }) refl refl

@@ -3,7 +3,7 @@ use Rattle.value_core.specs.declared.value.Value.TheVariants.{Empty}
 use Rattle.sheet_model.specs.Sheets.{Constant}
 use Rattle.edit_script.specs.declared.script.Command.TheVariants as asks
 use Rattle.edit_script.specs.Lines.{Clear, Look, Firm, Work}
-use Rattle.edit_script.specs.Progress.{brought, edit_of}
+use Rattle.edit_script.specs.Progress.{brought, change_of, edit_of}
 use Rattle.edit_script.specs.Scripts.IsCommand.{clear, look, firm, work}
 use Rattle.edit_script.proofs.TakeLemmas.{skip_taken, client_taken, command_taken, set_taken, set_fault, client_room}
 use Rattle.edit_script.proofs.progress.Progress.take_allowed.Goals as goal
@@ -33,7 +33,7 @@ pub returns-in-Clear-clause-taken : goal.returns-in-Clear-clause-taken
 returns-in-Clear-clause-taken c = rw c.in-Clear.is
     (command_taken c.args.sheet.now.sizes c.args.sheet.now.labels c.args.self.now c.put.new.self c.put.result (Clear c.in-Clear.cell)
     (asks.Put (edit_of c.in-Clear.cell (Constant Empty))) (rw c.in-Clear.is at c.requires.allowed) (λ no. no) (λ no. no) refl
-    (clear (edit_of c.in-Clear.cell (Constant Empty)) (Clear c.in-Clear.cell) refl refl)
+    (clear (change_of c.in-Clear.cell (Constant Empty)) (Clear c.in-Clear.cell) refl refl)
     c.put.ensures.sound c.put.ensures.brought c.put.ensures.step)
 
 pub returns-in-Look-clause-taken : goal.returns-in-Look-clause-taken
