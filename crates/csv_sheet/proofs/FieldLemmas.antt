@@ -1,15 +1,15 @@
 -- The fields of records to which a field or an empty record is added.
-use Rattle.std.proofs.Common.{◌≡◌, ◌≢◌, ℕ, zero, suc, ◌+◌, ◌*◌, ◌<◌, ◌≤◌, List, [], ◌∷◌, ◌++◌, length, get_or, take, inl, inr, refl, sym, ◌∙◌, ap, subst, arith, length-append, append_assoc}
+use Rattle.std.proofs.Common.{◌≡◌, ◌≢◌, ℕ, zero, suc, ◌+◌, ◌*◌, ◌<◌, ◌≤◌, List, [], ◌∷◌, ◌++◌, length, get_or, inl, inr, sym, ◌∙◌, ap, arith, length-append, append_assoc}
 use Rattle.std.specs.Prelude.{max, fold}
 use Rattle.std.proofs.lemmas.List.Sums.{fold-append}
 use Rattle.std.proofs.Math.ListN.{get_or-append}
 use Rattle.std.proofs.Math.Seq.{get_or-append_seam}
 use Rattle.std.proofs.lemmas.Bool.{cases_order}
-use Rattle.std.proofs.lemmas.Grind.{flat_map-append, common_steps}
+use Rattle.std.proofs.lemmas.Grind.{flat_map-append}
 use Rattle.std.proofs.lemmas.List.{get_or_past, append-nil}
 use Rattle.std.proofs.lemmas.Nat.{rows as row_places}
 use Rattle.csv_sheet.specs.Records.{Rows, fields_at, field_at, all_fields, longest}
-use Rattle.csv_sheet.proofs.RowLemmas.{length-more, old_fields, new_fields, no_fields, longest-more}
+use Rattle.csv_sheet.proofs.RowLemmas.{old_fields, new_fields, no_fields, longest-more}
 
 pub all_more : (rows : Rows) (more : List (List ℕ)) → all_fields (rows ++ more ∷ []) ≡ all_fields rows ++ more
 all_more rows more = flat_map-append (λ (fields : List (List ℕ)). fields) rows (more ∷ []) ∙ ap (λ t. all_fields rows ++ t) (append-nil more)

@@ -1,5 +1,5 @@
 -- Filling a sheet field by field.
-use Rattle.std.proofs.Common.{◌≡◌, ◌≢◌, ℕ, ◌+◌, ◌-◌, ◌*◌, ◌^◌, ◌<◌, ◌≤◌, List, [], ◌∷◌, ◌++◌, length, get_or, take, inl, inr, ◌⊎◌, refl, sym, ◌∙◌, ap, subst, arith, IsTrue, add-one}
+use Rattle.std.proofs.Common.{◌≡◌, ◌≢◌, ℕ, ◌+◌, ◌-◌, ◌*◌, ◌^◌, ◌<◌, ◌≤◌, List, [], ◌∷◌, ◌++◌, length, get_or, take, inl, inr, refl, sym, ◌∙◌, ap, subst, arith, IsTrue, add-one}
 use Rattle.std.proofs.lemmas.Bool.{cases_eq}
 use Rattle.std.proofs.Math.Seq.{take-suc}
 use Rattle.std.proofs.lemmas.List.{append-nil, length-take-le}
@@ -9,15 +9,15 @@ use Rattle.std.specs.Prelude.{Option, Some, IfSome}
 use Rattle.std.proofs.lemmas.Option.{MatchOption-at_some}
 use Rattle.sheet_refs.specs.Sizes.{is_inside}
 use Rattle.sheet_refs.proofs.Places.{inside_from}
-use Rattle.sheet_model.specs.Fields.{IsContent, IsTableAfter}
-use Rattle.sheet_model.specs.Sheets.{SheetValue, ContentValue, IsSheet, IsSheetSize, content_of, with_content, with_labels, blank_sheet}
+use Rattle.sheet_model.specs.Fields.{IsContent}
+use Rattle.sheet_model.specs.Sheets.{SheetValue, IsSheet, IsSheetSize, content_of, with_content, with_labels, blank_sheet}
 use Rattle.sheet_model.specs.Tables.{AddsLabels}
 use Rattle.sheet_model.specs.Tables.AddsLabels.{done as adds_none}
 use Rattle.sheet_model.proofs.SheetLemmas.{sheet_blank, sheet_with_labels, sheet_with_content, held_content, table_after, grown_table, content_of-filled, content_of-other, content_of-blank, IsContent-after}
 use Rattle.sheet_model.proofs.ContentLemmas.{refused_none}
 use Rattle.sheet_model.proofs.TableLemmas.{adds_one_more, one_more}
 use Rattle.csv_sheet.specs.Filling.{HoldsRecords, PutsField, IsPartFilled, IsRecordFor}
-use Rattle.csv_sheet.specs.Records.{Rows, fields_at, field_at, all_fields, cell_there}
+use Rattle.csv_sheet.specs.Records.{Rows, field_at, all_fields, cell_there}
 use Rattle.csv_sheet.specs.Results.{IsRefusedFormula}
 use Rattle.csv_sheet.proofs.FieldLemmas.{all_more, all_longer, field_new, field_same, field_nothing, place_below}
 

@@ -1,17 +1,15 @@
 -- From the extent of a text's records to what the text gives.
-use Rattle.std.proofs.Common.{◌≡◌, ◌≢◌, ◌↔◌, ℕ, ◌+◌, ◌*◌, ◌<◌, ◌≤◌, List, [], length, inl, ◌∷◌, inr, ◌⊎◌, refl, sym, ◌∙◌, ap, subst, arith, Result, Ok, Err, Option, None, Some, Bool, true, false, true≢false, IsTrue}
+use Rattle.std.proofs.Common.{◌≡◌, ◌↔◌, ℕ, ◌+◌, ◌*◌, ◌<◌, ◌≤◌, List, [], length, inl, ◌∷◌, inr, ◌⊎◌, refl, sym, ◌∙◌, ap, subst, arith, Result, None, Some, Bool, false, true≢false, IsTrue}
 use Rattle.csv.specs.Reading.{AreRecords, default_config}
 use Rattle.csv.specs.declared.parser.State.TheVariants.{StartRecord}
 use Rattle.sheet_refs.specs.Cells.{Position, IsNamed}
-use Rattle.sheet_refs.specs.declared.sizes.Sizes.{Sizes}
 use Rattle.sheet_model.specs.Sheets.{SheetValue, IsSheetSize}
 use Rattle.csv_sheet.specs.Reading.{Measures}
-use Rattle.csv_sheet.specs.Records.{Rows, cell_there, longest, sizes_of, without_marks}
-use Rattle.csv_sheet.specs.Results.{AreText, IsTooLarge, NoField, IsFirstField, IsLong, IsGivenByRecords, IsSheetResult}
+use Rattle.csv_sheet.specs.Records.{Rows, cell_there, longest, without_marks}
+use Rattle.csv_sheet.specs.Results.{AreText, IsTooLarge, IsFirstField, IsLong, IsGivenByRecords, IsSheetResult}
 use Rattle.csv_sheet.specs.declared.extent.Extent.{Extent}
 use Rattle.csv_sheet.specs.declared.refused.SheetRefused.{SheetRefused}
-use Rattle.csv_sheet.specs.declared.refused.SheetRefused.TheVariants as refused
-use Rattle.csv_sheet.proofs.FieldLemmas.{few_rows, longest_of}
+use Rattle.csv_sheet.proofs.FieldLemmas.{few_rows}
 use Rattle.csv_sheet.proofs.MarkLemmas.{length-without_marks, without_marks_twice}
 use Rattle.csv_sheet.proofs.RecordLemmas.{has_columns}
 use Rattle.csv_sheet.proofs.ResultLemmas.{one_result, field_inside}

@@ -1,13 +1,11 @@
 -- A text gives one thing.
-use Rattle.std.proofs.Common.{◌≡◌, ◌≢◌, ℕ, ◌+◌, ◌-◌, ◌<◌, ◌≤◌, List, [], length, get_or, inl, inr, ◌⊎◌, refl, sym, ◌∙◌, ap, subst, arith, IsTrue, Result, Ok, Err}
+use Rattle.std.proofs.Common.{◌≡◌, ℕ, ◌+◌, ◌-◌, ◌<◌, ◌≤◌, List, [], length, inl, inr, ◌⊎◌, sym, ◌∙◌, ap, subst, arith, Result, Ok, Err}
 use Rattle.std.proofs.lemmas.Bool.{cases_order}
 use Rattle.std.proofs.lemmas.List.{get_or_past}
 use Rattle.csv.specs.Reading.{default_config}
-use Rattle.csv.specs.Records.{AllText}
 use Rattle.csv.specs.declared.parser.State.TheVariants.{StartRecord}
 use Rattle.sheet_refs.specs.Cells.{Position}
 use Rattle.sheet_refs.specs.declared.sizes.Sizes.{Sizes}
-use Rattle.sheet_refs.specs.Sizes.{is_inside}
 use Rattle.sheet_refs.proofs.Places.{IsInside, inside_bounds}
 use Rattle.formula_syntax.specs.Spelling.{HasTooManyRefs}
 use Rattle.sheet_model.specs.Fields.{IsContent, IsDeepFormula}
@@ -15,8 +13,8 @@ use Rattle.sheet_model.specs.Sheets.{SheetValue, content_of}
 use Rattle.sheet_model.proofs.ContentLemmas.{one_content, refused_none}
 use Rattle.sheet_model.proofs.SameSheets.{same_sheet}
 use Rattle.sheet_model.proofs.TableLemmas.{adds_one}
-use Rattle.csv_sheet.specs.Records.{Rows, fields_at, field_at, all_fields, cell_there, longest, sizes_of, without_marks}
-use Rattle.csv_sheet.specs.Results.{AreText, IsFirstNotText, IsTooLarge, IsPlaceBefore, NoField, IsFirstField, IsLong, IsRefusedFormula, AreReadable, IsSheetOf, IsFirstRefused, IsGivenByRecords, IsSheetResult}
+use Rattle.csv_sheet.specs.Records.{Rows, fields_at, field_at, all_fields, cell_there, longest, without_marks}
+use Rattle.csv_sheet.specs.Results.{AreText, IsFirstNotText, IsPlaceBefore, NoField, IsFirstField, IsLong, IsRefusedFormula, IsSheetOf, IsFirstRefused, IsGivenByRecords, IsSheetResult}
 use Rattle.csv_sheet.specs.declared.refused.SheetRefused.{SheetRefused}
 use Rattle.csv_sheet.specs.declared.refused.SheetRefused.TheVariants.{NotUtf8, TooManyCells, FieldTooLong, FormulaTooDeep, TooManyRefs, Memory}
 use Rattle.csv_sheet.proofs.FieldLemmas.{longest_of}

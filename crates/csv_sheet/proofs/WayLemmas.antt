@@ -1,5 +1,5 @@
 -- Records that are read and put into a sheet one after the other.
-use Rattle.std.proofs.Common.{◌≡◌, ◌≢◌, ℕ, ◌+◌, ◌-◌, ◌*◌, ◌<◌, ◌≤◌, List, [], ◌∷◌, ◌++◌, length, get_or, inl, inr, ◌⊎◌, refl, sym, ◌∙◌, ap, subst, arith, Err, length-append, append_assoc}
+use Rattle.std.proofs.Common.{◌≡◌, ◌≢◌, ℕ, ◌+◌, ◌-◌, ◌*◌, ◌<◌, ◌≤◌, List, [], ◌∷◌, ◌++◌, length, get_or, inl, inr, refl, sym, ◌∙◌, ap, subst, arith, Err, length-append, append_assoc}
 use Rattle.std.specs.Prelude.{Option}
 use Rattle.std.proofs.Math.ListN.{get_or-append}
 use Rattle.std.proofs.Math.Seq.{get_or-append_seam}
@@ -8,14 +8,13 @@ use Rattle.csv.specs.Reading.{AreRecords, default_config}
 use Rattle.csv.specs.Records.{AllText}
 use Rattle.csv.specs.declared.reader.Reader.{Reader}
 use Rattle.csv.specs.declared.parser.State.TheVariants.{StartRecord}
-use Rattle.sheet_refs.specs.Cells.{Position}
 use Rattle.sheet_refs.specs.declared.sizes.Sizes.{Sizes}
 use Rattle.formula_syntax.specs.Spelling.{HasTooManyRefs}
 use Rattle.sheet_model.specs.Fields.{IsContent, IsDeepFormula}
 use Rattle.sheet_model.specs.Sheets.{SheetValue, IsSheetSize, content_of, blank_sheet}
 use Rattle.sheet_model.specs.Tables.{AddsLabels}
 use Rattle.sheet_model.proofs.ContentLemmas.{refused_none}
-use Rattle.csv_sheet.specs.Filling.{HoldsRecords, IsRecordFor, IsRowRefusal, IsFieldRefusal, HasFilled}
+use Rattle.csv_sheet.specs.Filling.{HoldsRecords, IsRecordFor, IsRowRefusal, HasFilled}
 use Rattle.csv_sheet.specs.Reading.{HasReadRecords}
 use Rattle.csv_sheet.specs.Records.{Rows, fields_at, field_at, all_fields, cell_there, longest, sizes_of}
 use Rattle.csv_sheet.specs.Results.{AreReadable, IsSheetOf, IsGivenByRecords, IsPlaceBefore, IsFirstField, IsFirstRefused, IsRefusedFormula, IsLong}

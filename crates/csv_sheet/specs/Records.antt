@@ -1,5 +1,5 @@
 -- The text of a sheet as records of fields.
-use Rattle.std.specs.Prelude.{◌≡◌, ℕ, ◌+◌, max, if◌then◌else◌, List, [], ◌∷◌, length, flat_map, fold, slice_index_or}
+use Rattle.std.specs.Prelude.{ℕ, ◌+◌, max, if◌then◌else◌, List, [], ◌∷◌, length, flat_map, fold, slice_index_or}
 use Rattle.csv.specs.Reading.{AreRecords, default_config, is_bom}
 use Rattle.csv.specs.declared.parser.State.TheVariants.{StartRecord}
 use Rattle.sheet_refs.specs.Cells.{Position}

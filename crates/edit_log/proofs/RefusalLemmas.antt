@@ -29,7 +29,7 @@ not_before sheet edit a b one other before =
     let lengths = length-take other.place edit in
     let taken : one.place < length (take other.place edit) = omega (arith, before, within, lengths) in
     let at : get_or (take other.place edit) one.place one.change ≡ one.change =
-        get_or-take other.place edit one.place one.change before ∙ get_or_from_slice_get edit one.place one.change one.change one.stands in
+    get_or-take other.place edit one.place one.change before ∙ get_or_from_slice_get edit one.place one.change one.change one.stands in
     both (is_inside sheet.sizes a)
     (subst (λ (p : Position). IsTrue (is_inside sheet.sizes p)) one.cell_is (subst (λ (c : ChangeValue). IsTrue (is_inside sheet.sizes c.cell)) at (other.first one.place one.change taken)))
     one.outside

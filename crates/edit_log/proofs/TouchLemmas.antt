@@ -113,8 +113,8 @@ sole_change change cell (only, listed, is) = elim (first_or_later only change []
 pub touched_by_one : (opening : SheetValue) (log : List Entry) (entry : Entry) (cell : Position) → Touches opening log entry cell ↔ ((change : ChangeValue) × Contains entry.edit change × Touches opening log (of_change entry change) cell)
 touched_by_one opening log entry cell = (
   λ touches.
-  (let (change, there, is) = touches.starts in
-  (change, there, record { from = touches.from; starts = (change, first_member change [], is); cells = touches.cells; path = touches.path })),
+      (let (change, there, is) = touches.starts in
+      (change, there, record { from = touches.from; starts = (change, first_member change [], is); cells = touches.cells; path = touches.path })),
   λ (change, there, touches). record { from = touches.from; starts = (change, there, sole_change change touches.from touches.starts); cells = touches.cells; path = touches.path },
 )
 

@@ -1,5 +1,8 @@
 // What no clause says: that edits are prepared where there is memory, and touch the cells that a person expects. The
 // expected cells were worked out by hand.
+ghost use Rattle.std.specs.Prelude.{ℕ, IfOk};
+ghost use Rattle.sheet_model.specs.Edits.{HaveLabels};
+
 use crate::tests::put;
 use crate::{Book, PrepareRefused};
 use graph_walk::Graph;
@@ -23,13 +26,22 @@ fn book(alloc: Global, fields: &[(&str, &str)]) -> Result<Book<PlainGraph>, Fail
     Ok(Book::open(alloc, sheet, PlainGraph::new(alloc))?)
 }
 
+// An edit by which cells are to hold TRUE.
+fn made_true(alloc: Global, names: &[&str]) -> Result<Edit, Fail>
+    ensures { IfOk result (λ edit. (labels : ℕ) → HaveLabels labels edit) }
+{
+    let mut changes = Vec::new(alloc);
+    for name in names {
+        let cell = cell(*name)?;
+        let content = Content::Truth(true);
+        changes.push(Change { cell, content })?;
+    }
+    Ok(Edit::of(changes).ok_or("no edit")?)
+}
+
 // Makes an edit, and gives its number and the names of the cells that it touches.
-fn touched<G: Graph>(alloc: Global, book: &mut Book<G>, name: &str) -> Result<String, Fail> {
-    let change = Change {
-        cell: cell(name)?,
-        content: Content::Truth(true),
-    };
-    let edit = Edit::one(alloc, change)?;
+fn touched<G: Graph>(alloc: Global, book: &mut Book<G>, names: &[&str]) -> Result<String, Fail> {
+    let edit = made_true(alloc, names)?;
     let Ok(prepared) = book.prepare(2, edit) else {
         return Err(Fail::from("an edit that is refused"));
     };
@@ -60,12 +72,25 @@ fn edits_touch_their_dependents_row_by_row(rt: HostRuntime) -> Result<(), Fail> 
         ("A3", "5 A3"),
         ("A1", "6 A1 C3"),
     ] {
-        let told = touched(alloc, &mut book, name)?;
+        let told = touched(alloc, &mut book, &[name])?;
         assert_eq!(rt; told.as_str(), wanted, "{name}");
     }
     assert_eq!(rt; book.length(), 6);
     assert_eq!(rt; book.log().len(), 6);
     assert!(rt; matches!(book.sheet().content(cell("B2")?), Content::Truth(true)));
+    Ok(())
+}
+
+#[test]
+fn an_edit_of_two_cells_touches_the_dependents_of_both(rt: HostRuntime) -> Result<(), Fail> {
+    let alloc = rt.alloc();
+    let fields = [("A1", "=B1"), ("C3", "=A2"), ("B3", "=A1+C3")];
+    let mut book = book(alloc, &fields)?;
+    let told = touched(alloc, &mut book, &["B1", "A2"])?;
+    assert_eq!(rt; told.as_str(), "1 A1 B1 A2 B3 C3");
+    let told = touched(alloc, &mut book, &["A2", "A1"])?;
+    assert_eq!(rt; told.as_str(), "2 A1 A2 B3 C3");
+    assert_eq!(rt; book.length(), 2);
     Ok(())
 }
 

@@ -13,7 +13,13 @@ fn shown(alloc: Global, script: &Script) -> Result<String, Fail> {
     }
     for step in script.steps() {
         match &step.command {
-            Command::Put(edit) => write!(text, "[{} put {}]", step.client, edit.change.cell)?,
+            Command::Put(edit) => {
+                write!(text, "[{} put", step.client)?;
+                for change in edit.changes() {
+                    write!(text, " {}", change.cell)?;
+                }
+                text.push(']')?;
+            }
             Command::Look(range) => write!(text, "[{} look {range}]", step.client)?,
             Command::Firm(range) => write!(text, "[{} firm {range}]", step.client)?,
             Command::Work(turns) => write!(text, "[{} work {turns}]", step.client)?,

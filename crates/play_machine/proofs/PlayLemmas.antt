@@ -14,7 +14,6 @@ use Rattle.sheet_model.specs.Boards.{BoardValue, with_shown}
 use Rattle.sheet_model.specs.declared.board.Shown.{Shown}
 use Rattle.sheet_model.proofs.ListLemmas.{taken_more}
 use Rattle.play_machine.proofs.TurnLemmas.{none_marked, turns_clear}
-use Rattle.sheet_model.specs.Changes.{ChangeValue}
 use Rattle.sheet_model.specs.Edits.{EditValue, IsChangeFor, after_edit}
 use Rattle.sheet_model.specs.Logs.{after}
 use Rattle.sheet_model.specs.Sheets.{SheetValue, HasLabel}

@@ -1,5 +1,5 @@
 -- Which steps may be played over a sheet, and what is played of a book.
-use Rattle.std.specs.Prelude.{◌≡◌, ℕ, ◌≤◌, IsTrue, Bool, true, false, List, ◌++◌, length, All, count_by}
+use Rattle.std.specs.Prelude.{◌≡◌, ℕ, ◌≤◌, Bool, true, false, List, ◌++◌, length, All, count_by}
 use Rattle.sheet_refs.specs.Cells.{Corners, cells_of}
 use Rattle.sheet_model.specs.Sheets.{SheetValue}
 use Rattle.sheet_model.specs.Edits.{IsFor}

@@ -1,5 +1,4 @@
-use Rattle.std.proofs.Common.{arith, ◌≡◌, ◌<◌, length, get_or, [], sym, ap, subst}
-use Rattle.csv.specs.Records.{fields_of}
+use Rattle.std.proofs.Common.{arith, ◌<◌, length, subst}
 use Rattle.csv_sheet.proofs.extent.first_long.Goals as goal
 
 pub returns-then-field-gt-MAX_FIELD : goal.returns-then-field-gt-MAX_FIELD

@@ -1,4 +1,4 @@
-use Rattle.std.proofs.Common.{◌≡◌, ◌<◌, ℕ, length, get_or, [], inl, inr, refl, sym, subst, arith, ap}
+use Rattle.std.proofs.Common.{◌<◌, length, get_or, [], inl, inr, refl, sym, subst, arith}
 use Rattle.std.specs.Prelude.{IsUtf8}
 use Rattle.std.proofs.lemmas.Bool.{cases_eq}
 use Rattle.csv.specs.Records.{fields_of}

@@ -1,4 +1,4 @@
-use Rattle.std.proofs.Common.{ℕ, ◌≡◌, ◌≤◌, Some}
+use Rattle.std.proofs.Common.{◌≤◌, Some}
 use Rattle.csv_sheet.specs.Records.{Rows}
 use Rattle.csv_sheet.specs.Reading.{HasReadRecords, Measures}
 use Rattle.csv_sheet.proofs.extent.measure.Given as goal

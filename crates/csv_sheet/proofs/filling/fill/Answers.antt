@@ -1,4 +1,4 @@
-use Rattle.std.proofs.Common.{◌≡◌, ◌≢◌, ◌<◌, ℕ, List, Bor, length, Some, sym, ap, subst, arith}
+use Rattle.std.proofs.Common.{◌≡◌, ◌<◌, ℕ, List, Bor, length, Some, sym, subst, arith}
 use Rattle.csv.specs.Records.{fields_of}
 use Rattle.csv_sheet.proofs.WayLemmas.{way_begins, way_ends, way_goes, way_fits, way_refused, not_ended}
 use Rattle.csv_sheet.specs.Filling.{HasFilled, IsRowRefusal}

@@ -1,9 +1,6 @@
-use Rattle.std.proofs.Common.{◌≡◌, ◌<◌, ◌+◌, ◌*◌, ◌-◌, ◌^◌, length, get_or, [], sym, ap, subst, arith, IsTrue}
+use Rattle.std.proofs.Common.{◌<◌, length, sym, subst, arith}
 use Rattle.std.specs.Prelude.{IsUtf8}
 use Rattle.csv.specs.Records.{fields_of}
-use Rattle.sheet_refs.specs.Sizes.{is_inside}
-use Rattle.csv_sheet.specs.Filling.{PutsField}
-use Rattle.csv_sheet.specs.Records.{cell_there}
 use Rattle.csv_sheet.proofs.RecordLemmas.{text_at}
 use Rattle.csv_sheet.proofs.FillLemmas.{part_none, part_step, made_there}
 use Rattle.csv_sheet.proofs.filling.fill_row.Goals as goal

@@ -1,7 +1,7 @@
-use Rattle.std.proofs.Common.{◌≡◌, ◌<◌, ◌≤◌, ◌∙◌, sym, ap, subst, arith, Ok, Err}
+use Rattle.std.proofs.Common.{◌∙◌, sym, ap, subst, arith, Ok, Err}
 use Rattle.csv_sheet.specs.Results.{IsFirstField, IsLong}
 use Rattle.csv_sheet.specs.declared.refused.SheetRefused.TheVariants as refused
-use Rattle.csv_sheet.proofs.LoadLemmas.{result_from, records_without_marks, records_short, large, fits, not_large, not_too_large, all_text, long_first, sheet_size, long_place, long_named}
+use Rattle.csv_sheet.proofs.LoadLemmas.{result_from, records_without_marks, records_short, large, not_large, not_too_large, all_text, long_first, sheet_size, long_named}
 use Rattle.csv_sheet.proofs.FillLemmas.{made_there}
 use Rattle.csv_sheet.proofs.loading.load_text.Goals as goal
 

@@ -1,5 +1,5 @@
 use Rattle.csv_sheet.proofs.RecordLemmas.{field_there, is_some_from, same_found}
-use Rattle.std.proofs.Common.{◌∙◌, get_or, List, [], ℕ}
+use Rattle.std.proofs.Common.{◌∙◌, get_or, []}
 use Rattle.csv.specs.Records.{fields_of}
 use Rattle.csv_sheet.proofs.records.field.Goals as goal
 

@@ -1,6 +1,5 @@
-use Rattle.std.proofs.Common.{◌≡◌, ◌∙◌, ℕ, List, Some}
+use Rattle.std.proofs.Common.{Some}
 use Rattle.csv.specs.Records.{fields_of}
-use Rattle.csv_sheet.specs.Records.{Rows}
 use Rattle.csv_sheet.proofs.RecordLemmas.{read_either}
 use Rattle.csv_sheet.proofs.records.read_next.Goals as goal
 

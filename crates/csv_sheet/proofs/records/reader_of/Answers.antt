@@ -1,4 +1,4 @@
-use Rattle.std.proofs.Common.{◌≡◌, ◌∙◌, sym, refl, ap, inl, inr, Some}
+use Rattle.std.proofs.Common.{◌∙◌, sym, refl, ap, inr, Some}
 use Rattle.csv.specs.Reading.{Reached}
 use Rattle.csv_sheet.proofs.MarkLemmas.{strip_nothing}
 use Rattle.csv_sheet.proofs.records.reader_of.Goals as goal

@@ -22,8 +22,8 @@ loop-place-preserved g c =
     subst (λ (p : Position). Replaces (g.G.Graph.pairs c.loop-place.graph) (g.G.Graph.pairs c.replace.new.self) p c.index-refs-place.result) cell c.replace.ensures.replaced in (
       omega (arith, left, room),
       replaced_more c.args.changes.now (g.G.Graph.pairs c.args.graph.now) (g.G.Graph.pairs c.loop-place.graph) (g.G.Graph.pairs c.replace.new.self) c.loop-place.place c.index-changes-place.result c.index-refs-place.result c.loop-place-test.true c.index-changes-place.is
-      (refs_at c.args.changes.now c.args.refs.now c.loop-place.place c.index-changes-place.result c.index-refs-place.result c.requires.whole c.loop-place-test.true c.index-changes-place.is c.index-refs-place.is)
-      c.loop-place.invariant.1 replaced,
+          (refs_at c.args.changes.now c.args.refs.now c.loop-place.place c.index-changes-place.result c.index-refs-place.result c.requires.whole c.loop-place-test.true c.index-changes-place.is c.index-refs-place.is)
+          c.loop-place.invariant.1 replaced,
     )
 
 pub returns : goal.returns
