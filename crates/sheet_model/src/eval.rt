@@ -46,8 +46,9 @@ pub(crate) fn first_words(alloc: Global, contents: &[Content]) -> Result<Vec<u64
     Ok(words)
 }
 
-/// Puts the parts of the ranges that a content names behind the others.
-pub(crate) fn add_content(
+/// Puts the parts of the ranges that a content names, within a rectangle of these sizes, behind the others. It takes
+/// memory only where the list has no room for them: a formula names at most 255.
+pub fn add_content(
     sizes: Sizes,
     content: &Content,
     parts: &mut Vec<Part>,

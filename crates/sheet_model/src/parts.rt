@@ -10,9 +10,9 @@ use std::alloc::AllocError;
 /// What is left to look at of a range that a formula names: its part within the rectangle, and the
 /// place of the next of its cells, counted from 0.
 #[derive(Clone, Copy)]
-pub(crate) struct Part {
-    pub(crate) range: Range,
-    pub(crate) next: u64,
+pub struct Part {
+    pub range: Range,
+    pub next: u64,
 }
 
 /// Puts the part of a range that lies in the rectangle behind the others, where there is one.
