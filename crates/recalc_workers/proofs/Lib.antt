@@ -1,0 +1,16 @@
+pub mod AgainLemmas
+pub mod CauseLemmas
+pub mod HandLemmas
+pub mod LawLemmas
+pub mod LevelLemmas
+pub mod ListedLemmas
+pub mod LookupLemmas
+pub mod PartLemmas
+pub mod QueueLemmas
+pub mod ReadingLemmas
+pub mod SeatLemmas
+pub mod SettlingLemmas
+pub mod SharingLemmas
+pub mod TurnLawLemmas
+pub mod WorkLemmas
+pub mod WorthLemmas

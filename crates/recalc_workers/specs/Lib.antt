@@ -1,0 +1,12 @@
+pub mod Again
+pub mod Desks
+pub mod Hands
+pub mod Inputs
+pub mod Laws
+pub mod Offices
+pub mod Rule
+pub mod Seats
+pub mod Settling
+pub mod TurnLaws
+pub mod Turns
+pub mod Work
