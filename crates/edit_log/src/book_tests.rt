@@ -36,7 +36,10 @@ fn made_true(alloc: Global, names: &[&str]) -> Result<Edit, Fail>
         let content = Content::Truth(true);
         changes.push(Change { cell, content })?;
     }
-    Ok(Edit::of(changes).ok_or("no edit")?)
+    match Edit::of(changes) {
+        Some(edit) => Ok(edit),
+        None => Err(Fail::from("no edit")),
+    }
 }
 
 // Makes an edit, and gives its number and the names of the cells that it touches.
