@@ -1,6 +1,6 @@
 -- Why each answer of a turn comes.
-use Rattle.std.proofs.Common.{◌≡◌, ◌≢◌, ◌<◌, ◌≤◌, ◌+◌, ℕ, List, [], ◌∷◌, ◌++◌, true, false, length, take, refl, sym, ◌∙◌, ap, subst, inl, inr, arith}
-use Rattle.std.specs.Prelude.{Contains, Bool, IsTrue}
+use Rattle.std.proofs.Common.{◌≡◌, ◌≢◌, ◌≤◌, ◌+◌, ℕ, [], ◌∷◌, ◌++◌, length, take, refl, sym, ◌∙◌, ap, subst, inl, inr, arith}
+use Rattle.std.specs.Prelude.{Contains, IsTrue}
 use Rattle.std.proofs.lemmas.Bool.{cases_lt}
 use Rattle.std.proofs.lemmas.List.{take_all}
 use Rattle.std.proofs.lemmas.List.Elements.{Contains-push, Contains-append_right}
@@ -8,13 +8,10 @@ use Rattle.sheet_refs.specs.Cells.{Position}
 use Rattle.sheet_refs.specs.Sizes.{is_inside, place_of}
 use Rattle.sheet_refs.specs.declared.sizes.Sizes.{Sizes}
 use Rattle.mark_core.specs.declared.words.Clean.{Clean}
-use Rattle.mark_core.specs.declared.words.Finished.{Finished}
 use Rattle.mark_core.specs.declared.subjects.Subject.{Ghosts}
-use Rattle.mark_core.specs.Mark.{IsPrefix, IsLastMark}
 use Rattle.mark_core.specs.Permission.{MayClaim}
 use Rattle.mark_core.proofs.Prefixes.{prefix_length, take-prefix}
 use Rattle.mark_words.specs.declared.seats.Seat.{Seat}
-use Rattle.mark_words.specs.declared.tables.OwnStep.{OwnStep}
 use Rattle.mark_core.specs.declared.events.Event.TheVariants.{See}
 use Rattle.mark_words.specs.declared.tables.Doing.{Doing}
 use Rattle.mark_words.specs.Doing.{with_see}
@@ -32,8 +29,8 @@ use Rattle.recalc_workers.specs.declared.reading.Reading.{Reading}
 use Rattle.recalc_workers.specs.declared.turns.Turn.{Turn}
 use Rattle.recalc_workers.specs.declared.turns.Turn.TheVariants.{Done, Idle, Nothing, Later, Stale, Busy, Memory}
 use Rattle.recalc_workers.specs.Inputs.{IsInputUnread, IsOutdated, StopsReading, WasUnread}
-use Rattle.recalc_workers.specs.Seats.{Keeps, HasDoneNothing, HoldsNothing, HasRead, TellsOver}
-use Rattle.recalc_workers.specs.Turns.{WasAdded, HasReadOf, HasMetAt, IsDone, IsNothing, IsLater, IsOnCycle, IsStale, IsBusy, HasCause, IsStillIdle, HasReadAs, IsAbout, IsAnswerAt, IsDue, ComesTo}
+use Rattle.recalc_workers.specs.Seats.{Keeps, HasDoneNothing, HoldsNothing, HasRead}
+use Rattle.recalc_workers.specs.Turns.{WasAdded, HasMetAt, IsDone, IsNothing, IsLater, IsOnCycle, IsBusy, HasCause, IsStillIdle, HasReadAs, IsAbout, IsAnswerAt, IsDue, ComesTo}
 use Rattle.recalc_workers.specs.Work.{ClaimsPutsFinishes, HasFinished, HasLost}
 use Rattle.recalc_workers.proofs.SeatLemmas.{keeps_on, nothing_done, one_step_more, prefix_of_more, prefix_of_same}
 use Rattle.recalc_workers.proofs.ReadingLemmas.{added_since, added_still, outdated_later, read_later, read_still}

@@ -1,6 +1,6 @@
 -- From what each desk knows to what the editor's seat knows of a level.
-use Rattle.std.proofs.Common.{◌≡◌, ◌⊎◌, inl, inr, ◌<◌, ◌≤◌, ◌+◌, ◌-◌, ◌*◌, ◌/◌, ◌%◌, ℕ, zero, suc, false, List, [], ◌∷◌, ◌++◌, length, get_or, take, drop, refl, sym, ◌∙◌, ap, subst, arith}
-use Rattle.std.specs.Prelude.{All, Contains}
+use Rattle.std.proofs.Common.{◌≡◌, ◌⊎◌, inl, inr, ◌<◌, ◌≤◌, ◌+◌, ◌-◌, ◌*◌, ◌/◌, ℕ, zero, suc, List, [], ◌∷◌, ◌++◌, length, get_or, take, drop, refl, sym, ◌∙◌, ap, subst, arith}
+use Rattle.std.specs.Prelude.{All}
 use Rattle.std.proofs.Math.Nat.{mod-lt, lt_of_mul-lt-mul_right, mul_comm}
 use Rattle.std.proofs.lemmas.Nat.{div-add-mod'}
 use Rattle.std.proofs.lemmas.Bool.{cases_lt}
@@ -12,16 +12,15 @@ use Rattle.mark_core.specs.declared.actors.View.{View}
 use Rattle.mark_core.specs.declared.subjects.Subject.{Ghosts}
 use Rattle.mark_core.proofs.Prefixes.{prefix_of_prefix}
 use Rattle.mark_words.specs.declared.marks.Marks.{Marks}
-use Rattle.mark_words.specs.declared.seats.Seat.{Seat}
-use Rattle.mark_words.specs.Token.{IsSeatOf, view_of, log_of}
+use Rattle.mark_words.specs.Token.{IsSeatOf, view_of}
 use Rattle.sheet_model.specs.declared.entry.Entry.{Entry}
 use Rattle.sheet_model.specs.Logs.{after}
 use Rattle.sheet_model.specs.Sheets.{SheetValue}
 use Rattle.recalc_workers.specs.declared.desk.Desk.{Desk}
 use Rattle.recalc_workers.specs.Desks.{seat_of}
-use Rattle.recalc_workers.specs.Settling.{AllSettledShares, Each, IsCovered, IsDeskAfter, IsLent, KeepsDesk, KeepsEditor, KnowsCells, KnowsNoLess, KnowsOfAll, MaySettle, NoneWantsMemory, WorksAt}
+use Rattle.recalc_workers.specs.Settling.{AllSettledShares, Each, IsCovered, IsDeskAfter, IsLent, KeepsDesk, KnowsCells, KnowsNoLess, KnowsOfAll, MaySettle, NoneWantsMemory, WorksAt}
 use Rattle.recalc_workers.proofs.SeatLemmas.{keeps_on}
-use Rattle.recalc_workers.proofs.SettlingLemmas.{knows_still, no_less, worked_not}
+use Rattle.recalc_workers.proofs.SettlingLemmas.{knows_still, worked_not}
 
 -- the share in which a place is, of shares of one size
 pub positive : (size desks cells k : ℕ) → cells ≤ size * desks → k < cells → 0 < size

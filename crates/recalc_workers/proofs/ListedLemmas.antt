@@ -1,6 +1,6 @@
 -- A list of words that are those of the cells of its parts, in order.
-use Rattle.std.proofs.Common.{◌≡◌, ◌<◌, ◌≤◌, ◌+◌, ◌-◌, ◌*◌, ◌/◌, ◌%◌, ℕ, zero, suc, List, [], ◌∷◌, ◌++◌, Option, Some, Bool, true, false, length, map, drop, refl, sym, ◌∙◌, ap, subst, inl, inr, arith}
-use Rattle.std.specs.Prelude.{slice_get, IsSome, IsTrue, if◌then◌else◌}
+use Rattle.std.proofs.Common.{◌≡◌, ◌<◌, ◌+◌, ◌-◌, ◌*◌, ◌/◌, ◌%◌, ℕ, zero, suc, List, [], ◌∷◌, ◌++◌, Option, Some, Bool, true, false, length, map, drop, refl, sym, ◌∙◌, ap, subst, inl, inr, arith}
+use Rattle.std.specs.Prelude.{slice_get}
 use Rattle.std.proofs.lemmas.List.{map-append, length-map}
 use Rattle.std.specs.Option.{option_map}
 use Rattle.std.proofs.lemmas.Bool.{false≢true}
@@ -11,16 +11,13 @@ use Rattle.value_core.specs.Values.{IsValue, code_of}
 use Rattle.std.proofs.lemmas.Option.{same_Some, slice_get-map, slice_get_within, none-some}
 use Rattle.std.proofs.Math.Seq.{drop-append_seam}
 use Rattle.sheet_refs.specs.Cells.{Position, Corners, IsIn, IsOrdered, cells_of, height, width}
-use Rattle.sheet_refs.specs.Ends.{Reference}
-use Rattle.sheet_refs.specs.Sizes.{is_inside, place_of, cell_of_place}
-use Rattle.sheet_refs.specs.declared.sizes.Sizes.{Sizes}
+use Rattle.sheet_refs.specs.Sizes.{cell_of_place}
 use Rattle.sheet_refs.proofs.Grid.{rows_length}
 use Rattle.sheet_refs.proofs.Places.{range_place, place_inside}
-use Rattle.formula_eval.specs.Meaning.{IsNamedBy}
 use Rattle.sheet_model.proofs.ListLemmas.{slice_get-append}
 use Rattle.sheet_model.proofs.PartLemmas.{slice_get-either}
 use Rattle.sheet_model.specs.declared.parts.Part.{Part}
-use Rattle.recalc_workers.specs.Inputs.{AreCodes, IsInParts, HaveWords, is_in, place_in, word_in, all_cells}
+use Rattle.recalc_workers.specs.Inputs.{AreCodes, IsInParts, is_in, place_in, word_in, all_cells}
 use Rattle.recalc_workers.proofs.LookupLemmas.{word_here, word_further, is_in_tells, is_in_true}
 
 -- a cell of a range stands at its place among the range's cells

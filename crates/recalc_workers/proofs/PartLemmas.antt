@@ -1,6 +1,5 @@
 -- What is so of a desk while it settles its part of a level, cell by cell.
 use Rattle.std.proofs.Common.{◌≡◌, ◌≢◌, ◌⊎◌, inl, inr, ◌<◌, ◌≤◌, ◌+◌, ℕ, List, length, get_or, refl, sym, ◌∙◌, subst, arith}
-use Rattle.std.specs.Prelude.{All}
 use Rattle.std.proofs.lemmas.Bool.{cases_eq}
 use Rattle.std.proofs.lemmas.List.{get_or_default}
 use Rattle.std.proofs.lemmas.List.Elements.{All-get_or}
@@ -14,7 +13,7 @@ use Rattle.mark_words.specs.Token.{IsSeatOf, view_of, log_of}
 use Rattle.recalc_workers.specs.declared.desk.Desk.{Desk}
 use Rattle.recalc_workers.specs.Desks.{seat_of}
 use Rattle.recalc_workers.specs.Seats.{HoldsNothing}
-use Rattle.recalc_workers.specs.Settling.{HasWorked, KnowsNoLess, KnowsPart, KnowsPlace, MaySettle, WorksAt}
+use Rattle.recalc_workers.specs.Settling.{KnowsNoLess, KnowsPart, KnowsPlace, MaySettle, WorksAt}
 use Rattle.recalc_workers.proofs.SettlingLemmas.{knows_still, no_less, worked_not, worked_on}
 
 module _ {S E : Type 0} {G : Ghosts S E} where

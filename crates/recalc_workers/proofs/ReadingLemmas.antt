@@ -1,6 +1,6 @@
 -- What reads of inputs come to.
-use Rattle.std.proofs.Common.{◌≡◌, ◌≢◌, ◌<◌, ◌≤◌, ◌+◌, ℕ, zero, suc, List, [], ◌∷◌, ◌++◌, Some, length, map, take, get_or, refl, sym, ◌∙◌, ap, subst, inl, inr, arith, append_assoc}
-use Rattle.std.specs.Prelude.{◌↔◌, Contains, slice_get, Bool, false, IsTrue, IfErr, Result, Ok, Err}
+use Rattle.std.proofs.Common.{◌≡◌, ◌≢◌, ◌<◌, ◌+◌, ℕ, zero, suc, List, [], ◌∷◌, ◌++◌, Some, length, map, take, get_or, refl, sym, ◌∙◌, ap, inl, inr, arith, append_assoc}
+use Rattle.std.specs.Prelude.{◌↔◌, slice_get, Bool, false, IsTrue, IfErr, Result, Ok, Err}
 use Rattle.std.proofs.lemmas.Bool.{false≢true}
 use Rattle.std.proofs.lemmas.List.{append-nil, map-append}
 use Rattle.std.proofs.lemmas.Grind.{flat_map-append}
@@ -16,14 +16,13 @@ use Rattle.std.proofs.lemmas.List.Elements.{Contains-push, Contains-append_left,
 use Rattle.mark_core.specs.declared.words.Clean.{Clean}
 use Rattle.mark_core.specs.declared.subjects.Subject.{Ghosts}
 use Rattle.mark_core.specs.Mark.{IsPrefix}
-use Rattle.mark_core.proofs.Prefixes.{prefix_itself}
 use Rattle.mark_words.specs.declared.seats.Seat.{Seat}
-use Rattle.mark_words.specs.Token.{view_of, log_of}
+use Rattle.mark_words.specs.Token.{view_of}
 use Rattle.recalc_workers.specs.declared.reading.Reading.{Reading}
 use Rattle.recalc_workers.specs.declared.inputs.Unread.{Unread}
 use Rattle.recalc_workers.specs.declared.inputs.Unread.TheVariants.{Outdated, Memory}
 use Rattle.recalc_workers.specs.Inputs.{IsInParts, IsOutdated, StopsReading, all_cells}
-use Rattle.recalc_workers.specs.Seats.{Keeps, HasDoneNothing, HasRead, HasOnlyRead}
+use Rattle.recalc_workers.specs.Seats.{Keeps, HasRead, HasOnlyRead}
 use Rattle.recalc_workers.specs.Turns.{WasAdded, HasReadOf}
 use Rattle.recalc_workers.proofs.SeatLemmas.{keeps_itself, keeps_on, nothing_done}
 

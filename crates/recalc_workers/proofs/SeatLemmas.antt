@@ -1,7 +1,5 @@
 -- What the steps of a seat come to.
-use Rattle.std.proofs.Common.{◌≡◌, ◌<◌, ◌≤◌, ◌+◌, ℕ, List, [], ◌∷◌, ◌++◌, Some, length, refl, sym, ◌∙◌, ap, subst, arith}
-use Rattle.std.specs.Prelude.{Contains}
-use Rattle.mark_core.specs.declared.words.Clean.{Clean}
+use Rattle.std.proofs.Common.{◌≡◌, ◌≤◌, ℕ, List, [], ◌∷◌, ◌++◌, Some, length, refl, sym, ◌∙◌, ap, subst, arith}
 use Rattle.mark_core.specs.declared.words.Half.{Half}
 use Rattle.mark_core.specs.declared.words.Finished.{Finished}
 use Rattle.mark_core.specs.declared.actors.View.{View}
@@ -17,10 +15,10 @@ use Rattle.mark_words.specs.declared.seats.Seat.{Seat}
 use Rattle.mark_words.specs.Doing.{with_clean_read, with_value_read, with_mark_read}
 use Rattle.mark_words.specs.Read.{TellsOfRead, Ends, LearnsClean}
 use Rattle.mark_words.specs.Steps.{OneMore}
-use Rattle.mark_words.specs.Token.{seat_table, doing_of, own_steps, view_of, log_of, seen_of}
+use Rattle.mark_words.specs.Token.{seat_table, doing_of, own_steps, view_of, log_of}
 use Rattle.mark_words.proofs.ReadSteps.{read_end_of, goes_on}
 use Rattle.recalc_workers.specs.declared.reading.Reading.{Reading}
-use Rattle.recalc_workers.specs.Seats.{Keeps, HasDoneNothing, HasRead, IsReadOf, TellsOver}
+use Rattle.recalc_workers.specs.Seats.{Keeps, HasDoneNothing, HasRead, TellsOver}
 
 -- a list to which something was added goes on from the list
 pub prefix_of_more : {X : Type 0} (xs more ys : List X) → ys ≡ xs ++ more → IsPrefix xs ys

@@ -13,7 +13,7 @@ use Rattle.mark_words.specs.declared.tables.Doing.{Doing}
 use Rattle.mark_words.specs.Meet.{HasMet}
 use Rattle.mark_words.specs.declared.seats.Seat.{Seat}
 use Rattle.recalc_workers.specs.declared.reading.Reading.{Reading}
-use Rattle.recalc_workers.specs.Seats.{Keeps, HasOnlyRead, HasRead, HoldsNothing}
+use Rattle.recalc_workers.specs.Seats.{HasOnlyRead, HasRead, HoldsNothing}
 use Rattle.recalc_workers.specs.Settling.{HasWorked, KnowsNoLess, KnowsPlace}
 use Rattle.recalc_workers.specs.Work.{HasFinished, HasLost}
 use Rattle.recalc_workers.proofs.SeatLemmas.{keeps_itself, keeps_on, prefix_of_more, prefix_of_same}

@@ -1,19 +1,16 @@
 -- What is so of the first desks while they are gone through, one after the other.
-use Rattle.std.proofs.Common.{◌≡◌, ◌≢◌, ◌⊎◌, inl, inr, ◌<◌, ◌≤◌, ◌+◌, ℕ, zero, suc, Bool, true, false, true≢false, List, [], ◌∷◌, length, get_or, set, refl, sym, ◌∙◌, ap, subst, ⊎_elim, arith}
-use Rattle.std.specs.Prelude.{All, Contains, ◌||◌}
+use Rattle.std.proofs.Common.{◌≡◌, ◌≢◌, ◌⊎◌, inl, inr, ◌<◌, ◌≤◌, ◌+◌, ℕ, Bool, true, false, true≢false, List, length, get_or, set, refl, sym, ◌∙◌, ap, subst, arith}
+use Rattle.std.specs.Prelude.{◌||◌}
 use Rattle.std.proofs.lemmas.List.{get_or-set_same, get_or-set_other, length-set, get_or_default}
 use Rattle.std.proofs.lemmas.Bool.{cases_eq}
 use Rattle.std.proofs.lemmas.List.Elements.{All-get_or}
-use Rattle.mark_core.specs.declared.actors.View.{View}
-use Rattle.mark_core.specs.declared.words.Known.{Known}
 use Rattle.mark_core.specs.declared.subjects.Subject.{Ghosts}
-use Rattle.mark_core.proofs.Prefixes.{prefix_itself}
 use Rattle.mark_words.specs.declared.marks.Marks.{Marks}
 use Rattle.mark_words.specs.declared.seats.Seat.{Seat}
 use Rattle.mark_words.specs.Token.{IsSeatOf, view_of, is_editor}
 use Rattle.recalc_workers.specs.declared.desk.Desk.{Desk}
 use Rattle.recalc_workers.specs.Desks.{seat_of, wants_memory}
-use Rattle.recalc_workers.specs.Settling.{AreDesksOf, Each, IsDeskAfter, IsLent, KnowsOf, KnowsOfAll, KeepsDesk, KeepsEditor, KnowsNoLess, NoneWantsMemory}
+use Rattle.recalc_workers.specs.Settling.{AreDesksOf, Each, IsDeskAfter, IsLent, KnowsOf, KeepsEditor, KnowsNoLess}
 use Rattle.recalc_workers.proofs.SeatLemmas.{keeps_itself, keeps_on, nothing_done}
 use Rattle.recalc_workers.proofs.SettlingLemmas.{no_less, no_less_on}
 

@@ -1,6 +1,6 @@
 -- What the causes of a turn's answers come to.
-use Rattle.std.proofs.Common.{◌≡◌, ◌≢◌, ◌<◌, ◌≤◌, ◌+◌, ◌-◌, ◌*◌, ◌⊎◌, ℕ, List, [], ◌∷◌, ◌++◌, Some, true, false, length, take, refl, sym, ◌∙◌, ap, subst, inl, inr, arith, append_assoc}
-use Rattle.std.specs.Prelude.{Contains, slice_get}
+use Rattle.std.proofs.Common.{◌≡◌, ◌<◌, ◌≤◌, ◌+◌, ◌-◌, ◌*◌, ◌⊎◌, ℕ, List, [], ◌∷◌, ◌++◌, Some, true, length, refl, sym, ◌∙◌, ap, inl, inr, arith, append_assoc}
+use Rattle.std.specs.Prelude.{slice_get}
 use Rattle.std.proofs.lemmas.Bool.{cases_lt}
 use Rattle.std.proofs.lemmas.Option.{slice_get-get_or}
 use Rattle.sheet_refs.specs.Cells.{Position}
@@ -14,7 +14,7 @@ use Rattle.mark_core.proofs.Prefixes.{prefix_length}
 use Rattle.mark_words.specs.declared.seats.Seat.{Seat}
 use Rattle.mark_words.specs.declared.tables.OwnStep.{OwnStep}
 use Rattle.mark_words.specs.Steps.{made_of}
-use Rattle.mark_words.specs.Token.{own_steps, view_of, log_of}
+use Rattle.mark_words.specs.Token.{own_steps, view_of}
 use Rattle.mark_words.specs.Words.{word_of_clean}
 use Rattle.sheet_model.proofs.PartLemmas.{slice_get-behind}
 use Rattle.sheet_model.specs.Sheets.{SheetValue}
@@ -23,10 +23,10 @@ use Rattle.recalc_workers.specs.declared.hands.Hand.{Hand}
 use Rattle.recalc_workers.specs.declared.job.Job.{Job}
 use Rattle.recalc_workers.specs.declared.turns.Turn.{Turn}
 use Rattle.recalc_workers.specs.declared.turns.Turn.TheVariants.{Done, Idle, Nothing, Later, Stale, Busy, Memory}
-use Rattle.recalc_workers.specs.Again.{HasTakenOne, HasUsedJobs, comes_again}
+use Rattle.recalc_workers.specs.Again.{HasTakenOne, comes_again}
 use Rattle.recalc_workers.specs.Hands.{put_of, refused_of, taken_of}
 use Rattle.recalc_workers.specs.TurnLaws.{StandsLater, WasReadSo, SawNoMore, EndsWithWork, DoneIsOneFinish, OthersFinishNothing, HoldsStay, NothingWasClean, LaterIsPast, StaleHasAnInput, BusyFoundAnother, IdleTakesNone, TakesOneAndOffersNone, TakesOneAndOffersIt}
-use Rattle.recalc_workers.specs.Turns.{WasAdded, HasReadOf, HasMetAt, IsBusy, IsDone, HasCause}
+use Rattle.recalc_workers.specs.Turns.{WasAdded, HasReadOf, HasMetAt, IsBusy, IsDone}
 
 stands_later : {X : Type 0} (old new : List X) (x : X) → WasAdded old new x → StandsLater old new x
 stands_later old new x w =

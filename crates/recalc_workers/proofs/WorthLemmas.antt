@@ -1,5 +1,5 @@
 -- The worth of a cell after the entries that a seat knows.
-use Rattle.std.proofs.Common.{◌≡◌, ◌<◌, ◌≤◌, ℕ, List, map, refl, sym, ◌∙◌, ap, subst, inl, inr, arith}
+use Rattle.std.proofs.Common.{◌≡◌, ℕ, List, refl, sym, ◌∙◌, ap, subst, inl}
 use Rattle.std.specs.Prelude.{IsTrue, is_some, slice_get}
 use Rattle.sheet_refs.specs.Cells.{Position}
 use Rattle.sheet_refs.specs.Sizes.{is_inside, place_of}
@@ -9,7 +9,6 @@ use Rattle.value_core.specs.declared.value.Value.TheVariants.{Error}
 use Rattle.value_core.specs.declared.value.Value.{Value}
 use Rattle.value_core.specs.Values.{IsValue, code_of}
 use Rattle.value_core.specs.Decoding.{value_of_its_code}
-use Rattle.sheet_model.specs.Budget.{LeadsIntoCycle}
 use Rattle.sheet_model.specs.Logs.{after, IsOfSheet}
 use Rattle.sheet_model.specs.Sheets.{SheetValue, ContentValue, IsSheet, content_of}
 use Rattle.sheet_model.specs.Values.{value_of, step_content, content_references}

@@ -1,5 +1,5 @@
 -- What an office works at, and what it tells of a cell.
-use Rattle.std.specs.Prelude.{◌≡◌, ◌≤◌, ◌↔◌, ℕ, Bool, Some, length, IsTrue}
+use Rattle.std.specs.Prelude.{◌≡◌, ◌≤◌, ◌↔◌, Bool, Some, length, IsTrue}
 use Rattle.sheet_refs.specs.Cells.{Position}
 use Rattle.mark_core.specs.declared.subjects.Subject.{Ghosts}
 use Rattle.mark_words.specs.declared.marks.Marks.{Marks}

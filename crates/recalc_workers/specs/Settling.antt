@@ -1,5 +1,5 @@
 -- What settling wants of the editor's seat and of desks, and what it leaves.
-use Rattle.std.specs.Prelude.{◌≡◌, ◌<◌, ◌≤◌, ◌+◌, ◌*◌, ℕ, List, true, false, None, Some, length, slice_get, slice_index_or, All, Contains, IsTrue}
+use Rattle.std.specs.Prelude.{◌≡◌, ◌<◌, ◌≤◌, ◌+◌, ◌*◌, ℕ, List, true, false, None, length, slice_index_or, All, Contains, IsTrue}
 use Rattle.sheet_refs.specs.Cells.{Position}
 use Rattle.sheet_refs.specs.Sizes.{is_inside, cell_count, place_of}
 use Rattle.sheet_refs.specs.declared.sizes.Sizes.{Sizes}
@@ -12,7 +12,6 @@ use Rattle.mark_words.specs.declared.marks.Marks.{Marks}
 use Rattle.mark_words.specs.declared.seats.Seat.{Seat}
 use Rattle.mark_words.specs.Token.{IsSeatOf, view_of, log_of, edits_of, is_editor}
 use Rattle.sheet_model.specs.declared.entry.Entry.{Entry}
-use Rattle.sheet_model.specs.Budget.{LeadsIntoCycle}
 use Rattle.sheet_model.specs.Logs.{after}
 use Rattle.sheet_model.specs.Sheets.{SheetValue, IsSheet}
 use Rattle.sheet_model.specs.Values.{IsInput}

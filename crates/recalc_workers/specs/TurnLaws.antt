@@ -1,5 +1,5 @@
 -- What the causes of a turn's answers come to, in lists and numbers.
-use Rattle.std.specs.Prelude.{◌≡◌, ◌≢◌, ◌<◌, ◌≤◌, ◌+◌, ◌⊎◌, ℕ, List, [], ◌∷◌, ◌++◌, Some, true, false, length, take, slice_get}
+use Rattle.std.specs.Prelude.{◌≡◌, ◌≢◌, ◌<◌, ◌≤◌, ◌+◌, ◌⊎◌, ℕ, List, [], ◌∷◌, ◌++◌, Some, true, length, take, slice_get}
 use Rattle.sheet_refs.specs.Cells.{Position}
 use Rattle.sheet_refs.specs.Sizes.{place_of}
 use Rattle.sheet_refs.specs.declared.sizes.Sizes.{Sizes}
@@ -17,7 +17,6 @@ use Rattle.sheet_model.specs.Sheets.{SheetValue}
 use Rattle.sheet_model.specs.Values.{IsInput}
 use Rattle.sheet_model.specs.declared.entry.Entry.{Entry}
 use Rattle.recalc_workers.specs.declared.hands.Hand.{Hand}
-use Rattle.recalc_workers.specs.declared.job.Job.{Job}
 use Rattle.recalc_workers.specs.declared.turns.Turn.{Turn}
 use Rattle.recalc_workers.specs.declared.turns.Turn.TheVariants.{Done, Idle, Nothing, Later, Stale, Busy, Memory}
 use Rattle.recalc_workers.specs.Hands.{put_of, refused_of, taken_of}

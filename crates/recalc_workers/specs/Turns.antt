@@ -1,7 +1,7 @@
 -- When each answer of a turn comes, by what the seat of its desk noted from one moment to another.
-use Rattle.std.specs.Prelude.{◌≡◌, ◌≢◌, ◌<◌, ◌≤◌, ◌+◌, ◌⊎◌, ℕ, List, [], ◌∷◌, ◌++◌, true, false, length, take, Contains, IsTrue}
+use Rattle.std.specs.Prelude.{◌≡◌, ◌≢◌, ◌<◌, ◌≤◌, ◌+◌, ◌⊎◌, ℕ, List, [], ◌∷◌, ◌++◌, true, false, length, take, Contains}
 use Rattle.sheet_refs.specs.Cells.{Position}
-use Rattle.sheet_refs.specs.Sizes.{is_inside, place_of}
+use Rattle.sheet_refs.specs.Sizes.{place_of}
 use Rattle.mark_core.specs.declared.words.Clean.{Clean}
 use Rattle.mark_core.specs.declared.words.Finished.{Finished}
 use Rattle.mark_core.specs.declared.subjects.Subject.{Ghosts}

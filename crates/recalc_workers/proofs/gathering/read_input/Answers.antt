@@ -1,4 +1,4 @@
-use Rattle.std.proofs.Common.{arith, subst, sym}
+use Rattle.std.proofs.Common.{arith, subst}
 use Rattle.recalc_workers.specs.Inputs.{IsOutdated}
 use Rattle.recalc_workers.proofs.ReadingLemmas.{not_so, outdated_word, outdated_mark}
 use Rattle.recalc_workers.proofs.gathering.read_input.Goals as goal

@@ -1,4 +1,4 @@
-use Rattle.std.proofs.Common.{rules, length, sym, refl, ◌∙◌, ◌≡◌, ◌+◌, ◌++◌, ap, arith, map, take, Some}
+use Rattle.std.proofs.Common.{refl, ◌∙◌, ◌≡◌, ◌+◌, ◌++◌, ap, arith, map, take, Some}
 use Rattle.std.specs.Prelude.{slice_get}
 use Rattle.std.proofs.lemmas.List.{take_all}
 use Rattle.std.proofs.lemmas.Option.{slice_get_read}

@@ -1,5 +1,5 @@
-use Rattle.std.proofs.Common.{rules, ◌<◌, length, sym, refl, ◌∙◌, ap, subst, arith, map, take}
-use Rattle.std.proofs.lemmas.List.{append-nil, take_all}
+use Rattle.std.proofs.Common.{rules, ◌<◌, length, sym, refl, ◌∙◌, ap, subst, arith}
+use Rattle.std.proofs.lemmas.List.{append-nil}
 use Rattle.sheet_refs.specs.Cells.{cells_of}
 use Rattle.sheet_refs.specs.Sizes.{place_of}
 use Rattle.sheet_refs.proofs.Places.{comes_to_head, comes_to_next, HasComeTo}

@@ -1,4 +1,4 @@
-use Rattle.std.proofs.Common.{ℕ, ap, get_or, refl}
+use Rattle.std.proofs.Common.{ap, get_or}
 use Rattle.mark_words.specs.declared.tables.Doing.{Doing}
 use Rattle.mark_words.specs.Token.{subject_of, view_of}
 use Rattle.recalc_workers.specs.Settling.{IsDeskAfter}

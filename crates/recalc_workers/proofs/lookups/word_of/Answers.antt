@@ -1,4 +1,4 @@
-use Rattle.std.proofs.Common.{◌≡◌, ◌+◌, drop, length, refl, sym, ◌∙◌, ap, subst}
+use Rattle.std.proofs.Common.{◌≡◌, ◌+◌, drop, length, sym, ◌∙◌, ap, subst}
 use Rattle.std.specs.Prelude.{slice_get, IfSome}
 use Rattle.sheet_refs.specs.Cells.{cells_of}
 use Rattle.formula_eval.specs.Inputs.{IsCode}

@@ -1,4 +1,4 @@
-use Rattle.std.proofs.Common.{◌≡◌, IsTrue, refl, sym, ◌∙◌, ap, subst}
+use Rattle.std.proofs.Common.{IsTrue, refl, ◌∙◌, ap, subst}
 use Rattle.sheet_refs.specs.Sizes.{is_inside, place_of}
 use Rattle.sheet_refs.specs.declared.sizes.Sizes.{Sizes}
 use Rattle.mark_words.specs.Token.{subject_of, log_of}

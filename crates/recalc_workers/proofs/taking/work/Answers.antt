@@ -1,4 +1,4 @@
-use Rattle.std.proofs.Common.{◌≡◌, ◌≤◌, ◌∙◌, sym, subst}
+use Rattle.std.proofs.Common.{◌≤◌, ◌∙◌, sym, subst}
 use Rattle.sheet_refs.specs.Sizes.{cell_count}
 use Rattle.mark_words.specs.Token.{subject_of, log_of}
 use Rattle.sheet_model.proofs.LogLemmas.{after-sizes}

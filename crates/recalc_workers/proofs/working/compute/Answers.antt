@@ -1,4 +1,4 @@
-use Rattle.std.proofs.Common.{◌≡◌, ◌∙◌, sym, ap, subst, refl}
+use Rattle.std.proofs.Common.{◌∙◌, sym, ap, subst, refl}
 use Rattle.std.specs.Prelude.{IsTrue}
 use Rattle.sheet_refs.specs.Sizes.{is_inside, place_of}
 use Rattle.formula_eval.specs.Meaning.{IsNamedBy}

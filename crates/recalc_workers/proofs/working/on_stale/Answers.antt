@@ -1,4 +1,4 @@
-use Rattle.std.proofs.Common.{◌≡◌, ◌∙◌, sym, ap, subst, refl, arith}
+use Rattle.std.proofs.Common.{◌∙◌, sym, ap, subst, refl, arith}
 use Rattle.std.specs.Prelude.{IsTrue}
 use Rattle.sheet_refs.specs.Sizes.{is_inside, cell_count, place_of}
 use Rattle.mark_words.specs.Token.{subject_of, log_of}
@@ -8,7 +8,7 @@ use Rattle.recalc_workers.specs.declared.turns.Turn.TheVariants.{Stale}
 use Rattle.recalc_workers.specs.Turns.{ComesTo, HasMetAt}
 use Rattle.recalc_workers.proofs.SeatLemmas.{keeps_itself, keeps_on, nothing_done}
 use Rattle.recalc_workers.proofs.ReadingLemmas.{not_so}
-use Rattle.recalc_workers.proofs.CauseLemmas.{still_idle, read_as, met_still, may_claim, comes_before, answer_comes, stale_comes}
+use Rattle.recalc_workers.proofs.CauseLemmas.{read_as, met_still, may_claim, comes_before, answer_comes, stale_comes}
 use Rattle.recalc_workers.proofs.WorthLemmas.{circular_worth}
 use Rattle.recalc_workers.proofs.working.on_stale.Goals as goal
 
