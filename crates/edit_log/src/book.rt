@@ -16,8 +16,8 @@ use std::snapshot::Snapshot;
 ///
 /// Contracts see besides these the sheet with which it was opened, and for how many changes of one edit there is room
 /// (`spare`). Its type keeps that the sheet is the opening one after the log, that each entry changes distinct cells,
-/// that what it puts into them may stand beside the labels of the opening sheet, that the graph's pairs are those of the
-/// sheet, and that the log has at most 1,048,576 entries.
+/// that what it puts into them may stand beside the labels of the opening sheet, that the graph's pairs are those of
+/// the sheet, and that the log has at most 1,048,576 entries.
 #[derive(Drop)]
 pub struct Book<G: Graph> {
     pub(crate) opening: Snapshot<Sheet>,

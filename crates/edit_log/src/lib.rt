@@ -3,10 +3,10 @@
 //! A sheet's pairs are those of each cell whose formula refers to a range, with that range
 //! (`specs/Pairs.antt`). `graph_of` gives a graph exactly these.
 //!
-//! A `Book` is a sheet with its graph and the log of its edits, which agree at every moment
-//! (`specs/Books.antt`). `prepare` finds the cells that an edit touches, by one walk from all cells that it
-//! changes, and takes all memory; `apply` then makes the edit and can't fail. Which cells an entry touches,
-//! `specs/Touches.antt` says: its own and all that depend on one of them. `touch_laws` says that every other cell keeps its value, and by this an `OverSheet` is
+//! A `Book` is a sheet with its graph and the log of its edits, which agree at every moment (`specs/Books.antt`).
+//! `prepare` finds the cells that an edit touches, by one walk from all cells that it changes, and takes all memory;
+//! `apply` then makes the edit and can't fail. Which cells an entry touches, `specs/Touches.antt` says: its own and all
+//! that depend on one of them. `touch_laws` says that every other cell keeps its value, and by this an `OverSheet` is
 //! what the marks of a sheet are about. `place_laws`, `pair_laws` and `book_laws` say what holds of places, of pairs
 //! and inputs, and of books; `book_crosses` that threads may share a book under a lock.
 //!

@@ -1,11 +1,11 @@
 //! Dependency graphs of sheets, and walks over them.
 //!
-//! A `Graph` means a set of pairs of a range and a cell whose formula refers to it, and answers which cells
-//! depend directly on a range and on which it depends. What depends on a range in any number of steps is
-//! defined by lists of cells (`specs/Graphs.antt`); `reach_laws` and `back_laws` say that this is the least
-//! set that has the range and is closed under a step. `dependents`, `precedents` and `on_cycle` answer it, and
-//! `dependents_of_all` for several ranges by one walk, exactly over every graph, whatever its `ahead` and `behind` answer between the direct ones and all. What calls
-//! leave to each cell is a law (`change_laws`).
+//! A `Graph` means a set of pairs of a range and a cell whose formula refers to it, and answers which cells depend
+//! directly on a range and on which it depends. What depends on a range in any number of steps is defined by lists of
+//! cells (`specs/Graphs.antt`); `reach_laws` and `back_laws` say that this is the least set that has the range and is
+//! closed under a step. `dependents`, `precedents` and `on_cycle` answer it, and `dependents_of_all` for several ranges
+//! by one walk, exactly over every graph, whatever its `ahead` and `behind` answer between the direct ones and all.
+//! What calls leave to each cell is a law (`change_laws`).
 //!
 //! It stands on `sheet_refs` alone; graphs of other crates implement the trait.
 #![tactic(auto)]

@@ -9,8 +9,8 @@ use sheet_model::SheetSubject;
 
 /// What the causes of a turn's answers come to. `Done` comes with one finish more, for the mark of a read that the turn
 /// made, and ends with a claim, a put and that finish; no other answer comes with one. `Nothing`, `Later`, `Stale` and
-/// `Busy` each come with a read that the turn made, and what it shows. A turn takes one job, or none where it is idle; it
-/// offers that job again, with one try less, exactly where the cell is to be tried again and tries are left.
+/// `Busy` each come with a read that the turn made, and what it shows. A turn takes one job, or none where it is idle;
+/// it offers that job again, with one try less, exactly where the cell is to be tried again and tries are left.
 pub fn turn_laws<S: SheetSubject>(_marks: &Marks<S>, _seat: &Seat<S>)
     ensures done { DoneIsOneFinish (S.opening (subject_of _marks.now)) _seat.now }
     ensures others { OthersFinishNothing (S.opening (subject_of _marks.now)) _seat.now }

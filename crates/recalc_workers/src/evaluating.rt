@@ -36,7 +36,8 @@ pub(crate) fn evaluate(sizes: Sizes, content: &Content, list: &InputList, stack:
     requires known { HaveWords sizes (content_references (content_value content.now))
         list.now.parts.items list.now.words.items }
     ensures { (values : Position → AnyValue)
-        → AgreeWith sizes (content_references (content_value content.now)) list.now.parts.items list.now.words.items values
+        → AgreeWith sizes (content_references (content_value content.now))
+        list.now.parts.items list.now.words.items values
         → result ≡ code_of (step_content sizes values (content_value content.now)) }
 {
     match content {

@@ -9,10 +9,10 @@
 //! why it doesn't. Each answer has its cause in what the desk's seat noted in this call (`specs/Turns.antt`,
 //! `turn_laws`), and in the lists of its hand (`specs/Again.antt`).
 //!
-//! `settle_level` and `settle_circular` compute many cells at many desks for the editor's seat, which knows each of them
-//! as clean afterwards (`specs/Settling.antt`). A `Gate` is what happens between a claim and its put: nothing, but in
-//! tests. Below stand `sheet_refs`, `formula_eval`, `sheet_model`, `mark_words` and the kit's `crossbeam_queue`; above
-//! stands the live sheet.
+//! `settle_level` and `settle_circular` compute many cells at many desks for the editor's seat, which knows each of
+//! them as clean afterwards (`specs/Settling.antt`). A `Gate` is what happens between a claim and its put: nothing, but
+//! in tests. Below stand `sheet_refs`, `formula_eval`, `sheet_model`, `mark_words` and the kit's `crossbeam_queue`;
+//! above stands the live sheet.
 #![tactic(auto)]
 
 mod causes;

@@ -80,14 +80,14 @@ fn work<S: SheetSubject, O: Office<S>, G: Gate, R: Wait>(
     compute(rt, desk, marks, sizes, office, gate, cell, task)
 }
 
-/// One turn of a worker: takes a job, and computes its cell if that is due. It sees the count of commits, asks the office
-/// for the content and the number of entries, reads the cell and its inputs into the desk's list, evaluates over that
-/// list, and only then claims, puts and finishes. It waits for nobody but the office and the queue.
+/// One turn of a worker: takes a job, and computes its cell if that is due. It sees the count of commits, asks the
+/// office for the content and the number of entries, reads the cell and its inputs into the desk's list, evaluates over
+/// that list, and only then claims, puts and finishes. It waits for nobody but the office and the queue.
 ///
 /// Each answer but `Idle` is about the cell of the one job that was taken. A job that ends in `Later`, `Stale`, `Busy`
 /// or `Memory` and has more than one try is offered again, with one try less; one that finds the queue full is dropped.
-/// The seat loses nothing that it knew, and holds no place afterwards. A turn takes memory where its cell has more inputs
-/// than the desk's list has room for.
+/// The seat loses nothing that it knew, and holds no place afterwards. A turn takes memory where its cell has more
+/// inputs than the desk's list has room for.
 pub fn turn<S: SheetSubject, O: Office<S>, G: Gate, R: Wait>(
     rt: &R,
     desk: &mut Desk<S>,

@@ -19,8 +19,8 @@ pub enum Turn {
         /// The number of entries from which the turn computes.
         met: u64,
     },
-    /// An input of the cell was read as not yet computed for its mark, or as computed for an entry past those from which
-    /// the turn computes; and the cell is on no cycle.
+    /// An input of the cell was read as not yet computed for its mark, or as computed for an entry past those from
+    /// which the turn computes; and the cell is on no cycle.
     Stale {
         /// The cell.
         cell: Cell,

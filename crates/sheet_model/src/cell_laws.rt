@@ -26,9 +26,9 @@ pub fn sheet_laws()
     ensures formulas { FormulasCanBeRead }
 {}
 
-/// What holds of sheets after changes and edits: a change fills its cell and leaves every other cell as it was. After an
-/// edit each changed cell holds what its change says, and every other cell what it held; the order of the changes means
-/// nothing; and what the edit replaced, put back, leaves the sheet as it was.
+/// What holds of sheets after changes and edits: a change fills its cell and leaves every other cell as it was. After
+/// an edit each changed cell holds what its change says, and every other cell what it held; the order of the changes
+/// means nothing; and what the edit replaced, put back, leaves the sheet as it was.
 pub fn edit_laws()
     ensures change { ChangesFillTheirCell }
     ensures beside { ChangesLeaveOtherCells }
@@ -38,9 +38,9 @@ pub fn edit_laws()
     ensures undone { ReplacedContentsUndoEdits }
 {}
 
-/// What holds of sheets after logs of edits: a log with one more entry makes one more edit, and no log changes the sizes
-/// or the labels of a sheet. Where what each entry puts into its cells may stand beside the labels, the sheet after the
-/// log is one.
+/// What holds of sheets after logs of edits: a log with one more entry makes one more edit, and no log changes the
+/// sizes or the labels of a sheet. Where what each entry puts into its cells may stand beside the labels, the sheet
+/// after the log is one.
 pub fn log_laws()
     ensures more { OneMoreEntryIsOneMoreEdit }
     ensures sizes { LogsKeepSizes }

@@ -11,8 +11,8 @@
 //! rest. `all_values` gives the codes of these values by a walk over the cells that formulas name,
 //! with a list of open cells. `value_laws` says what is true of values, however they are computed.
 //!
-//! Below stand `sheet_refs`, `value_core`, `formula_syntax`, `formula_eval`, `mark_core` and the kit's
-//! `indexmap` and `arrayvec`; above, `csv_sheet`, `window_text`, `edit_log`, `edit_script`, `play_machine`, `sheet_cli`.
+//! Below stand `sheet_refs`, `value_core`, `formula_syntax`, `formula_eval`, `mark_core` and the kit's `indexmap` and
+//! `arrayvec`; above, `csv_sheet`, `window_text`, `edit_log`, `edit_script`, `play_machine`, `sheet_cli`.
 #![tactic(auto)]
 
 mod board;

@@ -289,8 +289,8 @@ impl Sides {
         self.right.find(store, edge, cell)
     }
 
-    /// The same of what an edge has grown into, at the end at which it hasn't grown: what could be joined with the whole
-    /// at the other end could have been joined with the part that was there.
+    /// The same of what an edge has grown into, at the end at which it hasn't grown: what could be joined with the
+    /// whole at the other end could have been joined with the part that was there.
     pub(crate) fn find_beyond<I: RangeIndex>(
         &mut self,
         store: &EdgeStore<I>,

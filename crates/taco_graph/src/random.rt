@@ -1,5 +1,5 @@
-// Thousands of changes of a small grid in no order, over an index that answers and over one that never does: after each of
-// them no two edges can be joined, by a look at all two, and the pairs are those of a plain list.
+// Thousands of changes of a small grid in no order, over an index that answers and over one that never does: after each
+// of them no two edges can be joined, by a look at all two, and the pairs are those of a plain list.
 use crate::Taco;
 use edge_patterns::{Edge, Pattern, back, join};
 use graph_walk::Graph;

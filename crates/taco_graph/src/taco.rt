@@ -45,7 +45,8 @@ impl<I: RangeIndex> Model for Taco<I> {
       spare = t.store.room / 765;
     } };
 
-    // No two edges can be joined, and each cell has at most 255 ranges, so that a change has room for what it puts back.
+    // No two edges can be joined, and each cell has at most 255 ranges, so that a change has room for what it puts
+    // back.
     ghost invariant = { λ t. AreCompressed t.store.slots 255 };
 }
 
