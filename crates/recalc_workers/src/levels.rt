@@ -6,6 +6,7 @@ ghost use Rattle.recalc_workers.specs.Settling.{IsCovered, IsDeskAfter, IsLevelO
 ghost use Rattle.recalc_workers.specs.Settling.{MaySettle};
 
 use crate::cell_words::CellWords;
+use crate::crossing::entries_cross;
 use crate::desk::Desk;
 use crate::gates::Gate;
 use crate::settle_cells::{Level, settle_share};
@@ -89,6 +90,7 @@ fn settle_at<R: Threads + Wait + Sync, S: SheetSubject, W: CellWords + Sync, G: 
     ensures clean { OnOk result (KnowsCells (S.touches (subject_of marks.now)) level.entry.sizes
         (view_of editor.new) level.entry.cells.now) }
 {
+    entries_cross();
     let size = level.cells.len().div_ceil(desks.len());
     lend_all(marks, editor, desks);
     settle_shares(rt, marks, words, level, size, desks, gate);
@@ -128,6 +130,7 @@ pub(crate) fn settle<
     ensures clean { OnOk result (KnowsCells (S.touches (subject_of marks.now)) sizes
         (view_of editor.new) cells.now) }
 {
+    entries_cross();
     let count = marks.see(editor);
     let level = Level {
         sizes,

@@ -18,6 +18,7 @@
 mod causes;
 mod cell_words;
 mod clearing;
+mod crossing;
 mod desk;
 mod evaluating;
 mod finishing;

@@ -7,6 +7,7 @@ ghost use Rattle.recalc_workers.specs.Settling.{MaySettle, WorksAt};
 
 use crate::cell_words::CellWords;
 use crate::clearing::clear;
+use crate::crossing::entries_cross;
 use crate::desk::Desk;
 use crate::evaluating::evaluate;
 use crate::gates::Gate;
@@ -48,6 +49,7 @@ fn word_at<R: Wait, S: SheetSubject, W: CellWords>(
     ensures word { IfOk result (λ word. S.worth (subject_of marks.now)
         (log_of (seat_of desk.old)) (place_of level.entry.sizes cell) ≡ word) }
 {
+    entries_cross();
     log_laws();
     let Some(content) = words.content(cell) else {
         return Ok(code(Value::Error(ErrorKind::Circ)));
@@ -88,6 +90,7 @@ fn settle_cell<R: Wait, S: SheetSubject, W: CellWords, G: Gate>(
     ensures known { OnOk result (KnowsPlace (S.touches (subject_of marks.now))
         (view_of (seat_of desk.new)) (place_of level.entry.sizes cell)) }
 {
+    entries_cross();
     let word = word_at(rt, marks, words, level, cell, desk)?;
     let place = place_of_cell(level.sizes, cell);
     clear(

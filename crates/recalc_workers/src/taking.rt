@@ -9,6 +9,7 @@ ghost use Rattle.recalc_workers.specs.Rule.{FitsSheet};
 ghost use Rattle.recalc_workers.specs.Seats.{HoldsNothing, Keeps};
 ghost use Rattle.recalc_workers.specs.Turns.{ComesTo, HasCause};
 
+use crate::crossing::entries_cross;
 use crate::desk::Desk;
 use crate::gates::Gate;
 use crate::hands::{Hand, Jobs};
@@ -73,6 +74,7 @@ fn work<S: SheetSubject, O: Office<S>, G: Gate, R: Wait>(
     ensures comes { ComesTo (S.opening (subject_of marks.now)) (seat_of desk.old) cell
         (λ start. Unit {0}) (seat_of desk.new) result }
 {
+    entries_cross();
     let _ = marks.see(&mut desk.seat);
     let Ok(task) = office.job(rt, cell, &mut desk.seat) else {
         return Turn::Memory(cell);

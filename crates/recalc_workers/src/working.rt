@@ -13,6 +13,7 @@ ghost use Rattle.recalc_workers.specs.Inputs.{IsInputUnread, IsOutdated, WasUnre
 ghost use Rattle.recalc_workers.specs.Seats.{HoldsNothing};
 ghost use Rattle.recalc_workers.specs.Turns.{ComesTo, HasMetAt, HasReadAs, IsAnswerAt, IsDue};
 
+use crate::crossing::entries_cross;
 use crate::desk::Desk;
 use crate::evaluating::evaluate;
 use crate::finishing::finish_at;
@@ -196,6 +197,7 @@ pub(crate) fn compute<S: SheetSubject, O: Office<S>, G: Gate, R: Wait>(
     ensures comes { ComesTo (S.opening (subject_of marks.now)) (seat_of desk.old) cell
         (λ start. HasMetAt start (seat_of desk.old) task.length) (seat_of desk.new) result }
 {
+    entries_cross();
     is_of_sheet(marks);
     let met = task.length;
     let place = place_of_cell(sizes, cell);
