@@ -9,3 +9,6 @@ pub loop-name-preserved : goal.loop-name-preserved
 loop-name-preserved c = λ labels.
     subst (HaveLabels labels) (sym c.in_ok-push.ensures.items)
     (All-push (λ (x : ChangeValue). HasLabel labels x.content) c.loop-name.changes.items _ (c.loop-name.invariant labels) tt)
+
+pub returns-in-Some : goal.returns-in-Some
+returns-in-Some c = λ labels. subst (HaveLabels labels) (sym c.in-Some.ensures) (c.loop-name.invariant labels)
