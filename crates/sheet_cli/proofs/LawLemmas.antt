@@ -1,12 +1,12 @@
 -- The words of the clauses of `run`, in plain numbers, lists of bytes and names.
-use Rattle.std.proofs.Common.{◌≡◌, ℕ, zero, suc, ◌+◌, ◌<◌, ◌≤◌, ◌⊎◌, inl, inr, All, Contains, List, [], ◌∷◌, ◌++◌, length, take, length-append, append_assoc, codes, refl, sym, ◌∙◌, ap, subst, arith, get_or}
+use Rattle.std.proofs.Common.{◌≡◌, ℕ, zero, suc, ◌⊎◌, inl, inr, All, Contains, List, [], ◌∷◌, ◌++◌, length, take, length-append, append_assoc, codes, refl, sym, ◌∙◌, ap, subst, arith}
 use Rattle.std.proofs.Math.Seq.{get_or-append_seam, take-length}
 use Rattle.std.specs.Prelude.{Option, Some, None, flat_map}
 use Rattle.std.specs.Fmt.{decimal}
 use Rattle.std.specs.Io.KnownBytes.{Appends}
 use Rattle.window_text.specs.Texts.{check_text, count_line, edge_line}
 use Rattle.edge_patterns.specs.Edges.{EdgeValue}
-use Rattle.sheet_cli.specs.Answers.{Answer, AreOfCheck, HasGivenSheet, IsDue, TellsTexts, status_of}
+use Rattle.sheet_cli.specs.Answers.{HasGivenSheet, status_of}
 use Rattle.sheet_cli.specs.Answers.Answer.{output, refusal}
 use Rattle.sheet_cli.specs.Laws.{AreChecks, CalmLineIsWhole, ChecksHaveOneCount, DueIsNamed, LineIsTakenFromItsFront, NoOutputAndRefusal, OneOutput, OneRefusal, TellsOfCheck, TellsOfPlay, TellsOfWindow, UnfetchedOfCheck, UnfetchedOfPlay, UnfetchedOfWindow}
 use Rattle.sheet_cli.specs.Lines.{read_failed_line}

@@ -1,3 +1,4 @@
+pub mod CheckLemmas
 pub mod ClapLemmas
 pub mod ClapOne
 pub mod GraphLemmas

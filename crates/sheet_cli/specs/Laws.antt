@@ -1,15 +1,21 @@
 -- What the words of the clauses of `run` say, in plain numbers, lists of bytes and names.
-use Rattle.std.specs.Prelude.{◌≡◌, ◌≢◌, ◌↔◌, ℕ, ◌<◌, ◌≤◌, ◌-◌, ◌^◌, ◌⊎◌, List, [], ◌∷◌, ◌++◌, take, codes, Contains, Some}
+use Rattle.std.specs.Prelude.{◌≡◌, ◌↔◌, ℕ, ◌<◌, ◌≤◌, ◌-◌, ◌^◌, ◌⊎◌, List, [], ◌∷◌, ◌++◌, length, take, codes, Contains, Some}
 use Rattle.std.specs.Fmt.{decimal}
 use Rattle.std.specs.declared.option.Option.{Option}
+use Rattle.edge_patterns.specs.Edges.{EdgeValue}
+use Rattle.taco_graph.specs.Joinable.{NoneJoins}
+use Rattle.taco_graph.specs.Order.{AreInOrder}
+use Rattle.taco_graph.specs.Pairs.{pairs_of}
+use Rattle.window_text.specs.Texts.{check_text}
 use Rattle.sheet_io.specs.Faults.{Rose}
 use Rattle.sheet_cli.specs.Answers.{AreOfCheck, HasGivenSheet, IsAccepted, IsDue, Owes, TellsTexts, Texts}
 use Rattle.sheet_cli.specs.Answers.Answer.{output, refusal}
 use Rattle.sheet_cli.specs.Lines.{read_failed_line}
 use Rattle.sheet_cli.specs.Replies.{IsRefusedStatus}
 use Rattle.sheet_cli.specs.Requests.{Request, texts_named}
+use Rattle.sheet_cli.specs.Requests.Request.{of_check}
 use Rattle.sheet_cli.specs.Runs.{HasBegun, HasWritten, IsCalm, IsRefused, IsStatus, IsUnfetched, TakesLine}
-use Rattle.sheet_cli.specs.Words.{command_word}
+use Rattle.sheet_cli.specs.Words.{Asks, command_word}
 use Rattle.sheet_cli.specs.declared.words.WindowCommand.{WindowCommand}
 
 -- the words of a command line, as bytes
@@ -145,3 +151,9 @@ abbrev pub AcceptedIsNotRefused : Type 0
 AcceptedIsNotRefused =
     (words : Line) (holds : Texts) (status : ℕ) (line : List ℕ) → TellsTexts words holds
     → IsAccepted words holds → ¬ Owes words holds (refusal status line)
+
+-- what `check` writes is the text of some edges in order, of which no two can be joined
+abbrev pub ListedEdgesAreJoined : Type 0
+ListedEdgesAreJoined =
+    (words : Line) (holds : Texts) (name text : List ℕ) → Asks words (of_check name) → Owes words holds (output text)
+    → (edges : List EdgeValue) × ((text ≡ check_text (length (pairs_of edges)) edges) × (AreInOrder edges × NoneJoins edges))

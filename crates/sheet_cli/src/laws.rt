@@ -6,7 +6,7 @@ ghost use Rattle.sheet_cli.specs.Laws.{DueIsNamed, UnfetchedOfCheck, UnfetchedOf
 ghost use Rattle.sheet_cli.specs.Laws.{UnfetchedOfWindow, TellsOfCheck, TellsOfPlay, TellsOfWindow};
 ghost use Rattle.sheet_cli.specs.Laws.{AcceptedIsNotRefused, BegunIsAPrefix, ChecksHaveOneCount};
 ghost use Rattle.sheet_cli.specs.Laws.{NoOutputAndRefusal, OneOutput, OneRefusal, RefusedIsOwed};
-ghost use Rattle.sheet_cli.specs.Laws.{WrittenIsOwed};
+ghost use Rattle.sheet_cli.specs.Laws.{WrittenIsOwed, ListedEdgesAreJoined};
 ghost use Rattle.sheet_cli.specs.Rows.{AcceptedRow, CheckRow, DepsRow, ListedRow, OutsideRow};
 ghost use Rattle.sheet_cli.specs.Rows.{PlayRow, PrecsRow, RefusedScriptRow, ShowRow, UsageRow};
 
@@ -57,6 +57,11 @@ pub fn ending_laws()
     ensures written { WrittenIsOwed }
     ensures begun { BegunIsAPrefix }
     ensures noted { RefusedIsOwed }
+{}
+
+/// What `check` writes is the text of some edges in order, of which no two can be joined.
+pub fn check_laws()
+    ensures joined { ListedEdgesAreJoined }
 {}
 
 /// Rows worked out by hand, over the sheet `1,=A1+1` above `2,=A2+B1`: what is written, and what is noted.

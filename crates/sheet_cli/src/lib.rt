@@ -26,8 +26,8 @@ mod top;
 mod words;
 
 pub use laws::{
-    ending_laws, note_laws, row_laws, run_laws, script_row_laws, status_laws, told_laws,
-    unfetched_laws,
+    check_laws, ending_laws, note_laws, row_laws, run_laws, script_row_laws, status_laws,
+    told_laws, unfetched_laws,
 };
 pub use sure::run_without_faults;
 pub use top::{no_memory, run};

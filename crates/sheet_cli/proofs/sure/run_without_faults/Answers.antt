@@ -1,4 +1,4 @@
-use Rattle.std.proofs.Common.{ℕ, ◌<◌, ◌≤◌, List, inl, inr, refl, slice_index_or, arith}
+use Rattle.std.proofs.Common.{ℕ, List, inl, inr, refl, slice_index_or, arith}
 use Rattle.sheet_io.specs.Faults.{Rose}
 use Rattle.sheet_io.specs.Sure.{sure_holds, sure_texts}
 use Rattle.sheet_io.specs.Texts.{text_or_empty}
