@@ -96,7 +96,7 @@ impl<I: RangeIndex> EdgeStore<I> {
         self.rectangles.insert(key, edge.prec());
     }
 
-    /// PutsEdge an edge in the place of the one under a key, which takes no memory.
+    /// Puts an edge in the place of the one under a key, which takes no memory.
     pub(crate) fn change(&mut self, key: usize, edge: Edge)
         requires there { IsSome (edge_at self.old.slots key) }
         requires apart { IsApartBeside self.old.slots key edge }

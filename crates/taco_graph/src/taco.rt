@@ -23,7 +23,7 @@ const MOST_REFS: u32 = 255;
 /// for each new range.
 const MOST_EDGES: u32 = 3 * MOST_REFS;
 
-/// A dependency graph as edges, over two indexes.
+/// A dependency graph as edges, over two indexes. Between calls no two edges can be joined.
 #[derive(Drop)]
 pub struct Taco<I: RangeIndex> {
     store: EdgeStore<I>,
