@@ -19,11 +19,7 @@ fn admit(set: &mut RectSet, waiting: &mut Vec<Range>, range: Range) -> Result<()
 }
 
 /// Adds the cells of some ranges to a set, and the ranges of those that are new to the waiting ones.
-pub fn gather(
-    set: &mut RectSet,
-    waiting: &mut Vec<Range>,
-    found: &[Range],
-) -> Result<(), Memory>
+pub fn gather(set: &mut RectSet, waiting: &mut Vec<Range>, found: &[Range]) -> Result<(), Memory>
     ensures { OnOk result
         (GathersAll set.old set.new waiting.old.items waiting.new.items found.now) }
 {

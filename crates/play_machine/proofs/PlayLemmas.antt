@@ -165,12 +165,12 @@ follows_keeps old new client command told (works count marks is made new_is told
 -- a command that fits a sheet fits every sheet with its sizes and labels
 pub fit_moves : (a b : SheetValue) (command : Command) → b.sizes ≡ a.sizes → b.labels ≡ a.labels → IsCommandOfSheet a command → IsCommandOfSheet b command
 fit_moves a b (Put edit) sizes labels fit = λ k d within. (
-  let one : IsChangeFor a (get_or edit k d) = fit k d within in
-  record {
-    inside = subst (λ s. IsTrue (is_inside s (get_or edit k d).cell)) (sym sizes) one.inside;
-    label = subst (λ (l : List (List ℕ)). HasLabel (length l) (get_or edit k d).content) (sym labels) one.label;
-  }
-)
+    let one : IsChangeFor a (get_or edit k d) = fit k d within in
+    record {
+      inside = subst (λ s. IsTrue (is_inside s (get_or edit k d).cell)) (sym sizes) one.inside;
+      label = subst (λ (l : List (List ℕ)). HasLabel (length l) (get_or edit k d).content) (sym labels) one.label;
+    }
+    )
 fit_moves a b (Look window) sizes labels fit = record {
   inside = λ cell there. subst (λ s. IsTrue (is_inside s cell)) (sym sizes) (fit.inside cell there);
   few = fit.few;

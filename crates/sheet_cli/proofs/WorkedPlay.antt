@@ -62,7 +62,8 @@ touched_among cell among =
     record {
       from = reach.from;
       starts = (
-        worked_change, first_member worked_change [],
+        worked_change,
+        first_member worked_change [],
         sym (same_at reach.from 1 1 (omega (arith, reach.starts.row_from, reach.starts.row_to)) (omega (arith, reach.starts.col_from, reach.starts.col_to))),
       );
       cells = reach.cells;

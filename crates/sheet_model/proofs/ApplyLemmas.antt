@@ -66,15 +66,15 @@ module _ (start sheet : SheetValue) (edit changes : EditValue) (k : ℕ) (old : 
   exchanged_more next new distinct held written placed is =
       let taken : take (k + 1) edit ≡ take k edit ++ old ∷ [] = taken_more edit k old below exchange_next in
       let apart : (c : ChangeValue) → Contains (take k edit) c → old.cell ≢ c.cell = λ c there same.
-          (let (j, before_k, within, is_c) = taken_at edit k c there in
-           distinct j k c before_k below (ap (λ (x : ChangeValue). x.cell) is_c ∙ sym same ∙ ap (λ (x : ChangeValue). x.cell) (exchange_next ∙ get_or_default edit k old c below))) in
+      (let (j, before_k, within, is_c) = taken_at edit k c there in
+      distinct j k c before_k below (ap (λ (x : ChangeValue). x.cell) is_c ∙ sym same ∙ ap (λ (x : ChangeValue). x.cell) (exchange_next ∙ get_or_default edit k old c below))) in
       let stood : content_of sheet old.cell ≡ content_of start old.cell = ap (λ (s : SheetValue). content_of s old.cell) so_far.made ∙ edit-others start (take k edit) old.cell apart in
       let new_is : new ≡ held_in start old = held ∙ ap (λ content. record { cell = old.cell; content = content }) stood in
       let after_set : set changes k new ≡ before ++ new ∷ rest =
-          ap (λ xs. set xs k new) split ∙ ap (λ n. set (before ++ here ∷ rest) n new) (sym before_length) ∙ set-append_seam before here rest new in
+      ap (λ xs. set xs k new) split ∙ ap (λ n. set (before ++ here ∷ rest) n new) (sym before_length) ∙ set-append_seam before here rest new in
       let regrouped : before ++ new ∷ rest ≡ (before ++ new ∷ []) ++ rest = sym (append_assoc before (new ∷ []) rest) in
       let gathered : before ++ new ∷ [] ≡ replaced_by start (take (k + 1) edit) =
-          ap (λ x. before ++ x ∷ []) new_is ∙ sym (ap (replaced_by start) taken ∙ map-append (held_in start) (take k edit) (old ∷ [])) in
+      ap (λ x. before ++ x ∷ []) new_is ∙ sym (ap (replaced_by start) taken ∙ map-append (held_in start) (take k edit) (old ∷ [])) in
       let one_more : suc k ≡ k + 1 = omega arith in
       record {
         is = λ some. is;

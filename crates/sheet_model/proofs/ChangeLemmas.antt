@@ -55,4 +55,3 @@ change-sheet sheet change is held = go (is_inside sheet.sizes change.cell)
     go : (b : Bool) → IsSheet (cond b (with_content sheet change.cell change.content) sheet)
     go true = sheet_with_content sheet change.cell change.content is held
     go false = is
-

@@ -52,8 +52,8 @@ rising_distinct changes sorted same rises =
 distinct_rising : (changes : EditValue) (sorted : List ℕ) → All (λ (c : ChangeValue). HasName c.cell) changes → IsPermutation (map (λ (c : ChangeValue). named_place c.cell) changes) sorted → IsNonDecreasing sorted → AreOfDistinctCells changes → IsStrictlyIncreasing sorted
 distinct_rising changes sorted named same up distinct =
     let apart : AllPairs (λ a b. a ≢ b) (map (λ (c : ChangeValue). named_place c.cell) changes) =
-        pairs_mapped (λ (c : ChangeValue). named_place c.cell) (λ a b. a.cell ≢ b.cell) (λ a b. a ≢ b) changes
-        (λ i j d before within differs is. differs (place_same all_names (get_or changes i d).cell (get_or changes j d).cell (named i d (omega (arith, before, within))) (named j d within) is)) distinct in
+    pairs_mapped (λ (c : ChangeValue). named_place c.cell) (λ a b. a.cell ≢ b.cell) (λ a b. a ≢ b) changes
+    (λ i j d before within differs is. differs (place_same all_names (get_or changes i d).cell (get_or changes j d).cell (named i d (omega (arith, before, within))) (named j d within) is)) distinct in
     IsStrictlyIncreasing-from_distinct sorted up (distinct_permutation nat_eq_equiv _ sorted same (IsDistinct-from_AllPairs Decides-eqb _ apart))
 
 -- so whether they rise tells whether the cells are distinct

@@ -74,11 +74,11 @@ edit-fills : (sheet : SheetValue) (edit : EditValue) (change : ChangeValue) → 
 edit-fills sheet [] change filled distinct there inside = absurd (no_member change there)
 edit-fills sheet (first ∷ changes) change filled distinct there inside = elim (first_or_later change first changes there) [
   | inl same ↦
-    edit-others (after_change sheet first) changes change.cell (λ c later. subst (λ (f : ChangeValue). f.cell ≢ c.cell) same (first_apart first c changes distinct later))
-    ∙ subst (λ (f : ChangeValue). content_of (after_change sheet f) change.cell ≡ change.content) (sym same) (change-fills sheet change filled inside)
+      edit-others (after_change sheet first) changes change.cell (λ c later. subst (λ (f : ChangeValue). f.cell ≢ c.cell) same (first_apart first c changes distinct later))
+      ∙ subst (λ (f : ChangeValue). content_of (after_change sheet f) change.cell ≡ change.content) (sym same) (change-fills sheet change filled inside)
   | inr later ↦
-    edit-fills (after_change sheet first) changes change (change-filled sheet first filled) (rest_distinct first changes distinct) later
-    (subst (λ (s : Sizes). IsTrue (is_inside s change.cell)) (sym (change-sizes sheet first)) inside)
+      edit-fills (after_change sheet first) changes change (change-filled sheet first filled) (rest_distinct first changes distinct) later
+      (subst (λ (s : Sizes). IsTrue (is_inside s change.cell)) (sym (change-sizes sheet first)) inside)
 ]
 
 pub edit-here : (sheet : SheetValue) (edit : EditValue) (change : ChangeValue) → IsSheet sheet → AreOfDistinctCells edit → Contains edit change → IsTrue (is_inside sheet.sizes change.cell) → content_of (after_edit sheet edit) change.cell ≡ change.content
@@ -107,7 +107,7 @@ pub edit-order : (sheet : SheetValue) (a b : EditValue) → IsSheet sheet → Ar
     → ((change : ChangeValue) → Contains a change ↔ Contains b change) → after_edit sheet a ≡ after_edit sheet b
 edit-order sheet a b is held a_distinct b_distinct same =
     let b_held : AreHeldBeside (length sheet.labels) b = all_from (λ (c : ChangeValue). IsHeld (length sheet.labels) c.content) b
-        (λ c there. of_each (λ (x : ChangeValue). IsHeld (length sheet.labels) x.content) a c held ((same c).1 there)) in
+    (λ c there. of_each (λ (x : ChangeValue). IsHeld (length sheet.labels) x.content) a c held ((same c).1 there)) in
     same_sheet (after_edit sheet a) (after_edit sheet b) (edit-sheet sheet a is held) (edit-sheet sheet b is b_held)
     (edit-sizes sheet a ∙ sym (edit-sizes sheet b)) (edit-labels sheet a ∙ sym (edit-labels sheet b))
     (λ cell inside. at cell (subst (λ (s : Sizes). IsTrue (is_inside s cell)) (edit-sizes sheet a) inside) (changed_or_not a cell))
@@ -137,9 +137,9 @@ module _ (sheet : SheetValue) (edit : EditValue) (is : IsSheet sheet) (distinct 
 
   back_held : AreHeldBeside (length middle.labels) back
   back_held = all_from (λ (c : ChangeValue). IsHeld (length middle.labels) c.content) back (λ c there.
-    let (x, x_in, is_c) = mapped_from (held_in sheet) edit c there in
-    subst (λ (y : ChangeValue). IsHeld (length middle.labels) y.content) is_c
-    (subst (λ (ls : List (List ℕ)). IsHeld (length ls) (content_of sheet x.cell)) (sym (edit-labels sheet edit)) (held_of sheet is x.cell)))
+      let (x, x_in, is_c) = mapped_from (held_in sheet) edit c there in
+      subst (λ (y : ChangeValue). IsHeld (length middle.labels) y.content) is_c
+      (subst (λ (ls : List (List ℕ)). IsHeld (length ls) (content_of sheet x.cell)) (sym (edit-labels sheet edit)) (held_of sheet is x.cell)))
 
   put_back : (cell : Position) → IsTrue (is_inside sheet.sizes cell) → ((change : ChangeValue) × Contains back change × (cell ≡ change.cell)) ⊎ ((change : ChangeValue) → Contains back change → cell ≢ change.cell)
       → content_of (after_edit middle back) cell ≡ content_of sheet cell

@@ -48,11 +48,7 @@ pub(crate) fn first_words(alloc: Global, contents: &[Content]) -> Result<Vec<u64
 
 /// Puts the parts of the ranges that a content names, within a rectangle of these sizes, behind the others. It takes
 /// memory only where the list has no room for them: a formula names at most 255.
-pub fn add_content(
-    sizes: Sizes,
-    content: &Content,
-    parts: &mut Vec<Part>,
-) -> Result<(), AllocError>
+pub fn add_content(sizes: Sizes, content: &Content, parts: &mut Vec<Part>) -> Result<(), AllocError>
     ensures { OnOk result (AddsParts sizes (content_references (content_value content.now))
         parts.old.items parts.new.items) }
 {
