@@ -1,0 +1,3 @@
+pub mod LookLemmas
+pub mod OpeningLemmas
+pub mod PassLemmas

@@ -1,0 +1,10 @@
+pub mod Held
+pub mod Looks
+pub mod Names
+pub mod Opened
+pub mod Openings
+pub mod Passes
+pub mod Setups
+pub mod Shares
+pub mod Starts
+pub mod Steps
