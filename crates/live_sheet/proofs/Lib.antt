@@ -1,3 +1,10 @@
+pub mod AcceptedLemmas
+pub mod EditLemmas
 pub mod LookLemmas
+pub mod CauseLemmas
+pub mod OfferLemmas
 pub mod OpeningLemmas
 pub mod PassLemmas
+pub mod EnterLemmas
+pub mod PassEdits
+pub mod RefusalLemmas

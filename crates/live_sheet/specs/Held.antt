@@ -1,10 +1,13 @@
 -- What the seats, hands and desks of a live sheet belong to.
-use Rattle.std.specs.Prelude.{◌≡◌, List, [], true, Some, None, length}
+use Rattle.std.specs.Prelude.{◌≡◌, ◌≤◌, List, [], true, Some, None, length}
 use Rattle.atomic_table.specs.Seated.{TableId}
 use Rattle.crossbeam_queue.specs.Passes.{view}
 use Rattle.mark_core.specs.declared.subjects.Subject.{Ghosts}
 use Rattle.mark_words.specs.declared.seats.Seat.{Seat}
-use Rattle.mark_words.specs.Token.{seat_table, doing_of, log_of, seen_of, edits_of, is_editor}
+use Rattle.sheet_model.specs.Sheets.{SheetValue}
+use Rattle.sheet_refs.specs.Sizes.{cell_count}
+use Rattle.mark_words.specs.declared.marks.Marks.{Marks}
+use Rattle.mark_words.specs.Token.{table_of, subject_of, places_of, seat_table, doing_of, log_of, seen_of, edits_of, is_editor}
 use Rattle.recalc_workers.specs.declared.desk.Desk.{Desk}
 use Rattle.recalc_workers.specs.declared.hands.Hand.{Hand}
 use Rattle.recalc_workers.specs.declared.hands.Jobs.{Jobs}
@@ -45,3 +48,10 @@ pub record IsFreeSeat {S E : Type 0} {G : Ghosts S E} (words : TableId) (subject
 pub record IsDeskIn {S E : Type 0} {G : Ghosts S E} (words queue : TableId) (subject : S) (sizes : Sizes) (desk : Desk S E G) : Type 0 where
   pub seat : IsSeatIn words subject (seat_of desk)
   pub hand : IsHandIn queue sizes (hand_of desk)
+
+-- the words are those of the table and of the opening sheet, with a place for each of its cells, which are few enough
+pub record AreWordsOf {E : Type 0} (words : TableId) (opening : SheetValue) (marks : Marks SheetValue E) : Type 0 where
+  pub table : table_of marks ≡ words
+  pub about : subject_of marks ≡ opening
+  pub places : places_of marks ≡ cell_count opening.sizes
+  pub small : cell_count opening.sizes ≤ 1048576

@@ -1,3 +1,7 @@
+pub mod Accepted
+pub mod Edited
+pub mod Edits
+pub mod Graphs
 pub mod Held
 pub mod Looks
 pub mod Names

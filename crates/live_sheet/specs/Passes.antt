@@ -1,5 +1,5 @@
 -- What contracts see of a pass.
-use Rattle.std.specs.Prelude.{◌≡◌, ◌≤◌, ◌-◌, ℕ, List, Option, Some, map, slice_get}
+use Rattle.std.specs.Prelude.{◌≡◌, ℕ, List, Option}
 use Rattle.mark_core.specs.declared.actors.View.{View}
 use Rattle.mark_words.specs.declared.tables.OwnStep.{OwnStep}
 use Rattle.mark_words.specs.Token.{view_of, log_of, seen_of, own_steps}
@@ -8,21 +8,11 @@ use Rattle.recalc_workers.specs.declared.job.Job.{Job}
 use Rattle.sheet_model.specs.Boards.{BoardValue}
 use Rattle.sheet_refs.specs.Cells.{Corners}
 use Rattle.sheet_refs.specs.declared.sizes.Sizes.{Sizes}
+use Rattle.live_sheet.specs.Accepted.{accepted_in}
 use Rattle.live_sheet.specs.Looks.{HasLooked}
 use Rattle.live_sheet.specs.declared.naming.Naming.{Ghosts}
 use Rattle.sheet_model.specs.declared.entry.Entry.{Entry}
 use Rattle.live_sheet.specs.declared.pass.Pass.{Pass}
-
--- the edits that are said to be accepted by these numbers: each with the entry that a log has there
-abbrev pub accepted_in : List Entry → List ℕ → List (ℕ × Option Entry)
-accepted_in log numbers = map (λ number. (number, slice_get log (number - 1))) numbers
-
--- the entry with this number is there, and is one of the client's
-pub record IsEntryOf (client : ℕ) (log : List Entry) (number : ℕ) : Type 0 where
-  pub counted : 1 ≤ number
-  pub entry : Entry
-  pub stands : slice_get log (number - 1) ≡ Some entry
-  pub by : entry.client ≡ client
 
 module _ {N : Type 0} {G : Ghosts N} where
   -- whose it is

@@ -11,15 +11,22 @@
 #![tactic(auto)]
 
 mod codes;
+mod committed;
 mod crossing;
 mod desk;
 mod desks;
+mod editing;
+mod edits;
+mod entering;
 mod graph;
 mod live;
 mod loads;
 mod locked;
 mod looking;
+mod marking;
+mod meeting;
 mod naming;
+mod offering;
 mod opened;
 mod opening;
 mod pass;
@@ -29,6 +36,7 @@ mod rest;
 mod setting_up;
 mod setup;
 
+pub use committed::{Committed, EditRefused};
 pub use desk::Desk;
 pub use graph::LiveGraph;
 pub use live::Live;

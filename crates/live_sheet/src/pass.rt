@@ -1,5 +1,6 @@
 ghost use Rattle.std.specs.Prelude.{◌≡◌, ◌<◌, false, vec_len};
 ghost use Rattle.mark_words.specs.Token.{log_of, is_editor};
+ghost use Rattle.live_sheet.specs.Accepted.{AreAccepted};
 ghost use Rattle.live_sheet.specs.Held.{IsFreeSeat, IsHandIn};
 
 use crate::naming::Naming;
@@ -21,4 +22,5 @@ pub struct Pass<N: Naming> {
     ghost at: { IsHandIn N.queue N.opening.sizes hand },
     ghost part: { share.parts ≡ 1 },
     ghost amount: { share.amount ≡ vec_len numbers },
+    ghost accepted: { AreAccepted client (log_of seat) numbers.items },
 }

@@ -1,9 +1,9 @@
 -- The pass keeps what it had: its seat has read and nothing else.
-use Rattle.std.proofs.Common.{Some, refl, ◌∙◌, ap, subst}
+use Rattle.std.proofs.Common.{Some, refl, sym, ◌∙◌, ap, subst}
 use Rattle.sheet_model.specs.Sheets.{SheetValue}
 use Rattle.sheet_refs.specs.declared.sizes.Sizes.{Sizes}
 use Rattle.live_sheet.specs.Looks.{HasLooked}
-use Rattle.live_sheet.specs.Passes.{accepted_in}
+use Rattle.live_sheet.specs.Accepted.{accepted_in, AreAccepted}
 use Rattle.live_sheet.proofs.LookLemmas.{look_keeps_log, look_keeps_holds}
 use Rattle.live_sheet.proofs.live.Live.look.Goals as goal
 
@@ -15,6 +15,11 @@ invariant_of-pass-clause-belongs g c =
       belongs = record { table = same.same_table ∙ live.words; about = same.same_subject ∙ ap (λ (s : SheetValue). Some s) live.subject };
       free = look_keeps_holds _ _ c.args.pass.now.seat c.look_at.new.seat c.look_at.new.board c.look_at.ensures.looked ∙ c.args.pass.now.belongs.free;
     }
+
+pub invariant_of-pass-clause-accepted : goal.invariant_of-pass-clause-accepted
+invariant_of-pass-clause-accepted g c =
+    let pass = c.args.pass.now in
+    subst (λ l. AreAccepted pass.client l pass.numbers.items) (sym (look_keeps_log _ _ pass.seat c.look_at.new.seat c.look_at.new.board c.look_at.ensures.looked)) pass.accepted
 
 pub returns-clause-looked : goal.returns-clause-looked
 returns-clause-looked g c =
