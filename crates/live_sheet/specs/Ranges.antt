@@ -1,0 +1,17 @@
+-- Ranges of cells that are computed together.
+use Rattle.std.specs.Prelude.{ℕ, List}
+use Rattle.sheet_refs.specs.Cells.{Position, Corners}
+use Rattle.sheet_refs.specs.Rectangles.{IsAmong}
+use Rattle.sheet_refs.specs.declared.sizes.Sizes.{Sizes}
+use Rattle.mark_core.specs.declared.actors.View.{View}
+use Rattle.sheet_model.specs.Sheets.{SheetValue}
+use Rattle.sheet_model.specs.Values.{IsInput}
+use Rattle.live_sheet.specs.Stale.{KnowsCell}
+
+-- the ranges have each input of each of their cells
+abbrev pub AreClosed : SheetValue → List Corners → Type 0
+AreClosed sheet ranges = (cell input : Position) → IsAmong ranges cell → IsInput sheet cell input → IsAmong ranges input
+
+-- the view knows each cell of the ranges as clean
+abbrev pub KnowsAmong : {E : Type 0} → (List E → E → ℕ → Type 0) → Sizes → View (List E) → List Corners → Type 0
+KnowsAmong touches sizes view ranges = (cell : Position) → IsAmong ranges cell → KnowsCell touches sizes view cell
