@@ -1,3 +1,13 @@
+pub mod Held
 pub mod Levels
+pub mod Looks
+pub mod Names
+pub mod Opened
+pub mod Openings
+pub mod Passes
 pub mod Ranges
+pub mod Setups
+pub mod Shares
 pub mod Stale
+pub mod Starts
+pub mod Steps

@@ -1,37 +1,28 @@
 ghost use Rattle.std.specs.Thread.{IsSend, IsSync};
-ghost use Rattle.sheet_model.specs.contracts.entry.Entry.{the_row};
-ghost use Rattle.edit_log.specs.contracts.over_sheet.OverSheet.{the_row as subject_row};
+ghost use Rattle.edit_log.specs.contracts.over_sheet.OverSheet.{the_row};
+ghost use Rattle.sheet_model.specs.contracts.entry.Entry.{the_row as entry_row};
 
 use edit_log::OverSheet;
 use sheet_model::Entry;
 
-// A type that may go to another thread is one by its values,
-fn may_cross<T: Send>()
-    ensures { IsSend T.row }
+// A type that may go to another thread, and be shared with it, is one by its values.
+fn may_cross<T: Send + Sync>()
+    ensures send { IsSend T.row }
+    ensures sync { IsSync T.row }
 {}
 
-// and so is one that threads may share.
-fn may_share<T: Sync>()
-    ensures { IsSync T.row }
-{}
-
-/// Entries may go to other threads, and threads may share them.
-///
-/// What calls generic functions over a table of words has to show it of the entries; a function in which the search
-/// doesn't find it calls this first.
-pub(crate) fn entries_cross()
+/// Threads may hand on and share the subject of a sheet. Search finds this here, and not beside other facts.
+pub(crate) fn subject_crosses()
     ensures send { IsSend the_row }
     ensures sync { IsSync the_row }
 {
-    may_cross::<Entry>();
-    may_share::<Entry>();
+    may_cross::<OverSheet>();
 }
 
-/// So may the subject of a sheet.
-pub(crate) fn subject_crosses()
-    ensures send { IsSend subject_row }
-    ensures sync { IsSync subject_row }
+/// Threads may hand on and share entries.
+pub(crate) fn entries_cross()
+    ensures send { IsSend entry_row }
+    ensures sync { IsSync entry_row }
 {
-    may_cross::<OverSheet>();
-    may_share::<OverSheet>();
+    may_cross::<Entry>();
 }

@@ -1,7 +1,42 @@
-//! Sheets that clients edit and look at while workers recalculate them.
+//! Live sheets: clients edit and look while workers recalculate.
+//!
+//! A `Live` has the words of one table, one queue of jobs, and behind a lock the book, the editor's seat and the desks
+//! that settle. Clients hold passes and workers hold desks. Which table, queue and opening sheet all these belong to, a
+//! `Naming` says, whose name each type has as its parameter (`specs/Held.antt`).
+//!
+//! `edit` is answered once its cells are marked and it is committed (`specs/Edits.antt`); `look` takes no lock, no
+//! runtime and no memory (`specs/Looks.antt`).
+//!
+//! Below stand `edit_log` over a compressed graph, `mark_words` and `recalc_workers`; above, the program.
 #![tactic(auto)]
 
+mod codes;
 mod crossing;
+mod desk;
+mod desks;
+mod graph;
 mod levels;
+mod live;
+mod loads;
+mod locked;
+mod looking;
+mod naming;
+mod opened;
+mod opening;
+mod pass;
+mod passes;
+mod reading;
+mod rest;
+mod setting_up;
 mod settling;
+mod setup;
 mod stale;
+
+pub use desk::Desk;
+pub use graph::LiveGraph;
+pub use live::Live;
+pub use loads::Loads;
+pub use naming::Naming;
+pub use opened::Opened;
+pub use pass::Pass;
+pub use setup::Setup;
