@@ -60,6 +60,15 @@ pub read_knows : {E : Type 0} (touches : List E → E → ℕ → Type 0) (view 
 read_knows touches view place upto mark true known is = (mark, known (is.0 refl))
 read_knows touches view place upto mark false known is = tt
 
+-- a cell of one of the first ranges is in no later one
+pub apart_from_first : (ranges : List Corners) (place : ℕ) (range : Corners) (cell : Position) → AreDisjoint ranges → place < length ranges → range ≡ get_or ranges place range
+    → IsAmong (take place ranges) cell → ¬ IsIn cell range
+apart_from_first ranges place range cell disjoint within here among inside =
+    let k : ℕ = among.listed.0 in
+    let before : k < place = omega (arith, among.listed.1, length-take place ranges) in
+    let first : IsIn cell (get_or ranges k range) = subst (λ (r : Corners). IsIn cell r) (sym among.listed.2 ∙ (get_or-take place ranges k among.range before ∙ get_or_default ranges k among.range range (omega arith))) among.inside in
+    disjoint k place range before within (cell, record { first = first; second = subst (λ (r : Corners). IsIn cell r) here inside })
+
 module _ (Knows : Position → Type 0) where
   -- where more is known, what is left is left
   pub still_left : (More Set : Position → Type 0) (stale : List Position) → ((cell : Position) → Knows cell → More cell) → KnowsAllBut Knows Set stale → KnowsAllBut More Set stale
@@ -196,15 +205,6 @@ module _ (Knows : Position → Type 0) where
             before = omega (arith, has.1, all, past);
             listed = slice_get-get_or (cells_of range) has.0 cell has.1 ∙ ap Some has.2;
           }
-
-  -- a cell of one of the first ranges is in no later one
-  apart_from_first : (ranges : List Corners) (place : ℕ) (range : Corners) (cell : Position) → AreDisjoint ranges → place < length ranges → range ≡ get_or ranges place range
-      → IsAmong (take place ranges) cell → ¬ IsIn cell range
-  apart_from_first ranges place range cell disjoint within here among inside =
-      let k : ℕ = among.listed.0 in
-      let before : k < place = omega (arith, among.listed.1, length-take place ranges) in
-      let first : IsIn cell (get_or ranges k range) = subst (λ (r : Corners). IsIn cell r) (sym among.listed.2 ∙ (get_or-take place ranges k among.range before ∙ get_or_default ranges k among.range range (omega arith))) among.inside in
-      disjoint k place range before within (cell, record { first = first; second = subst (λ (r : Corners). IsIn cell r) here inside })
 
   -- one range more
   pub next_range : (ranges : List Corners) (place : ℕ) (range : Corners) (old new : List Position) → AreDisjoint ranges → place < length ranges → range ≡ get_or ranges place range

@@ -1,3 +1,4 @@
+pub mod Firm
 pub mod Held
 pub mod Levels
 pub mod Looks
@@ -11,3 +12,4 @@ pub mod Shares
 pub mod Stale
 pub mod Starts
 pub mod Steps
+pub mod Worked
