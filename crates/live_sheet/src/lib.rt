@@ -4,8 +4,9 @@
 //! that settle. Clients hold passes and workers hold desks. Which table, queue and opening sheet all these belong to, a
 //! `Naming` says, whose name each type has as its parameter (`specs/Held.antt`).
 //!
-//! `edit` is answered once its cells are marked and it is committed (`specs/Edits.antt`); `look` takes no lock, no
-//! runtime and no memory (`specs/Looks.antt`).
+//! `edit` is answered once its cells are marked and it is committed (`specs/Edited.antt`; what it does behind the lock,
+//! `specs/Edits.antt` says); `look` takes no lock, no runtime and no memory (`specs/Looks.antt`). Both speak of the pass
+//! that they are lent (`specs/Passes.antt`, `specs/Accepted.antt`).
 //!
 //! Below stand `edit_log` over a compressed graph, `mark_words` and `recalc_workers`; above, the program.
 #![tactic(auto)]
@@ -43,6 +44,8 @@ mod stale;
 mod telling;
 mod whole;
 mod working;
+#[cfg(test)]
+mod tests;
 
 pub use committed::{Committed, EditRefused};
 pub use desk::Desk;

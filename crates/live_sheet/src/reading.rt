@@ -25,8 +25,8 @@ pub(crate) fn read_place(marks: &Marks<OverSheet>, seat: &mut Seat<OverSheet>, p
     Loads { clean, word, mark }
 }
 
-/// What a board shows of these loads at this number of commits. A word that is no value's code shows as an empty cell; no
-/// cell ever has one.
+/// What a board shows of these loads at this number of commits. A word that is no value's code shows as an empty cell;
+/// no cell ever has one.
 pub(crate) fn show(number: u64, loads: Loads) -> Shown
     ensures { ShowsLoads number loads result }
 {
