@@ -1,3 +1,4 @@
+pub mod FirmLemmas
 pub mod LevelLemmas
 pub mod LookLemmas
 pub mod MeetingLemmas

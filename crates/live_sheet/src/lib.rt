@@ -14,6 +14,8 @@ mod codes;
 mod crossing;
 mod desk;
 mod desks;
+mod firm_cells;
+mod firming;
 mod graph;
 mod levels;
 mod live;
@@ -35,6 +37,7 @@ mod settling;
 mod setup;
 mod stale;
 mod whole;
+mod window;
 mod working;
 
 pub use desk::Desk;
