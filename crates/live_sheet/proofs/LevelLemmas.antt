@@ -120,3 +120,8 @@ on_ok P (Err e) holds = tt
 pub on_ok_both : {T F : Type 0} (P Q C : Type 0) (r : Result T F) → (P → Q → C) → OnOk r P → OnOk r Q → OnOk r C
 on_ok_both P Q C (Ok x) both one other = both one other
 on_ok_both P Q C (Err e) both one other = tt
+
+-- and so does what follows from one
+pub on_ok_then : {T F : Type 0} (P C : Type 0) (r : Result T F) → (P → C) → OnOk r P → OnOk r C
+on_ok_then P C (Ok x) then given = then given
+on_ok_then P C (Err e) then given = tt

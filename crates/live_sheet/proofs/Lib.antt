@@ -2,6 +2,7 @@ pub mod AcceptedLemmas
 pub mod CauseLemmas
 pub mod EditLemmas
 pub mod EnterLemmas
+pub mod FirmLemmas
 pub mod LevelLemmas
 pub mod LookLemmas
 pub mod MeetingLemmas

@@ -1,6 +1,7 @@
 -- The ranges that a firm look and settling compute.
 use Rattle.std.proofs.Common.{◌≡◌, ◌⊎◌, inl, inr, ◌↔◌, ℕ, ◌+◌, ◌*◌, ◌<◌, ◌≤◌, List, [], ◌∷◌, ◌++◌, IsTrue, true≢false, zero, suc, length, take, get_or, refl, sym, ◌∙◌, subst, arith}
 use Rattle.std.specs.Prelude.{Bool, IsFalse}
+use Rattle.std.proofs.lemmas.List.{take_all}
 use Rattle.sheet_refs.specs.Cells.{Position, Corners, IsIn, IsNamed}
 use Rattle.sheet_refs.specs.Rectangles.{AreDisjoint, AreMaximalRuns, IsAmong, IsBefore, Overlap}
 use Rattle.sheet_refs.specs.Sizes.{is_inside, HoldsPart, MissesRange}
@@ -14,7 +15,8 @@ use Rattle.edit_log.specs.Pairs.{ArePairsOf}
 use Rattle.edit_log.proofs.InputLemmas.{depends_step}
 use Rattle.recalc_workers.proofs.ReadingLemmas.{taken_more}
 use Rattle.sheet_model.specs.Sheets.{IsSheetSize, SheetValue}
-use Rattle.live_sheet.specs.Ranges.{AreClosed, AreCutTo}
+use Rattle.live_sheet.specs.Ranges.{AreClosed, AreCutTo, PushesPart}
+use Rattle.live_sheet.specs.Stale.{LieInside}
 use Rattle.live_sheet.proofs.StaleLemmas.{apart_from_first}
 
 -- maximal runs are disjoint
@@ -91,6 +93,14 @@ module _ (sizes : Sizes) (ranges parts : List Corners) (place : ℕ) (range : Co
         | inr inside ↦ (among_next parts part cell).1 (inr ((holds cell).1 (inside, is.1)))
       ]
 
+  pub cut_next : (new : List Corners) → PushesPart sizes range parts new → CutSoFar sizes ranges new (place + 1)
+  cut_next new (inl (misses, same)) = subst (λ (l : List Corners). CutSoFar sizes ranges l (place + 1)) (sym same) (cut_none misses)
+  cut_next new (inr (part, holds, pushed)) = subst (λ (l : List Corners). CutSoFar sizes ranges l (place + 1)) (sym pushed) (cut_one part holds)
+
+pub cut_ends : (sizes : Sizes) (ranges parts : List Corners) (place : ℕ) → length ranges ≤ place → CutSoFar sizes ranges parts place → AreCutTo sizes (IsAmong ranges) parts
+cut_ends sizes ranges parts place all so =
+    subst (λ (rs : List Corners). AreCutTo sizes (IsAmong rs) parts) (take_all place ranges all) so
+
 -- the parts of a set that is closed under steps to direct precedents are closed under inputs
 pub cut_closed : (sheet : SheetValue) (pairs : List Pair) (window : Corners) (ranges : List Corners) → ArePairsOf sheet pairs
     → ((from to : Position) → Step pairs from to → Back pairs window to → Back pairs window from)
@@ -113,3 +123,7 @@ none_inside sizes size unnamed cell inside =
       col_from = omega (arith, at.col_from, at.col_to);
       col_to = size.narrow;
     })
+
+-- they lie in the rectangle
+pub cut_inside : (sizes : Sizes) (Set : Position → Type 0) (ranges : List Corners) → AreCutTo sizes Set ranges → LieInside sizes ranges
+cut_inside sizes Set ranges cut cell among = ((cut.exact cell).0 among).1

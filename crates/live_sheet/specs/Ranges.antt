@@ -1,8 +1,8 @@
 -- Ranges of cells that are computed together.
-use Rattle.std.specs.Prelude.{◌↔◌, ℕ, List, IsTrue}
+use Rattle.std.specs.Prelude.{◌≡◌, ◌⊎◌, ◌↔◌, ℕ, List, [], ◌∷◌, ◌++◌, IsTrue}
 use Rattle.sheet_refs.specs.Cells.{Position, Corners}
 use Rattle.sheet_refs.specs.Rectangles.{AreDisjoint, IsAmong}
-use Rattle.sheet_refs.specs.Sizes.{is_inside}
+use Rattle.sheet_refs.specs.Sizes.{HoldsPart, MissesRange, is_inside}
 use Rattle.sheet_refs.specs.declared.sizes.Sizes.{Sizes}
 use Rattle.mark_core.specs.declared.actors.View.{View}
 use Rattle.sheet_model.specs.Sheets.{SheetValue}
@@ -25,3 +25,7 @@ KnowsAll touches sizes view = (cell : Position) → IsTrue (is_inside sizes cell
 pub record AreCutTo (sizes : Sizes) (Set : Position → Type 0) (ranges : List Corners) : Type 0 where
   pub disjoint : AreDisjoint ranges
   pub exact : (cell : Position) → IsAmong ranges cell ↔ (Set cell × IsTrue (is_inside sizes cell))
+
+-- the part of a range that lies in the rectangle was added to a list, if there is one
+abbrev pub PushesPart : Sizes → Corners → List Corners → List Corners → Type 0
+PushesPart sizes range old new = (MissesRange sizes range × (new ≡ old)) ⊎ ((part : Corners) × HoldsPart sizes range part × (new ≡ old ++ part ∷ []))

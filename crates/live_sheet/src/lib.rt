@@ -19,6 +19,8 @@ mod desks;
 mod editing;
 mod edits;
 mod entering;
+mod firm_cells;
+mod firming;
 mod graph;
 mod levels;
 mod live;
@@ -43,6 +45,7 @@ mod setup;
 mod stale;
 mod telling;
 mod whole;
+mod window;
 mod working;
 #[cfg(test)]
 mod tests;
