@@ -4,9 +4,9 @@
 //! once. Its entries stand in the leaves of a tree of rectangles, each of which has what stands below it; beside the
 //! tree it notes each id with its range and its place (`specs/Trees.antt`).
 //!
-//! What it does to the tree is made of few small steps, each of which leaves a tree behind (`src/steps.rt`). Which child
-//! an entry goes into and how a full node is split is decided by rectangles alone (`src/choices.rt`), and nothing that
-//! is promised rests on it.
+//! What it does to the tree is made of few small steps, each of which leaves a tree behind (`src/steps.rt`). Which
+//! child an entry goes into and how a full node is split is decided by rectangles alone (`src/choices.rt`), and
+//! nothing that is promised rests on it.
 //!
 //! Below stand `sheet_refs`, `range_index` with the trait, and the kit's `slab`.
 #![tactic(auto)]
