@@ -1,18 +1,17 @@
 -- A rectangle that is widened on the way down to a leaf.
-use Rattle.std.proofs.Common.{◌≡◌, ◌≢◌, ◌⊎◌, inl, inr, ◌<◌, ◌≤◌, ◌+◌, ℕ, List, length, Option, Some, refl, sym, ◌∙◌, ap, subst, arith}
-use Rattle.std.specs.List.{Contains}
+use Rattle.std.proofs.Common.{◌≡◌, ◌≢◌, inl, inr, ◌<◌, ℕ, Option, Some, refl, sym, ◌∙◌, ap, subst, arith}
 use Rattle.std.specs.Prelude.{slice_set}
 use Rattle.sheet_refs.specs.Cells.{Corners}
 use Rattle.range_index.specs.Entries.{Entry, entry_of, ChangesRange}
 use Rattle.range_index.proofs.ChangeLemmas.{some_same}
 use Rattle.tree_index.specs.declared.nodes.Tree.{Tree}
-use Rattle.tree_index.specs.Rectangles.{Covers, CoverAll, IsSpan}
-use Rattle.tree_index.specs.Trees.{Node, IsBelow, Links}
+use Rattle.tree_index.specs.Rectangles.{Covers, IsSpan}
+use Rattle.tree_index.specs.Trees.{Node, IsBelow}
 use Rattle.tree_index.specs.Indexes.{HoldTree, node_at}
-use Rattle.tree_index.specs.Changes.{Admits, HasPlace, HasPlaceBelow, IsInner, Rearranges, SetsRange, child_in, child_of, with_children}
+use Rattle.tree_index.specs.Changes.{Admits, HasPlace, HasPlaceBelow, IsInner, Rearranges, SetsRange, child_in, child_of}
 use Rattle.tree_index.proofs.ChildLemmas.{changes_set, listed_at}
 use Rattle.tree_index.proofs.RectangleLemmas.{covers_more}
-use Rattle.tree_index.proofs.ShapeLemmas.{link_cases, listed_in, one_node, same_level}
+use Rattle.tree_index.proofs.ShapeLemmas.{link_cases, listed_in, same_level}
 use Rattle.tree_index.proofs.WayLemmas.{range_rest}
 
 module _ (old new : Tree) (key place : ℕ) (range wide : Corners) (tree : HoldTree old) (inside : IsInner old key) (has : Admits (node_at old) key range) (below : HasPlaceBelow old key place)

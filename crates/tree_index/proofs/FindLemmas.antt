@@ -1,14 +1,14 @@
 -- The ids that are found: of some entries, and of others after them.
-use Rattle.std.proofs.Common.{◌≡◌, ◌≢◌, ◌↔◌, ◌⊎◌, inl, inr, ℕ, ◌<◌, ◌≤◌, List, [], ◌++◌, length, get_or, Result, Ok, Err, refl, sym, ◌∙◌, ap, subst, arith}
-use Rattle.std.specs.List.{Contains, AllPairs}
+use Rattle.std.proofs.Common.{◌≡◌, ◌≢◌, ◌↔◌, ◌⊎◌, inl, inr, ℕ, ◌<◌, List, [], ◌++◌, length, get_or, Result, Ok, Err, sym, ◌∙◌, ap, arith}
+use Rattle.std.specs.List.{Contains}
 use Rattle.std.specs.Result.{OnOk}
 use Rattle.std.proofs.lemmas.List.{append-nil, append_assoc}
 use Rattle.std.proofs.lemmas.List.Elements.{Contains-append_left, Contains-append_right, Contains-append_cases, Contains-get_or}
 use Rattle.sheet_refs.specs.Cells.{Corners}
 use Rattle.sheet_refs.specs.Rectangles.{Overlap}
 use Rattle.sheet_refs.proofs.Tiles.{AllPairs-append}
-use Rattle.range_index.specs.Entries.{Entry, entry_of, AddsOverlapping, IsOverlapping}
-use Rattle.tree_index.specs.Changes.{AddsThose, HasOverlapping}
+use Rattle.range_index.specs.Entries.{Entry, entry_of, AddsOverlapping}
+use Rattle.tree_index.specs.Changes.{AddsThose}
 
 -- of none
 pub adds_none : (P : Entry → Type 0) (query : Corners) (out : List ℕ) → ((e : Entry) → P e → Overlap e.range query → ⊥) → AddsThose P query out out

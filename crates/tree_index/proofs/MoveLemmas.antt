@@ -1,12 +1,10 @@
 -- A child that moves from one node to another.
-use Rattle.std.proofs.Common.{◌≡◌, ◌≢◌, ◌↔◌, ◌⊎◌, inl, inr, ℕ, ◌+◌, ◌<◌, ◌≤◌, List, length, Option, Some, None, refl, sym, ◌∙◌, ap, subst, arith}
+use Rattle.std.proofs.Common.{◌≡◌, inl, inr, ℕ, ◌<◌, Option, Some, sym, ◌∙◌, ap, subst, arith}
 use Rattle.std.specs.List.{Contains}
-use Rattle.sheet_refs.specs.Cells.{Corners}
 use Rattle.range_index.specs.Entries.{Entry, entry_of, HaveOneRange, HasNoId, Inserts, Removes, ChangesRange}
-use Rattle.tree_index.specs.Rectangles.{Covers, CoverAll}
 use Rattle.tree_index.specs.Trees.{Node, Links, IsBelow, IsShape}
 use Rattle.tree_index.specs.Changes.{SetsKey, Admits}
-use Rattle.tree_index.proofs.ShapeLemmas.{one_node, listed_in, same_level, link_cases, link_leaf, leaf_on}
+use Rattle.tree_index.proofs.ShapeLemmas.{listed_in, same_level, link_cases, leaf_on}
 use Rattle.tree_index.proofs.StepLemmas.{taken, given}
 use Rattle.tree_index.proofs.ChildLemmas.{covers_changed}
 

@@ -1,5 +1,5 @@
 -- What is noted of entries, and the entries that are noted.
-use Rattle.std.proofs.Common.{◌≡◌, ◌≢◌, ◌↔◌, ◌⊎◌, inl, inr, ℕ, ◌<◌, Bool, true, false, true≢false, cond, List, length, get_or, map, Option, Some, None, refl, sym, ◌∙◌, ap, subst, arith, nat_eq}
+use Rattle.std.proofs.Common.{◌≡◌, ◌≢◌, ◌↔◌, ◌⊎◌, inl, inr, ℕ, ◌<◌, Bool, true, false, true≢false, cond, List, length, get_or, Option, Some, None, refl, sym, ◌∙◌, ap, subst, arith, nat_eq}
 use Rattle.std.specs.List.{Contains, IsDistinct}
 use Rattle.std.specs.Map.{lookup, keys_of}
 use Rattle.std.proofs.lemmas.Bool.{cases_eq}
@@ -11,9 +11,9 @@ use Rattle.std.specs.Cmp.{nat_eq_equiv}
 use Rattle.std.proofs.lemmas.Map.Entries.{length-keys_of}
 use Rattle.std.proofs.lemmas.Map.Views.{lookup-from_Contains, Contains-from_lookup}
 use Rattle.sheet_refs.specs.Cells.{Corners}
-use Rattle.range_index.specs.Entries.{Entry, entry_of, HasId, HasNoId, HaveOneRange, Inserts, Removes, ChangesRange, SameEntries}
+use Rattle.range_index.specs.Entries.{Entry, entry_of, HasNoId, HaveOneRange, Inserts, Removes, ChangesRange, SameEntries}
 use Rattle.tree_index.specs.declared.notes.Place.{Place}
-use Rattle.tree_index.specs.declared.notes.Place.TheVariants.{Leaf, Late}
+use Rattle.tree_index.specs.declared.notes.Place.TheVariants.{Late}
 use Rattle.tree_index.specs.Trees.{Note, note_of, AreNoted}
 use Rattle.tree_index.specs.Indexes.{noted_entries}
 use Rattle.tree_index.specs.Changes.{SetsKey, place_noted}

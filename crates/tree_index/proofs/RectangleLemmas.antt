@@ -1,5 +1,5 @@
 -- What rectangles that have others have in common with a query.
-use Rattle.std.proofs.Common.{◌≤◌, List, [], ◌∷◌, ◌++◌, inl, inr, subst, arith}
+use Rattle.std.proofs.Common.{List, [], ◌∷◌, ◌++◌, inl, inr, subst, arith}
 use Rattle.std.proofs.lemmas.List.Elements.{Contains-push_cases}
 use Rattle.range_index.specs.Entries.{Entry}
 use Rattle.sheet_refs.specs.Cells.{Corners}

@@ -1,14 +1,13 @@
 -- What is kept of the shape of trees where the node under one key changes.
-use Rattle.std.proofs.Common.{◌≡◌, ◌≢◌, ◌↔◌, ◌⊎◌, inl, inr, ℕ, ◌+◌, ◌<◌, ◌≤◌, List, [], Option, Some, None, refl, sym, ◌∙◌, ap, subst, arith}
+use Rattle.std.proofs.Common.{◌≡◌, ◌≢◌, ◌⊎◌, inl, inr, ℕ, ◌+◌, ◌<◌, Option, Some, None, refl, sym, ◌∙◌, ap, subst, arith}
 use Rattle.std.specs.List.{Contains}
 use Rattle.std.proofs.lemmas.Bool.{cases_eq}
 use Rattle.sheet_refs.specs.Cells.{Corners}
-use Rattle.range_index.specs.Entries.{Entry, entry_of, HaveOneRange, HasNoId, Inserts, Removes, ChangesRange}
+use Rattle.range_index.specs.Entries.{Entry, entry_of, HaveOneRange, ChangesRange}
 use Rattle.tree_index.specs.Rectangles.{Covers, CoverAll}
-use Rattle.tree_index.specs.Trees.{Node, new_node, Links, IsInLeaf, IsBelow, HasAbove, IsShape}
+use Rattle.tree_index.specs.Trees.{Node, Links, IsBelow, HasAbove, IsShape}
 use Rattle.tree_index.specs.Changes.{SetsKey, Admits}
 use Rattle.tree_index.proofs.ChildLemmas.{one_listed}
-use Rattle.tree_index.proofs.RectangleLemmas.{covers_more}
 
 -- one key has one node
 pub one_node : (slot : Option Node) (a b : Node) → slot ≡ Some a → slot ≡ Some b → a ≡ b

@@ -1,10 +1,10 @@
 -- A node that is split, and the new one beside it.
-use Rattle.std.proofs.Common.{◌≡◌, ◌≢◌, ◌<◌, ◌≤◌, ◌+◌, ℕ, List, length, Option, Some, refl, sym, ◌∙◌, ap, subst, arith}
+use Rattle.std.proofs.Common.{◌≡◌, ◌≢◌, ◌≤◌, ℕ, length, Option, Some, sym, ◌∙◌, ap, subst, arith}
 use Rattle.std.specs.List.{Contains}
 use Rattle.range_index.specs.Entries.{Entry}
 use Rattle.range_index.proofs.ChangeLemmas.{some_same}
 use Rattle.tree_index.specs.declared.nodes.Tree.{Tree}
-use Rattle.tree_index.specs.Trees.{Node, IsBelow, Links, new_node}
+use Rattle.tree_index.specs.Trees.{Node, IsBelow, new_node}
 use Rattle.tree_index.specs.Indexes.{HoldTree, node_at}
 use Rattle.tree_index.specs.Changes.{IsBeside, MayShare, child_in, child_of}
 use Rattle.tree_index.proofs.ChildLemmas.{listed_at}

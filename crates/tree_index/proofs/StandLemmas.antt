@@ -3,12 +3,12 @@ use Rattle.std.proofs.Common.{◌≡◌, ◌≢◌, ◌↔◌, ◌⊎◌, inl, i
 use Rattle.std.specs.List.{Contains}
 use Rattle.std.proofs.lemmas.Bool.{cases_eq}
 use Rattle.sheet_refs.specs.Cells.{Corners}
-use Rattle.range_index.specs.Entries.{Entry, entry_of, Inserts, Removes, ChangesRange}
+use Rattle.range_index.specs.Entries.{Entry, entry_of, Removes, ChangesRange}
 use Rattle.tree_index.specs.declared.notes.Place.{Place}
 use Rattle.tree_index.specs.declared.notes.Place.TheVariants.{Leaf, Late}
 use Rattle.tree_index.specs.Trees.{Node, new_node, IsInLeaf, StandsAt}
 use Rattle.tree_index.specs.Changes.{SetsKey}
-use Rattle.tree_index.proofs.ShapeLemmas.{one_node, no_node, listed_in, same_level}
+use Rattle.tree_index.proofs.ShapeLemmas.{no_node, listed_in, same_level}
 
 -- an entry comes to a place, and stands at no other
 abbrev pub ComesTo : (S T : Entry → Place → Type 0) → ℕ → Corners → Place → Type 0

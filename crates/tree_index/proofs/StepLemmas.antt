@@ -1,11 +1,11 @@
 -- What is kept of the shape of trees where a node comes or goes, or a child is taken or given.
-use Rattle.std.proofs.Common.{◌≡◌, ◌≢◌, ◌↔◌, ◌⊎◌, inl, inr, ℕ, zero, suc, ◌+◌, ◌<◌, ◌≤◌, List, [], Option, Some, None, refl, sym, ◌∙◌, ap, subst, arith}
+use Rattle.std.proofs.Common.{◌≡◌, ◌≢◌, ◌⊎◌, inl, inr, ℕ, zero, suc, ◌+◌, ◌<◌, ◌≤◌, List, [], Option, Some, None, refl, sym, ◌∙◌, ap, subst, arith}
 use Rattle.std.specs.List.{Contains}
 use Rattle.std.proofs.lemmas.Bool.{cases_eq}
 use Rattle.sheet_refs.specs.Cells.{Corners}
-use Rattle.range_index.specs.Entries.{Entry, entry_of, HaveOneRange, HasNoId, Inserts, Removes}
+use Rattle.range_index.specs.Entries.{Entry, entry_of, HaveOneRange, Inserts, Removes}
 use Rattle.tree_index.specs.Rectangles.{Covers, CoverAll}
-use Rattle.tree_index.specs.Trees.{Node, new_node, Links, IsBelow, HasAbove, IsShape}
+use Rattle.tree_index.specs.Trees.{Node, new_node, Links, IsBelow, IsShape}
 use Rattle.tree_index.specs.Changes.{SetsKey, Admits}
 use Rattle.tree_index.proofs.ShapeLemmas.{one_node, no_node, listed_in, same_level, above_on, shape_on, above_of, above_through}
 

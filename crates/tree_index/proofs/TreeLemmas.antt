@@ -1,18 +1,17 @@
 -- What each step leaves of a tree.
-use Rattle.std.proofs.Common.{◌≡◌, ◌≢◌, ◌↔◌, ◌⊎◌, inl, inr, ℕ, ◌+◌, ◌<◌, ◌≤◌, List, [], ◌∷◌, ◌++◌, Option, Some, None, refl, sym, ◌∙◌, ap, subst, arith, nat_eq}
+use Rattle.std.proofs.Common.{◌≡◌, ◌≢◌, ◌↔◌, ◌⊎◌, inl, inr, ℕ, List, Option, Some, None, refl, sym, ◌∙◌, ap, nat_eq}
 use Rattle.std.specs.List.{Contains, IsDistinct}
 use Rattle.std.specs.Map.{lookup, keys_of}
 use Rattle.sheet_refs.specs.Cells.{Corners}
-use Rattle.range_index.specs.Entries.{Entry, entry_of, HaveOneRange, HasNoId, Inserts, Removes, ChangesRange}
+use Rattle.range_index.specs.Entries.{Entry, entry_of, HaveOneRange, HasNoId, Removes, ChangesRange}
 use Rattle.tree_index.specs.declared.notes.Place.{Place}
 use Rattle.tree_index.specs.declared.notes.Place.TheVariants.{Leaf, Late}
-use Rattle.tree_index.specs.Rectangles.{Covers, CoverAll}
-use Rattle.tree_index.specs.Trees.{Node, Note, note_of, Links, IsInLeaf, IsInTree, IsShape, IsTree, StandsAt}
+use Rattle.tree_index.specs.Trees.{Node, Note, note_of, IsInLeaf, IsInTree, IsTree, StandsAt}
 use Rattle.tree_index.specs.Indexes.{noted_entries}
 use Rattle.tree_index.specs.Changes.{SetsKey, Admits}
-use Rattle.tree_index.proofs.ShapeLemmas.{one_node, listed_in, same_level, leaf_on}
-use Rattle.tree_index.proofs.NoteLemmas.{put_noted, gone_noted, same_noted, one_note, no_note, listed_noted}
-use Rattle.tree_index.proofs.StandLemmas.{ComesTo, GoesAway, leaf_gets, leaf_loses, late_gets, late_loses, moves_to}
+use Rattle.tree_index.proofs.ShapeLemmas.{listed_in, leaf_on}
+use Rattle.tree_index.proofs.NoteLemmas.{put_noted, gone_noted, one_note, listed_noted}
+use Rattle.tree_index.proofs.StandLemmas.{leaf_gets, leaf_loses, late_gets, late_loses}
 use Rattle.tree_index.proofs.ChildLemmas.{covers_changed}
 
 -- what is noted of an id is where its entry stands, and there alone

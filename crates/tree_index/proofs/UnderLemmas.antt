@@ -1,21 +1,20 @@
 -- What stands under nodes of a tree: their rectangles have it, it stands under one child alone, and under the root.
-use Rattle.std.proofs.Common.{◌≡◌, ◌≢◌, ◌↔◌, ◌⊎◌, inl, inr, ℕ, zero, suc, ◌+◌, ◌<◌, ◌≤◌, List, ◌∷◌, [], ◌++◌, length, get_or, take, Option, Some, None, refl, sym, ◌∙◌, ap, subst, arith}
-use Rattle.std.specs.List.{Contains, slice_get}
+use Rattle.std.proofs.Common.{◌≡◌, ◌↔◌, ◌⊎◌, inl, inr, ℕ, zero, suc, ◌+◌, ◌<◌, List, ◌∷◌, [], ◌++◌, length, get_or, take, Option, Some, None, sym, ◌∙◌, ap, subst, arith}
+use Rattle.std.specs.List.{Contains}
 use Rattle.std.proofs.lemmas.Bool.{cases_eq}
 use Rattle.std.proofs.lemmas.List.Elements.{Contains-push_cases, Contains-append_left, Contains-push}
 use Rattle.sheet_refs.specs.Cells.{Corners}
 use Rattle.sheet_refs.specs.Rectangles.{Overlap}
 use Rattle.range_index.specs.Entries.{Entry, entry_of, HaveOneRange}
 use Rattle.tree_index.specs.Rectangles.{Covers, CoverAll}
-use Rattle.tree_index.specs.declared.notes.Place.{Place}
-use Rattle.tree_index.specs.declared.notes.Place.TheVariants.{Leaf, Late}
+use Rattle.tree_index.specs.declared.notes.Place.TheVariants.{Leaf}
 use Rattle.tree_index.specs.Trees.{Node, Note, note_of, Links, IsInLeaf, IsShape, IsUnder, IsInTree}
 use Rattle.tree_index.specs.Changes.{AddsThose}
 use Rattle.tree_index.proofs.RectangleLemmas.{covers_more, overlaps_more}
-use Rattle.tree_index.proofs.ShapeLemmas.{one_node, listed_in, same_level}
+use Rattle.tree_index.proofs.ShapeLemmas.{one_node, listed_in}
 use Rattle.tree_index.proofs.StepLemmas.{root_there}
 use Rattle.tree_index.proofs.NoteLemmas.{one_note}
-use Rattle.tree_index.proofs.FindLemmas.{adds_none, adds_same, adds_both}
+use Rattle.tree_index.proofs.FindLemmas.{adds_same, adds_both}
 use Rattle.range_index.proofs.EntryLemmas.{absent_before}
 
 -- an entry stands under one of some children

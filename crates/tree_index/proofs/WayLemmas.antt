@@ -1,15 +1,15 @@
 -- Trees that have been rearranged, one after another.
-use Rattle.std.proofs.Common.{◌≡◌, ◌≢◌, ◌↔◌, ◌⊎◌, inl, inr, ℕ, ◌+◌, ◌<◌, ◌≤◌, List, Option, Some, None, refl, sym, ◌∙◌, ap, subst, arith, nat_eq}
-use Rattle.std.specs.List.{Contains, IsDistinct}
+use Rattle.std.proofs.Common.{◌≡◌, ◌≢◌, ◌↔◌, inl, inr, ℕ, ◌<◌, List, Option, Some, None, refl, sym, ◌∙◌, ap, subst, arith, nat_eq}
+use Rattle.std.specs.List.{IsDistinct}
 use Rattle.std.specs.Map.{lookup, keys_of}
 use Rattle.sheet_refs.specs.Cells.{Corners}
 use Rattle.std.specs.Prelude.{slice_index_or, slice_set}
 use Rattle.range_index.specs.Entries.{Entry, entry_of, ChangesRange, HasNoId, HaveOneRange, Inserts, Removes, SameEntries}
 use Rattle.tree_index.specs.declared.notes.Place.{Place}
 use Rattle.tree_index.specs.declared.nodes.Tree.{Tree}
-use Rattle.tree_index.specs.Rectangles.{Covers, CoverAll}
+use Rattle.tree_index.specs.Rectangles.{CoverAll}
 use Rattle.tree_index.specs.Trees.{Node, Note, Links, IsShape, IsTree, StandsAt}
-use Rattle.tree_index.specs.Indexes.{HoldTree, entries_in, noted_entries, node_at, room_of}
+use Rattle.tree_index.specs.Indexes.{HoldTree, entries_in, noted_entries, node_at}
 use Rattle.tree_index.specs.Changes.{Rearranges, KeepsNode, Admits, SetsRange, with_children}
 use Rattle.tree_index.proofs.ChildLemmas.{changes_set, listed_at, set_once}
 use Rattle.tree_index.proofs.NoteLemmas.{listed_noted, same_noted, note_in}

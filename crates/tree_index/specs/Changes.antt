@@ -1,5 +1,5 @@
 -- How a tree changes.
-use Rattle.std.specs.Prelude.{◌≡◌, ◌≢◌, ◌⊎◌, ◌↔◌, ◌++◌, ℕ, ◌+◌, ◌-◌, ◌<◌, ◌≤◌, List, [], length, Option, Some, None, Contains, AllPairs, nat_eq, slice_set}
+use Rattle.std.specs.Prelude.{◌≡◌, ◌≢◌, ◌↔◌, ◌++◌, ℕ, ◌+◌, ◌-◌, ◌<◌, ◌≤◌, List, [], length, Option, Some, None, Contains, AllPairs, nat_eq, slice_set}
 use Rattle.std.specs.HashMap.{get}
 use Rattle.std.specs.List.{slice_get}
 use Rattle.sheet_refs.specs.Cells.{Corners}

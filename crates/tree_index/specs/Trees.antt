@@ -6,7 +6,7 @@ use Rattle.sheet_refs.specs.Cells.{Corners}
 use Rattle.range_index.specs.Entries.{Entry, entry_of, HaveOneRange}
 use Rattle.tree_index.specs.declared.notes.Place.{Place}
 use Rattle.tree_index.specs.declared.notes.Place.TheVariants.{Leaf, Late}
-use Rattle.tree_index.specs.Rectangles.{Covers, CoverAll}
+use Rattle.tree_index.specs.Rectangles.{CoverAll}
 
 -- how many levels are below a node, and its children: entries at level 0, and above it keys of nodes with their
 -- rectangles

@@ -2,8 +2,8 @@ use Rattle.std.proofs.Common.{◌≡◌, ◌+◌, ◌++◌, ◌∷◌, [], ℕ, 
 use Rattle.sheet_refs.specs.Cells.{Corners}
 use Rattle.sheet_refs.specs.Rectangles.{Overlap}
 use Rattle.std.proofs.lemmas.List.{take_more}
-use Rattle.range_index.specs.Entries.{Entry, HaveOneRange, HasNoId, AddsOverlapping}
-use Rattle.range_index.proofs.EntryLemmas.{not_found, one_found, absent_before, found_keeps}
+use Rattle.range_index.specs.Entries.{Entry, HasNoId, AddsOverlapping}
+use Rattle.range_index.proofs.EntryLemmas.{not_found, one_found, absent_before}
 use Rattle.tree_index.proofs.finding.visit_items.Goals as goal
 use Rattle.tree_index.proofs.finding.visit_items.Goals.{then-overlaps+in_ok-push, else-overlaps}
 

@@ -1,4 +1,4 @@
-use Rattle.std.proofs.Common.{◌≡◌, ◌≢◌, ◌<◌, ◌+◌, ◌-◌, ◌++◌, ◌∷◌, [], ℕ, suc, List, true, false, take, Some, None, refl, sym, ◌∙◌, ap, subst, arith, rules}
+use Rattle.std.proofs.Common.{◌≡◌, ◌≢◌, ◌<◌, ◌+◌, ◌-◌, ◌++◌, ◌∷◌, [], ℕ, suc, List, true, false, take, Some, None, sym, ◌∙◌, ap, subst, arith, rules}
 use Rattle.std.specs.List.{Contains}
 use Rattle.std.specs.Result.{OnOk}
 use Rattle.std.proofs.lemmas.List.{take_all, take_more}
@@ -7,12 +7,12 @@ use Rattle.sheet_refs.specs.Cells.{Corners}
 use Rattle.sheet_refs.specs.Rectangles.{Overlap}
 use Rattle.range_index.specs.Entries.{Entry, HaveOneRange}
 use Rattle.tree_index.specs.declared.notes.Place.TheVariants.{Leaf}
-use Rattle.tree_index.specs.Trees.{Node, IsInLeaf, IsUnder}
+use Rattle.tree_index.specs.Trees.{Node, IsUnder}
 use Rattle.tree_index.specs.Indexes.{node_at}
 use Rattle.tree_index.specs.Changes.{AddsThose}
 use Rattle.tree_index.proofs.FindLemmas.{adds_none, adds_same}
 use Rattle.tree_index.proofs.NoteLemmas.{note_in}
-use Rattle.tree_index.proofs.ShapeLemmas.{no_node, one_node, same_level}
+use Rattle.tree_index.proofs.ShapeLemmas.{no_node, same_level}
 use Rattle.tree_index.proofs.UnderLemmas.{IsUnderOne, next_found, next_passed, under_children, under_there}
 use Rattle.tree_index.proofs.nodes.Tree.+visit_below.Goals as goal
 use Rattle.tree_index.proofs.nodes.Tree.+visit_below.Goals.{then-overlaps+in_ok-visit_below, else-overlaps}

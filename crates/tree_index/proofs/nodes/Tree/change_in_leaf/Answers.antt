@@ -1,4 +1,4 @@
-use Rattle.std.proofs.Common.{◌≡◌, ℕ, List, Option, Some, None, refl, sym, ◌∙◌, ap, subst, rules}
+use Rattle.std.proofs.Common.{◌≡◌, ℕ, List, Option, Some, None, refl, ◌∙◌, ap, subst, rules}
 use Rattle.std.specs.Prelude.{slice_set}
 use Rattle.std.specs.List.{Contains}
 use Rattle.range_index.specs.Entries.{Entry, entry_of, HaveOneRange, IsPlaceOf, ChangesRange}
@@ -6,7 +6,7 @@ use Rattle.range_index.proofs.ChangeLemmas.{some_is}
 use Rattle.tree_index.specs.declared.notes.Place.TheVariants.{Leaf}
 use Rattle.tree_index.specs.Trees.{Node, note_of}
 use Rattle.tree_index.specs.Indexes.{node_at}
-use Rattle.tree_index.specs.Changes.{SetsKey, child_in, note_at, with_children}
+use Rattle.tree_index.specs.Changes.{SetsKey, child_in, with_children}
 use Rattle.tree_index.proofs.ChildLemmas.{changes_set, found_at, id_at, set_once}
 use Rattle.tree_index.proofs.NoteLemmas.{changes_noted, note_in}
 use Rattle.tree_index.proofs.ShapeLemmas.{one_node, no_node, listed_in, same_level}

@@ -1,10 +1,10 @@
 use Rattle.std.proofs.Common.{◌≡◌, ◌≢◌, ◌<◌, ◌∙◌, ℕ, List, [], Option, Some, refl, sym, ap, subst, arith}
 use Rattle.std.specs.Prelude.{swap_remove}
 use Rattle.std.specs.List.{Contains, slice_get}
-use Rattle.range_index.specs.Entries.{Entry, entry_of, Removes}
-use Rattle.tree_index.specs.Trees.{Node, Links, IsShape}
+use Rattle.range_index.specs.Entries.{Entry, entry_of}
+use Rattle.tree_index.specs.Trees.{Node, IsShape}
 use Rattle.tree_index.specs.Indexes.{node_at}
-use Rattle.tree_index.specs.Changes.{SetsKey, SetsChildren, child_in, with_children}
+use Rattle.tree_index.specs.Changes.{SetsChildren, child_in, with_children}
 use Rattle.tree_index.proofs.ChildLemmas.{listed_at, removes_at, some_of, swapped_out}
 use Rattle.tree_index.proofs.ShapeLemmas.{one_node, same_level}
 use Rattle.tree_index.proofs.StepLemmas.{gone, taken}

@@ -1,8 +1,7 @@
-use Rattle.std.proofs.Common.{◌≡◌, List, [], refl, subst, arith}
+use Rattle.std.proofs.Common.{List, [], refl, subst, arith}
 use Rattle.std.specs.List.{Contains}
 use Rattle.range_index.specs.Entries.{Entry}
 use Rattle.tree_index.specs.Indexes.{node_at}
-use Rattle.tree_index.specs.Changes.{SetsKey}
 use Rattle.tree_index.proofs.StepLemmas.{gone}
 use Rattle.tree_index.proofs.StandLemmas.{no_leaf, none_no_leaf, empty_no_leaf}
 use Rattle.tree_index.proofs.WayLemmas.{rearranged, reshaped}

@@ -1,11 +1,10 @@
-use Rattle.std.proofs.Common.{◌≡◌, ◌≢◌, ◌<◌, ◌≤◌, ◌+◌, ◌++◌, ◌∷◌, [], ℕ, List, Option, Some, None, refl, sym, ◌∙◌, ap, subst, arith, rules}
-use Rattle.std.specs.List.{Contains}
+use Rattle.std.proofs.Common.{◌≡◌, ◌≢◌, ◌<◌, ◌+◌, ◌++◌, ◌∷◌, [], ℕ, List, Some, refl, sym, ◌∙◌, ap, subst, arith, rules}
 use Rattle.sheet_refs.specs.Cells.{Corners}
-use Rattle.range_index.specs.Entries.{Entry, entry_of, HasNoId, HaveOneRange, Inserts}
+use Rattle.range_index.specs.Entries.{Entry, entry_of}
 use Rattle.tree_index.specs.declared.nodes.Tree.{Tree}
 use Rattle.tree_index.specs.Rectangles.{CoverAll}
-use Rattle.tree_index.specs.Trees.{Node, Links, IsShape, new_node}
-use Rattle.tree_index.specs.Indexes.{node_at, HoldTree}
+use Rattle.tree_index.specs.Trees.{Node, IsShape, new_node}
+use Rattle.tree_index.specs.Indexes.{node_at}
 use Rattle.tree_index.specs.Changes.{Rearranges, SetsKey, with_children}
 use Rattle.tree_index.proofs.ChildLemmas.{inserts_pushed, pushed_once}
 use Rattle.tree_index.proofs.ShapeLemmas.{no_node, one_node, swapped}

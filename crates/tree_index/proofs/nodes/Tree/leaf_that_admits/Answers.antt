@@ -1,4 +1,4 @@
-use Rattle.std.proofs.Common.{◌≡◌, Some, sym, ◌∙◌, ap}
+use Rattle.std.proofs.Common.{Some, sym, ◌∙◌, ap}
 use Rattle.tree_index.specs.declared.notes.Place.TheVariants.{Leaf}
 use Rattle.tree_index.specs.Changes.{note_at}
 use Rattle.tree_index.proofs.NoteLemmas.{noted_at}

@@ -1,12 +1,11 @@
-use Rattle.std.proofs.Common.{◌≡◌, ◌≢◌, ◌<◌, ◌≤◌, ◌+◌, ◌-◌, ◌++◌, ◌∷◌, [], ℕ, List, Option, Some, None, inl, inr, refl, sym, ◌∙◌, ap, subst, arith, rules}
-use Rattle.std.specs.List.{Contains, slice_get}
+use Rattle.std.proofs.Common.{◌≡◌, ◌≢◌, ◌<◌, ◌+◌, ◌-◌, ◌++◌, ◌∷◌, [], ℕ, List, Option, Some, None, inl, inr, refl, sym, ◌∙◌, ap, subst, arith, rules}
+use Rattle.std.specs.List.{slice_get}
 use Rattle.sheet_refs.specs.Cells.{Corners}
-use Rattle.range_index.specs.Entries.{Entry, entry_of, HasNoId, HaveOneRange, Inserts}
-use Rattle.tree_index.specs.declared.nodes.Tree.{Tree}
-use Rattle.tree_index.specs.Rectangles.{Covers, CoverAll}
+use Rattle.range_index.specs.Entries.{Entry, entry_of, HasNoId}
+use Rattle.tree_index.specs.Rectangles.{Covers}
 use Rattle.tree_index.specs.Trees.{Node, Links, IsShape, new_node}
-use Rattle.tree_index.specs.Indexes.{node_at, HoldTree}
-use Rattle.tree_index.specs.Changes.{Admits, SetsKey, child_in, with_children}
+use Rattle.tree_index.specs.Indexes.{node_at}
+use Rattle.tree_index.specs.Changes.{SetsKey, child_in, with_children}
 use Rattle.tree_index.proofs.ChildLemmas.{inserts_pushed, listed_at, pushed_once}
 use Rattle.tree_index.proofs.ShapeLemmas.{level_on, link_cases, listed_in, no_node, one_node}
 use Rattle.tree_index.proofs.StepLemmas.{given, link_made, made, root_there}

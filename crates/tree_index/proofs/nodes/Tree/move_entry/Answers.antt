@@ -1,14 +1,14 @@
-use Rattle.std.proofs.Common.{◌≡◌, ◌≢◌, ◌<◌, ◌≤◌, ◌+◌, ◌++◌, ◌∷◌, [], ℕ, List, length, Option, Some, refl, sym, ◌∙◌, ap, subst, arith}
+use Rattle.std.proofs.Common.{◌≡◌, ◌≤◌, ◌+◌, ◌++◌, ◌∷◌, [], List, length, Option, Some, refl, sym, ◌∙◌, ap, subst, arith}
 use Rattle.std.specs.Prelude.{swap_remove}
 use Rattle.std.specs.HashMap.{spare}
 use Rattle.std.specs.List.{Contains, slice_get}
 use Rattle.std.proofs.lemmas.List.{length-append}
-use Rattle.range_index.specs.Entries.{Entry, entry_of, HasNoId, HaveOneRange, Inserts, Removes}
+use Rattle.range_index.specs.Entries.{Entry, entry_of, HasNoId, Removes}
 use Rattle.range_index.proofs.ChangeLemmas.{some_is}
 use Rattle.tree_index.specs.declared.notes.Place.TheVariants.{Leaf}
-use Rattle.tree_index.specs.Trees.{Node, IsInLeaf, IsShape, StandsAt, note_of}
+use Rattle.tree_index.specs.Trees.{Node, IsShape, StandsAt, note_of}
 use Rattle.tree_index.specs.Indexes.{node_at}
-use Rattle.tree_index.specs.Changes.{SetsKey, Admits, SetsChildren, child_in, with_children, note_at}
+use Rattle.tree_index.specs.Changes.{SetsKey, Admits, child_in, with_children, note_at}
 use Rattle.tree_index.proofs.ChildLemmas.{changes_pushed, inserts_pushed, listed_at, one_shorter, pushed_once, removes_at, swapped_out}
 use Rattle.tree_index.proofs.MoveLemmas.{links_back, may_on, moved_entry}
 use Rattle.tree_index.proofs.NoteLemmas.{changes_noted, note_in, put_noted, same_entries}

@@ -1,8 +1,8 @@
-use Rattle.std.proofs.Common.{◌≡◌, ◌≢◌, ◌<◌, ◌≤◌, ◌+◌, ◌++◌, ◌∷◌, [], ℕ, List, length, Option, Some, refl, sym, ◌∙◌, ap, subst, arith}
+use Rattle.std.proofs.Common.{◌≡◌, ◌<◌, ◌≤◌, ◌+◌, ◌++◌, ◌∷◌, [], List, length, Option, Some, refl, sym, ◌∙◌, ap, subst, arith}
 use Rattle.std.specs.Prelude.{swap_remove}
 use Rattle.std.specs.List.{Contains, slice_get}
 use Rattle.std.proofs.lemmas.List.{length-append}
-use Rattle.range_index.specs.Entries.{Entry, entry_of, HasNoId, HaveOneRange, Inserts, Removes}
+use Rattle.range_index.specs.Entries.{Entry, entry_of, HasNoId, HaveOneRange}
 use Rattle.tree_index.specs.Trees.{Node, Links, IsShape}
 use Rattle.tree_index.specs.Indexes.{node_at}
 use Rattle.tree_index.specs.Changes.{SetsKey, Admits, child_in, with_children, KeepsNode, MayShare, Rearranges}

@@ -1,9 +1,8 @@
-use Rattle.std.proofs.Common.{◌≡◌, ◌⊎◌, inl, inr, ℕ, Some, None, refl, sym, ◌∙◌, ap, subst, arith}
+use Rattle.std.proofs.Common.{inl, inr, ℕ, ◌∙◌, subst, arith}
 use Rattle.std.proofs.lemmas.Bool.{cases_eq}
-use Rattle.range_index.specs.Entries.{Entry}
-use Rattle.tree_index.specs.Trees.{IsShape, new_node}
+use Rattle.tree_index.specs.Trees.{IsShape}
 use Rattle.tree_index.specs.Indexes.{node_at}
-use Rattle.tree_index.proofs.ShapeLemmas.{alone, one_node}
+use Rattle.tree_index.proofs.ShapeLemmas.{alone}
 use Rattle.tree_index.proofs.StepLemmas.{made}
 use Rattle.tree_index.proofs.StandLemmas.{no_leaf, none_no_leaf, new_no_leaf}
 use Rattle.tree_index.proofs.WayLemmas.{rearranged, reshaped}

@@ -1,9 +1,9 @@
 use Rattle.std.proofs.Common.{◌≡◌, ◌++◌, ◌∷◌, [], ◌∙◌, Some, refl, arith}
-use Rattle.range_index.specs.Entries.{Entry, entry_of, HasNoId, ChangesRange}
+use Rattle.range_index.specs.Entries.{Entry, entry_of, HasNoId}
 use Rattle.range_index.proofs.TableLemmas.{on_ok}
 use Rattle.tree_index.specs.declared.notes.Place.TheVariants.{Leaf}
-use Rattle.tree_index.specs.Trees.{Node, note_of, IsInLeaf}
-use Rattle.tree_index.specs.Indexes.{node_at, noted_entries}
+use Rattle.tree_index.specs.Trees.{Node, note_of}
+use Rattle.tree_index.specs.Indexes.{node_at}
 use Rattle.tree_index.specs.Changes.{SetsKey, with_children}
 use Rattle.tree_index.proofs.ChildLemmas.{changes_pushed, pushed_once}
 use Rattle.tree_index.proofs.NoteLemmas.{sets_note, changes_noted, inserts_noted, note_in}

@@ -1,4 +1,4 @@
-use Rattle.std.proofs.Common.{◌≡◌, Some, refl, ap, arith}
+use Rattle.std.proofs.Common.{◌≡◌, Some, arith}
 use Rattle.std.proofs.Common.{◌++◌, ◌∷◌, [], List, sym, subst}
 use Rattle.range_index.specs.Entries.{Entry, entry_of, HasNoId, HaveOneRange, ChangesRange}
 use Rattle.range_index.proofs.TableLemmas.{on_ok}

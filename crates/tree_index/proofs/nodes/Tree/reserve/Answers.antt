@@ -1,4 +1,4 @@
-use Rattle.std.proofs.Common.{◌≡◌, List, Option, refl, ap}
+use Rattle.std.proofs.Common.{refl, ap}
 use Rattle.slab.specs.Slab.{Slab}
 use Rattle.tree_index.specs.Trees.{Node}
 use Rattle.tree_index.specs.Indexes.{entries_in, noted_entries}

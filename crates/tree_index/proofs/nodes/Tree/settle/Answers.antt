@@ -1,12 +1,10 @@
-use Rattle.std.proofs.Common.{◌≡◌, ◌++◌, ◌∷◌, [], ℕ, ◌-◌, ◌<◌, List, Option, Some, length, get_or, vec_len, refl, sym, ◌∙◌, ap, subst, arith, rules}
-use Rattle.std.specs.List.{Contains}
-use Rattle.std.specs.Option.{IsSome}
-use Rattle.range_index.specs.Entries.{Entry, entry_of, HasNoId, HaveOneRange, Removes, ChangesRange}
+use Rattle.std.proofs.Common.{◌≡◌, ◌++◌, ◌∷◌, [], ℕ, ◌-◌, Some, length, get_or, vec_len, refl, ◌∙◌, subst, arith, rules}
+use Rattle.range_index.specs.Entries.{Entry, HasNoId, HaveOneRange, Removes}
 use Rattle.range_index.proofs.ChangeLemmas.{some_is}
 use Rattle.tree_index.specs.declared.notes.Place.TheVariants.{Leaf, Late}
-use Rattle.tree_index.specs.Trees.{Node, Note, note_of, IsTree}
-use Rattle.tree_index.specs.Indexes.{node_at, noted_entries}
-use Rattle.tree_index.specs.Changes.{SetsKey, Admits, note_at, with_children}
+use Rattle.tree_index.specs.Trees.{Node, note_of}
+use Rattle.tree_index.specs.Indexes.{node_at}
+use Rattle.tree_index.specs.Changes.{SetsKey, note_at, with_children}
 use Rattle.tree_index.proofs.ChildLemmas.{changes_pushed, listed_at, popped, pushed_once, removes_last}
 use Rattle.tree_index.proofs.NoteLemmas.{changes_noted, same_entries, note_in}
 use Rattle.tree_index.proofs.ShapeLemmas.{same_level}

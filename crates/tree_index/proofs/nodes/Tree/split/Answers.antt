@@ -1,8 +1,7 @@
-use Rattle.std.proofs.Common.{◌≡◌, ◌≢◌, ◌≤◌, ℕ, List, length, Some, refl, sym, ◌∙◌, ap, arith, rules}
+use Rattle.std.proofs.Common.{◌≡◌, ◌≢◌, ◌≤◌, ℕ, List, length, Some, sym, ◌∙◌, ap, arith, rules}
 use Rattle.range_index.specs.Entries.{Entry}
 use Rattle.tree_index.specs.Trees.{Node}
 use Rattle.tree_index.specs.Indexes.{node_at}
-use Rattle.tree_index.specs.Changes.{KeepsNode, child_of}
 use Rattle.tree_index.proofs.SplitLemmas.{above_no_to, child_is, may_share, no_above}
 use Rattle.tree_index.proofs.WayLemmas.{kept_on, rearranged_on}
 use Rattle.tree_index.proofs.nodes.Tree.split.Goals as goal

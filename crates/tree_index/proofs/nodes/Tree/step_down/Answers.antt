@@ -1,6 +1,6 @@
 use Rattle.std.proofs.Common.{◌≡◌, Some, sym, ◌∙◌, ap}
-use Rattle.range_index.specs.Entries.{Entry, entry_of}
-use Rattle.tree_index.specs.Changes.{IsInner, child_of}
+use Rattle.range_index.specs.Entries.{entry_of}
+use Rattle.tree_index.specs.Changes.{child_of}
 use Rattle.tree_index.proofs.DownLemmas.{admits_below, place_below, widened}
 use Rattle.tree_index.proofs.WayLemmas.{rearranged_on}
 use Rattle.tree_index.proofs.nodes.Tree.step_down.Goals as goal

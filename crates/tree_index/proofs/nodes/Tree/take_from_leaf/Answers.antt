@@ -1,9 +1,8 @@
-use Rattle.std.proofs.Common.{◌≡◌, List, ℕ, Option, Some, None, refl, sym, ◌∙◌, ap, subst, rules}
+use Rattle.std.proofs.Common.{◌≡◌, List, Option, Some, None, refl, ◌∙◌, ap, subst, rules}
 use Rattle.std.specs.Prelude.{swap_remove}
 use Rattle.std.specs.List.{Contains}
 use Rattle.range_index.specs.Entries.{Entry, entry_of, HaveOneRange, IsPlaceOf, Removes}
-use Rattle.tree_index.specs.declared.notes.Place.TheVariants.{Leaf}
-use Rattle.tree_index.specs.Trees.{Node, IsInLeaf}
+use Rattle.tree_index.specs.Trees.{Node}
 use Rattle.tree_index.specs.Indexes.{node_at}
 use Rattle.tree_index.specs.Changes.{SetsKey, SetsChildren, child_in, with_children}
 use Rattle.tree_index.proofs.ChildLemmas.{found_at, removes_place, some_of}

@@ -1,4 +1,4 @@
-use Rattle.std.proofs.Common.{◌≡◌, List, None, refl, subst}
+use Rattle.std.proofs.Common.{List, None, refl, subst}
 use Rattle.range_index.specs.Entries.{Entry, entry_of, HaveOneRange, IsPlaceOf, Removes}
 use Rattle.tree_index.specs.Changes.{SetsKey}
 use Rattle.tree_index.proofs.ChildLemmas.{removes_place}

@@ -1,6 +1,5 @@
 use Rattle.std.proofs.Common.{◌≡◌, Option, Some, None, sym, ◌∙◌, ap, rules}
 use Rattle.range_index.specs.Entries.{entry_of}
-use Rattle.tree_index.specs.declared.notes.Place.{Place}
 use Rattle.tree_index.specs.declared.notes.Place.TheVariants.{Leaf, Late}
 use Rattle.tree_index.specs.Trees.{Note}
 use Rattle.tree_index.specs.Indexes.{entries_in}

@@ -1,9 +1,9 @@
-use Rattle.std.proofs.Common.{◌≡◌, ◌≢◌, ◌<◌, ℕ, List, Option, Some, refl, sym, ◌∙◌, ap, subst, arith, rules}
+use Rattle.std.proofs.Common.{◌≡◌, ◌<◌, List, Some, sym, ◌∙◌, ap, subst, arith, rules}
 use Rattle.std.specs.List.{slice_get}
 use Rattle.sheet_refs.specs.Cells.{Corners}
 use Rattle.range_index.specs.Entries.{Entry, entry_of}
 use Rattle.range_index.proofs.ChangeLemmas.{some_same}
-use Rattle.tree_index.specs.Rectangles.{Covers, CoverAll}
+use Rattle.tree_index.specs.Rectangles.{CoverAll}
 use Rattle.tree_index.specs.Trees.{Node, Links}
 use Rattle.tree_index.specs.Indexes.{node_at}
 use Rattle.tree_index.specs.Changes.{Admits}

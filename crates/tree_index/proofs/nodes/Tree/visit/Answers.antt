@@ -1,14 +1,12 @@
-use Rattle.std.proofs.Common.{◌≡◌, ◌↔◌, ◌⊎◌, ℕ, inl, inr, List, Some, sym, ◌∙◌, ap, subst}
+use Rattle.std.proofs.Common.{◌⊎◌, ℕ, List, subst}
 use Rattle.std.specs.List.{Contains}
 use Rattle.range_index.specs.Entries.{Entry, AddsOverlapping}
 use Rattle.range_index.proofs.EntryLemmas.{keeps_on}
-use Rattle.tree_index.specs.declared.notes.Place.{Place}
-use Rattle.tree_index.specs.declared.notes.Place.TheVariants.{Leaf, Late}
-use Rattle.tree_index.specs.Trees.{Note, note_of, IsInTree, IsTree, StandsAt}
+use Rattle.tree_index.specs.Trees.{IsInTree}
 use Rattle.tree_index.specs.Indexes.{entries_in, node_at}
 use Rattle.tree_index.proofs.FindLemmas.{adds_both, adds_listed, adds_same, listed_adds, on_ok_map}
 use Rattle.tree_index.proofs.TreeLemmas.{late_apart, standing}
-use Rattle.tree_index.proofs.NoteLemmas.{listed_noted, note_in, one_note, one_range}
+use Rattle.tree_index.proofs.NoteLemmas.{one_range}
 use Rattle.tree_index.proofs.nodes.Tree.visit.Goals as goal
 
 pub returns-in_err-visit_items-clause-one_range : goal.returns-in_err-visit_items-clause-one_range

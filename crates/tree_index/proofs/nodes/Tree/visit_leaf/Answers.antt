@@ -1,7 +1,7 @@
-use Rattle.std.proofs.Common.{◌≡◌, List, Some, refl, sym, ◌∙◌, ap, subst, rules}
+use Rattle.std.proofs.Common.{◌≡◌, List, Some, sym, ◌∙◌, ap, subst, rules}
 use Rattle.std.specs.List.{Contains}
 use Rattle.range_index.specs.Entries.{Entry}
-use Rattle.tree_index.specs.Trees.{Node, IsInLeaf, IsUnder}
+use Rattle.tree_index.specs.Trees.{Node, IsUnder}
 use Rattle.tree_index.specs.Indexes.{node_at}
 use Rattle.tree_index.proofs.FindLemmas.{adds_listed, adds_same, on_ok_map}
 use Rattle.tree_index.proofs.ShapeLemmas.{listed_in}

@@ -1,5 +1,4 @@
-use Rattle.std.proofs.Common.{◌≡◌, Some, None, ◌∙◌, ap, subst, ℕ, rules}
-use Rattle.std.specs.Result.{OnOk}
+use Rattle.std.proofs.Common.{◌≡◌, Some, None, ap, subst, ℕ, rules}
 use Rattle.tree_index.specs.Trees.{Node, IsInTree, IsUnder}
 use Rattle.tree_index.specs.Indexes.{node_at}
 use Rattle.tree_index.specs.Changes.{AddsThose}
