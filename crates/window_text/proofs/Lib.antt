@@ -1,3 +1,4 @@
+pub mod ChangeLemmas
 pub mod EdgesLemmas
 pub mod QuoteLemmas
 pub mod ReportLemmas

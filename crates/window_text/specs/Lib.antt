@@ -1,3 +1,4 @@
+pub mod Changes
 pub mod Quotes
 pub mod Reports
 pub mod Texts

@@ -2,16 +2,18 @@ ghost use Rattle.std.specs.Prelude.{◌≡◌, ◌≤◌, All, IsTrue};
 ghost use Rattle.sheet_refs.specs.Sizes.{is_inside};
 ghost use Rattle.sheet_model.specs.Values.{AreValues, value_of};
 ghost use Rattle.text_pieces.specs.Pieces.{HandsOut};
+ghost use Rattle.window_text.specs.Changes.{batch_text};
 ghost use Rattle.window_text.specs.Reports.{IsFull, play_text};
 ghost use Rattle.window_text.specs.Texts.{IsWithinSheet, row_text, runs_text, show_text};
 ghost use Rattle.window_text.specs.Texts.{check_text, shown_cell};
 
+use crate::changes::send_changes;
 use crate::edges::{send_count, send_edge};
 use crate::pieces::send_value;
 use crate::report::Report;
 use crate::reports::send_report;
 use edge_patterns::Edge;
-use sheet_model::Sheet;
+use sheet_model::{Edit, Sheet};
 use sheet_refs::{Cell, Range};
 use text_pieces::{send, send_range};
 use value_core::{Value, decode};
@@ -107,6 +109,22 @@ impl Printer {
             }
         }
         true
+    }
+
+    /// What an edit is as lines of a script: `batch`, a line `set CELL CONTENT` or `clear CELL` for each change, in
+    /// order, and `end`. A value is printed as in windows, a formula in its plain text; the table of labels is that of
+    /// the sheet. It takes time in proportion to the text, but for long chains of left operands (`send_formula`).
+    pub fn batch<F: FnMut(&[u8]) -> bool>(sheet: &Sheet, edit: &Edit, to: &mut F) -> bool
+        requires callable { F.IsAlwaysCallable to.old }
+        ensures sent { HandsOut F.FnMut to.old (batch_text sheet.now.labels edit.now) result to.new }
+    {
+        if !send(b"batch\n", to) {
+            return false;
+        }
+        if !send_changes(edit.changes(), sheet.labels(), to) {
+            return false;
+        }
+        send(b"end\n", to)
     }
 }
 
