@@ -4,3 +4,4 @@ pub mod QuoteLemmas
 pub mod ReportLemmas
 pub mod RowLemmas
 pub mod RunsLemmas
+pub mod TranscriptLemmas

@@ -2,3 +2,4 @@ pub mod Changes
 pub mod Quotes
 pub mod Reports
 pub mod Texts
+pub mod Transcripts

@@ -1,7 +1,7 @@
 use Rattle.window_text.specs.Texts.{row_text, shown_cell}
 use Rattle.text_pieces.proofs.PieceLemmas.{Completes}
 use Rattle.window_text.proofs.RowLemmas.{row_rest}
-use Rattle.window_text.proofs.printer.send_row.Given as goal
+use Rattle.window_text.proofs.windows.send_row.Given as goal
 
 abbrev pub invariant-loop-col : goal.invariant-loop-col
 invariant-loop-col g l =

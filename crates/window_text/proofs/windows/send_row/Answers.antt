@@ -5,7 +5,7 @@ use Rattle.text_pieces.specs.Pieces.{HandsOut}
 use Rattle.window_text.specs.Texts.{row_text, shown_cell, shown_value}
 use Rattle.text_pieces.proofs.PieceLemmas.{Completes, begun, next, ended, cut}
 use Rattle.window_text.proofs.RowLemmas.{row_rest, row_begins, row_goes_on, row_ends, cell_made}
-use Rattle.window_text.proofs.printer.send_row.Goals as goal
+use Rattle.window_text.proofs.windows.send_row.Goals as goal
 
 pub returns-then-not-send_value-clause-sent : goal.returns-then-not-send_value-clause-sent
 returns-then-not-send_value-clause-sent g c =
