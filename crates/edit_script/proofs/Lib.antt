@@ -1,3 +1,4 @@
+pub mod BatchLemmas
 pub mod FindLemmas
 pub mod LineLemmas
 pub mod NameLemmas

@@ -1,6 +1,7 @@
 -- Lines of a word and something behind it, and lines that say nothing.
-use Rattle.std.proofs.Common.{◌≡◌, ◌≢◌, ◌⊎◌, ◌<◌, ◌≤◌, ℕ, zero, suc, true, nat_le, List, [], ◌∷◌, ◌++◌, length, get_or, All, refl, sym, ap, subst, arith, inl, inr, ⊎_elim}
-use Rattle.std.specs.Prelude.{IsUtf8}
+use Rattle.std.proofs.Common.{◌≡◌, ◌≢◌, ◌⊎◌, ◌<◌, ◌≤◌, ℕ, zero, suc, true, nat_le, List, [], ◌∷◌, ◌++◌, length, get_or, All, refl, sym, ap, subst, ◌∙◌, arith, inl, inr, ⊎_elim, length-append}
+use Rattle.std.specs.Prelude.{IsUtf8, codes}
+use Rattle.std.proofs.Math.Seq.{get_or-append_seam}
 use Rattle.std.specs.List.{list_all}
 use Rattle.std.proofs.lemmas.Bool.{leb-true}
 use Rattle.std.proofs.lemmas.List.Elements.{All-append, All-weaker}
@@ -11,7 +12,7 @@ use Rattle.sheet_refs.specs.Cells.{Position, Corners}
 use Rattle.sheet_refs.specs.Names.{IsLetter, IsDigit, IsCellName, IsRangeName}
 use Rattle.sheet_refs.specs.Names.IsRangeName.{one, two}
 use Rattle.edit_script.specs.Lines.{LineValue, Skip, IsLineOf, IsNameByte, IsOrder, IsSpaced}
-use Rattle.edit_script.specs.Lines.IsLineOf.{empty, comment, order}
+use Rattle.edit_script.specs.Lines.IsLineOf.{empty, comment, begins, ends, order}
 use Rattle.edit_script.specs.Lines.IsOrder.{client, set, clear, look, firm, work}
 use Rattle.edit_script.proofs.SpaceLemmas.{HasNoSpace}
 
@@ -106,10 +107,12 @@ pub record IsOrderLine (line : List ℕ) (value : LineValue) : Type 0 where
   pub space : HasNoSpace word
   pub utf8 : IsUtf8 line
 
-pub order_line : (line : List ℕ) (value : LineValue) → (length line ≡ 0 → ⊥) → get_or line 0 0 ≢ 35 → IsLineOf line value → IsOrderLine line value
-order_line line _ some no_hash (empty _ none) = absurd (some (ap length none))
-order_line line _ some no_hash (comment _ rest is) = absurd (no_hash (ap (λ l. get_or l 0 0) is))
-order_line line value some no_hash (order _ word behind _ text_is is) = record {
+pub order_line : (line : List ℕ) (value : LineValue) → line ≢ [] → ((rest : List ℕ) → line ≢ 35 ∷ rest) → line ≢ codes "batch" → line ≢ codes "end" → IsLineOf line value → IsOrderLine line value
+order_line line _ some no_hash no_batch no_end (empty _ none) = absurd (some none)
+order_line line _ some no_hash no_batch no_end (comment _ rest is) = absurd (no_hash rest is)
+order_line line _ some no_hash no_batch no_end (begins _ is) = absurd (no_batch is)
+order_line line _ some no_hash no_batch no_end (ends _ is) = absurd (no_end is)
+order_line line value some no_hash no_batch no_end (order _ word behind _ text_is is) = record {
   word = word;
   behind = behind;
   text_is = text_is;
@@ -117,3 +120,31 @@ order_line line value some no_hash (order _ word behind _ text_is is) = record {
   space = word_space word behind value is;
   utf8 = subst IsUtf8 (sym text_is) (order_utf8 word behind value is);
 }
+
+-- the words that stand alone
+small_text : (text : List ℕ) → list_all (λ b. nat_le b 127) text ≡ true → IsUtf8 text
+small_text text small = ascii text (λ k d within. let least = leb-true (get_or text k d) 127 (AllPass-from_list_all (λ b. nat_le b 127) text small k d within) in omega (arith, least))
+
+large_text : (text : List ℕ) → list_all (nat_le 33) text ≡ true → HasNoSpace text
+large_text text large i within = let least = leb-true 33 (get_or text i 0) (AllPass-from_list_all (nat_le 33) text large i 0 within) in λ same. omega (arith, least, same)
+
+pub batch_space : HasNoSpace (codes "batch")
+batch_space = large_text (codes "batch") refl
+
+pub end_space : HasNoSpace (codes "end")
+end_space = large_text (codes "end") refl
+
+-- a text without spaces is no two texts with one between them
+pub spaced_not : (line word behind : List ℕ) → HasNoSpace line → IsSpaced word behind line → ⊥
+spaced_not line word behind none is =
+    let long = length-append word (32 ∷ behind) in
+    let count : length line ≡ length (word ++ 32 ∷ behind) = ap length is in
+    none (length word) (omega (arith, long, count)) (ap (λ l. get_or l (length word) 0) is ∙ get_or-append_seam word 32 behind 0)
+
+-- a line that says something, and is neither empty nor a comment, is UTF-8
+pub line_utf8 : (line : List ℕ) (value : LineValue) → line ≢ [] → ((rest : List ℕ) → line ≢ 35 ∷ rest) → IsLineOf line value → IsUtf8 line
+line_utf8 line _ some no_hash (empty _ none) = absurd (some none)
+line_utf8 line _ some no_hash (comment _ rest is) = absurd (no_hash rest is)
+line_utf8 line _ some no_hash (begins _ is) = subst IsUtf8 (sym is) (small_text (codes "batch") refl)
+line_utf8 line _ some no_hash (ends _ is) = subst IsUtf8 (sym is) (small_text (codes "end") refl)
+line_utf8 line value some no_hash (order _ word behind _ text_is is) = subst IsUtf8 (sym text_is) (order_utf8 word behind value is)

@@ -5,10 +5,10 @@ use Rattle.sheet_refs.specs.Cells.{Position}
 use Rattle.sheet_refs.specs.Names.{IsCellName}
 use Rattle.sheet_refs.proofs.NameLemmas.{one_cell, one_range}
 use Rattle.edit_script.specs.Lines.{LineValue, Set, Clear, Look, Firm, Work, IsLineOf, IsOrder, IsSpaced, IsTurns, Says, SetsCell}
-use Rattle.edit_script.specs.Lines.IsLineOf.{empty, comment, order}
+use Rattle.edit_script.specs.Lines.IsLineOf.{empty, comment, begins, ends, order}
 use Rattle.edit_script.specs.Lines.IsOrder.{client, set, clear, look, firm, work}
 use Rattle.edit_script.specs.declared.script.Mode.{Mode}
-use Rattle.edit_script.proofs.LineLemmas.{word_space}
+use Rattle.edit_script.proofs.LineLemmas.{batch_space, end_space, spaced_not, word_space}
 use Rattle.edit_script.proofs.OrderLemmas.{says_client, says_set, says_clear, says_look, says_firm, says_work}
 use Rattle.edit_script.proofs.SpaceLemmas.{HasNoSpace, cell_name_space}
 
@@ -61,27 +61,47 @@ word_first word _ _ (work _ digits turns w is_turns) = (119, codes "ork", w, ome
 -- so a line of an order is not empty, and no comment
 order_some : (line word behind : List ℕ) (value : LineValue) → IsSpaced word behind line → IsOrder word behind value → line ≢ []
 order_some line word behind value is said none =
-    let (first, rest, begins, low) = word_first word behind value said in
-    let whole : first ∷ (rest ++ 32 ∷ behind) ≡ [] = ap (λ w. w ++ 32 ∷ behind) (sym begins) ∙ sym is ∙ none in
+    let (first, rest, starts, low) = word_first word behind value said in
+    let whole : first ∷ (rest ++ 32 ∷ behind) ≡ [] = ap (λ w. w ++ 32 ∷ behind) (sym starts) ∙ sym is ∙ none in
     let long : suc (length (rest ++ 32 ∷ behind)) ≡ 0 = ap length whole in
     omega (arith, long)
 
 order_no_comment : (line word behind rest : List ℕ) (value : LineValue) → IsSpaced word behind line → IsOrder word behind value → line ≢ 35 ∷ rest
 order_no_comment line word behind others value is said hash =
-    let (first, rest, begins, low) = word_first word behind value said in
-    let whole : first ∷ (rest ++ 32 ∷ behind) ≡ 35 ∷ others = ap (λ w. w ++ 32 ∷ behind) (sym begins) ∙ sym is ∙ hash in
+    let (first, rest, starts, low) = word_first word behind value said in
+    let whole : first ∷ (rest ++ 32 ∷ behind) ≡ 35 ∷ others = ap (λ w. w ++ 32 ∷ behind) (sym starts) ∙ sym is ∙ hash in
     let same : first ≡ 35 = ap (λ l. get_or l 0 0) whole in
     omega (arith, low, same)
 
+-- a text is not two
+not_two : (line a b : List ℕ) → line ≡ a → line ≡ b → (get_or a 0 0 ≡ get_or b 0 0 → ⊥) → ⊥
+not_two line a b is other apart = apart (ap (λ l. get_or l 0 0) (sym is ∙ other))
+
 one_line : (line : List ℕ) (a b : LineValue) → IsLineOf line a → IsLineOf line b → a ≡ b
 one_line line _ _ (empty _ none) (empty _ none') = refl
-one_line line _ _ (empty _ none) (comment _ rest is) = refl
-one_line line _ b (empty _ none) (order _ word behind _ is said) = absurd (order_some line word behind b is said none)
-one_line line _ _ (comment _ rest is) (empty _ none) = refl
-one_line line _ _ (comment _ rest is) (comment _ rest' is') = refl
-one_line line _ b (comment _ rest hash) (order _ word behind _ is said) = absurd (order_no_comment line word behind rest b is said hash)
+one_line line _ _ (empty _ none) (comment _ rest' hash') = refl
+one_line line _ _ (empty _ none) (begins _ is') = absurd (not_two line [] (codes "batch") none is' (λ same. omega (arith, same)))
+one_line line _ _ (empty _ none) (ends _ is') = absurd (not_two line [] (codes "end") none is' (λ same. omega (arith, same)))
+one_line line _ b (empty _ none) (order _ word behind _ spaced said) = absurd (order_some line word behind b spaced said none)
+one_line line _ _ (comment _ rest hash) (empty _ none') = refl
+one_line line _ _ (comment _ rest hash) (comment _ rest' hash') = refl
+one_line line _ _ (comment _ rest hash) (begins _ is') = absurd (not_two line (35 ∷ rest) (codes "batch") hash is' (λ same. omega (arith, same)))
+one_line line _ _ (comment _ rest hash) (ends _ is') = absurd (not_two line (35 ∷ rest) (codes "end") hash is' (λ same. omega (arith, same)))
+one_line line _ b (comment _ rest hash) (order _ word behind _ spaced said) = absurd (order_no_comment line word behind rest b spaced said hash)
+one_line line _ _ (begins _ is) (empty _ none') = absurd (not_two line (codes "batch") [] is none' (λ same. omega (arith, same)))
+one_line line _ _ (begins _ is) (comment _ rest' hash') = absurd (not_two line (codes "batch") (35 ∷ rest') is hash' (λ same. omega (arith, same)))
+one_line line _ _ (begins _ is) (begins _ is') = refl
+one_line line _ _ (begins _ is) (ends _ is') = absurd (not_two line (codes "batch") (codes "end") is is' (λ same. omega (arith, same)))
+one_line line _ b (begins _ is) (order _ word behind _ spaced said) = absurd (spaced_not (codes "batch") word behind batch_space (sym is ∙ spaced))
+one_line line _ _ (ends _ is) (empty _ none') = absurd (not_two line (codes "end") [] is none' (λ same. omega (arith, same)))
+one_line line _ _ (ends _ is) (comment _ rest' hash') = absurd (not_two line (codes "end") (35 ∷ rest') is hash' (λ same. omega (arith, same)))
+one_line line _ _ (ends _ is) (begins _ is') = absurd (not_two line (codes "end") (codes "batch") is is' (λ same. omega (arith, same)))
+one_line line _ _ (ends _ is) (ends _ is') = refl
+one_line line _ b (ends _ is) (order _ word behind _ spaced said) = absurd (spaced_not (codes "end") word behind end_space (sym is ∙ spaced))
 one_line line a _ (order _ word behind _ is said) (empty _ none) = absurd (order_some line word behind a is said none)
 one_line line a _ (order _ word behind _ is said) (comment _ rest hash) = absurd (order_no_comment line word behind rest a is said hash)
+one_line line a _ (order _ word behind _ spaced said) (begins _ is) = absurd (spaced_not (codes "batch") word behind batch_space (sym is ∙ spaced))
+one_line line a _ (order _ word behind _ spaced said) (ends _ is) = absurd (spaced_not (codes "end") word behind end_space (sym is ∙ spaced))
 one_line line a b (order _ word behind _ is said) (order _ word' behind' _ is' said') =
     let parts = one_split word behind word' behind' (word_space word behind a said) (word_space word' behind' b said') (sym is ∙ is') in
     let again : IsOrder word behind b = subst (λ w. IsOrder w behind b) (sym parts.0) (subst (λ t. IsOrder word' t b) (sym parts.1) said') in

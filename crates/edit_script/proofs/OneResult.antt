@@ -1,16 +1,18 @@
 -- A text gives one thing.
-use Rattle.std.proofs.Common.{◌≡◌, ◌∙◌, ◌+◌, inl, inr, ℕ, List, length, sym, ap, subst}
+use Rattle.std.proofs.Common.{◌≡◌, ◌∙◌, ◌+◌, inl, inr, ℕ, List, None, length, sym, ap, subst}
 use Rattle.std.specs.Prelude.{Ok, Err}
 use Rattle.sheet_refs.specs.declared.sizes.Sizes.{Sizes}
 use Rattle.sheet_model.specs.Labels.{IsTable}
 use Rattle.sheet_model.specs.Tables.{AddsLabels}
 use Rattle.sheet_model.proofs.TableLemmas.{adds_one}
 use Rattle.edit_script.specs.Lines.{script_lines}
-use Rattle.edit_script.specs.Scripts.{AreLines, AreSteps, IsFault, IsFirstFault, IsScript, OneScriptResult, ScriptValue, brought_by, line_number, set_texts}
+use Rattle.edit_script.specs.Scripts.{AreLines, AreSteps, IsBegun, IsFault, IsFirstFault, IsRefused, IsScript, IsUnended, OneScriptResult, ScriptValue, brought_by, line_number, set_texts}
+use Rattle.edit_script.specs.Scripts.IsRefused.{at_line, unended}
+use Rattle.edit_script.specs.declared.refused.ScriptRefused.TheVariants.{BadLine}
 use Rattle.edit_script.specs.declared.refused.ScriptRefused.{ScriptRefused}
 use Rattle.edit_script.specs.declared.script.Mode.{Mode}
 use Rattle.edit_script.proofs.OneFault.{one_fault}
-use Rattle.edit_script.proofs.OneScript.{in_order, none_refused, one_lines, one_steps}
+use Rattle.edit_script.proofs.OneScript.{in_order, none_refused, one_begun, one_lines, one_steps}
 
 module _ (mode : Mode) (sizes : Sizes) (old new other : List (List ℕ)) (text : List ℕ) where
   one_script : (a b : ScriptValue) → IsTable new → IsScript mode sizes old new text a → IsScript mode sizes old other text b → (a ≡ b) × (new ≡ other)
@@ -18,8 +20,8 @@ module _ (mode : Mode) (sizes : Sizes) (old new other : List (List ℕ)) (text :
       let lines : y.lines ≡ x.lines = one_lines mode sizes (script_lines text) y.lines x.lines y.said x.said in
       let labels : new ≡ other = adds_one (set_texts x.lines) old new other x.labels (subst (λ l. AddsLabels (set_texts l) old other) lines y.labels) in
       let names : a.names ≡ b.names = x.names ∙ ap (λ l. (brought_by l).names) (sym lines) ∙ sym y.names in
-      let over : AreSteps new x.lines b.steps = subst (λ l. AreSteps new l b.steps) lines (subst (λ t. AreSteps t y.lines b.steps) (sym labels) y.steps) in
-      let steps : a.steps ≡ b.steps = one_steps new table x.lines a.steps b.steps x.steps over in
+      let over : AreSteps new x.lines None b.steps = subst (λ l. AreSteps new l None b.steps) lines (subst (λ t. AreSteps t y.lines None b.steps) (sym labels) y.steps) in
+      let steps : a.steps ≡ b.steps = (one_steps new table x.lines None None a.steps b.steps x.steps over).1 in
       ((λ i. record { names = names i; steps = steps i }), labels)
 
   -- no line of a script is refused
@@ -44,8 +46,35 @@ module _ (mode : Mode) (sizes : Sizes) (old new other : List (List ℕ)) (text :
     ]
   ]
 
+  -- nor is one unended
+  fault_or_unended : (why : ScriptRefused) (number : ℕ) (new other : List (List ℕ)) → IsFirstFault mode sizes old new text why → IsUnended mode sizes old other text number → ⊥
+  fault_or_unended why number new other x y = none_refused mode sizes (script_lines text) x.before x.behind x.line x.lines y.lines why y.said x.said x.fault x.all
+
+  script_or_unended : (a : ScriptValue) (number : ℕ) (new other : List (List ℕ)) → IsScript mode sizes old new text a → IsUnended mode sizes old other text number → ⊥
+  script_or_unended a number new other x y =
+      let lines : y.lines ≡ x.lines = one_lines mode sizes (script_lines text) y.lines x.lines y.said x.said in
+      x.ended number (subst (λ l. IsBegun l number) lines y.begun)
+
+  one_unended : (a b : ℕ) → IsUnended mode sizes old new text a → IsUnended mode sizes old other text b → (a ≡ b) × (new ≡ other)
+  one_unended a b x y =
+      let lines : y.lines ≡ x.lines = one_lines mode sizes (script_lines text) y.lines x.lines y.said x.said in (
+        one_begun x.lines a b x.begun (subst (λ l. IsBegun l b) lines y.begun),
+        adds_one (set_texts x.lines) old new other x.labels (subst (λ l. AddsLabels (set_texts l) old other) lines y.labels),
+      )
+
+  one_refusal : (a b : ScriptRefused) → IsRefused mode sizes old new text a → IsRefused mode sizes old other text b → (a ≡ b) × (new ≡ other)
+  one_refusal a b (at_line x) (at_line y) = one_first a b x y
+  one_refusal a b (at_line x) (unended number is y) = absurd (fault_or_unended a number new other x y)
+  one_refusal a b (unended number is x) (at_line y) = absurd (fault_or_unended b number other new y x)
+  one_refusal a b (unended number is x) (unended number' is' y) = (let same = one_unended number number' x y in (is ∙ ap BadLine same.0 ∙ sym is', same.1))
+
+  -- no script is refused
+  script_or_refused : (a : ScriptValue) (why : ScriptRefused) (new other : List (List ℕ)) → IsScript mode sizes old new text a → IsRefused mode sizes old other text why → ⊥
+  script_or_refused a why new other x (at_line y) = script_or_fault a why new other x y
+  script_or_refused a why new other x (unended number is y) = script_or_unended a number new other x y
+
 pub one_result : OneScriptResult
 one_result mode sizes old new other text (Ok a) (Ok b) table x y = (let same = one_script mode sizes old new other text a b table x y in (ap Ok same.0, same.1))
-one_result mode sizes old new other text (Ok a) (Err why) table x y = absurd (script_or_fault mode sizes old new other text a why new other x y)
-one_result mode sizes old new other text (Err why) (Ok b) table x y = absurd (script_or_fault mode sizes old new other text b why other new y x)
-one_result mode sizes old new other text (Err a) (Err b) table x y = (let same = one_first mode sizes old new other text a b x y in (ap Err same.0, same.1))
+one_result mode sizes old new other text (Ok a) (Err why) table x y = absurd (script_or_refused mode sizes old new other text a why new other x y)
+one_result mode sizes old new other text (Err why) (Ok b) table x y = absurd (script_or_refused mode sizes old new other text b why other new y x)
+one_result mode sizes old new other text (Err a) (Err b) table x y = (let same = one_refusal mode sizes old new other text a b x y in (ap Err same.0, same.1))

@@ -1,19 +1,23 @@
 -- Lines are taken in one way, and give one list of steps.
-use Rattle.std.proofs.Common.{◌≡◌, ◌≢◌, ◌∙◌, ◌⊎◌, inl, inr, ℕ, zero, suc, List, [], ◌∷◌, ◌++◌, length, Some, refl, sym, ap, subst, arith, append_assoc, length-append}
+use Rattle.std.proofs.Common.{◌≡◌, ◌≢◌, ◌∙◌, ◌⊎◌, inl, inr, ℕ, zero, suc, List, [], ◌∷◌, ◌++◌, length, Option, Some, None, ◌+◌, Contains, refl, sym, ap, subst, arith, append_assoc, length-append}
 use Rattle.std.specs.Prelude.{slice_get, fold, AllPairs}
 use Rattle.std.proofs.lemmas.Bool.{cases_order}
-use Rattle.std.proofs.lemmas.Option.{slice_get_within, get_or_from_slice_get}
+use Rattle.std.proofs.lemmas.List.Elements.{Contains-append_left, Contains-append_right}
+use Rattle.std.proofs.lemmas.Option.{none-some, same_Some, slice_get_within, get_or_from_slice_get}
+use Rattle.sheet_refs.specs.Cells.{Position}
+use Rattle.value_core.specs.declared.value.Value.TheVariants.{Empty}
 use Rattle.sheet_refs.specs.declared.sizes.Sizes.{Sizes}
 use Rattle.sheet_model.specs.Labels.{IsTable}
-use Rattle.sheet_model.specs.Fields.{IsContent}
 use Rattle.sheet_model.specs.Changes.{ChangeValue}
+use Rattle.sheet_model.specs.Edits.{EditValue}
+use Rattle.sheet_model.specs.Sheets.{Constant}
 use Rattle.sheet_model.proofs.ContentLemmas.{one_content}
 use Rattle.sheet_model.proofs.LabelLemmas.{distinct-with_label}
-use Rattle.edit_script.specs.Lines.{LineValue, Skip, Client, Set, Clear, Look, Firm, Work, Says}
-use Rattle.edit_script.specs.Scripts.{AreLines, AreSteps, Brought, IsAllowed, IsCommand, IsFault, IsSilent, IsStepOfLine, brought_by, nothing_yet, with_line}
+use Rattle.sheet_model.proofs.ListMembers.{first_member}
+use Rattle.edit_script.specs.Lines.{LineValue, Skip, Client, Set, Clear, Look, Firm, Work, Batch, End, Says}
+use Rattle.edit_script.specs.Scripts.{AddsCommand, AreLines, AreSteps, Brought, GoesOn, IsAllowed, IsBegun, IsFault, MakesChange, brought_by, change_of, nothing_yet, with_change, with_line}
 use Rattle.edit_script.specs.Scripts.AreLines.{none as no_lines, more}
-use Rattle.edit_script.specs.Scripts.AreSteps.{none as no_steps, silent as silent_line, command as command_line}
-use Rattle.edit_script.specs.Scripts.IsCommand.{set, clear, look, firm, work}
+use Rattle.edit_script.specs.Scripts.AreSteps.{none as no_steps, more as step_more}
 use Rattle.edit_script.specs.declared.refused.ScriptRefused.{ScriptRefused}
 use Rattle.edit_script.specs.declared.script.Command.{Command}
 use Rattle.edit_script.specs.declared.script.Command.TheVariants as asks
@@ -38,12 +42,17 @@ module _ {A : Type 0} where
   none_last a x none = (let end = length-append a (x ∷ []) in let long : length (a ++ x ∷ []) ≡ 0 = ap length none in omega (arith, end, long))
 
   -- a list is empty, or has a last element
-  by_last : (a : List A) → (a ≡ []) ⊎ ((front : List A) × (last : A) × (a ≡ front ++ last ∷ []))
+  pub by_last : (a : List A) → (a ≡ []) ⊎ ((front : List A) × (last : A) × (a ≡ front ++ last ∷ []))
   by_last [] = inl refl
   by_last (x ∷ a) = elim (by_last a) [
     | inl none ↦ inr ([], x, ap (λ l. x ∷ l) none)
     | inr some ↦ inr (x ∷ some.0, some.1, ap (λ l. x ∷ l) some.2)
   ]
+
+  -- lists that begin alike end alike
+  same_tail : (front a b : List A) → front ++ a ≡ front ++ b → a ≡ b
+  same_tail [] a b same = same
+  same_tail (x ∷ front) a b same = (let rest : front ++ a ≡ front ++ b = cc in same_tail front a b rest)
 
   -- of two places in a list one is before the other, or they are the same
   abbrev IsBefore : List A → List A → A → Type 0
@@ -92,15 +101,21 @@ module _ (mode : Mode) (sizes : Sizes) where
   ]
 
 -- the clients of lines have names apart
+change_apart : (batch : Option (List Position)) (now : Brought) (cell : Position) → AllPairs (λ a b. a ≢ b) now.names → AllPairs (λ a b. a ≢ b) (with_change batch now cell).names
+change_apart None now cell apart = distinct-with_label now.names now.client apart
+change_apart (Some cells) now cell apart = apart
+
 names_apart : (now : Brought) (lines : List LineValue) → AllPairs (λ a b. a ≢ b) now.names → AllPairs (λ a b. a ≢ b) (fold with_line now lines).names
 names_apart now [] apart = apart
 names_apart now (Skip ∷ rest) apart = names_apart now rest apart
 names_apart now (Client name ∷ rest) apart = names_apart (with_line now (Client name)) rest (distinct-with_label now.names name apart)
-names_apart now (Set cell text ∷ rest) apart = names_apart (with_line now (Set cell text)) rest (distinct-with_label now.names now.client apart)
-names_apart now (Clear cell ∷ rest) apart = names_apart (with_line now (Clear cell)) rest (distinct-with_label now.names now.client apart)
+names_apart now (Set cell text ∷ rest) apart = names_apart (with_line now (Set cell text)) rest (change_apart now.batch now cell apart)
+names_apart now (Clear cell ∷ rest) apart = names_apart (with_line now (Clear cell)) rest (change_apart now.batch now cell apart)
 names_apart now (Look range ∷ rest) apart = names_apart (with_line now (Look range)) rest (distinct-with_label now.names now.client apart)
 names_apart now (Firm range ∷ rest) apart = names_apart (with_line now (Firm range)) rest (distinct-with_label now.names now.client apart)
 names_apart now (Work turns ∷ rest) apart = names_apart (with_line now (Work turns)) rest (distinct-with_label now.names now.client apart)
+names_apart now (Batch ∷ rest) apart = names_apart (with_line now Batch) rest apart
+names_apart now (End ∷ rest) apart = names_apart (with_line now End) rest (distinct-with_label now.names now.client apart)
 
 -- a name stands at one place
 one_place : (names : List (List ℕ)) (name : List ℕ) (a b : ℕ) → AllPairs (λ x y. x ≢ y) names → slice_get names a ≡ Some name → slice_get names b ≡ Some name → a ≡ b
@@ -112,87 +127,98 @@ one_place names name a b apart x y = elim (cases_order a b) [
   ]
 ]
 
+-- a command of the client whose commands follow is one step
+one_added : (now : Brought) (command : Command) (old a b : List Step) → AllPairs (λ x y. x ≢ y) now.names → AddsCommand command now old a → AddsCommand command now old b → a ≡ b
+one_added now command old a b apart x y =
+    let client = one_place now.names now.client x.client y.client apart x.place y.place in
+    x.added ∙ ap (λ c. old ++ record { client = c; command = command } ∷ []) client ∙ sym y.added
+
+-- what a change does is one thing
+one_made : (now : Brought) (change other : ChangeValue) (before a b : Option EditValue) (old x y : List Step) → AllPairs (λ x y. x ≢ y) now.names → change ≡ other → MakesChange now change before a old x → MakesChange now other before b old y → (a ≡ b) × (x ≡ y)
+one_made now change other None a b old x y apart same (a_is, adds) (b_is, adds') =
+    (a_is ∙ sym b_is, one_added now (asks.Put (change ∷ [])) old x y apart adds (subst (λ c. AddsCommand (asks.Put (c ∷ [])) now old y) (sym same) adds'))
+one_made now change other (Some changes) a b old x y apart same (a_is, x_is) (b_is, y_is) =
+    (a_is ∙ ap (λ c. Some (changes ++ c ∷ [])) same ∙ sym b_is, x_is ∙ sym y_is)
+
 module _ (labels : List (List ℕ)) (table : IsTable labels) where
-  same_edit : (a b : ChangeValue) → a.cell ≡ b.cell → a.content ≡ b.content → a ∷ [] ≡ b ∷ []
-  same_edit a b cell content = λ i. record { cell = cell i; content = content i } ∷ []
-
-  -- a line gives one command
-  one_command : (line : LineValue) (a b : Command) → IsCommand labels line a → IsCommand labels line b → a ≡ b
-  one_command _ _ _ (set text change line is writes) (set text' change' _ is' writes') =
-      let cell : change.cell ≡ change'.cell = cc in
-      let said : text' ≡ text = cc in
-      let content = one_content labels text change.content change'.content table writes (subst (λ t. IsContent labels t change'.content) said writes') in
-      ap asks.Put (same_edit change change' cell content)
-  one_command _ _ _ (set text change line is writes) (clear change' _ is' empty) = cc
-  one_command _ _ _ (set text change line is writes) (look range _ is') = cc
-  one_command _ _ _ (set text change line is writes) (firm range _ is') = cc
-  one_command _ _ _ (set text change line is writes) (work turns _ is') = cc
-  one_command _ _ _ (clear change line is empty) (set text change' _ is' writes) = cc
-  one_command _ _ _ (clear change line is empty) (clear change' _ is' empty') =
-      let cell : change.cell ≡ change'.cell = cc in
-      ap asks.Put (same_edit change change' cell (empty ∙ sym empty'))
-  one_command _ _ _ (clear change line is empty) (look range _ is') = cc
-  one_command _ _ _ (clear change line is empty) (firm range _ is') = cc
-  one_command _ _ _ (clear change line is empty) (work turns _ is') = cc
-  one_command _ _ _ (look range line is) (set text change' _ is' writes) = cc
-  one_command _ _ _ (look range line is) (clear change' _ is' empty) = cc
-  one_command _ _ _ (look range line is) (look range' _ is') = (let same : range ≡ range' = cc in ap asks.Look same)
-  one_command _ _ _ (look range line is) (firm range' _ is') = cc
-  one_command _ _ _ (look range line is) (work turns _ is') = cc
-  one_command _ _ _ (firm range line is) (set text change' _ is' writes) = cc
-  one_command _ _ _ (firm range line is) (clear change' _ is' empty) = cc
-  one_command _ _ _ (firm range line is) (look range' _ is') = cc
-  one_command _ _ _ (firm range line is) (firm range' _ is') = (let same : range ≡ range' = cc in ap asks.Firm same)
-  one_command _ _ _ (firm range line is) (work turns _ is') = cc
-  one_command _ _ _ (work turns line is) (set text change' _ is' writes) = cc
-  one_command _ _ _ (work turns line is) (clear change' _ is' empty) = cc
-  one_command _ _ _ (work turns line is) (look range _ is') = cc
-  one_command _ _ _ (work turns line is) (firm range _ is') = cc
-  one_command _ _ _ (work turns line is) (work turns' _ is') = (let same : turns ≡ turns' = cc in ap asks.Work same)
-
-  -- a line that gives none gives no command
-  silent_none : (line : LineValue) (command : Command) → IsSilent line → IsCommand labels line command → ⊥
-  silent_none Skip _ quiet (set text change _ is writes) = cc
-  silent_none Skip _ quiet (clear change _ is empty) = cc
-  silent_none Skip _ quiet (look range _ is) = cc
-  silent_none Skip _ quiet (firm range _ is) = cc
-  silent_none Skip _ quiet (work turns _ is) = cc
-  silent_none (Client name) _ quiet (set text change _ is writes) = cc
-  silent_none (Client name) _ quiet (clear change _ is empty) = cc
-  silent_none (Client name) _ quiet (look range _ is) = cc
-  silent_none (Client name) _ quiet (firm range _ is) = cc
-  silent_none (Client name) _ quiet (work turns _ is) = cc
-  silent_none (Set cell text) _ quiet command = absurd quiet
-  silent_none (Clear cell) _ quiet command = absurd quiet
-  silent_none (Look range) _ quiet command = absurd quiet
-  silent_none (Firm range) _ quiet command = absurd quiet
-  silent_none (Work turns) _ quiet command = absurd quiet
-
-  one_step : (known : List LineValue) (line : LineValue) (a b : Step) → IsStepOfLine labels (brought_by known) line a → IsStepOfLine labels (brought_by known) line b → a ≡ b
-  one_step known line a b x y =
-      let now = brought_by known in
-      let client = one_place now.names now.client a.client b.client (names_apart nothing_yet known (λ i j d less within same. omega (arith, within, less))) x.client y.client in
-      let command = one_command line a.command b.command x.command y.command in
-      λ i. record { client = client i; command = command i }
+  -- what a line does is one thing
+  one_going : (now : Brought) (line : LineValue) (before a b : Option EditValue) (old x y : List Step) → AllPairs (λ x y. x ≢ y) now.names → GoesOn labels now line before a old x → GoesOn labels now line before b old y → (a ≡ b) × (x ≡ y)
+  one_going now Skip before a b old x y apart (a_is, x_is) (b_is, y_is) = (a_is ∙ sym b_is, x_is ∙ sym y_is)
+  one_going now (Client name) before a b old x y apart (a_is, x_is) (b_is, y_is) = (a_is ∙ sym b_is, x_is ∙ sym y_is)
+  one_going now (Set cell text) before a b old x y apart (content, writes, makes) (other, writes', makes') =
+      one_made now (change_of cell content) (change_of cell other) before a b old x y apart (ap (change_of cell) (one_content labels text content other table writes writes')) makes makes'
+  one_going now (Clear cell) before a b old x y apart makes makes' = one_made now (change_of cell (Constant Empty)) (change_of cell (Constant Empty)) before a b old x y apart refl makes makes'
+  one_going now (Look range) before a b old x y apart (a_is, adds) (b_is, adds') = (a_is ∙ sym b_is, one_added now (asks.Look range) old x y apart adds adds')
+  one_going now (Firm range) before a b old x y apart (a_is, adds) (b_is, adds') = (a_is ∙ sym b_is, one_added now (asks.Firm range) old x y apart adds adds')
+  one_going now (Work turns) before a b old x y apart (a_is, adds) (b_is, adds') = (a_is ∙ sym b_is, one_added now (asks.Work turns) old x y apart adds adds')
+  one_going now Batch before a b old x y apart (a_is, x_is) (b_is, y_is) = (a_is ∙ sym b_is, x_is ∙ sym y_is)
+  one_going now End before a b old x y apart (changes, opened, a_is, adds) (others, opened', b_is, adds') =
+      let some : Some changes ≡ Some others = sym opened ∙ opened' in
+      let same : changes ≡ others = same_Some changes others some in
+      (a_is ∙ sym b_is, one_added now (asks.Put changes) old x y apart adds (subst (λ c. AddsCommand (asks.Put c) now old y) (sym same) adds'))
 
   -- and lines give one list of steps
-  pub one_steps : (lines : List LineValue) (a b : List Step) → AreSteps labels lines a → AreSteps labels lines b → a ≡ b
-  one_steps _ _ _ no_steps no_steps = refl
-  one_steps _ _ _ no_steps (silent_line lines _ line steps are quiet split) = absurd (none_last lines line (sym split))
-  one_steps _ _ _ no_steps (command_line lines _ line steps _ step are is split added) = absurd (none_last lines line (sym split))
-  one_steps _ _ _ (silent_line lines _ line steps are quiet split) no_steps = absurd (none_last lines line (sym split))
-  one_steps _ _ _ (silent_line lines _ line a are quiet split) (silent_line lines' _ line' b are' quiet' split') =
+  pub one_steps : (lines : List LineValue) (p q : Option EditValue) (a b : List Step) → AreSteps labels lines p a → AreSteps labels lines q b → (p ≡ q) × (a ≡ b)
+  one_steps _ _ _ _ _ no_steps no_steps = (refl, refl)
+  one_steps _ _ _ _ _ no_steps (step_more lines _ line before after some all are goes split) = absurd (none_last lines line (sym split))
+  one_steps _ _ _ _ _ (step_more lines _ line before after some all are goes split) no_steps = absurd (none_last lines line (sym split))
+  one_steps known _ _ _ _ (step_more lines _ line before after some all are goes split) (step_more lines' _ line' before' after' some' all' are' goes' split') =
       let ends = one_last lines' lines line' line (sym split' ∙ split) in
-      one_steps lines a b are (subst (λ l. AreSteps labels l b) ends.0 are')
-  one_steps known _ _ (silent_line lines _ line a are quiet split) (command_line lines' _ line' b _ step are' is split' added) =
-      let ends = one_last lines' lines line' line (sym split' ∙ split) in
-      absurd (silent_none line step.command quiet (subst (λ l. IsCommand labels l step.command) ends.1 is.command))
-  one_steps _ _ _ (command_line lines _ line a _ step are is split added) no_steps = absurd (none_last lines line (sym split))
-  one_steps _ _ _ (command_line lines _ line a _ step are is split added) (silent_line lines' _ line' b are' quiet split') =
-      let ends = one_last lines lines' line line' (sym split ∙ split') in
-      absurd (silent_none line' step.command quiet (subst (λ l. IsCommand labels l step.command) ends.1 is.command))
-  one_steps known _ _ (command_line lines _ line a _ step are is split added) (command_line lines' _ line' b _ step' are' is' split' added') =
-      let ends = one_last lines' lines line' line (sym split' ∙ split) in
-      let before : a ≡ b = one_steps lines a b are (subst (λ l. AreSteps labels l b) ends.0 are') in
-      let last : step ≡ step' = one_step known line step step' is (subst (λ l. IsStepOfLine labels (brought_by known) l step') ends.1 is') in
-      added ∙ (λ i. before i ++ last i ∷ []) ∙ sym added'
+      let first = one_steps lines before before' some some' are (subst (λ l. AreSteps labels l before' some') ends.0 are') in
+      let again : GoesOn labels (brought_by known) line before after' some all' =
+      subst (λ b. GoesOn labels (brought_by known) line b after' some all') (sym first.0)
+      (subst (λ s. GoesOn labels (brought_by known) line before' after' s all') (sym first.1) (subst (λ l. GoesOn labels (brought_by known) l before' after' some' all') ends.1 goes')) in
+      one_going (brought_by known) line before after after' some all all' (names_apart nothing_yet known (λ i j d less within same. omega (arith, within, less))) goes again
+
+-- a line closes no batch but by its end
+closes_change : (now : Brought) (change : ChangeValue) (before after : Option EditValue) (some all : List Step) → MakesChange now change before after some all → after ≡ None → before ≡ None
+closes_change now change None after some all makes closed = refl
+closes_change now change (Some changes) after some all (is, same) closed = absurd (none-some (changes ++ change ∷ []) (sym closed ∙ is))
+
+closes : (labels : List (List ℕ)) (now : Brought) (line : LineValue) (before after : Option EditValue) (some all : List Step) → GoesOn labels now line before after some all → after ≡ None → line ≢ End → before ≡ None
+closes labels now Skip before after some all goes closed other = sym goes.0 ∙ closed
+closes labels now (Client name) before after some all goes closed other = sym goes.0 ∙ closed
+closes labels now (Set cell text) before after some all (content, writes, makes) closed other = closes_change now (change_of cell content) before after some all makes closed
+closes labels now (Clear cell) before after some all makes closed other = closes_change now (change_of cell (Constant Empty)) before after some all makes closed
+closes labels now (Look range) before after some all goes closed other = sym goes.0 ∙ closed
+closes labels now (Firm range) before after some all goes closed other = sym goes.0 ∙ closed
+closes labels now (Work turns) before after some all goes closed other = sym goes.0 ∙ closed
+closes labels now Batch before after some all goes closed other = absurd (none-some [] (sym closed ∙ goes.0))
+closes labels now End before after some all goes closed other = absurd (other refl)
+
+-- so where none is open, none has begun that isn't ended
+none_open : (labels : List (List ℕ)) (lines : List LineValue) (after : Option EditValue) (all : List Step) (before behind : List LineValue) → AreSteps labels lines after all → lines ≡ before ++ Batch ∷ behind → ¬ Contains behind End → after ≡ None → ⊥
+none_open labels _ _ _ before behind no_steps split no_end closed = (let end = length-append before (Batch ∷ behind) in let long : 0 ≡ length (before ++ Batch ∷ behind) = ap length split in omega (arith, end, long))
+none_open labels _ after all before behind (step_more lines known line was _ some _ are goes is) split no_end closed = elim (by_last behind) [
+  | inl none ↦ (
+      let ends = one_last lines before line Batch (sym is ∙ split ∙ ap (λ b. before ++ Batch ∷ b) none) in
+      let begins : GoesOn labels (brought_by known) Batch was after some all = subst (λ l. GoesOn labels (brought_by known) l was after some all) ends.1 goes in
+      none-some [] (sym closed ∙ begins.0))
+  | inr last ↦ (
+      let longer : before ++ Batch ∷ (last.0 ++ last.1 ∷ []) ≡ (before ++ Batch ∷ last.0) ++ last.1 ∷ [] = sym (append_assoc before (Batch ∷ last.0) (last.1 ∷ [])) in
+      let ends = one_last lines (before ++ Batch ∷ last.0) line last.1 (sym is ∙ split ∙ ap (λ b. before ++ Batch ∷ b) last.2 ∙ longer) in
+      let other : line ≢ End = λ same. no_end (subst (λ b. Contains b End) (sym last.2) (Contains-append_right last.0 (last.1 ∷ []) End (subst (λ l. Contains (last.1 ∷ []) l) (sym ends.1 ∙ same) (first_member last.1 [])))) in
+      let earlier : ¬ Contains last.0 End = λ there. no_end (subst (λ b. Contains b End) (sym last.2) (Contains-append_left last.0 (last.1 ∷ []) End there)) in
+      none_open labels lines was some before last.0 are ends.0 earlier (closes labels (brought_by known) line was after some all goes closed other))
+]
+
+pub none_begun : (labels : List (List ℕ)) (lines : List LineValue) (all : List Step) (number : ℕ) → AreSteps labels lines None all → ¬ IsBegun lines number
+none_begun labels lines all number are begun = none_open labels lines None all begun.before begun.behind are begun.split begun.no_end refl
+
+-- a batch begins at one line
+pub one_begun : (lines : List LineValue) (a b : ℕ) → IsBegun lines a → IsBegun lines b → a ≡ b
+one_begun lines a b x y = elim (in_order x.before y.before Batch Batch x.behind y.behind (sym x.split ∙ y.split)) [
+  | inl same ↦ x.count ∙ ap (λ l. length l + 1) same.0 ∙ sym y.count
+  | inr apart ↦ elim apart [
+    | inl before ↦ absurd (later x.before y.before x.behind y.behind before.0 x.no_batch before.1 (sym x.split ∙ y.split))
+    | inr after ↦ absurd (later y.before x.before y.behind x.behind after.0 y.no_batch after.1 (sym y.split ∙ x.split))
+  ]
+]
+  where
+    -- a batch behind the last one
+    later : (front back behind rest between : List LineValue) → ¬ Contains behind Batch → back ≡ front ++ Batch ∷ between → front ++ Batch ∷ behind ≡ back ++ Batch ∷ rest → ⊥
+    later front back behind rest between none back_is same =
+        let whole : front ++ Batch ∷ behind ≡ front ++ Batch ∷ (between ++ Batch ∷ rest) = same ∙ ap (λ l. l ++ Batch ∷ rest) back_is ∙ append_assoc front (Batch ∷ between) (Batch ∷ rest) in
+        let tails : Batch ∷ behind ≡ Batch ∷ (between ++ Batch ∷ rest) = same_tail front (Batch ∷ behind) (Batch ∷ (between ++ Batch ∷ rest)) whole in
+        let behind_is : behind ≡ between ++ Batch ∷ rest = cc in
+        none (subst (λ l. Contains l Batch) (sym behind_is) (Contains-append_right between (Batch ∷ rest) Batch (first_member Batch rest)))

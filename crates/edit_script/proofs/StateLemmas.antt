@@ -1,6 +1,6 @@
 -- What is kept of the lines so far, and what a line does to it.
 use Rattle.std.proofs.Common.{◌≡◌, ◌≢◌, ◌⊎◌, ◌<◌, ◌≤◌, ℕ, List, length, All, AllPairs, Some, refl, sym, ap, subst, arith}
-use Rattle.std.specs.Prelude.{string_bytes, slice_get, Contains}
+use Rattle.std.specs.Prelude.{string_bytes, slice_get, Contains, option_map}
 use Rattle.std.proofs.lemmas.List.{length-map}
 use Rattle.std.proofs.lemmas.List.Elements.{All-weaker}
 use Rattle.std.proofs.lemmas.Option.{slice_get_within}
@@ -9,6 +9,7 @@ use Rattle.sheet_model.proofs.LabelLemmas.{length-with_label, distinct-with_labe
 use Rattle.edit_script.specs.declared.progress.Progress.{Progress}
 use Rattle.edit_script.specs.declared.script.Step.{Step}
 use Rattle.edit_script.specs.Progress.{names_of, brought, client_named, IsPlace, IsWithinLimits}
+use Rattle.edit_script.specs.Batches.{changed_cells}
 use Rattle.edit_script.specs.Scripts.{with_client}
 use Rattle.edit_script.proofs.NameLemmas.{client_at, client_there, few_names}
 
@@ -18,7 +19,8 @@ follow_brought old new name place names at rest =
     let who : client_named (names_of new) (Some place) ≡ name = client_at (names_of new) place name at in
     let cells : new.cells ≡ old.cells = ap (λ (p : Progress). p.cells) rest in
     let edits : new.edits ≡ old.edits = ap (λ (p : Progress). p.edits) rest in
-    rw (who, names, cells, edits) refl
+    let batch : new.batch ≡ old.batch = ap (λ (p : Progress). p.batch) rest in
+    rw (who, names, cells, edits, batch) refl
 
 pub follow_sound : (old new : Progress) (name : List ℕ) (place : ℕ) → IsWithinLimits old → (length (names_of old) < 32) ⊎ Contains (names_of old) name
     → names_of new ≡ with_label (names_of old) name → slice_get (names_of new) place ≡ Some name
@@ -52,4 +54,4 @@ stays_brought old place is sound =
     let long = length-map old.names.items string_bytes in
     let there : with_label (names_of old) (client_named (names_of old) (Some place)) ≡ names_of old = client_there (names_of old) place (omega (arith, inside, long)) in
     let names : names_of old ≡ with_label (names_of old) (client_named (names_of old) old.client) = subst (λ who. names_of old ≡ with_label (names_of old) (client_named (names_of old) who)) (sym is) (sym there) in
-    ap (λ (n : List (List ℕ)). record { client = client_named (names_of old) old.client; names = n; cells = old.cells; edits = old.edits }) names
+    ap (λ (n : List (List ℕ)). record { client = client_named (names_of old) old.client; names = n; cells = old.cells; edits = old.edits; batch = option_map changed_cells old.batch }) names

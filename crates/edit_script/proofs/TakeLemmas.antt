@@ -1,91 +1,69 @@
 -- Each kind of line that is taken.
-use Rattle.std.proofs.Common.{◌≡◌, ◌≢◌, ◌∙◌, ◌⊎◌, ◌<◌, ◌≤◌, ℕ, Bool, true, false, List, [], ◌∷◌, length, refl, sym, ap, subst, inl, inr, ⊎_elim, nat_lt, get_or, true≢false}
-use Rattle.std.specs.Prelude.{Contains, Result, Ok, Err, IfErr, OnOk}
+use Rattle.std.proofs.Common.{◌≡◌, ◌≢◌, ◌∙◌, ◌⊎◌, ◌<◌, ◌≤◌, ◌+◌, ℕ, Bool, true, false, Option, Some, None, List, [], ◌∷◌, length, refl, sym, subst, inl, inr, ⊎_elim, nat_lt, get_or, arith, true≢false}
+use Rattle.std.specs.Prelude.{Contains, MatchOption, Result, Ok, Err, IfErr, OnOk, option_map}
 use Rattle.std.specs.List.{list_any}
 use Rattle.std.specs.Str.{bytes_eq}
 use Rattle.std.proofs.lemmas.Bool.{ltb-true, ltb-false}
 use Rattle.std.proofs.lemmas.List.Folds.{list_any_at}
 use Rattle.std.proofs.lemmas.Map.Views.{Contains-from_any}
 use Rattle.std.proofs.lemmas.Slice.Eq.{bytes_eq-Decides}
-use Rattle.sheet_refs.specs.Cells.{Position}
+use Rattle.sheet_refs.specs.Cells.{Corners, Position}
+use Rattle.sheet_model.specs.Edits.{EditValue}
 use Rattle.sheet_refs.specs.declared.sizes.Sizes.{Sizes}
+use Rattle.formula_syntax.specs.Spelling.{HasTooManyRefs}
 use Rattle.sheet_model.specs.Fields.{IsTableAfter}
 use Rattle.sheet_model.proofs.ContentLemmas.{refused_none}
 use Rattle.sheet_model.specs.Tables.AddsLabels.{done, next}
 use Rattle.edit_script.specs.declared.progress.Progress.{Progress}
 use Rattle.edit_script.specs.declared.refused.ScriptRefused.{ScriptRefused}
-use Rattle.edit_script.specs.declared.refused.ScriptRefused.TheVariants.{Memory}
-use Rattle.edit_script.specs.declared.script.Command.{Command}
+use Rattle.edit_script.specs.declared.refused.ScriptRefused.TheVariants.{BadLine, OutOfSheet, CellTwice, BatchTooLarge, TooManyClients, WindowTooLarge, TooManyEdits, FormulaTooDeep, TooManyRefs, Memory}
 use Rattle.edit_script.specs.declared.script.Command.TheVariants as asks
-use Rattle.edit_script.specs.Lines.{LineValue, Skip, Client, Set}
-use Rattle.edit_script.specs.Progress.{brought, change_of, edit_of, IsWithinLimits, AddsCommand, AddsSet, IsPlainlyAllowed, IsTextFault, Takes}
-use Rattle.edit_script.specs.Progress.AddsStep.{silent as adds_none, command as adds_one}
-use Rattle.edit_script.specs.Scripts.{Brought, IsAllowed, IsCommand, IsDeepEdit, HasManyRefs, IsLineFault, line_number, with_client, with_line, set_text}
-use Rattle.edit_script.specs.Scripts.IsCommand.{set}
+use Rattle.edit_script.specs.declared.script.Step.{Step}
+use Rattle.edit_script.specs.Batches.{changed_cells}
+use Rattle.edit_script.specs.Lines.{LineValue, Clear, Client, Set}
+use Rattle.edit_script.specs.Progress.{BeginsAt, IsPlainlyAllowed, IsTextFault, IsWithinLimits, MayChange, Takes, brought}
+use Rattle.edit_script.specs.Scripts.{AddsCommand, Brought, GoesOn, HasCause, HasManyRefs, IsDeepEdit, IsLargeWindow, IsLineFault, line_number, place_in_order, set_text, window_cells, with_line}
+use Rattle.edit_script.proofs.OneFault.{allowed}
 
--- a line that is allowed whatever a cell is to hold, and sets none to a formula that is refused
-allowed : (sizes : Sizes) (now : Brought) (line : LineValue) → IsPlainlyAllowed sizes now line → ¬ IsDeepEdit line → ¬ HasManyRefs line → IsAllowed sizes now line
-allowed sizes now line plain shallow few = record {
-  inside = plain.inside;
-  client = plain.client;
-  window = plain.window;
-  edit = plain.edit;
-  shallow = shallow;
-  few_refs = few;
-}
-
--- a line that says nothing
-pub skip_taken : (sizes : Sizes) (labels : List (List ℕ)) (old : Progress) → IsWithinLimits old → Takes sizes Skip labels old labels old
-skip_taken sizes labels old sound = record {
-  allowed = record { inside = λ no. no; client = λ no. no; window = λ no. no; edit = λ no. no; shallow = λ no. no; few_refs = λ no. no };
-  brought_is = refl;
-  sound = sound;
-  step = adds_none tt refl;
-  labels = done [] labels labels refl refl;
-}
-
-module _ {T E : Type 0} (sizes : Sizes) (labels : List (List ℕ)) (old new : Progress) where
-  -- one that names a client
-  pub client_taken : (r : Result T E) (name : List ℕ) → IsPlainlyAllowed sizes (brought old) (Client name) → OnOk r (IsWithinLimits new)
-      → OnOk r (brought new ≡ with_client (brought old) name) → new.steps ≡ old.steps → OnOk r (Takes sizes (Client name) labels old labels new)
-  client_taken (Ok x) name plain sound brought_is steps = record {
-    allowed = allowed sizes (brought old) (Client name) plain (λ no. no) (λ no. no);
-    brought_is = brought_is;
-    sound = sound;
-    step = adds_none tt (ap (λ s. s.items) steps);
-    labels = done [] labels labels refl refl;
-  }
-  client_taken (Err e) name plain sound brought_is steps = tt
-
-  -- one that gives a command and no label
-  pub command_taken : (r : Result T E) (line : LineValue) (command : Command) → IsPlainlyAllowed sizes (brought old) line → ¬ IsDeepEdit line → ¬ HasManyRefs line
-      → set_text line ≡ [] → IsCommand labels line command → OnOk r (IsWithinLimits new) → OnOk r (brought new ≡ with_line (brought old) line)
-      → OnOk r (AddsCommand command (brought new) old.steps.items new.steps.items) → OnOk r (Takes sizes line labels old labels new)
-  command_taken (Ok x) line command plain shallow few none is sound brought_is adds = record {
+module _ (sizes : Sizes) (labels : List (List ℕ)) (number : ℕ) (old new : Progress) where
+  -- a line that is no text of a cell
+  pub line_takes : (line : LineValue) → IsPlainlyAllowed sizes (brought old) line → ¬ IsDeepEdit line → ¬ HasManyRefs line → set_text line ≡ []
+      → IsWithinLimits new → brought new ≡ with_line (brought old) line
+      → GoesOn labels (brought new) line old.batch new.batch old.steps.items new.steps.items → BeginsAt line number old.begun new.begun
+      → Takes sizes line number labels old labels new
+  line_takes line plain shallow few none sound brought_is goes begun = record {
     allowed = allowed sizes (brought old) line plain shallow few;
     brought_is = brought_is;
     sound = sound;
-    step = adds_one (record { client = adds.client; command = command }) (record { client = adds.place; command = is }) adds.added;
+    goes = goes;
+    begun = begun;
     labels = done (set_text line) labels labels none refl;
   }
-  command_taken (Err e) line command plain shallow few none is sound brought_is adds = tt
+
+module _ {T E : Type 0} (sizes : Sizes) (labels : List (List ℕ)) (number : ℕ) (old new : Progress) where
+  pub line_taken : (r : Result T E) (line : LineValue) → IsPlainlyAllowed sizes (brought old) line → ¬ IsDeepEdit line → ¬ HasManyRefs line → set_text line ≡ []
+      → OnOk r (IsWithinLimits new) → OnOk r (brought new ≡ with_line (brought old) line)
+      → OnOk r (GoesOn labels (brought new) line old.batch new.batch old.steps.items new.steps.items) → OnOk r (BeginsAt line number old.begun new.begun)
+      → OnOk r (Takes sizes line number labels old labels new)
+  line_taken (Ok x) line plain shallow few none sound brought_is goes begun = line_takes sizes labels number old new line plain shallow few none sound brought_is goes begun
+  line_taken (Err e) line plain shallow few none sound brought_is goes begun = tt
 
   -- and one by which a cell is to hold what a text writes
   pub set_taken : (r : Result T E) (after : List (List ℕ)) (cell : Position) (text : List ℕ) → IsPlainlyAllowed sizes (brought old) (Set cell text)
       → OnOk r (IsWithinLimits new) → OnOk r (brought new ≡ with_line (brought old) (Set cell text))
-      → OnOk r (AddsSet after text cell (brought new) old.steps.items new.steps.items) → OnOk r (IsTableAfter text labels after)
-      → OnOk r (Takes sizes (Set cell text) labels old after new)
-  set_taken (Ok x) after cell text plain sound brought_is adds table = record {
+      → OnOk r (GoesOn after (brought new) (Set cell text) old.batch new.batch old.steps.items new.steps.items) → OnOk r (IsTableAfter text labels after)
+      → OnOk r (new.begun ≡ old.begun) → OnOk r (Takes sizes (Set cell text) number labels old after new)
+  set_taken (Ok x) after cell text plain sound brought_is goes table begun = record {
     allowed = allowed sizes (brought old) (Set cell text) plain
-        (λ deep. refused_none after text adds.content (inl deep) adds.writes)
-        (λ many. refused_none after text adds.content (inr many) adds.writes);
+        (λ deep. refused_none after text goes.0 (inl deep) goes.1)
+        (λ many. refused_none after text goes.0 (inr many) goes.1);
     brought_is = brought_is;
     sound = sound;
-    step = adds_one (record { client = adds.adds.client; command = asks.Put (edit_of cell adds.content) })
-        (record { client = adds.adds.place; command = set text (change_of cell adds.content) (Set cell text) refl adds.writes }) adds.adds.added;
+    goes = goes;
+    begun = begun;
     labels = next (text ∷ []) text [] labels after after refl table (done [] after after refl refl);
   }
-  set_taken (Err e) after cell text plain sound brought_is adds table = tt
+  set_taken (Err e) after cell text plain sound brought_is goes table begun = tt
 
 -- a text that is refused refuses the line
 pub set_fault : {T : Type 0} (r : Result T ScriptRefused) (sizes : Sizes) (now : Brought) (cell : Position) (text : List ℕ) (number : ℕ) → IsPlainlyAllowed sizes now (Set cell text)
@@ -93,9 +71,24 @@ pub set_fault : {T : Type 0} (r : Result T ScriptRefused) (sizes : Sizes) (now :
     → IfErr r (λ why. why ≢ Memory → (line_number why ≡ number) × IsLineFault sizes now (Set cell text) why)
 set_fault (Ok x) sizes now cell text number plain fault = tt
 set_fault (Err why) sizes now cell text number plain fault = λ other. ⊎_elim
-    (λ deep. subst (λ w. (line_number w ≡ number) × IsLineFault sizes now (Set cell text) w) (sym deep.0) (refl, (plain.inside, plain.edit, deep.1)))
-    (λ many. subst (λ w. (line_number w ≡ number) × IsLineFault sizes now (Set cell text) w) (sym many.0) (refl, (plain.inside, plain.edit, many.1)))
+    (λ deep. subst (λ w. (line_number w ≡ number) × IsLineFault sizes now (Set cell text) w) (sym deep.0)
+    (refl, record { cause = deep.1; first = λ earlier before. plain earlier (omega (arith, before)) }))
+    (λ many. subst (λ w. (line_number w ≡ number) × IsLineFault sizes now (Set cell text) w) (sym many.0)
+    (refl, record { cause = many.1; first = by_kind many.1 }))
     (fault other)
+  where
+    -- a formula that is too deep has no number of references
+    by_kind : HasTooManyRefs text → (earlier : ScriptRefused) → place_in_order earlier < 8 → ¬ HasCause sizes now (Set cell text) earlier
+    by_kind many (BadLine n) before = plain (BadLine n) (omega arith)
+    by_kind many (OutOfSheet n) before = plain (OutOfSheet n) (omega arith)
+    by_kind many (CellTwice n) before = plain (CellTwice n) (omega arith)
+    by_kind many (BatchTooLarge n) before = plain (BatchTooLarge n) (omega arith)
+    by_kind many (TooManyClients n) before = plain (TooManyClients n) (omega arith)
+    by_kind many (WindowTooLarge n) before = plain (WindowTooLarge n) (omega arith)
+    by_kind many (TooManyEdits n) before = plain (TooManyEdits n) (omega arith)
+    by_kind many (FormulaTooDeep n) before = λ deep. many.0 deep.deep
+    by_kind many (TooManyRefs n) before = absurd (omega (arith, before))
+    by_kind many Memory before = absurd (omega (arith, before))
 
 list_any_there : (name : List ℕ) (names : List (List ℕ)) → Contains names name → list_any (bytes_eq name) names ≡ true
 list_any_there name names there = list_any_at (bytes_eq name) names there.0 name there.1 ((bytes_eq-Decides name (get_or names there.0 name)).1 (sym there.2))
@@ -106,8 +99,33 @@ client_room sizes now name plain = by_length (nat_lt (length now.names) 32) refl
   where
     by_any : (b : Bool) → list_any (bytes_eq name) now.names ≡ b → (32 ≤ length now.names) → (length now.names < 32) ⊎ Contains now.names name
     by_any true e full = inr (Contains-from_any (λ x y. (bytes_eq-Decides x y).0) name now.names e)
-    by_any false e full = absurd (plain.client (full, λ there. true≢false (sym (list_any_there name now.names there) ∙ e)))
+    by_any false e full = absurd (plain (TooManyClients 0) (omega arith) (full, λ there. true≢false (sym (list_any_there name now.names there) ∙ e)))
 
     by_length : (b : Bool) → nat_lt (length now.names) 32 ≡ b → (length now.names < 32) ⊎ Contains now.names name
     by_length true e = inl (ltb-true (length now.names) 32 e)
     by_length false e = by_any (list_any (bytes_eq name) now.names) refl (ltb-false (length now.names) 32 e)
+
+-- what may be done where nothing is wrong with a line but for a formula
+pub may_set : (sizes : Sizes) (now : Brought) (cell : Position) (text : List ℕ) → IsPlainlyAllowed sizes now (Set cell text) → MayChange now cell
+may_set sizes now cell text plain = record { once = plain (CellTwice 0) (omega arith); room = plain (BatchTooLarge 0) (omega arith); edits = plain (TooManyEdits 0) (omega arith) }
+
+pub may_clear : (sizes : Sizes) (now : Brought) (cell : Position) → IsPlainlyAllowed sizes now (Clear cell) → MayChange now cell
+may_clear sizes now cell plain = record { once = plain (CellTwice 0) (omega arith); room = plain (BatchTooLarge 0) (omega arith); edits = plain (TooManyEdits 0) (omega arith) }
+
+pub window_room : (now : Brought) (range : Corners) → ¬ IsLargeWindow now range → now.cells + window_cells range ≤ 4194304
+window_room now range small = let fits : (4194304 < now.cells + window_cells range) → ⊥ = λ many. small (inr many) in omega (arith, fits)
+
+pub edit_room : (edits : ℕ) → ¬ (1048576 ≤ edits) → edits < 1048576
+edit_room edits few = omega (arith, few)
+
+pub end_some : (batch : Option EditValue) → ¬ MatchOption (option_map changed_cells batch) (Unit {0}) (λ cells. cells ≡ []) → MatchOption batch ⊥ (λ (changes : EditValue). 1 ≤ length changes)
+end_some None placed = placed tt
+end_some (Some []) placed = absurd (placed refl)
+end_some (Some (change ∷ changes)) placed = omega arith
+
+-- the end of a batch
+pub end_goes : {T E : Type 0} (r : Result T E) (now : Brought) (batch after : Option EditValue) (old new : List Step) → OnOk r (MatchOption batch ⊥ (λ changes. AddsCommand (asks.Put changes) now old new)) → OnOk r (after ≡ None)
+    → OnOk r ((changes : EditValue) × (batch ≡ Some changes) × (after ≡ None) × AddsCommand (asks.Put changes) now old new)
+end_goes (Ok x) now None after old new adds closed = absurd adds
+end_goes (Ok x) now (Some changes) after old new adds closed = (changes, refl, closed, adds)
+end_goes (Err e) now batch after old new adds closed = tt

@@ -1,22 +1,26 @@
 -- Taking lines one after the other.
-use Rattle.std.proofs.Common.{◌≡◌, ℕ, List, [], ◌∷◌, ◌++◌, refl, sym, ap, subst, ◌∙◌, append-nil}
+use Rattle.std.proofs.Common.{◌≡◌, ◌≢◌, ◌+◌, inl, inr, ℕ, List, [], ◌∷◌, ◌++◌, Option, Some, None, length, length-append, Contains, refl, sym, ap, subst, ◌∙◌, append-nil, append_assoc}
+use Rattle.std.specs.Prelude.{MatchOption}
+use Rattle.std.proofs.lemmas.List.Elements.{Contains-append_cases}
 use Rattle.std.proofs.lemmas.List.Sums.{fold-append}
 use Rattle.std.proofs.lemmas.List.Concat.{flat_map-append}
 use Rattle.sheet_refs.specs.declared.sizes.Sizes.{Sizes}
-use Rattle.sheet_model.specs.Sheets.{ContentValue}
+use Rattle.value_core.specs.declared.value.Value.TheVariants.{Empty}
+use Rattle.sheet_model.specs.Changes.{ChangeValue}
+use Rattle.sheet_model.specs.Edits.{EditValue}
+use Rattle.sheet_model.specs.Sheets.{ContentValue, Constant}
 use Rattle.sheet_model.specs.Fields.{IsContent}
 use Rattle.sheet_model.specs.Tables.{AddsLabels}
 use Rattle.sheet_model.specs.Tables.AddsLabels.{done, next}
+use Rattle.sheet_model.proofs.EditLemmas.{first_or_later}
+use Rattle.sheet_model.proofs.ListMembers.{no_member}
 use Rattle.sheet_model.proofs.SheetLemmas.{IsContent-after}
-use Rattle.edit_script.specs.Lines.{LineValue, Says}
-use Rattle.edit_script.specs.Scripts.{Brought, AreSteps, IsAllowed, IsCommand, IsStepOfLine, brought_by, nothing_yet, with_line, set_text, set_texts}
+use Rattle.edit_script.specs.Lines.{LineValue, Skip, Client, Set, Clear, Look, Firm, Work, Batch, End, Says}
+use Rattle.edit_script.specs.Scripts.{Brought, AreSteps, GoesOn, IsAllowed, IsBegun, MakesChange, brought_by, change_of, nothing_yet, with_line, set_text, set_texts}
 use Rattle.edit_script.specs.Scripts.AreLines.{none as no_lines, more}
-use Rattle.edit_script.specs.Scripts.AreSteps.{none as no_steps, silent as silent_line, command as command_line}
-use Rattle.edit_script.specs.Scripts.IsCommand.{set, clear, look, firm, work}
-use Rattle.edit_script.specs.Progress.{AddsStep, IsWithinLimits, HasTakenLines, Takes, brought}
-use Rattle.edit_script.specs.Progress.AddsStep.{silent as adds_none, command as adds_one}
+use Rattle.edit_script.specs.Scripts.AreSteps.{none as no_steps, more as step_more}
+use Rattle.edit_script.specs.Progress.{BeginsAt, IsWithinLimits, HasTakenLines, Takes, brought}
 use Rattle.edit_script.specs.declared.progress.Progress.{Progress}
-use Rattle.edit_script.specs.declared.script.Command.{Command}
 use Rattle.edit_script.specs.declared.script.Mode.{Mode}
 use Rattle.edit_script.specs.declared.script.Step.{Step}
 
@@ -33,29 +37,22 @@ content_grows _ old new text content (done texts _ _ none same) writes = subst (
 content_grows _ old new text content (next texts first rest _ middle _ split after_first after_rest) writes =
     content_grows rest middle new text content after_rest (IsContent-after first old middle text content after_first writes)
 
-command_grows : (texts old new : List (List ℕ)) (line : LineValue) (command : Command) → AddsLabels texts old new → IsCommand old line command → IsCommand new line command
-command_grows texts old new _ _ table (set text change line says writes) =
-    set text change line says (content_grows texts old new text change.content table writes)
-command_grows texts old new _ _ table (clear change line says empty) = clear change line says empty
-command_grows texts old new _ _ table (look range line says) = look range line says
-command_grows texts old new _ _ table (firm range line says) = firm range line says
-command_grows texts old new _ _ table (work turns line says) = work turns line says
+-- what a line does beside a table, it does beside the table with further texts
+going_grows : (texts old new : List (List ℕ)) (now : Brought) (line : LineValue) (before after : Option EditValue) (some all : List Step) → AddsLabels texts old new → GoesOn old now line before after some all → GoesOn new now line before after some all
+going_grows texts old new now Skip before after some all table goes = goes
+going_grows texts old new now (Client name) before after some all table goes = goes
+going_grows texts old new now (Set cell text) before after some all table (content, writes, makes) = (content, content_grows texts old new text content table writes, makes)
+going_grows texts old new now (Clear cell) before after some all table goes = goes
+going_grows texts old new now (Look range) before after some all table goes = goes
+going_grows texts old new now (Firm range) before after some all table goes = goes
+going_grows texts old new now (Work turns) before after some all table goes = goes
+going_grows texts old new now Batch before after some all table goes = goes
+going_grows texts old new now End before after some all table goes = goes
 
-steps_grow : (texts old new : List (List ℕ)) (known : List LineValue) (all : List Step) → AddsLabels texts old new → AreSteps old known all → AreSteps new known all
-steps_grow texts old new _ _ table no_steps = no_steps
-steps_grow texts old new _ _ table (silent_line before known line all are quiet split) =
-    silent_line before known line all (steps_grow texts old new before all table are) quiet split
-steps_grow texts old new _ _ table (command_line before known line some all step are is split added) =
-    command_line before known line some all step (steps_grow texts old new before some table are)
-    (record { client = is.client; command = command_grows texts old new line step.command table is.command }) split added
-
--- the steps of a line more
-steps_more : (labels : List (List ℕ)) (before : List LineValue) (line : LineValue) (now : Brought) (old new : List Step)
-    → now ≡ brought_by (before ++ line ∷ []) → AreSteps labels before old → AddsStep labels now line old new → AreSteps labels (before ++ line ∷ []) new
-steps_more labels before line now old new now_is are (adds_none quiet same) =
-    silent_line before (before ++ line ∷ []) line new (subst (AreSteps labels before) (sym same) are) quiet refl
-steps_more labels before line now old new now_is are (adds_one step is added) =
-    command_line before (before ++ line ∷ []) line old new step are (subst (λ k. IsStepOfLine labels k line step) now_is is) refl added
+steps_grow : (texts old new : List (List ℕ)) (known : List LineValue) (changes : Option EditValue) (all : List Step) → AddsLabels texts old new → AreSteps old known changes all → AreSteps new known changes all
+steps_grow texts old new _ _ _ table no_steps = no_steps
+steps_grow texts old new _ _ _ table (step_more lines known line before after some all are goes split) =
+    step_more lines known line before after some all (steps_grow texts old new lines before some table are) (going_grows texts old new (brought_by known) line before after some all table goes) split
 
 brought_more : (before : List LineValue) (line : LineValue) → brought_by (before ++ line ∷ []) ≡ with_line (brought_by before) line
 brought_more before line = fold-append with_line nothing_yet before (line ∷ [])
@@ -63,29 +60,91 @@ brought_more before line = fold-append with_line nothing_yet before (line ∷ []
 set_texts_more : (before : List LineValue) (line : LineValue) → set_texts (before ++ line ∷ []) ≡ set_texts before ++ set_text line
 set_texts_more before line = flat_map-append set_text before (line ∷ []) ∙ ap (λ t. set_texts before ++ t) (append-nil (set_text line))
 
+-- a batch that began before a line, which isn't its end, and no further one
+begun_on : (lines : List LineValue) (line : LineValue) (number : ℕ) → line ≢ End → line ≢ Batch → IsBegun lines number → IsBegun (lines ++ line ∷ []) number
+begun_on lines line number other another begun = record {
+  before = begun.before;
+  behind = begun.behind ++ line ∷ [];
+  split = ap (λ l. l ++ line ∷ []) begun.split ∙ append_assoc begun.before (Batch ∷ begun.behind) (line ∷ []);
+  count = begun.count;
+  no_end = λ there. elim (Contains-append_cases begun.behind (line ∷ []) End there) [ inl before ↦ begun.no_end before | inr last ↦ other (sole last) ];
+  no_batch = λ there. elim (Contains-append_cases begun.behind (line ∷ []) Batch there) [ inl before ↦ begun.no_batch before | inr last ↦ another (sole last) ];
+}
+  where
+    sole : {l : LineValue} → Contains (line ∷ []) l → line ≡ l
+    sole {l} there = elim (first_or_later l line [] there) [ inl same ↦ same | inr later ↦ absurd (no_member l later) ]
+
+-- where the batch that is open began
+abbrev OpenSince : Option EditValue → List LineValue → ℕ → Type 0
+OpenSince changes lines number = MatchOption changes (Unit {0}) (λ _. IsBegun lines number)
+
+-- no change of an open batch opens or closes it
+open_alike : (now : Brought) (change : ChangeValue) (before after : Option EditValue) (some all : List Step) (lines later : List LineValue) (number : ℕ) → MakesChange now change before after some all
+    → (IsBegun lines number → IsBegun later number) → OpenSince before lines number → OpenSince after later number
+open_alike now change None after some all lines later number (after_is, adds) on since = subst (λ b. OpenSince b later number) (sym after_is) tt
+open_alike now change (Some changes) after some all lines later number (after_is, same) on since = subst (λ b. OpenSince b later number) (sym after_is) (on since)
+
+open_same : (before after : Option EditValue) (lines later : List LineValue) (number : ℕ) → after ≡ before → (IsBegun lines number → IsBegun later number) → OpenSince before lines number → OpenSince after later number
+open_same None after lines later number same on since = subst (λ b. OpenSince b later number) (sym same) tt
+open_same (Some changes) after lines later number same on since = subst (λ b. OpenSince b later number) (sym same) (on since)
+
+open_goes : (labels : List (List ℕ)) (now : Brought) (lines : List LineValue) (line : LineValue) (count was is : ℕ) (before after : Option EditValue) (some all : List Step)
+    → count ≡ length lines → GoesOn labels now line before after some all → BeginsAt line (count + 1) was is → OpenSince before lines was → OpenSince after (lines ++ line ∷ []) is
+open_goes labels now lines Skip count was is before after some all long goes at since =
+    subst (OpenSince after (lines ++ Skip ∷ [])) (sym at) (open_same before after lines (lines ++ Skip ∷ []) was goes.0 (begun_on lines Skip was (λ e. cc) (λ e. cc)) since)
+open_goes labels now lines (Client name) count was is before after some all long goes at since =
+    subst (OpenSince after (lines ++ Client name ∷ [])) (sym at) (open_same before after lines (lines ++ Client name ∷ []) was goes.0 (begun_on lines (Client name) was (λ e. cc) (λ e. cc)) since)
+open_goes labels now lines (Set cell text) count was is before after some all long (content, writes, makes) at since =
+    subst (OpenSince after (lines ++ Set cell text ∷ [])) (sym at) (open_alike now (change_of cell content) before after some all lines (lines ++ Set cell text ∷ []) was makes (begun_on lines (Set cell text) was (λ e. cc) (λ e. cc)) since)
+open_goes labels now lines (Clear cell) count was is before after some all long makes at since =
+    subst (OpenSince after (lines ++ Clear cell ∷ [])) (sym at) (open_alike now (change_of cell (Constant Empty)) before after some all lines (lines ++ Clear cell ∷ []) was makes (begun_on lines (Clear cell) was (λ e. cc) (λ e. cc)) since)
+open_goes labels now lines (Look range) count was is before after some all long goes at since =
+    subst (OpenSince after (lines ++ Look range ∷ [])) (sym at) (open_same before after lines (lines ++ Look range ∷ []) was goes.0 (begun_on lines (Look range) was (λ e. cc) (λ e. cc)) since)
+open_goes labels now lines (Firm range) count was is before after some all long goes at since =
+    subst (OpenSince after (lines ++ Firm range ∷ [])) (sym at) (open_same before after lines (lines ++ Firm range ∷ []) was goes.0 (begun_on lines (Firm range) was (λ e. cc) (λ e. cc)) since)
+open_goes labels now lines (Work turns) count was is before after some all long goes at since =
+    subst (OpenSince after (lines ++ Work turns ∷ [])) (sym at) (open_same before after lines (lines ++ Work turns ∷ []) was goes.0 (begun_on lines (Work turns) was (λ e. cc) (λ e. cc)) since)
+open_goes labels now lines Batch count was is before after some all long goes at since =
+    subst (λ b. OpenSince b (lines ++ Batch ∷ []) is) (sym goes.0) (record {
+      before = lines;
+      behind = [];
+      split = refl;
+      count = at ∙ ap (λ n. n + 1) long;
+      no_end = λ there. no_member End there;
+      no_batch = λ there. no_member Batch there;
+    })
+open_goes labels now lines End count was is before after some all long (changes, opened, closed, adds) at since =
+    subst (λ b. OpenSince b (lines ++ End ∷ []) is) (sym closed) tt
+
 -- before the first line
-pub way_begins : (mode : Mode) (sizes : Sizes) (old : List (List ℕ)) (progress : Progress) → brought progress ≡ nothing_yet → progress.steps.items ≡ [] → IsWithinLimits progress → HasTakenLines mode sizes old old [] progress
-way_begins mode sizes old progress nothing none sound = record {
+pub way_begins : (mode : Mode) (sizes : Sizes) (old : List (List ℕ)) (progress : Progress) → brought progress ≡ nothing_yet → progress.steps.items ≡ [] → progress.batch ≡ None → IsWithinLimits progress → HasTakenLines mode sizes old old [] progress
+way_begins mode sizes old progress nothing none closed sound = record {
   lines = [];
   said = no_lines;
   brought_is = nothing;
-  steps = subst (AreSteps old []) (sym none) no_steps;
+  steps = subst (AreSteps old [] progress.batch) (sym none) (subst (λ b. AreSteps old [] b []) (sym closed) no_steps);
+  begun = subst (λ b. OpenSince b [] progress.begun) (sym closed) tt;
+  count = refl;
   labels = done [] old old refl refl;
   sound = sound;
 }
 
 -- and behind each
-pub way_goes : (mode : Mode) (sizes : Sizes) (old between new texts : List (List ℕ)) (text : List ℕ) (line : LineValue) (progress after : Progress)
-    → HasTakenLines mode sizes old between texts progress → Says mode text line → Takes sizes line between progress new after
+pub way_goes : (mode : Mode) (sizes : Sizes) (old between new texts : List (List ℕ)) (text : List ℕ) (line : LineValue) (number : ℕ) (progress after : Progress)
+    → HasTakenLines mode sizes old between texts progress → number ≡ length texts → Says mode text line → Takes sizes line (number + 1) between progress new after
     → HasTakenLines mode sizes old new (texts ++ text ∷ []) after
-way_goes mode sizes old between new texts text line progress after way says takes =
+way_goes mode sizes old between new texts text line number progress after way counted says takes =
     let now_is : brought after ≡ brought_by (way.lines ++ line ∷ []) = takes.brought_is ∙ ap (λ k. with_line k line) way.brought_is ∙ sym (brought_more way.lines line) in
+    let goes : GoesOn new (brought_by (way.lines ++ line ∷ [])) line progress.batch after.batch progress.steps.items after.steps.items =
+    subst (λ k. GoesOn new k line progress.batch after.batch progress.steps.items after.steps.items) now_is takes.goes in
     record {
       lines = way.lines ++ line ∷ [];
       said = more texts (texts ++ text ∷ []) text way.lines (way.lines ++ line ∷ []) line way.said says (subst (λ k. IsAllowed sizes k line) way.brought_is takes.allowed) refl refl;
       brought_is = now_is;
-      steps = steps_more new way.lines line (brought after) progress.steps.items after.steps.items now_is
-          (steps_grow (set_text line) between new way.lines progress.steps.items takes.labels way.steps) takes.step;
+      steps = step_more way.lines (way.lines ++ line ∷ []) line progress.batch after.batch progress.steps.items after.steps.items
+          (steps_grow (set_text line) between new way.lines progress.batch progress.steps.items takes.labels way.steps) goes refl;
+      begun = open_goes new (brought_by (way.lines ++ line ∷ [])) way.lines line number progress.begun after.begun progress.batch after.batch progress.steps.items after.steps.items (counted ∙ sym way.count) goes takes.begun way.begun;
+      count = length-append way.lines (line ∷ []) ∙ ap (λ n. n + 1) way.count ∙ sym (length-append texts (text ∷ []));
       labels = subst (λ t. AddsLabels t old new) (sym (set_texts_more way.lines line)) (adds_both (set_texts way.lines) (set_text line) old between new way.labels takes.labels);
       sound = takes.sound;
     }

@@ -20,6 +20,8 @@ pub data LineValue : Type 0 where
   Look : Corners → LineValue
   Firm : Corners → LineValue
   Work : ℕ → LineValue
+  Batch : LineValue
+  End : LineValue
 
 -- an ASCII letter or digit, `_` or `-`
 abbrev pub IsNameByte : ℕ → Type 0
@@ -58,17 +60,20 @@ pub data IsOrder : List ℕ → List ℕ → LineValue → Type 0 where
   firm : (word name : List ℕ) (range : Corners) → word ≡ codes "firm" → IsRangeName name range → IsOrder word name (Firm range)
   work : (word digits : List ℕ) (turns : ℕ) → word ≡ codes "work" → IsTurns digits turns → IsOrder word digits (Work turns)
 
--- the line says this; an empty one, and one that begins with `#`, says nothing
+-- the line says this; an empty one, and one that begins with `#`, says nothing, and the words around the changes of one
+-- edit stand alone
 pub data IsLineOf : List ℕ → LineValue → Type 0 where
   empty : (line : List ℕ) → line ≡ [] → IsLineOf line Skip
   comment : (line rest : List ℕ) → line ≡ 35 ∷ rest → IsLineOf line Skip
+  begins : (line : List ℕ) → line ≡ codes "batch" → IsLineOf line Batch
+  ends : (line : List ℕ) → line ≡ codes "end" → IsLineOf line End
   order : (line word behind : List ℕ) (value : LineValue) → IsSpaced word behind line → IsOrder word behind value → IsLineOf line value
 
 -- turns are asked for in the play mode alone
-abbrev pub IsFor : Mode → LineValue → Type 0
-IsFor mode (Work turns) = mode ≡ modes.Play
-IsFor mode _ = Unit {0}
+abbrev pub FitsMode : Mode → LineValue → Type 0
+FitsMode mode (Work turns) = mode ≡ modes.Play
+FitsMode mode _ = Unit {0}
 
 -- the line says this in a script of the mode
 abbrev pub Says : Mode → List ℕ → LineValue → Type 0
-Says mode line value = IsLineOf line value × IsFor mode value
+Says mode line value = IsLineOf line value × FitsMode mode value

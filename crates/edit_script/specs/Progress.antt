@@ -1,23 +1,19 @@
 -- What is kept of the lines so far.
-use Rattle.std.specs.Prelude.{◌≡◌, ◌≢◌, ◌⊎◌, ℕ, ◌+◌, ◌<◌, ◌≤◌, List, [], ◌∷◌, ◌++◌, length, map, slice_get, slice_index_or, string_bytes, codes, All, AllPairs, Option, Some, None, MatchOption, IsTrue}
+use Rattle.std.specs.Prelude.{◌≡◌, ◌≢◌, ◌⊎◌, ℕ, ◌+◌, ◌<◌, ◌≤◌, List, [], ◌++◌, length, map, slice_index_or, string_bytes, codes, All, AllPairs, Option, Some, None, MatchOption, Contains, IsTrue, option_map}
 use Rattle.sheet_refs.specs.Cells.{Position, Corners}
 use Rattle.sheet_refs.specs.Sizes.{is_inside}
 use Rattle.sheet_refs.specs.declared.sizes.Sizes.{Sizes}
 use Rattle.formula_syntax.specs.Spelling.{HasTooManyRefs}
-use Rattle.sheet_model.specs.Fields.{IsContent, IsDeepFormula}
-use Rattle.sheet_model.specs.Sheets.{ContentValue}
+use Rattle.sheet_model.specs.Fields.{IsDeepFormula}
 use Rattle.sheet_model.specs.Tables.{AddsLabels}
-use Rattle.sheet_model.specs.Changes.{ChangeValue}
 use Rattle.sheet_model.specs.Edits.{EditValue}
-use Rattle.edit_script.specs.Lines.{LineValue, Set, script_lines}
-use Rattle.edit_script.specs.Scripts.{Brought, AreLines, AreSteps, IsSilent, IsStepOfLine, IsAllowed, LeavesSheet, IsClientTooMany, IsWindowTooLarge, IsEditTooMany, IsPartOutside, IsLargeWindow, with_line, brought_by, set_text, set_texts}
+use Rattle.edit_script.specs.Batches.{changed_cells}
+use Rattle.edit_script.specs.Lines.{LineValue, Set, Batch, script_lines}
+use Rattle.edit_script.specs.Scripts.{AreLines, AreSteps, Brought, GoesOn, HasCause, IsAllowed, IsBatchFull, IsBegun, IsChangeEditTooMany, IsInBatch, IsLargeWindow, IsPartOutside, brought_by, place_in_order, set_text, set_texts, with_line}
 use Rattle.edit_script.specs.declared.refused.ScriptRefused.{ScriptRefused}
-use Rattle.edit_script.specs.declared.refused.ScriptRefused.TheVariants.{OutOfSheet, WindowTooLarge, TooManyEdits, FormulaTooDeep, TooManyRefs}
-use Rattle.edit_script.specs.declared.script.Command.{Command}
-use Rattle.edit_script.specs.declared.script.Command.TheVariants as asks
+use Rattle.edit_script.specs.declared.refused.ScriptRefused.TheVariants.{OutOfSheet, CellTwice, BatchTooLarge, WindowTooLarge, TooManyEdits, FormulaTooDeep, TooManyRefs}
 use Rattle.edit_script.specs.declared.progress.Progress.{Progress}
 use Rattle.edit_script.specs.declared.script.Mode.{Mode}
-use Rattle.edit_script.specs.declared.script.Step.{Step}
 
 -- the names that are kept
 abbrev pub names_of : Progress → List (List ℕ)
@@ -35,6 +31,7 @@ brought progress = record {
   names = names_of progress;
   cells = progress.cells;
   edits = progress.edits;
+  batch = option_map changed_cells progress.batch;
 }
 
 -- a place is that of a client; without one there is no client
@@ -55,46 +52,32 @@ abbrev pub HoldsShortText : LineValue → Type 0
 HoldsShortText (Set cell text) = length text ≤ 8192
 HoldsShortText _ = Unit {0}
 
--- a change of a cell, and an edit of one cell
-abbrev pub change_of : Position → ContentValue → ChangeValue
-change_of cell content = record { cell = cell; content = content }
-
-abbrev pub edit_of : Position → ContentValue → EditValue
-edit_of cell content = change_of cell content ∷ []
-
 -- the table has become longer, or is as it was
 abbrev pub Extends : List (List ℕ) → List (List ℕ) → Type 0
 Extends old new = (more : List (List ℕ)) × (new ≡ old ++ more)
 
--- the command is the last step now, and belongs to the client whose commands follow
-pub record AddsCommand (command : Command) (now : Brought) (old new : List Step) : Type 0 where
-  pub client : ℕ
-  pub place : slice_get now.names client ≡ Some now.client
-  pub added : new ≡ old ++ record { client = client; command = command } ∷ []
-
--- the last step is now an edit by which a cell holds what a text writes
-pub record AddsSet (labels : List (List ℕ)) (text : List ℕ) (cell : Position) (now : Brought) (old new : List Step) : Type 0 where
-  pub content : ContentValue
-  pub writes : IsContent labels text content
-  pub adds : AddsCommand (asks.Put (edit_of cell content)) now old new
-
--- a line gives no step, or one that is added
-pub data AddsStep (labels : List (List ℕ)) (now : Brought) (line : LineValue) (old new : List Step) : Type 0 where
-  silent : IsSilent line → new ≡ old → AddsStep labels now line old new
-  command : (step : Step) → IsStepOfLine labels now line step → new ≡ old ++ step ∷ [] → AddsStep labels now line old new
-
 -- nothing is wrong with the line, whatever a cell is to hold
-pub record IsPlainlyAllowed (sizes : Sizes) (now : Brought) (line : LineValue) : Type 0 where
-  pub inside : ¬ LeavesSheet sizes line
-  pub client : ¬ IsClientTooMany now line
-  pub window : ¬ IsWindowTooLarge now line
-  pub edit : ¬ IsEditTooMany now line
+abbrev pub IsPlainlyAllowed : Sizes → Brought → LineValue → Type 0
+IsPlainlyAllowed sizes now line = (why : ScriptRefused) → place_in_order why ≤ 6 → ¬ HasCause sizes now line why
 
--- an edit of a cell outside the sheet, or one too many
-abbrev pub IsEditFault : Sizes → Brought → Position → ℕ → ScriptRefused → Type 0
-IsEditFault sizes now cell number why =
-    ((why ≡ OutOfSheet number) × ¬ IsTrue (is_inside sizes cell))
-    ⊎ ((why ≡ TooManyEdits number) × IsTrue (is_inside sizes cell) × (1048576 ≤ now.edits))
+-- a change may be made of the cell
+pub record MayChange (now : Brought) (cell : Position) : Type 0 where
+  pub once : ¬ IsInBatch now cell
+  pub room : ¬ IsBatchFull now
+  pub edits : ¬ IsChangeEditTooMany now
+
+-- a change of a cell outside the sheet, or of one that the batch changes, or one too many for the batch or the script
+pub data IsChangeFault (sizes : Sizes) (now : Brought) (cell : Position) (number : ℕ) (why : ScriptRefused) : Type 0 where
+  outside : why ≡ OutOfSheet number → ¬ IsTrue (is_inside sizes cell) → IsChangeFault sizes now cell number why
+  twice : why ≡ CellTwice number → IsTrue (is_inside sizes cell) → IsInBatch now cell → IsChangeFault sizes now cell number why
+  large : why ≡ BatchTooLarge number → IsTrue (is_inside sizes cell) → ¬ IsInBatch now cell → IsBatchFull now → IsChangeFault sizes now cell number why
+  edits : why ≡ TooManyEdits number → IsTrue (is_inside sizes cell) → ¬ IsInBatch now cell → ¬ IsBatchFull now → IsChangeEditTooMany now → IsChangeFault sizes now cell number why
+
+-- the same of the changes of a batch alone
+abbrev pub IsBatchFault : EditValue → Position → ℕ → ScriptRefused → Type 0
+IsBatchFault changes cell number why =
+    ((why ≡ CellTwice number) × Contains (changed_cells changes) cell)
+    ⊎ ((why ≡ BatchTooLarge number) × (¬ Contains (changed_cells changes) cell) × (1024 ≤ length changes))
 
 -- a window with a part outside the sheet, or one that is too large
 abbrev pub IsWindowFault : Sizes → Brought → Corners → ℕ → ScriptRefused → Type 0
@@ -107,12 +90,18 @@ abbrev pub IsTextFault : List ℕ → ℕ → ScriptRefused → Type 0
 IsTextFault text number why =
     ((why ≡ FormulaTooDeep number) × IsDeepFormula text) ⊎ ((why ≡ TooManyRefs number) × HasTooManyRefs text)
 
+-- the line at which the last batch begins
+abbrev pub BeginsAt : LineValue → ℕ → ℕ → ℕ → Type 0
+BeginsAt Batch number old new = new ≡ number
+BeginsAt _ number old new = new ≡ old
+
 -- the line was taken
-pub record Takes (sizes : Sizes) (line : LineValue) (old_labels : List (List ℕ)) (old : Progress) (new_labels : List (List ℕ)) (new : Progress) : Type 0 where
+pub record Takes (sizes : Sizes) (line : LineValue) (number : ℕ) (old_labels : List (List ℕ)) (old : Progress) (new_labels : List (List ℕ)) (new : Progress) : Type 0 where
   pub allowed : IsAllowed sizes (brought old) line
   pub brought_is : brought new ≡ with_line (brought old) line
   pub sound : IsWithinLimits new
-  pub step : AddsStep new_labels (brought new) line old.steps.items new.steps.items
+  pub goes : GoesOn new_labels (brought new) line old.batch new.batch old.steps.items new.steps.items
+  pub begun : BeginsAt line number old.begun new.begun
   pub labels : AddsLabels (set_text line) old_labels new_labels
 
 -- some lines were taken, over a table before them, and left another
@@ -120,7 +109,9 @@ pub record HasTakenLines (mode : Mode) (sizes : Sizes) (old new : List (List ℕ
   pub lines : List LineValue
   pub said : AreLines mode sizes texts lines
   pub brought_is : brought progress ≡ brought_by lines
-  pub steps : AreSteps new lines progress.steps.items
+  pub steps : AreSteps new lines progress.batch progress.steps.items
+  pub begun : MatchOption progress.batch (Unit {0}) (λ changes. IsBegun lines progress.begun)
+  pub count : length lines ≡ length texts
   pub labels : AddsLabels (set_texts lines) old new
   pub sound : IsWithinLimits progress
 

@@ -1,7 +1,7 @@
-ghost use Rattle.std.specs.Prelude.{◌≡◌, ◌↔◌, ℕ, List, IsTrue, option_map};
+ghost use Rattle.std.specs.Prelude.{◌≡◌, ◌≢◌, ◌↔◌, ◌∷◌, [], ℕ, List, IsTrue, option_map};
 ghost use Rattle.sheet_refs.specs.Cells.{Position};
 ghost use Rattle.sheet_refs.specs.Names.{Finds};
-ghost use Rattle.edit_script.specs.Lines.{IsClientName, IsNameByte, SetsCell, IsTurns, IsFor};
+ghost use Rattle.edit_script.specs.Lines.{IsClientName, IsNameByte, IsSpaced, SetsCell, IsTurns, FitsMode};
 ghost use Rattle.edit_script.specs.Lines.{Client, Set, Work};
 ghost use Rattle.edit_script.specs.Saying.{line_value, FindsLine, Orders};
 
@@ -36,6 +36,10 @@ pub(crate) enum Line<'a> {
     Firm(Range),
     /// So many turns of work.
     Work(u32),
+    /// The changes of one edit follow.
+    Batch,
+    /// They end.
+    End,
 }
 
 /// What a line says in a script of the mode; None where it says nothing that a script may have.
@@ -51,6 +55,27 @@ pub(crate) fn read_line(line: &[u8], mode: Mode) -> Option<Line<'_>>
     let Ok(text) = str::from_utf8(line) else {
         return None;
     };
+    read_words(text, mode)
+}
+
+// What a text that is no comment says in a script of the mode.
+fn read_words(text: &str, mode: Mode) -> Option<Line<'_>>
+    requires some { text.now ≢ [] }
+    requires no_comment { (rest : List ℕ) → text.now ≢ 35 ∷ rest }
+    ensures { FindsLine mode text.now result }
+{
+    match text {
+        "batch" => Some(Line::Batch),
+        "end" => Some(Line::End),
+        _ => read_spaced(text, mode),
+    }
+}
+
+// What a word and something behind it say, parted by a space.
+fn read_spaced(text: &str, mode: Mode) -> Option<Line<'_>>
+    ensures { Finds (option_map line_value result) (λ value. (word : List ℕ) × (behind : List ℕ)
+        × IsSpaced word behind text.now × Orders mode word behind value) }
+{
     let (word, behind) = text.split_once(' ')?;
     read_order(word, behind, mode)
 }
@@ -115,7 +140,7 @@ fn read_setting(text: &str) -> Option<Line<'_>>
 // A number of turns, for which no live script asks.
 fn read_turns(text: &str, mode: Mode) -> Option<Line<'_>>
     ensures { Finds (option_map line_value result) (λ value. (turns : ℕ)
-        × (value ≡ Work turns) × IsTurns text.now turns × IsFor mode value) }
+        × (value ≡ Work turns) × IsTurns text.now turns × FitsMode mode value) }
 {
     let Mode::Play = mode else {
         return None;

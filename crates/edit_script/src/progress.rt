@@ -1,52 +1,41 @@
-ghost use Rattle.std.specs.Prelude.{◌≡◌, ◌≢◌, ◌⊎◌, ◌<◌, ◌≤◌, ◌+◌, ◌-◌, ◌^◌, ◌∷◌, ◌++◌, [], length, map};
-ghost use Rattle.std.specs.Prelude.{string_bytes, slice_get, Some, Contains, MatchOption, IsTrue};
-ghost use Rattle.std.specs.Prelude.{IfOk, IfErr, OnOk, OnErr};
-ghost use Rattle.sheet_refs.specs.Sizes.{is_inside};
+ghost use Rattle.std.specs.Prelude.{◌≡◌, ◌≢◌, ◌<◌, ◌≤◌, ◌+◌, ◌-◌, ◌^◌, ◌∷◌, ◌++◌, [], length};
+ghost use Rattle.std.specs.Prelude.{Some, None, MatchOption, IfOk, IfErr, IsSome, OnOk, OnErr};
 ghost use Rattle.sheet_model.specs.Fields.{IsContent, IsTableAfter};
-ghost use Rattle.sheet_model.specs.Labels.{with_label};
-ghost use Rattle.sheet_model.specs.Sheets.{IsWritten, content_value, with_labels};
-ghost use Rattle.edit_script.specs.Progress.{brought, names_of, edit_of, HoldsShortText, IsWithinLimits};
-ghost use Rattle.edit_script.specs.Progress.{AddsCommand, AddsSet, Takes};
-ghost use Rattle.edit_script.specs.Progress.{IsEditFault, IsWindowFault, IsTextFault, IsPlainlyAllowed, Extends};
+ghost use Rattle.sheet_model.specs.Sheets.{ContentValue, IsWritten, content_value, with_labels};
+ghost use Rattle.edit_script.specs.Progress.{brought, names_of, HoldsShortText, IsWithinLimits, Takes};
+ghost use Rattle.edit_script.specs.Progress.{Extends, IsPlainlyAllowed, IsTextFault, MayChange};
 ghost use Rattle.edit_script.specs.Saying.{line_value};
-ghost use Rattle.edit_script.specs.Scripts.{IsLineFault, IsPartOutside, IsLargeWindow, line_number};
-ghost use Rattle.edit_script.specs.Scripts.{nothing_yet, with_client, with_edit, with_window, window_cells};
+ghost use Rattle.edit_script.specs.Scripts.{AddsCommand, IsLineFault, MakesChange, change_of};
+ghost use Rattle.edit_script.specs.Scripts.{line_number, nothing_yet, window_cells, with_batch, with_change};
+ghost use Rattle.edit_script.specs.Scripts.{with_client, with_edit, with_window};
 ghost use Rattle.edit_script.specs.declared.refused.ScriptRefused.TheVariants as refused;
 ghost use Rattle.edit_script.specs.declared.script.Command.TheVariants as asks;
 
+use crate::batch::Batch;
 use crate::line::Line;
 use crate::refused::ScriptRefused;
 use crate::script::{Command, Script, Step};
 use sheet_model::{Change, Content, ContentRefused, Edit, Sheet};
-use sheet_refs::{Cell, Memory, Range, Sizes};
+use sheet_refs::{Cell, Memory, Range};
 use std::alloc::Global;
-
-/// The most clients and the most edits of a script.
-const MAX_CLIENTS: usize = 32;
-
-const MAX_EDITS: u32 = 1_048_576;
-
-/// The most cells of one window, and of all windows together.
-const MAX_WINDOW: u64 = 65_536;
-
-const MAX_WINDOWS: u64 = 4_194_304;
-
-/// The client to whom the commands before every line that names one belong.
-const FIRST_CLIENT: &str = "main";
 
 /// What the lines so far have brought.
 #[derive(Drop)]
 pub(crate) struct Progress {
     /// The clients, in the order of their first places.
-    names: Vec<String>,
+    pub(crate) names: Vec<String>,
     /// The place of the client whose commands follow; none before the first client has one.
-    client: Option<u32>,
+    pub(crate) client: Option<u32>,
     /// How many cells all windows have.
-    cells: u64,
+    pub(crate) cells: u64,
     /// How many edits there are.
-    edits: u32,
+    pub(crate) edits: u32,
     /// The commands.
-    steps: Vec<Step>,
+    pub(crate) steps: Vec<Step>,
+    /// The changes of the batch that is open.
+    pub(crate) batch: Option<Batch>,
+    /// The line at which the last batch begins.
+    pub(crate) begun: u32,
 }
 
 impl Progress {
@@ -55,6 +44,7 @@ impl Progress {
         ensures brought { brought result ≡ nothing_yet }
         ensures sound { IsWithinLimits result }
         ensures steps { result.steps.items ≡ [] }
+        ensures batch { result.batch ≡ None }
     {
         Progress {
             names: Vec::new(alloc),
@@ -62,6 +52,19 @@ impl Progress {
             cells: 0,
             edits: 0,
             steps: Vec::new(alloc),
+            batch: None,
+            begun: 0,
+        }
+    }
+
+    /// The line at which the batch begins that is open.
+    pub(crate) fn unended(&self) -> Option<u32>
+        ensures { MatchOption result (self.now.batch ≡ None)
+            (λ number. (number ≡ self.now.begun) × IsSome self.now.batch) }
+    {
+        match &self.batch {
+            Some(_) => Some(self.begun),
+            None => None,
         }
     }
 
@@ -86,7 +89,7 @@ impl Progress {
         requires sound { IsWithinLimits self.old }
         requires fits { HoldsShortText (line_value line.now) }
         requires room { length sheet.old.labels < 2 ^ 32 - 1 }
-        ensures taken { OnOk result (Takes sheet.old.sizes (line_value line.now)
+        ensures taken { OnOk result (Takes sheet.old.sizes (line_value line.now) number
             sheet.old.labels self.old sheet.new.labels self.new) }
         ensures fault { IfErr result (λ why. why ≢ refused.Memory → (line_number why ≡ number)
             × IsLineFault sheet.old.sizes (brought self.old) (line_value line.now) why) }
@@ -113,7 +116,7 @@ impl Progress {
         requires room { length sheet.old.labels < 2 ^ 32 - 1 }
         requires allowed { IsPlainlyAllowed sheet.old.sizes
             (brought self.old) (line_value line.now) }
-        ensures taken { OnOk result (Takes sheet.old.sizes (line_value line.now)
+        ensures taken { OnOk result (Takes sheet.old.sizes (line_value line.now) number
             sheet.old.labels self.old sheet.new.labels self.new) }
         ensures fault { IfErr result (λ why. why ≢ refused.Memory → (line_number why ≡ number)
             × IsLineFault sheet.old.sizes (brought self.old) (line_value line.now) why) }
@@ -125,142 +128,15 @@ impl Progress {
             Line::Skip => Ok(()),
             Line::Client(name) => self.name(alloc, name),
             Line::Set(cell, text) => self.set(alloc, *cell, text, number, sheet),
-            Line::Clear(cell) => self.put(alloc, *cell, Content::Empty),
+            Line::Clear(cell) => self.change(alloc, *cell, Content::Empty),
             Line::Look(range) => self.look(alloc, *range, Command::Look(*range)),
             Line::Firm(range) => self.look(alloc, *range, Command::Firm(*range)),
             Line::Work(turns) => self.push(alloc, Command::Work(*turns)),
-        }
-    }
-
-    // The first cause for which a line is refused, whatever a cell is to hold.
-    fn fault(&self, line: &Line<'_>, number: u32, sizes: Sizes) -> Option<ScriptRefused>
-        requires { IsWithinLimits self.now }
-        ensures { MatchOption result
-            (IsPlainlyAllowed sizes (brought self.now) (line_value line.now))
-            (λ why. (line_number why ≡ number)
-            × IsLineFault sizes (brought self.now) (line_value line.now) why) }
-    {
-        match line {
-            Line::Client(name) => self.client_fault(name, number),
-            Line::Set(cell, _) => self.edit_fault(*cell, number, sizes),
-            Line::Clear(cell) => self.edit_fault(*cell, number, sizes),
-            Line::Look(range) => self.window_fault(*range, number, sizes),
-            Line::Firm(range) => self.window_fault(*range, number, sizes),
-            Line::Skip | Line::Work(_) => None,
-        }
-    }
-
-    // Whether a client is one too many.
-    fn client_fault(&self, name: &str, number: u32) -> Option<ScriptRefused>
-        requires { IsWithinLimits self.now }
-        ensures { MatchOption result
-            ((length (names_of self.now) < 32) ⊎ Contains (names_of self.now) name.now)
-            (λ why. (why ≡ refused.TooManyClients number) × (32 ≤ length (names_of self.now))
-            × ¬ Contains (names_of self.now) name.now) }
-    {
-        if self.names.len() < MAX_CLIENTS || client_place(&self.names, name).is_some() {
-            return None;
-        }
-        Some(ScriptRefused::TooManyClients(number))
-    }
-
-    // Whether an edit is of a cell outside the sheet, or one too many.
-    fn edit_fault(&self, cell: Cell, number: u32, sizes: Sizes) -> Option<ScriptRefused>
-        ensures { MatchOption result
-            (IsTrue (is_inside sizes cell) × (self.now.edits < 1048576))
-            (λ why. IsEditFault sizes (brought self.now) cell number why) }
-    {
-        if !sizes.holds(cell) {
-            return Some(ScriptRefused::OutOfSheet(number));
-        }
-        if self.edits >= MAX_EDITS {
-            return Some(ScriptRefused::TooManyEdits(number));
-        }
-        None
-    }
-
-    // Whether a window lies in part outside the sheet, or is too large.
-    fn window_fault(&self, range: Range, number: u32, sizes: Sizes) -> Option<ScriptRefused>
-        requires { IsWithinLimits self.now }
-        ensures { MatchOption result
-            ((¬ IsPartOutside sizes range) × ¬ IsLargeWindow (brought self.now) range)
-            (λ why. IsWindowFault sizes (brought self.now) range number why) }
-    {
-        if !sizes.holds(range.tail()) {
-            return Some(ScriptRefused::OutOfSheet(number));
-        }
-        if range.cells() > MAX_WINDOW || self.cells + range.cells() > MAX_WINDOWS {
-            return Some(ScriptRefused::WindowTooLarge(number));
-        }
-        None
-    }
-
-    // The commands that follow belong to the client; answers the client's place.
-    fn follow(&mut self, alloc: Global, name: &str) -> Result<u32, Memory>
-        requires sound { IsWithinLimits self.old }
-        requires room { (length (names_of self.old) < 32) ⊎ Contains (names_of self.old) name.now }
-        ensures place { IfOk result (λ place. slice_get (names_of self.new) place ≡ Some name.now) }
-        ensures sound { OnOk result (IsWithinLimits self.new) }
-        ensures brought { OnOk result (brought self.new ≡ with_client (brought self.old) name.now) }
-        ensures steps { self.new.steps ≡ self.old.steps }
-    {
-        let place = self.place(alloc, name)?;
-        self.client = Some(place);
-        Ok(place)
-    }
-
-    // The place of a client, who is added where there is none of the name.
-    fn place(&mut self, alloc: Global, name: &str) -> Result<u32, Memory>
-        requires few { length self.old.names.items ≤ 32 }
-        requires room { (length (names_of self.old) < 32) ⊎ Contains (names_of self.old) name.now }
-        ensures place { IfOk result (λ place. slice_get (names_of self.new) place ≡ Some name.now) }
-        ensures names { OnOk result (names_of self.new ≡ with_label (names_of self.old) name.now) }
-        ensures rest { self.new ≡ record self.old { names = self.new.names } }
-    {
-        match client_place(&self.names, name) {
-            Some(place) => Ok(place),
-            None => self.add_client(alloc, name),
-        }
-    }
-
-    // Adds a client of a name that there isn't yet.
-    fn add_client(&mut self, alloc: Global, name: &str) -> Result<u32, Memory>
-        requires room { length self.old.names.items < 32 }
-        ensures place { IfOk result (λ place. place ≡ length self.old.names.items) }
-        ensures names { OnOk result (names_of self.new ≡ names_of self.old ++ name.now ∷ []) }
-        ensures rest { self.new ≡ record self.old { names = self.new.names } }
-    {
-        let place = self.names.len() as u32;
-        self.names.push(String::from_str(alloc, name)?)?;
-        Ok(place)
-    }
-
-    // Takes a line that names a client.
-    fn name(&mut self, alloc: Global, name: &str) -> Result<(), ScriptRefused>
-        requires sound { IsWithinLimits self.old }
-        requires room { (length (names_of self.old) < 32) ⊎ Contains (names_of self.old) name.now }
-        ensures refused { IfErr result (λ why. why ≡ refused.Memory) }
-        ensures sound { OnOk result (IsWithinLimits self.new) }
-        ensures brought { OnOk result (brought self.new ≡ with_client (brought self.old) name.now) }
-        ensures steps { self.new.steps ≡ self.old.steps }
-    {
-        self.follow(alloc, name)?;
-        Ok(())
-    }
-
-    // The place of the client whose commands follow, who is there from the first one on.
-    fn commander(&mut self, alloc: Global) -> Result<u32, Memory>
-        requires sound { IsWithinLimits self.old }
-        ensures place { IfOk result (λ place. slice_get (names_of self.new) place
-            ≡ Some (brought self.new).client) }
-        ensures sound { OnOk result (IsWithinLimits self.new) }
-        ensures brought { OnOk result
-            (brought self.new ≡ with_client (brought self.old) (brought self.old).client) }
-        ensures steps { self.new.steps ≡ self.old.steps }
-    {
-        match self.client {
-            Some(client) => Ok(client),
-            None => self.follow(alloc, FIRST_CLIENT),
+            Line::Batch => {
+                self.begin(alloc, number);
+                Ok(())
+            }
+            Line::End => self.end(alloc),
         }
     }
 
@@ -273,6 +149,8 @@ impl Progress {
             (brought self.new ≡ with_client (brought self.old) (brought self.old).client) }
         ensures step { OnOk result (AddsCommand command (brought self.new)
             self.old.steps.items self.new.steps.items) }
+        ensures batch { self.new.batch ≡ self.old.batch }
+        ensures begun { self.new.begun ≡ self.old.begun }
     {
         let client = self.commander(alloc)?;
         self.add_step(Step { client, command })
@@ -290,24 +168,100 @@ impl Progress {
         }
     }
 
-    // Adds an edit of the client whose commands follow.
-    fn put(&mut self, alloc: Global, cell: Cell, content: Content) -> Result<(), ScriptRefused>
+    // Adds an edit of one change, of the client whose commands follow.
+    fn put(&mut self, alloc: Global, change: Change) -> Result<(), ScriptRefused>
         requires sound { IsWithinLimits self.old }
         requires room { self.old.edits < 1048576 }
-        requires written { IsWritten (content_value content) }
         ensures refused { IfErr result (λ why. why ≡ refused.Memory) }
         ensures sound { OnOk result (IsWithinLimits self.new) }
         ensures brought { OnOk result (brought self.new
             ≡ with_edit (with_client (brought self.old) (brought self.old).client)) }
-        ensures step { OnOk result (AddsCommand (asks.Put (edit_of cell (content_value content)))
-            (brought self.new) self.old.steps.items self.new.steps.items) }
+        ensures step { OnOk result (AddsCommand (asks.Put (change ∷ [])) (brought self.new)
+            self.old.steps.items self.new.steps.items) }
+        ensures batch { self.new.batch ≡ self.old.batch }
+        ensures begun { self.new.begun ≡ self.old.begun }
     {
         self.edits += 1;
-        let change = Change { cell, content };
         let Ok(edit) = Edit::one(alloc, change) else {
             return Err(ScriptRefused::Memory);
         };
         self.push(alloc, Command::Put(edit))
+    }
+
+    // Adds a change to the batch that is open.
+    fn add_to_batch(&mut self, change: Change) -> Result<(), ScriptRefused>
+        requires sound { IsWithinLimits self.old }
+        requires may { MayChange (brought self.old) change.cell }
+        requires some { IsSome self.old.batch }
+        ensures refused { IfErr result (λ why. why ≡ refused.Memory) }
+        ensures batch { OnOk result (MatchOption self.old.batch ⊥
+            (λ changes. self.new.batch ≡ Some (changes ++ change ∷ []))) }
+        ensures rest { self.new ≡ record self.old { batch = self.new.batch } }
+    {
+        match &mut self.batch {
+            Some(batch) => match batch.push(change) {
+                Ok(()) => Ok(()),
+                Err(_) => Err(ScriptRefused::Memory),
+            },
+            None => unreachable!(),
+        }
+    }
+
+    // Adds a change of a cell: to the batch that is open, or as an edit by itself.
+    fn change(&mut self, alloc: Global, cell: Cell, content: Content) -> Result<(), ScriptRefused>
+        requires sound { IsWithinLimits self.old }
+        requires may { MayChange (brought self.old) cell }
+        requires written { IsWritten (content_value content) }
+        ensures refused { IfErr result (λ why. why ≡ refused.Memory) }
+        ensures sound { OnOk result (IsWithinLimits self.new) }
+        ensures brought { OnOk result (brought self.new
+            ≡ with_change (brought self.old).batch (brought self.old) cell) }
+        ensures makes { OnOk result (MakesChange (brought self.new)
+            (change_of cell (content_value content)) self.old.batch self.new.batch
+            self.old.steps.items self.new.steps.items) }
+        ensures begun { self.new.begun ≡ self.old.begun }
+    {
+        let change = Change { cell, content };
+        if self.batch.is_some() {
+            self.add_to_batch(change)
+        } else {
+            self.put(alloc, change)
+        }
+    }
+
+    // Begins a batch at a line.
+    fn begin(&mut self, alloc: Global, number: u32)
+        requires sound { IsWithinLimits self.old }
+        requires room { self.old.edits < 1048576 }
+        ensures sound { IsWithinLimits self.new }
+        ensures brought { brought self.new ≡ with_batch (with_edit (brought self.old)) (Some []) }
+        ensures batch { self.new.batch ≡ Some [] }
+        ensures begun { self.new.begun ≡ number }
+        ensures steps { self.new.steps ≡ self.old.steps }
+    {
+        self.edits += 1;
+        self.batch = Some(Batch::new(alloc));
+        self.begun = number;
+    }
+
+    // Ends the batch that is open: its changes are an edit of the client whose commands follow.
+    fn end(&mut self, alloc: Global) -> Result<(), ScriptRefused>
+        requires sound { IsWithinLimits self.old }
+        requires some { MatchOption self.old.batch ⊥ (λ changes. 1 ≤ length changes) }
+        ensures refused { IfErr result (λ why. why ≡ refused.Memory) }
+        ensures sound { OnOk result (IsWithinLimits self.new) }
+        ensures brought { OnOk result (brought self.new
+            ≡ with_batch (with_client (brought self.old) (brought self.old).client) None) }
+        ensures step { OnOk result (MatchOption self.old.batch ⊥
+            (λ changes. AddsCommand (asks.Put changes) (brought self.new)
+            self.old.steps.items self.new.steps.items)) }
+        ensures batch { OnOk result (self.new.batch ≡ None) }
+        ensures begun { self.new.begun ≡ self.old.begun }
+    {
+        match self.batch.take() {
+            Some(batch) => self.push(alloc, Command::Put(batch.into_edit())),
+            None => unreachable!(),
+        }
     }
 
     // Adds an edit by which a cell is to hold what a text writes.
@@ -320,7 +274,7 @@ impl Progress {
         sheet: &mut Sheet,
     ) -> Result<(), ScriptRefused>
         requires sound { IsWithinLimits self.old }
-        requires edits { self.old.edits < 1048576 }
+        requires may { MayChange (brought self.old) cell }
         requires short { length text.now ≤ 8192 }
         requires room { length sheet.old.labels < 2 ^ 32 - 1 }
         ensures refused { IfErr result
@@ -328,15 +282,18 @@ impl Progress {
         ensures same { IfErr result (λ why. why ≢ refused.Memory → sheet.new ≡ sheet.old) }
         ensures sound { OnOk result (IsWithinLimits self.new) }
         ensures brought { OnOk result (brought self.new
-            ≡ with_edit (with_client (brought self.old) (brought self.old).client)) }
-        ensures step { OnOk result (AddsSet sheet.new.labels text.now cell (brought self.new)
+            ≡ with_change (brought self.old).batch (brought self.old) cell) }
+        ensures makes { OnOk result ((content : ContentValue)
+            × IsContent sheet.new.labels text.now content
+            × MakesChange (brought self.new) (change_of cell content) self.old.batch self.new.batch
             self.old.steps.items self.new.steps.items) }
+        ensures begun { self.new.begun ≡ self.old.begun }
         ensures table { OnOk result (IsTableAfter text.now sheet.old.labels sheet.new.labels) }
         ensures kept { sheet.new ≡ with_labels sheet.old sheet.new.labels }
         ensures grown { Extends sheet.old.labels sheet.new.labels }
     {
         let content = content_of(text, number, sheet)?;
-        self.put(alloc, cell, content)
+        self.change(alloc, cell, content)
     }
 
     // Adds a look of that client.
@@ -349,24 +306,12 @@ impl Progress {
             ≡ with_window (with_client (brought self.old) (brought self.old).client) range) }
         ensures step { OnOk result (AddsCommand command (brought self.new)
             self.old.steps.items self.new.steps.items) }
+        ensures batch { self.new.batch ≡ self.old.batch }
+        ensures begun { self.new.begun ≡ self.old.begun }
     {
         self.cells += range.cells();
         self.push(alloc, command)
     }
-}
-
-// The place of a name among these.
-fn client_place(names: &[String], name: &str) -> Option<u32>
-    requires { length names.now ≤ 32 }
-    ensures { MatchOption result (¬ Contains (map string_bytes names.now) name.now)
-        (λ place. slice_get (map string_bytes names.now) place ≡ Some name.now) }
-{
-    for place in 0..names.len() {
-        if names[place].as_str() == name {
-            return Some(place as u32);
-        }
-    }
-    None
 }
 
 // What a text writes, in the sheet's own table of labels.

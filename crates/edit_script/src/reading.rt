@@ -1,7 +1,8 @@
-ghost use Rattle.std.specs.Prelude.{◌≡◌, ◌≢◌, ◌≤◌, length, Ok, Err};
+ghost use Rattle.std.specs.Prelude.{◌≡◌, ◌≢◌, ◌<◌, ◌≤◌, ◌-◌, ◌^◌, length, Ok, Err, IfSome, IsNone};
 ghost use Rattle.sheet_model.specs.Sheets.{with_labels};
-ghost use Rattle.edit_script.specs.Progress.{Extends};
-ghost use Rattle.edit_script.specs.Scripts.{IsScriptResult};
+ghost use Rattle.edit_script.specs.Lines.{LineValue, Says};
+ghost use Rattle.edit_script.specs.Progress.{Extends, IsWithinLimits, Takes, brought};
+ghost use Rattle.edit_script.specs.Scripts.{IsFault, IsScriptResult, line_number};
 ghost use Rattle.edit_script.specs.declared.refused.ScriptRefused.TheVariants as refused;
 
 use crate::line::read_line;
@@ -17,7 +18,8 @@ use std::alloc::Global;
 /// nothing else of the sheet changes.
 ///
 /// Refuses at the first line with a fault, by the first of its causes in the order of `ScriptRefused`, with
-/// the line's number; Memory may come at any point. After a refusal the sheet's table begins with what it
+/// the line's number; where no line has one and the script ends within a batch, at the first line of the batch.
+/// Memory may come at any point. After a refusal the sheet's table begins with what it
 /// held. It takes time in proportion to the length of the text.
 pub fn read_script(
     alloc: Global,
@@ -36,10 +38,41 @@ pub fn read_script(
     let mut number: u32 = 0;
     for text in text.lines() {
         number += 1;
-        let Some(line) = read_line(text, mode) else {
-            return Err(ScriptRefused::BadLine(number));
-        };
-        progress.take(alloc, &line, number, sheet)?;
+        if let Some(why) = take_line(alloc, text, mode, number, &mut progress, sheet) {
+            return Err(why);
+        }
+    }
+    if let Some(number) = progress.unended() {
+        return Err(ScriptRefused::BadLine(number));
     }
     Ok(progress.into_script())
+}
+
+// Takes a line; tells why it is refused, where it is.
+fn take_line(
+    alloc: Global,
+    text: &[u8],
+    mode: Mode,
+    number: u32,
+    progress: &mut Progress,
+    sheet: &mut Sheet,
+) -> Option<ScriptRefused>
+    requires sound { IsWithinLimits progress.old }
+    requires room { length sheet.old.labels < 2 ^ 32 - 1 }
+    ensures taken { IsNone result → (line : LineValue) × Says mode text.now line
+        × Takes sheet.old.sizes line number sheet.old.labels progress.old
+        sheet.new.labels progress.new }
+    ensures fault { IfSome result (λ why. why ≢ refused.Memory → (line_number why ≡ number)
+        × IsFault mode sheet.old.sizes (brought progress.old) text.now why) }
+    ensures same { IfSome result (λ why. why ≢ refused.Memory → sheet.new ≡ sheet.old) }
+    ensures kept { sheet.new ≡ with_labels sheet.old sheet.new.labels }
+    ensures grown { Extends sheet.old.labels sheet.new.labels }
+{
+    let Some(line) = read_line(text, mode) else {
+        return Some(ScriptRefused::BadLine(number));
+    };
+    match progress.take(alloc, &line, number, sheet) {
+        Ok(()) => None,
+        Err(why) => Some(why),
+    }
 }

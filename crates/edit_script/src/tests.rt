@@ -43,6 +43,14 @@ fn scripts_have_clients_and_steps(rt: HostRuntime) -> Result<(), Fail> {
             "bob ann [1 put A1][0 firm A1:B2][0 work 10]",
         ),
         ("client main\nwork 1\n", "main [0 work 1]"),
+        (
+            "client ann\nbatch\nset B2 x\n# more\nclear A1\nend\nclear B2",
+            "ann [0 put B2 A1][0 put B2]",
+        ),
+        (
+            "batch\nclear A1\nend\nbatch\nclear A1\nend\n",
+            "main [0 put A1][0 put A1]",
+        ),
     ] {
         let mut sheet = Sheet::blank(alloc, 2, 2)?;
         let Ok(script) = read_script(alloc, text.as_bytes(), Mode::Play, &mut sheet) else {
@@ -75,6 +83,28 @@ fn the_first_fault_decides(rt: HostRuntime) -> Result<(), Fail> {
             Mode::Live,
             ScriptRefused::OutOfSheet(1),
         ),
+        (
+            b"batch\nset A1 1\nclear A1\nend",
+            Mode::Live,
+            ScriptRefused::CellTwice(3),
+        ),
+        (b"set A1 1\nend", Mode::Live, ScriptRefused::BadLine(2)),
+        (b"batch\nend", Mode::Live, ScriptRefused::BadLine(2)),
+        (
+            b"batch\nset A1 1\nlook A1",
+            Mode::Live,
+            ScriptRefused::BadLine(3),
+        ),
+        (
+            b"look A1\nbatch\nset A1 1",
+            Mode::Live,
+            ScriptRefused::BadLine(2),
+        ),
+        (
+            b"batch\nset A1 1\nset C1 1",
+            Mode::Live,
+            ScriptRefused::OutOfSheet(3),
+        ),
     ] {
         let mut sheet = Sheet::blank(alloc, 2, 2)?;
         assert_eq!(rt;
@@ -82,6 +112,26 @@ fn the_first_fault_decides(rt: HostRuntime) -> Result<(), Fail> {
             Some(wanted)
         );
     }
+    Ok(())
+}
+
+#[test]
+fn a_refused_line_leaves_the_labels_of_the_lines_before_it(rt: HostRuntime) -> Result<(), Fail> {
+    let alloc = rt.alloc();
+    let mut sheet = Sheet::blank(alloc, 2, 2)?;
+    let first = read_script(alloc, b"set A1 old", Mode::Live, &mut sheet);
+    assert_eq!(rt; first.is_ok(), true);
+    if sheet.labels().length() > 3_000_000_000 {
+        return Err(Fail::from("a longer table"));
+    }
+    let text = b"set A1 new\nbatch\nset A2 old\nset B1 newer\nset B1 late\nend\nset B2 later";
+    let second = read_script(alloc, text, Mode::Live, &mut sheet);
+    assert_eq!(rt; second.err(), Some(ScriptRefused::CellTwice(5)));
+    let mut shown = String::new(alloc);
+    for place in 0..sheet.labels().length() {
+        write!(shown, "{} ", sheet.labels().text(place))?;
+    }
+    assert_eq!(rt; shown.as_str(), "old new newer ");
     Ok(())
 }
 

@@ -5,8 +5,10 @@
 //! `Naming` says, whose name each type has as its parameter (`specs/Held.antt`).
 //!
 //! `edit` is answered once its cells are marked and it is committed (`specs/Edited.antt`; what it does behind the lock,
-//! `specs/Edits.antt` says); `look` takes no lock, no runtime and no memory (`specs/Looks.antt`). Both speak of the pass
-//! that they are lent (`specs/Passes.antt`, `specs/Accepted.antt`).
+//! `specs/Edits.antt` says); `look` takes no lock, no runtime and no memory (`specs/Looks.antt`). `firm` and `settle`
+//! compute what is stale first, level by level (`specs/Ranges.antt`, `specs/Levels.antt`, `specs/Firm.antt`). All speak
+//! of the pass that they are lent (`specs/Passes.antt`, `specs/Accepted.antt`). `work` is one turn at a worker's desk
+//! (`specs/Worked.antt`).
 //!
 //! Below stand `edit_log` over a compressed graph, `mark_words` and `recalc_workers`; above, the program.
 #![tactic(auto)]
@@ -44,11 +46,11 @@ mod settling;
 mod setup;
 mod stale;
 mod telling;
+#[cfg(test)]
+mod tests;
 mod whole;
 mod window;
 mod working;
-#[cfg(test)]
-mod tests;
 
 pub use committed::{Committed, EditRefused};
 pub use desk::Desk;

@@ -1,24 +1,27 @@
 -- The steps of a script that was read are about cells of its sheet, and make no more edits than a log may have.
-use Rattle.std.proofs.Common.{◌≡◌, ◌⊎◌, inl, inr, ℕ, ◌+◌, ◌*◌, ◌<◌, ◌≤◌, Bool, false, List, [], ◌∷◌, ◌++◌, length, count_by, IsTrue, All, arith, refl, sym, ap, subst, ◌∙◌}
-use Rattle.std.specs.Prelude.{fold}
+use Rattle.std.proofs.Common.{◌≡◌, ◌⊎◌, inl, inr, ℕ, ◌+◌, ◌*◌, ◌<◌, ◌≤◌, Bool, false, Option, Some, None, List, [], ◌∷◌, ◌++◌, length, count_by, IsTrue, All, arith, refl, sym, ap, subst, ◌∙◌}
+use Rattle.std.specs.Prelude.{MatchOption, fold, option_map}
+use Rattle.std.proofs.lemmas.List.{map-append}
 use Rattle.std.proofs.lemmas.List.Elements.{All-push}
 use Rattle.std.proofs.lemmas.List.Sums.{sum_by-cons}
 use Rattle.sheet_refs.specs.Cells.{Position, Corners, IsIn, height, width}
 use Rattle.sheet_refs.specs.Sizes.{is_inside}
-use Rattle.sheet_refs.specs.declared.sizes.Sizes.{Sizes}
 use Rattle.sheet_refs.proofs.Grid.{rows_length}
 use Rattle.sheet_model.specs.Changes.{ChangeValue}
-use Rattle.sheet_model.specs.Edits.{IsChangeFor, IsFor}
-use Rattle.sheet_model.specs.Sheets.{SheetValue, HasLabel, with_labels}
+use Rattle.sheet_model.specs.Edits.{EditValue, IsChangeFor, IsFor}
+use Rattle.sheet_model.specs.Sheets.{SheetValue, Constant, with_labels}
+use Rattle.value_core.specs.declared.value.Value.TheVariants.{Empty}
 use Rattle.sheet_model.proofs.EditLemmas.{first_or_later}
 use Rattle.sheet_model.proofs.ListMembers.{all_from, no_member}
 use Rattle.sheet_model.proofs.SheetLemmas.{label_content, held_empty}
-use Rattle.edit_script.specs.Lines.{LineValue, Skip, Client, Set, Clear, Look, Firm, Work}
-use Rattle.edit_script.specs.Scripts.{AreLines, AreSteps, Brought, IsAllowed, IsCommand, IsScript, IsSilent, ScriptValue, brought_by, nothing_yet, with_line}
+use Rattle.edit_script.specs.Batches.{changed_cells}
+use Rattle.edit_script.specs.Lines.{LineValue, Skip, Client, Set, Clear, Look, Firm, Work, Batch, End}
+use Rattle.edit_script.specs.Scripts.{AddsCommand, AreLines, AreSteps, Brought, GoesOn, IsAllowed, IsChangeEditTooMany, IsMisplacedAlone, IsMisplacedIn, IsScript, MakesChange, ScriptValue, brought_by, change_of, nothing_yet, with_batch, with_change, with_client, with_edit, with_line}
 use Rattle.edit_script.specs.Scripts.AreLines.{none as no_lines, more as more_lines}
-use Rattle.edit_script.specs.Scripts.AreSteps.{none as no_steps, silent as silent_line, command as command_line}
-use Rattle.edit_script.specs.Scripts.IsCommand.{set, clear, look, firm, work}
+use Rattle.edit_script.specs.Scripts.AreSteps.{none as no_steps, more as step_more}
+use Rattle.edit_script.specs.declared.refused.ScriptRefused.TheVariants.{BadLine, OutOfSheet, TooManyEdits, WindowTooLarge}
 use Rattle.edit_script.specs.declared.script.Command.{Command}
+use Rattle.edit_script.specs.declared.script.Command.TheVariants as asks
 use Rattle.edit_script.specs.declared.script.Mode.{Mode}
 use Rattle.edit_script.specs.declared.script.Step.{Step}
 use Rattle.edit_script.proofs.OneScript.{none_last, one_last}
@@ -39,43 +42,6 @@ stable b not = go (true_or_false b)
     go (inl is) = is
     go (inr other) = absurd (not (λ is. not_both b is other))
 
--- how many edits a line makes
-abbrev pub edit_count : LineValue → ℕ
-edit_count Skip = 0
-edit_count (Client name) = 0
-edit_count (Set cell content) = 1
-edit_count (Clear cell) = 1
-edit_count (Look range) = 0
-edit_count (Firm range) = 0
-edit_count (Work turns) = 0
-
-edits_more : (now : Brought) (line : LineValue) → (with_line now line).edits ≡ now.edits + edit_count line
-edits_more now Skip = omega arith
-edits_more now (Client name) = omega arith
-edits_more now (Set cell content) = refl
-edits_more now (Clear cell) = refl
-edits_more now (Look range) = omega arith
-edits_more now (Firm range) = omega arith
-edits_more now (Work turns) = omega arith
-
-silent_edits : (line : LineValue) → IsSilent line → edit_count line ≡ 0
-silent_edits Skip is = refl
-silent_edits (Client name) is = refl
-silent_edits (Set cell content) is = absurd is
-silent_edits (Clear cell) is = absurd is
-silent_edits (Look range) is = absurd is
-silent_edits (Firm range) is = absurd is
-silent_edits (Work turns) is = absurd is
-
-few_edits : (sizes : Sizes) (now : Brought) (line : LineValue) → IsAllowed sizes now line → now.edits ≤ 1048576 → now.edits + edit_count line ≤ 1048576
-few_edits sizes now Skip allowed few = omega (arith, few)
-few_edits sizes now (Client name) allowed few = omega (arith, few)
-few_edits sizes now (Set cell content) allowed few = let not = allowed.edit in omega (arith, not)
-few_edits sizes now (Clear cell) allowed few = let not = allowed.edit in omega (arith, not)
-few_edits sizes now (Look range) allowed few = omega (arith, few)
-few_edits sizes now (Firm range) allowed few = omega (arith, few)
-few_edits sizes now (Work turns) allowed few = omega (arith, few)
-
 module _ (sheet : SheetValue) where
   window_fits : (now : Brought) (range : Corners) → ((cell : Position) → IsIn cell range → (¬ IsTrue (is_inside sheet.sizes cell)) → ⊥) → ((65536 < height range * width range) → ⊥) → IsWindow sheet range
   window_fits now range inside small = record {
@@ -90,28 +56,6 @@ module _ (sheet : SheetValue) where
     | inr later ↦ absurd (no_member c later)
   ])
 
-  -- a line that is allowed gives a command that fits, and its edits
-  command_fits : (now : Brought) (line : LineValue) (command : Command) → IsAllowed sheet.sizes now line → IsCommand sheet.labels line command → IsCommandOfSheet sheet command × (one_of (is_put command) ≡ edit_count line)
-  command_fits now line command allowed given = go line command allowed given
-    where
-      go : (said : LineValue) (asked : Command) → IsAllowed sheet.sizes now said → IsCommand sheet.labels said asked → IsCommandOfSheet sheet asked × (one_of (is_put asked) ≡ edit_count said)
-      go said _ fine (set text change named is content) =
-          let ok = subst (IsAllowed sheet.sizes now) is fine in
-          (one_for change (record { inside = stable (is_inside sheet.sizes change.cell) ok.inside; label = label_content sheet.labels text change.content content }), ap edit_count (sym is))
-      go said _ fine (clear change named is content) =
-          let ok = subst (IsAllowed sheet.sizes now) is fine in
-          (one_for change (record { inside = stable (is_inside sheet.sizes change.cell) ok.inside; label = subst (HasLabel (length sheet.labels)) (sym content) (held_empty (length sheet.labels)).label }), ap edit_count (sym is))
-      go said _ fine (look range named is) =
-          let ok = subst (IsAllowed sheet.sizes now) is fine in
-          (window_fits now range (λ cell there outside. ok.inside (cell, there, outside)) (λ large. ok.window (inl large)), ap edit_count (sym is))
-      go said _ fine (firm range named is) =
-          let ok = subst (IsAllowed sheet.sizes now) is fine in
-          (window_fits now range (λ cell there outside. ok.inside (cell, there, outside)) (λ large. ok.window (inl large)), ap edit_count (sym is))
-      go said _ fine (work turns named is) = (tt, ap edit_count (sym is))
-
-  put_count : List Step → ℕ
-  put_count steps = count_by (λ step. is_put step.command) steps
-
   count_last : (steps : List Step) (step : Step) → count_by (λ s. is_put s.command) (steps ++ step ∷ []) ≡ count_by (λ s. is_put s.command) steps + one_of (is_put step.command)
   count_last [] step = sum_by-cons (λ s. one_of (is_put s.command)) step [] ∙ omega arith
   count_last (first ∷ steps) step =
@@ -120,41 +64,137 @@ module _ (sheet : SheetValue) where
       let part = sum_by-cons (λ (s : Step). one_of (is_put s.command)) first steps in
       rw (whole, part) (omega (arith, rest))
 
-  record Fits (lines : List LineValue) (steps : List Step) : Type 0 where
-    each : All (λ step. IsCommandOfSheet sheet step.command) steps
-    edits : count_by (λ s. is_put s.command) steps ≡ (brought_by lines).edits
-    few : (brought_by lines).edits ≤ 1048576
+  -- how many edits an open batch is
+  abbrev open_count : Option EditValue → ℕ
+  open_count None = 0
+  open_count (Some changes) = 1
 
-  lines_fit : (mode : Mode) (texts : List (List ℕ)) (lines known : List LineValue) (steps : List Step) → AreLines mode sheet.sizes texts lines → AreSteps sheet.labels known steps → lines ≡ known → Fits lines steps
-  lines_fit mode _ _ _ _ no_lines no_steps same = record { each = λ k d below. absurd (omega (arith, below)); edits = refl; few = omega arith }
-  lines_fit mode _ _ known steps no_lines (silent_line lines all line given so_far is are) same = absurd (none_last lines line (sym are ∙ sym same))
-  lines_fit mode _ _ known steps no_lines (command_line lines all line given whole step so_far is are whole_is) same = absurd (none_last lines line (sym are ∙ sym same))
-  lines_fit mode texts lines _ _ (more_lines front all text before known line said says allowed all_is known_is) no_steps same = absurd (none_last before line (sym known_is ∙ same))
-  lines_fit mode texts _ _ steps (more_lines front all text before known line said says allowed all_is known_is) (silent_line earlier whole other given so_far is are) same =
+  -- steps and an open batch that fit, behind lines that brought so much
+  record Fits (now : Brought) (opened : Option EditValue) (steps : List Step) : Type 0 where
+    each : All (λ step. IsCommandOfSheet sheet step.command) steps
+    changes : MatchOption opened (Unit {0}) (IsFor sheet)
+    edits : count_by (λ s. is_put s.command) steps + open_count opened ≡ now.edits
+    few : now.edits ≤ 1048576
+    batch : now.batch ≡ option_map changed_cells opened
+
+  -- a step more
+  each_more : (command : Command) (there : Brought) (steps all : List Step) → AddsCommand command there steps all → IsCommandOfSheet sheet command → All (λ (s : Step). IsCommandOfSheet sheet s.command) steps → All (λ (s : Step). IsCommandOfSheet sheet s.command) all
+  each_more command there steps all adds fits each = subst (All (λ (s : Step). IsCommandOfSheet sheet s.command)) (sym adds.added) (All-push (λ (s : Step). IsCommandOfSheet sheet s.command) steps _ each fits)
+
+  count_more : (command : Command) (there : Brought) (steps all : List Step) → AddsCommand command there steps all → count_by (λ s. is_put s.command) all ≡ count_by (λ s. is_put s.command) steps + one_of (is_put command)
+  count_more command there steps all adds = ap (count_by (λ s. is_put s.command)) adds.added ∙ count_last steps (record { client = adds.client; command = command })
+
+  -- a line that changes neither the steps nor the batch, nor how many edits there are
+  same_fits : (now next : Brought) (opened after : Option EditValue) (steps all : List Step) → Fits now opened steps → next.edits ≡ now.edits → next.batch ≡ now.batch → after ≡ opened → all ≡ steps → Fits next after all
+  same_fits now next opened after steps all fits edits batch after_is all_is =
+      subst (λ o. Fits next o all) (sym after_is) (subst (λ s. Fits next opened s) (sym all_is) (record {
+        each = fits.each;
+        changes = fits.changes;
+        edits = fits.edits ∙ sym edits;
+        few = (let f = fits.few in omega (arith, edits, f));
+        batch = batch ∙ fits.batch;
+      }))
+
+  -- a command that is no edit
+  told_fits : (command : Command) (now next there : Brought) (opened after : Option EditValue) (steps all : List Step) → Fits now opened steps → one_of (is_put command) ≡ 0 → IsCommandOfSheet sheet command
+      → next.edits ≡ now.edits → next.batch ≡ now.batch → after ≡ opened → AddsCommand command there steps all → Fits next after all
+  told_fits command now next there opened after steps all fits no_edit fit edits batch after_is adds =
+      subst (λ o. Fits next o all) (sym after_is) (record {
+        each = each_more command there steps all adds fit fits.each;
+        changes = fits.changes;
+        edits = (let counted = count_more command there steps all adds in let e = fits.edits in omega (arith, counted, no_edit, e, edits));
+        few = (let f = fits.few in omega (arith, edits, f));
+        batch = batch ∙ fits.batch;
+      })
+
+  -- a change, within a batch or by itself
+  change_fits : (opened after : Option EditValue) (steps all : List Step) (now there : Brought) (change : ChangeValue) → Fits now opened steps → IsChangeFor sheet change → ¬ IsChangeEditTooMany now → MakesChange there change opened after steps all
+      → Fits (with_change now.batch now change.cell) after all
+  change_fits None after steps all now there change fits for few (after_is, adds) =
+      let none : now.batch ≡ None = fits.batch in
+      let room : 1048576 ≤ now.edits → ⊥ = λ many. few (subst (λ b. MatchOption b (1048576 ≤ now.edits) (λ (cells : List Position). ⊥)) (sym none) many) in
+      let counted = count_more (asks.Put (change ∷ [])) there steps all adds in
+      subst (λ b. Fits (with_change b now change.cell) after all) (sym none)
+      (subst (λ o. Fits (with_edit (with_client now now.client)) o all) (sym after_is) (record {
+        each = each_more (asks.Put (change ∷ [])) there steps all adds (one_for change for) fits.each;
+        changes = tt;
+        edits = (let e = fits.edits in omega (arith, counted, e));
+        few = omega (arith, room);
+        batch = none;
+      }))
+  change_fits (Some changes) after steps all now there change fits for few (after_is, same) =
+      let opened_is : now.batch ≡ Some (changed_cells changes) = fits.batch in
+      subst (λ b. Fits (with_change b now change.cell) after all) (sym opened_is)
+      (subst (λ o. Fits (with_batch now (Some (changed_cells changes ++ change.cell ∷ []))) o all) (sym after_is)
+      (subst (λ s. Fits (with_batch now (Some (changed_cells changes ++ change.cell ∷ []))) (Some (changes ++ change ∷ [])) s) (sym same) (record {
+        each = fits.each;
+        changes = All-push (IsChangeFor sheet) changes change fits.changes for;
+        edits = fits.edits;
+        few = fits.few;
+        batch = ap Some (sym (map-append (λ (c : ChangeValue). c.cell) changes (change ∷ [])));
+      })))
+
+  -- the first line of a batch
+  batch_fits : (opened after : Option EditValue) (steps all : List Step) (now : Brought) → Fits now opened steps → IsAllowed sheet.sizes now Batch → after ≡ Some [] → all ≡ steps → Fits (with_line now Batch) after all
+  batch_fits None after steps all now fits fine after_is all_is =
+      let room : 1048576 ≤ now.edits → ⊥ = fine (TooManyEdits 0) in
+      subst (λ o. Fits (with_line now Batch) o all) (sym after_is) (subst (λ s. Fits (with_line now Batch) (Some []) s) (sym all_is) (record {
+        each = fits.each;
+        changes = λ k d within. absurd (omega (arith, within));
+        edits = (let e = fits.edits in omega (arith, e));
+        few = omega (arith, room);
+        batch = refl;
+      }))
+  batch_fits (Some changes) after steps all now fits fine after_is all_is =
+      absurd (fine (BadLine 0) (subst (λ b. MatchOption b (IsMisplacedAlone Batch) (λ cells. IsMisplacedIn cells Batch)) (sym fits.batch) tt))
+
+  -- and its end
+  end_fits : (opened after : Option EditValue) (steps all : List Step) (now there : Brought) (changes : EditValue) → Fits now opened steps → opened ≡ Some changes → after ≡ None → AddsCommand (asks.Put changes) there steps all → Fits (with_line now End) after all
+  end_fits opened after steps all now there changes fits opened_is after_is adds =
+      let counted = count_more (asks.Put changes) there steps all adds in
+      let one : open_count opened ≡ 1 = ap open_count opened_is in
+      subst (λ o. Fits (with_line now End) o all) (sym after_is) (record {
+        each = each_more (asks.Put changes) there steps all adds (subst (λ o. MatchOption o (Unit {0}) (IsFor sheet)) opened_is fits.changes) fits.each;
+        changes = tt;
+        edits = (let e = fits.edits in omega (arith, counted, e, one));
+        few = fits.few;
+        batch = refl;
+      })
+
+  -- each line
+  line_fits : (now there : Brought) (line : LineValue) (opened after : Option EditValue) (steps all : List Step) → Fits now opened steps → IsAllowed sheet.sizes now line → GoesOn sheet.labels there line opened after steps all → Fits (with_line now line) after all
+  line_fits now there Skip opened after steps all fits fine (after_is, all_is) = same_fits now now opened after steps all fits refl refl after_is all_is
+  line_fits now there (Client name) opened after steps all fits fine (after_is, all_is) = same_fits now (with_client now name) opened after steps all fits refl refl after_is all_is
+  line_fits now there (Set cell text) opened after steps all fits fine (content, writes, makes) =
+      change_fits opened after steps all now there (change_of cell content) fits
+      (record { inside = stable (is_inside sheet.sizes cell) (fine (OutOfSheet 0)); label = label_content sheet.labels text content writes }) (fine (TooManyEdits 0)) makes
+  line_fits now there (Clear cell) opened after steps all fits fine makes =
+      change_fits opened after steps all now there (change_of cell (Constant Empty)) fits
+      (record { inside = stable (is_inside sheet.sizes cell) (fine (OutOfSheet 0)); label = (held_empty (length sheet.labels)).label }) (fine (TooManyEdits 0)) makes
+  line_fits now there (Look range) opened after steps all fits fine (after_is, adds) =
+      told_fits (asks.Look range) now (with_line now (Look range)) there opened after steps all fits refl
+      (window_fits now range (λ cell here outside. fine (OutOfSheet 0) (cell, here, outside)) (λ large. fine (WindowTooLarge 0) (inl large))) refl refl after_is adds
+  line_fits now there (Firm range) opened after steps all fits fine (after_is, adds) =
+      told_fits (asks.Firm range) now (with_line now (Firm range)) there opened after steps all fits refl
+      (window_fits now range (λ cell here outside. fine (OutOfSheet 0) (cell, here, outside)) (λ large. fine (WindowTooLarge 0) (inl large))) refl refl after_is adds
+  line_fits now there (Work turns) opened after steps all fits fine (after_is, adds) =
+      told_fits (asks.Work turns) now (with_line now (Work turns)) there opened after steps all fits refl tt refl refl after_is adds
+  line_fits now there Batch opened after steps all fits fine (after_is, all_is) = batch_fits opened after steps all now fits fine after_is all_is
+  line_fits now there End opened after steps all fits fine (changes, opened_is, after_is, adds) = end_fits opened after steps all now there changes fits opened_is after_is adds
+
+  lines_fit : (mode : Mode) (texts : List (List ℕ)) (lines known : List LineValue) (opened : Option EditValue) (steps : List Step) → AreLines mode sheet.sizes texts lines → AreSteps sheet.labels known opened steps → lines ≡ known → Fits (brought_by lines) opened steps
+  lines_fit mode _ _ _ _ _ no_lines no_steps same = record { each = λ k d below. absurd (omega (arith, below)); changes = tt; edits = refl; few = omega arith; batch = refl }
+  lines_fit mode _ _ _ _ _ no_lines (step_more lines all line before after some whole so_far goes are) same = absurd (none_last lines line (sym are ∙ sym same))
+  lines_fit mode texts lines _ _ _ (more_lines front all text before known line said says allowed all_is known_is) no_steps same = absurd (none_last before line (sym known_is ∙ same))
+  lines_fit mode texts _ _ _ steps (more_lines front all text before known line said says allowed all_is known_is) (step_more earlier whole other was after some _ so_far goes are) same =
       let both = one_last before earlier line other (sym known_is ∙ same ∙ are) in
-      let rest = lines_fit mode front before earlier steps said so_far both.0 in
-      let none : edit_count line ≡ 0 = ap edit_count both.1 ∙ silent_edits other is in
-      let now : (brought_by known).edits ≡ (brought_by before).edits + edit_count line = ap (λ ls. (brought_by ls).edits) known_is ∙ ap (λ (b : Brought). b.edits) (fold_last nothing_yet before line) ∙ edits_more (brought_by before) line in
-      record {
-        each = rest.each;
-        edits = rest.edits ∙ (let e = now in omega (arith, e, none));
-        few = (let h = rest.few in omega (arith, now, none, h));
-      }
-  lines_fit mode texts _ _ _ (more_lines front all text before known line said says allowed all_is known_is) (command_line earlier whole other given steps step so_far is are steps_is) same =
-      let both = one_last before earlier line other (sym known_is ∙ same ∙ are) in
-      let rest = lines_fit mode front before earlier given said so_far both.0 in
-      let fits = command_fits (brought_by before) line step.command allowed (subst (λ l. IsCommand sheet.labels l step.command) (sym both.1) is.command) in
-      let now : (brought_by known).edits ≡ (brought_by before).edits + edit_count line = ap (λ ls. (brought_by ls).edits) known_is ∙ ap (λ (b : Brought). b.edits) (fold_last nothing_yet before line) ∙ edits_more (brought_by before) line in
-      let counted = ap (count_by (λ (s : Step). is_put s.command)) steps_is ∙ count_last given step in
-      let most = few_edits sheet.sizes (brought_by before) line allowed rest.few in
-      record {
-        each = subst (All (λ (s : Step). IsCommandOfSheet sheet s.command)) (sym steps_is) (All-push (λ (s : Step). IsCommandOfSheet sheet s.command) given step rest.each fits.0);
-        edits = counted ∙ (let e = rest.edits in let o = fits.1 in omega (arith, now, e, o));
-        few = omega (arith, now, most);
-      }
+      let rest = lines_fit mode front before earlier was some said so_far both.0 in
+      let brought : brought_by known ≡ with_line (brought_by before) line = ap brought_by known_is ∙ fold_last nothing_yet before line in
+      let fits = line_fits (brought_by before) (brought_by whole) line was after some steps rest allowed (subst (λ l. GoesOn sheet.labels (brought_by whole) l was after some steps) (sym both.1) goes) in
+      subst (λ b. Fits b after steps) (sym brought) fits
 
 -- the steps of a script fit the sheet with the labels that it brings
 pub script_fits : (mode : Mode) (sheet : SheetValue) (labels : List (List ℕ)) (text : List ℕ) (script : ScriptValue) → IsScript mode sheet.sizes sheet.labels labels text script → AreFit (with_labels sheet labels) script.steps
 script_fits mode sheet labels text script is =
-    let fits = lines_fit (with_labels sheet labels) mode _ is.lines is.lines script.steps is.said is.steps refl in
+    let fits = lines_fit (with_labels sheet labels) mode _ is.lines is.lines None script.steps is.said is.steps refl in
     record { each = fits.each; few = (let e = fits.edits in let f = fits.few in omega (arith, e, f)) }

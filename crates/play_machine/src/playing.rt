@@ -53,7 +53,7 @@ impl<G: Graph> Player<G> {
 
 /// Plays steps over a book without entries: the reports of their looks, in order.
 ///
-/// An edit takes the time of the walk of the graph over the dependents of its cell. Values are computed once at most
+/// An edit takes the time of the walk of the graph over the dependents of its cells. Values are computed once at most
 /// between two edits, and only where a look shows one. A firm look, and work of as many turns as there are marks,
 /// take all marks away in one pass, or at once where there is none. The first shorter work since an edit looks at each
 /// cell of the sheet; its turns, and all up to the next edit, look at the cells in the references of marked ones twice

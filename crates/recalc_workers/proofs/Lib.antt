@@ -9,6 +9,7 @@ pub mod PartLemmas
 pub mod QueueLemmas
 pub mod ReadingLemmas
 pub mod SeatLemmas
+pub mod SettleLawLemmas
 pub mod SettlingLemmas
 pub mod SharingLemmas
 pub mod TurnLawLemmas

@@ -6,6 +6,7 @@ pub mod Laws
 pub mod Offices
 pub mod Rule
 pub mod Seats
+pub mod SettleLaws
 pub mod Settling
 pub mod TurnLaws
 pub mod Turns

@@ -10,9 +10,9 @@
 //! `turn_laws`), and in the lists of its hand (`specs/Again.antt`).
 //!
 //! `settle_level` and `settle_circular` compute many cells at many desks for the editor's seat, which knows each of
-//! them as clean afterwards (`specs/Settling.antt`). A `Gate` is what happens between a claim and its put: nothing, but
-//! in tests. Below stand `sheet_refs`, `formula_eval`, `sheet_model`, `mark_words` and the kit's `crossbeam_queue`;
-//! above stands the live sheet.
+//! them as clean afterwards (`specs/Settling.antt`, `settle_laws`). A `Gate` is what happens between a claim and its
+//! put: nothing, but in tests. Below stand `sheet_refs`, `formula_eval`, `sheet_model`, `mark_words` and the kit's
+//! `crossbeam_queue`; above stands the live sheet.
 #![tactic(auto)]
 
 mod causes;
@@ -37,6 +37,7 @@ mod reading;
 mod rereading;
 mod rules;
 mod settle_cells;
+mod settled;
 mod settling;
 mod sharing;
 mod taking;
@@ -52,6 +53,7 @@ pub use job::Job;
 pub use laws::hand_laws;
 pub use office::Office;
 pub use rules::{Entry, HandView};
+pub use settled::settle_laws;
 pub use settling::{settle_circular, settle_level};
 pub use taking::turn;
 pub use task::Task;

@@ -3,6 +3,7 @@ use Rattle.std.proofs.Common.{◌≡◌, ℕ, ◌≤◌, List, [], length, codes
 use Rattle.std.specs.Prelude.{Err, IfSome, Ok, Option, Result}
 use Rattle.std.specs.Fmt.{digits}
 use Rattle.edit_script.specs.Scripts.{IsScriptResult, ScriptValue}
+use Rattle.edit_script.specs.Scripts.IsRefused.{at_line}
 use Rattle.edit_script.specs.declared.refused.ScriptRefused.{ScriptRefused}
 use Rattle.edit_script.specs.declared.refused.ScriptRefused.TheVariants.{OutOfSheet}
 use Rattle.edit_script.specs.declared.script.Mode.TheVariants.{Play}
@@ -73,4 +74,4 @@ refused_script_row =
     refused_just outside_script 4 (codes "antifreeze: script: line 1: cell outside the sheet\n")
     (λ holds here there. subst (λ line. AnswersPlay holds (codes "s") (codes "t") (refusal 4 line)) line_shown
     (unscripted worked_sheet 4 (script_line (OutOfSheet 1)) (gives_worked holds here)
-    (refused_script (OutOfSheet 1) [] (gives_script holds outside_script (Err (OutOfSheet 1)) there (omega arith) is_fault))))
+    (refused_script (OutOfSheet 1) [] (gives_script holds outside_script (Err (OutOfSheet 1)) there (omega arith) (at_line is_fault)))))

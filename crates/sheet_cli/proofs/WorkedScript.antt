@@ -1,5 +1,6 @@
 -- What the texts of worked scripts say, and what they give over the worked sheet.
-use Rattle.std.proofs.Common.{◌≡◌, ℕ, zero, suc, pos, ◌≤◌, inl, inr, true, false, All, List, [], ◌∷◌, codes, refl, ap, arith, slice_index_or, subst, sym}
+use Rattle.std.proofs.Common.{◌≡◌, ℕ, zero, suc, pos, ◌<◌, ◌≤◌, None, inl, inr, true, false, All, List, [], ◌∷◌, codes, refl, ap, arith, slice_index_or, subst, sym}
+use Rattle.std.specs.Prelude.{MatchOption}
 use Rattle.bstr.specs.Text.{line_len, lines_from}
 use Rattle.sheet_refs.specs.Cells.{Corners}
 use Rattle.sheet_refs.specs.Names.{IsCellName, IsDigit, IsLetter, IsRangeName}
@@ -16,11 +17,12 @@ use Rattle.sheet_model.specs.Edits.{EditValue}
 use Rattle.edit_script.specs.Lines.{LineValue, Says, Set, Look, Work, script_lines}
 use Rattle.edit_script.specs.Lines.IsLineOf.{order}
 use Rattle.edit_script.specs.Lines.IsOrder.{set, look, work}
-use Rattle.edit_script.specs.Scripts.{AreLines, AreSteps, IsAllowed, IsFirstFault, IsLargeWindow, IsPartOutside, IsScript, ScriptValue, brought_by}
+use Rattle.edit_script.specs.Scripts.{AreLines, AreSteps, HasCause, IsAllowed, IsFirstFault, IsLargeWindow, IsMisplaced, IsMisplacedAlone, IsMisplacedIn, IsPartOutside, IsScript, ScriptValue, brought_by, place_in_order}
 use Rattle.edit_script.specs.Scripts.AreLines.{none as no_line, more as line_more}
-use Rattle.edit_script.specs.Scripts.AreSteps.{none as no_step, command as step_more}
-use Rattle.edit_script.specs.Scripts.IsCommand.{set as sets, look as looks, work as works}
-use Rattle.edit_script.specs.declared.refused.ScriptRefused.TheVariants.{OutOfSheet}
+use Rattle.edit_script.specs.Scripts.AreSteps.{none as no_step, more as step_more}
+use Rattle.edit_script.specs.declared.refused.ScriptRefused.{ScriptRefused}
+use Rattle.edit_script.specs.declared.refused.ScriptRefused.TheVariants.{BadLine, OutOfSheet, CellTwice, BatchTooLarge, TooManyClients, WindowTooLarge, TooManyEdits, FormulaTooDeep, TooManyRefs, Memory}
+use Rattle.edit_script.proofs.OneScript.{none_begun}
 use Rattle.edit_script.specs.declared.script.Mode.TheVariants.{Play}
 use Rattle.edit_script.specs.declared.script.Command.TheVariants as asks
 use Rattle.edit_script.specs.declared.script.Step.{Step}
@@ -91,14 +93,16 @@ no_references : ¬ HasTooManyRefs (codes "5")
 no_references (shallow, tree, spelt, many) = no_formula spelt.rest spelt.introduced
 
 set_allowed : IsAllowed worked_sheet.sizes (brought_by []) sets_five
-set_allowed = record {
-  inside = λ out. out refl;
-  client = λ none. none;
-  window = λ none. none;
-  edit = λ many. omega (arith, many);
-  shallow = λ deep. not_deep (codes "5") (omega arith) deep.deep;
-  few_refs = no_references;
-}
+set_allowed (BadLine number) = λ never. never
+set_allowed (OutOfSheet number) = λ out. out refl
+set_allowed (CellTwice number) = λ never. never
+set_allowed (BatchTooLarge number) = λ never. never
+set_allowed (TooManyClients number) = λ never. never
+set_allowed (WindowTooLarge number) = λ never. never
+set_allowed (TooManyEdits number) = λ many. omega (arith, many)
+set_allowed (FormulaTooDeep number) = λ deep. not_deep (codes "5") (omega arith) deep.deep
+set_allowed (TooManyRefs number) = no_references
+set_allowed Memory = λ never. never
 
 not_outside : ¬ IsPartOutside worked_sheet.sizes whole_window
 not_outside (cell, here, out) = out (within_worked whole_window (omega arith) (omega arith) (omega arith) (omega arith) cell here)
@@ -107,25 +111,33 @@ not_large : (lines : List LineValue) → (brought_by lines).cells ≤ 4 → ¬ I
 not_large lines few (inl large) = omega (arith, large)
 not_large lines few (inr all) = omega (arith, few, all)
 
-look_allowed : (lines : List LineValue) → (brought_by lines).cells ≤ 4 → IsAllowed worked_sheet.sizes (brought_by lines) looks_whole
-look_allowed lines few = record {
-  inside = not_outside;
-  client = λ none. none;
-  window = not_large lines few;
-  edit = λ none. none;
-  shallow = λ none. none;
-  few_refs = λ none. none;
-}
+-- a line stands in its place where no batch is open
+placed : (lines : List LineValue) (line : LineValue) → (brought_by lines).batch ≡ None → ¬ IsMisplacedAlone line → ¬ IsMisplaced (brought_by lines) line
+placed lines line closed fine misplaced = fine (subst (λ b. MatchOption b (IsMisplacedAlone line) (λ cells. IsMisplacedIn cells line)) closed misplaced)
 
-work_allowed : (lines : List LineValue) → IsAllowed worked_sheet.sizes (brought_by lines) (Work 2)
-work_allowed lines = record {
-  inside = λ none. none;
-  client = λ none. none;
-  window = λ none. none;
-  edit = λ none. none;
-  shallow = λ none. none;
-  few_refs = λ none. none;
-}
+look_allowed : (lines : List LineValue) → (brought_by lines).cells ≤ 4 → (brought_by lines).batch ≡ None → IsAllowed worked_sheet.sizes (brought_by lines) looks_whole
+look_allowed lines few closed (BadLine number) = placed lines looks_whole closed (λ never. never)
+look_allowed lines few closed (OutOfSheet number) = not_outside
+look_allowed lines few closed (CellTwice number) = λ never. never
+look_allowed lines few closed (BatchTooLarge number) = λ never. never
+look_allowed lines few closed (TooManyClients number) = λ never. never
+look_allowed lines few closed (WindowTooLarge number) = not_large lines few
+look_allowed lines few closed (TooManyEdits number) = λ never. never
+look_allowed lines few closed (FormulaTooDeep number) = λ never. never
+look_allowed lines few closed (TooManyRefs number) = λ never. never
+look_allowed lines few closed Memory = λ never. never
+
+work_allowed : (lines : List LineValue) → (brought_by lines).batch ≡ None → IsAllowed worked_sheet.sizes (brought_by lines) (Work 2)
+work_allowed lines closed (BadLine number) = placed lines (Work 2) closed (λ never. never)
+work_allowed lines closed (OutOfSheet number) = λ never. never
+work_allowed lines closed (CellTwice number) = λ never. never
+work_allowed lines closed (BatchTooLarge number) = λ never. never
+work_allowed lines closed (TooManyClients number) = λ never. never
+work_allowed lines closed (WindowTooLarge number) = λ never. never
+work_allowed lines closed (TooManyEdits number) = λ never. never
+work_allowed lines closed (FormulaTooDeep number) = λ never. never
+work_allowed lines closed (TooManyRefs number) = λ never. never
+work_allowed lines closed Memory = λ never. never
 
 abbrev one_line : List LineValue
 one_line = sets_five ∷ []
@@ -145,31 +157,32 @@ all_said =
     (line_more (codes "set A1 5" ∷ codes "look A1:B2" ∷ []) _ (codes "work 2") two_lines three_lines (Work 2)
     (line_more (codes "set A1 5" ∷ []) _ (codes "look A1:B2") one_line two_lines looks_whole
     (line_more [] _ (codes "set A1 5") [] one_line sets_five no_line says_set set_allowed refl refl)
-    says_look (look_allowed one_line (omega arith)) refl refl)
-    says_work (work_allowed two_lines) refl refl)
-    says_look (look_allowed three_lines (omega arith)) refl refl
+    says_look (look_allowed one_line (omega arith) refl) refl refl)
+    says_work (work_allowed two_lines refl) refl refl)
+    says_look (look_allowed three_lines (omega arith) refl) refl refl
 
 -- ---- the steps
 
 pub field_of_five : IsNumberField (codes "5") (pos 5)
 field_of_five = unsigned (codes "5") 5 (digit_number 53 9007199254740991 5 (omega arith) (omega arith) refl (omega arith))
 
-all_steps : AreSteps [] four_lines worked_steps
+all_steps : AreSteps [] four_lines None worked_steps
 all_steps =
-    step_more three_lines four_lines looks_whole _ worked_steps (record { client = 0; command = asks.Look whole_window })
-    (step_more two_lines three_lines (Work 2) _ _ (record { client = 0; command = asks.Work 2 })
-    (step_more one_line two_lines looks_whole _ _ (record { client = 0; command = asks.Look whole_window })
-    (step_more [] one_line sets_five [] _ (record { client = 0; command = asks.Put worked_edit }) no_step
-    (record { client = refl; command = sets (codes "5") worked_change sets_five refl field_of_five }) refl refl)
-    (record { client = refl; command = looks whole_window looks_whole refl }) refl refl)
-    (record { client = refl; command = works 2 (Work 2) refl }) refl refl)
-    (record { client = refl; command = looks whole_window looks_whole refl }) refl refl
+    step_more three_lines four_lines looks_whole None None _ worked_steps
+    (step_more two_lines three_lines (Work 2) None None _ _
+    (step_more one_line two_lines looks_whole None None _ _
+    (step_more [] one_line sets_five None None [] _ no_step
+    (worked_change.content, field_of_five, (refl, record { client = 0; place = refl; added = refl })) refl)
+    (refl, record { client = 0; place = refl; added = refl }) refl)
+    (refl, record { client = 0; place = refl; added = refl }) refl)
+    (refl, record { client = 0; place = refl; added = refl }) refl
 
 pub is_script : IsScript Play worked_sheet.sizes [] [] worked_script played_script
 is_script = record {
   lines = four_lines;
   said = subst (λ texts. AreLines Play worked_sheet.sizes texts four_lines) (sym lines_there) all_said;
   names = refl;
+  ended = λ number. none_begun [] four_lines worked_steps number all_steps;
   steps = all_steps;
   labels = and_next _ (codes "5") [] [] [] [] refl (number_table (codes "5") (pos 5) field_of_five) (done [] [] [] refl refl);
 }
@@ -206,6 +219,19 @@ says_outside = (
 leaves : ¬ (false ≡ true)
 leaves h = cc
 
+-- the line stands in its place
+no_earlier : (earlier : ScriptRefused) → place_in_order earlier < 1 → ¬ HasCause worked_sheet.sizes (brought_by []) (Set (at 99 26) (codes "1")) earlier
+no_earlier (BadLine number) before = λ never. never
+no_earlier (OutOfSheet number) before = absurd (omega (arith, before))
+no_earlier (CellTwice number) before = absurd (omega (arith, before))
+no_earlier (BatchTooLarge number) before = absurd (omega (arith, before))
+no_earlier (TooManyClients number) before = absurd (omega (arith, before))
+no_earlier (WindowTooLarge number) before = absurd (omega (arith, before))
+no_earlier (TooManyEdits number) before = absurd (omega (arith, before))
+no_earlier (FormulaTooDeep number) before = absurd (omega (arith, before))
+no_earlier (TooManyRefs number) before = absurd (omega (arith, before))
+no_earlier Memory before = absurd (omega (arith, before))
+
 pub is_fault : IsFirstFault Play worked_sheet.sizes [] [] outside_script (OutOfSheet 1)
 is_fault = record {
   before = [];
@@ -215,6 +241,6 @@ is_fault = record {
   all = one_line_there;
   said = no_line;
   number = refl;
-  fault = (Set (at 99 26) (codes "1"), says_outside, leaves);
+  fault = record { line = Set (at 99 26) (codes "1"); says = says_outside; fault = record { cause = leaves; first = no_earlier } };
   labels = done [] [] [] refl refl;
 }

@@ -1,5 +1,5 @@
 -- Which edges can be joined with one another.
-use Rattle.std.specs.Prelude.{◌≡◌, ◌≢◌, ◌⊎◌, ℕ, List, [], ◌∷◌, Option, Some, AllPairs}
+use Rattle.std.specs.Prelude.{◌≡◌, ◌≢◌, ◌⊎◌, ℕ, ◌≤◌, List, [], ◌∷◌, Option, Some, AllPairs}
 use Rattle.sheet_refs.specs.Cells.{Position, Corners}
 use Rattle.edge_patterns.specs.declared.axis.Axis.{Axis}
 use Rattle.edge_patterns.specs.Edges.{EdgeValue, IsEdge, IsPair}
@@ -22,10 +22,11 @@ abbrev pub KeptAreJoined : List (Option EdgeValue) → Type 0
 KeptAreJoined slots =
     (key other : ℕ) (a b : EdgeValue) → key ≢ other → edge_at slots key ≡ Some a → edge_at slots other ≡ Some b → ¬ CanBeJoined a b
 
--- and each cell has so many pairs at most
-pub record AreCompressed (slots : List (Option EdgeValue)) (most : ℕ) : Type 0 where
+-- and each cell has so many pairs at most, and there is room for what has been promised
+pub record AreCompressed (slots : List (Option EdgeValue)) (most free promised : ℕ) : Type 0 where
   pub few : EachHasAtMost slots most
   pub joined : KeptAreJoined slots
+  pub room : promised ≤ free
 
 -- no two that lack the cell can be joined, while it is taken out
 abbrev pub OthersAreJoined : List (Option EdgeValue) → Position → Type 0

@@ -30,4 +30,4 @@ mod tests;
 
 pub use counting::pair_count;
 pub use laws::{join_laws, order_laws, taco_laws};
-pub use taco::Taco;
+pub use taco::{SheetGraph, Taco};

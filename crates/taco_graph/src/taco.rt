@@ -11,7 +11,7 @@ use crate::order::sort_edges;
 use crate::store::EdgeStore;
 use edge_patterns::Edge;
 use graph_walk::Graph;
-use range_index::RangeIndex;
+use range_index::{GridIndex, RangeIndex};
 use sheet_refs::{Cell, Memory, Range, Refs};
 use std::alloc::Global;
 use std::marker::Model;
@@ -27,13 +27,18 @@ const MOST_EDGES: u32 = 3 * MOST_REFS;
 #[derive(Drop)]
 pub struct Taco<I: RangeIndex> {
     store: EdgeStore<I>,
+    // For how many changes room has been made that haven't been made since.
+    ready: u32,
     // Where a change notes the keys of edges that it looks at.
     held: Vec<usize>,
     sides: Sides,
 }
 
+/// The graph on which the program's commands and the edits of a sheet stand, over the index that is chosen for them.
+pub type SheetGraph = Taco<GridIndex>;
+
 impl<I: RangeIndex> Model for Taco<I> {
-    ghost use Rattle.std.specs.Prelude.{◌/◌};
+    ghost use Rattle.std.specs.Prelude.{◌*◌};
     ghost use Rattle.taco_graph.specs.Stores.{edges_of};
     ghost use Rattle.taco_graph.specs.Joinable.{AreCompressed};
     ghost use Rattle.taco_graph.specs.Taco.{TacoValue};
@@ -42,12 +47,12 @@ impl<I: RangeIndex> Model for Taco<I> {
 
     ghost view = { λ t. record {
       edges = edges_of t.store.slots;
-      spare = t.store.room / 765;
+      spare = t.ready;
     } };
 
     // No two edges can be joined, and each cell has at most 255 ranges, so that a change has room for what it puts
     // back.
-    ghost invariant = { λ t. AreCompressed t.store.slots 255 };
+    ghost invariant = { λ t. AreCompressed t.store.slots 255 (t.store.room) (765 * t.ready) };
 }
 
 impl<I: RangeIndex> Taco<I> {
@@ -59,6 +64,7 @@ impl<I: RangeIndex> Taco<I> {
     {
         Taco {
             store: EdgeStore::new(alloc),
+            ready: 0,
             held: Vec::new(alloc),
             sides: Sides::new(alloc),
         }
@@ -92,7 +98,7 @@ fn reserve_lists(held: &mut Vec<usize>, sides: &mut Sides) -> Result<(), Memory>
 }
 
 impl<I: RangeIndex> Graph for Taco<I> {
-    ghost use Rattle.std.specs.Prelude.{◌≤◌, OnOk};
+    ghost use Rattle.std.specs.Prelude.{◌≤◌, OnErr, OnOk};
     ghost use Rattle.edge_patterns.specs.Queries.{IsDirect, IsReferred};
     ghost use Rattle.graph_walk.specs.Graphs.{AddsDirectDependents, AddsDirectPrecedents};
     ghost use Rattle.graph_walk.specs.Graphs.{AddsAhead, AddsBehind, Keeps, SamePairs};
@@ -147,14 +153,18 @@ impl<I: RangeIndex> Graph for Taco<I> {
         requires { changes ≤ 1048576 }
         ensures room { OnOk result (changes ≤ self.new.spare) }
         ensures keeps_room { self.old.spare ≤ self.new.spare }
+        ensures same_room { OnErr result (self.new.spare ≡ self.old.spare) }
         ensures same { SamePairs (pairs_of self.old.edges) (pairs_of self.new.edges) }
         ensures same_edges { self.new.edges ≡ self.old.edges }
     {
         self.store.reserve(changes * MOST_EDGES)?;
-        reserve_lists(&mut self.held, &mut self.sides)
+        reserve_lists(&mut self.held, &mut self.sides)?;
+        self.ready = self.ready.max(changes);
+        Ok(())
     }
 
     fn replace(&mut self, cell: Cell, refs: &Refs) {
+        self.ready -= 1;
         take_out(&mut self.store, &mut self.held, &mut self.sides, cell);
         self.sides.turn_to(&Range::of(cell, cell));
         for range in refs.ranges() {

@@ -1,3 +1,5 @@
+pub mod Changes
 pub mod Quotes
 pub mod Reports
 pub mod Texts
+pub mod Transcripts

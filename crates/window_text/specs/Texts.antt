@@ -34,9 +34,13 @@ row_text shown window row = join_with_byte 44 (map shown (row_cells window row))
 abbrev pub rows_text : (Position → List ℕ) → Corners → List ℕ
 rows_text shown window = flat_map (row_text shown window) (rows_of window)
 
--- what `show` writes: a line with the window's name, and the window's rows
+-- a window of a sheet: its name, and a line for each of its rows
+abbrev pub sheet_window : SheetValue → Corners → List ℕ
+sheet_window sheet window = range_text window ++ (10 ∷ rows_text (shown_cell sheet) window)
+
+-- what `show` writes
 abbrev pub show_text : SheetValue → Corners → List ℕ
-show_text sheet window = codes "sheet 0 " ++ (range_text window ++ (10 ∷ rows_text (shown_cell sheet) window))
+show_text sheet window = codes "sheet 0 " ++ sheet_window sheet window
 
 -- what `deps` and `precs` write: a line for each of their ranges
 abbrev pub runs_text : List Corners → List ℕ

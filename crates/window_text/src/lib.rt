@@ -2,18 +2,24 @@
 //!
 //! `Printer` hands a text to a function that its caller gives, piece by piece, and stops where that answers
 //! false, as `text_pieces` says it. What the texts are stands in `specs/Texts.antt`: windows of values, lists of
-//! ranges, and lists of edges; and in `specs/Reports.antt`: what was shown of windows after a number of
-//! edits. No call takes memory.
+//! ranges, and lists of edges; in `specs/Reports.antt`: what was shown of windows after a number of edits; in
+//! `specs/Changes.antt`: the changes of an edit as lines of a script; and in `specs/Transcripts.antt`: a live run, with
+//! its log, its clients' reports and its closing sheet. No call takes memory.
 //!
-//! Below stand `text_pieces`, `value_core`, `edge_patterns` and `sheet_model`; above stand `play_machine`, which
-//! makes the reports, and `sheet_cli`, which keeps the pieces.
+//! Below stand `text_pieces`, `value_core`, `formula_syntax`, which prints formulas, `edge_patterns` and `sheet_model`;
+//! above stand `play_machine`, which makes the reports, and `sheet_cli`, which keeps the pieces.
 #![tactic(auto)]
 
+mod changes;
 mod edges;
+mod live;
 mod pieces;
 mod printer;
 mod report;
 mod reports;
+mod transcript;
+mod windows;
 
 pub use printer::Printer;
 pub use report::Report;
+pub use transcript::Transcript;

@@ -1,6 +1,6 @@
 ghost use Rattle.std.specs.Prelude.{◌≡◌, ◌++◌, ◌≤◌, ◌<◌, ◌≢◌, ◌∷◌, [], codes, All, MatchOption};
 ghost use Rattle.std.specs.Prelude.{length, take, slice_get, Some};
-ghost use Rattle.std.specs.Fmt.{signed_decimal};
+ghost use Rattle.std.specs.Fmt.{decimal, signed_decimal};
 ghost use Rattle.value_core.specs.Values.{error_text, in_quotes};
 ghost use Rattle.text_pieces.specs.Pieces.{HandsOut};
 ghost use Rattle.window_text.specs.Texts.{shown_value};
@@ -11,6 +11,15 @@ use itoa::Buffer;
 use sheet_model::Labels;
 use text_pieces::send;
 use value_core::{ErrorKind, Value};
+
+/// Hands out a number.
+pub(crate) fn send_decimal<F: FnMut(&[u8]) -> bool>(number: u64, to: &mut F) -> bool
+    requires callable { F.IsAlwaysCallable to.old }
+    ensures sent { HandsOut F.FnMut to.old (decimal number) result to.new }
+    ensures callable { F.IsAlwaysCallable to.new }
+{
+    send(Buffer::new().format(number).as_bytes(), to)
+}
 
 /// Hands out a value, as it is printed beside a table of labels.
 pub(crate) fn send_value<F: FnMut(&[u8]) -> bool>(value: Value, labels: &Labels, to: &mut F) -> bool

@@ -1,20 +1,22 @@
-ghost use Rattle.std.specs.Prelude.{◌≡◌, ◌≤◌, All, IsTrue};
-ghost use Rattle.sheet_refs.specs.Sizes.{is_inside};
-ghost use Rattle.sheet_model.specs.Values.{AreValues, value_of};
+ghost use Rattle.std.specs.Prelude.{All};
+ghost use Rattle.sheet_model.specs.Values.{AreValues};
 ghost use Rattle.text_pieces.specs.Pieces.{HandsOut};
+ghost use Rattle.window_text.specs.Changes.{batch_text};
 ghost use Rattle.window_text.specs.Reports.{IsFull, play_text};
-ghost use Rattle.window_text.specs.Texts.{IsWithinSheet, row_text, runs_text, show_text};
-ghost use Rattle.window_text.specs.Texts.{check_text, shown_cell};
+ghost use Rattle.window_text.specs.Texts.{IsWithinSheet, check_text, runs_text, show_text};
+ghost use Rattle.window_text.specs.Transcripts.{IsWhole, live_text, transcript_value};
 
+use crate::changes::send_changes;
 use crate::edges::{send_count, send_edge};
-use crate::pieces::send_value;
+use crate::live::{send_clients, send_closing, send_entries};
 use crate::report::Report;
-use crate::reports::send_report;
+use crate::reports::send_reports;
+use crate::transcript::Transcript;
+use crate::windows::send_window;
 use edge_patterns::Edge;
-use sheet_model::Sheet;
-use sheet_refs::{Cell, Range};
+use sheet_model::{Edit, Entry, Sheet};
+use sheet_refs::Range;
 use text_pieces::{send, send_range};
-use value_core::{Value, decode};
 
 /// Hands out the texts that the commands print, piece by piece, to a function that answers whether it takes
 /// more. After the first false nothing more is handed out, and the answer is false; else it is true. No call
@@ -39,18 +41,7 @@ impl Printer {
         if !send(b"sheet 0 ", to) {
             return false;
         }
-        if !send_range(range, to) {
-            return false;
-        }
-        if !send(b"\n", to) {
-            return false;
-        }
-        for row in range.head().row()..range.tail().row() + 1 {
-            if !send_row(sheet, range, values, row, to) {
-                return false;
-            }
-        }
-        true
+        send_window(sheet, range, values, to)
     }
 
     /// What `deps` and `precs` print of a list of ranges: a line for each, with its corners joined by a
@@ -101,53 +92,47 @@ impl Printer {
         ensures sent { HandsOut F.FnMut to.old
             (play_text sheet.now.labels reports.now) result to.new }
     {
-        for report in reports {
-            if !send_report(report, sheet.labels(), to) {
-                return false;
-            }
-        }
-        true
+        send_reports(reports, sheet.labels(), to)
     }
-}
 
-// Hands out a row of the range, with its line's end.
-fn send_row<F: FnMut(&[u8]) -> bool>(
-    sheet: &Sheet,
-    range: Range,
-    values: &[u64],
-    row: u32,
-    to: &mut F,
-) -> bool
-    requires callable { F.IsAlwaysCallable to.old }
-    requires values { AreValues sheet.now values.now }
-    requires within { IsWithinSheet range sheet.now }
-    requires from { range.head.row ≤ row }
-    requires to { row ≤ range.tail.row }
-    ensures sent { HandsOut F.FnMut to.old
-        (row_text (shown_cell sheet.now) range row) result to.new }
-    ensures callable { F.IsAlwaysCallable to.new }
-{
-    let first = Cell::new(row, range.head().col()).unwrap();
-    if !send_value(value_at(sheet, values, first), sheet.labels(), to) {
-        return false;
-    }
-    for col in range.head().col() + 1..range.tail().col() + 1 {
-        if !send(b",", to) {
+    /// What an edit is as lines of a script: `batch`, a line `set CELL CONTENT` or `clear CELL` for each change, in
+    /// order, and `end`. A value is printed as in windows, a formula in its plain text; the table of labels is that of
+    /// the sheet. It takes time in proportion to the text, but for long chains of left operands (`send_formula`).
+    pub fn batch<F: FnMut(&[u8]) -> bool>(sheet: &Sheet, edit: &Edit, to: &mut F) -> bool
+        requires callable { F.IsAlwaysCallable to.old }
+        ensures sent { HandsOut F.FnMut to.old (batch_text sheet.now.labels edit.now) result to.new }
+    {
+        if !send(b"batch\n", to) {
             return false;
         }
-        let cell = Cell::new(row, col).unwrap();
-        if !send_value(value_at(sheet, values, cell), sheet.labels(), to) {
+        if !send_changes(edit.changes(), sheet.labels(), to) {
             return false;
         }
+        send(b"end\n", to)
     }
-    send(b"\n", to)
-}
 
-// The value of a cell of the sheet.
-fn value_at(sheet: &Sheet, values: &[u64], cell: Cell) -> Value
-    requires values { AreValues sheet.now values.now }
-    requires inside { IsTrue (is_inside sheet.now.sizes cell) }
-    ensures { result ≡ value_of sheet.now cell }
-{
-    decode(values[sheet.place(cell)]).unwrap()
+    /// What `live` prints of a run: a line `log N` with the number of entries; for each entry its number, its
+    /// client's name and its edit, which is `set CELL CONTENT` or `clear CELL`, or `batch M` and the M lines of its
+    /// changes; for each client a line `client NAME` and its reports, as `play` prints them; and a line `sheet N
+    /// RANGE` with all rows of the closing sheet, or `sheet N -` where it has no cell. It takes time in proportion to
+    /// the entries, the cells of the windows and of the sheet, and the texts of their contents.
+    pub fn live<F: FnMut(&[u8]) -> bool>(transcript: &Transcript, to: &mut F) -> bool
+        requires callable { F.IsAlwaysCallable to.old }
+        requires whole { IsWhole transcript.now }
+        ensures sent { HandsOut F.FnMut to.old
+            (live_text (transcript_value transcript.now)) result to.new }
+    {
+        let log: &[Entry] = &transcript.log;
+        let labels = transcript.sheet.labels();
+        if !send_count(b"log", log.len() as u64, to) {
+            return false;
+        }
+        if !send_entries(&transcript.names, labels, log, to) {
+            return false;
+        }
+        if !send_clients(&transcript.names, labels, &transcript.reports, to) {
+            return false;
+        }
+        send_closing(log.len() as u64, &transcript.sheet, &transcript.values, to)
+    }
 }

@@ -1,9 +1,9 @@
-ghost use Rattle.std.specs.Prelude.{◌≡◌, ◌∷◌, ◌++◌, ◌<◌, ◌≤◌, length, slice_index_or};
+ghost use Rattle.std.specs.Prelude.{◌≡◌, ◌∷◌, ◌++◌, ◌<◌, ◌≤◌, length, slice_index_or, All};
 ghost use Rattle.std.specs.Fmt.{decimal};
 ghost use Rattle.sheet_refs.specs.Cells.{IsIn, cells_of};
 ghost use Rattle.sheet_model.specs.declared.board.Shown.TheVariants as shown;
 ghost use Rattle.text_pieces.specs.Pieces.{HandsOut};
-ghost use Rattle.window_text.specs.Reports.{IsFull, board_text, place_in, report_text, shown_text};
+ghost use Rattle.window_text.specs.Reports.{IsFull, board_text, place_in, play_text, report_text, shown_text};
 ghost use Rattle.window_text.specs.Reports.{report_kind, window_text};
 ghost use Rattle.window_text.specs.Texts.{row_text};
 
@@ -14,12 +14,27 @@ use sheet_model::{Board, Labels, Shown};
 use sheet_refs::Range;
 use text_pieces::{send, send_range};
 
-/// Hands out a report.
-pub(crate) fn send_report<F: FnMut(&[u8]) -> bool>(
-    report: &Report,
+/// Hands out reports, in order.
+pub(crate) fn send_reports<F: FnMut(&[u8]) -> bool>(
+    reports: &[Report],
     labels: &Labels,
     to: &mut F,
 ) -> bool
+    requires callable { F.IsAlwaysCallable to.old }
+    requires full { All (λ report. IsFull report.board) reports.now }
+    ensures sent { HandsOut F.FnMut to.old (play_text labels.now reports.now) result to.new }
+    ensures callable { F.IsAlwaysCallable to.new }
+{
+    for report in reports {
+        if !send_report(report, labels, to) {
+            return false;
+        }
+    }
+    true
+}
+
+// Hands out a report.
+fn send_report<F: FnMut(&[u8]) -> bool>(report: &Report, labels: &Labels, to: &mut F) -> bool
     requires callable { F.IsAlwaysCallable to.old }
     requires full { IsFull report.now.board }
     ensures sent { HandsOut F.FnMut to.old (report_text labels.now report.now) result to.new }

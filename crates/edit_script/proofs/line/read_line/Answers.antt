@@ -1,13 +1,7 @@
-use Rattle.std.proofs.Common.{◌∙◌, length, sym, subst, arith, inl, inr}
-use Rattle.std.specs.Option.{option_map}
+use Rattle.std.proofs.Common.{◌∙◌, get_or, length, sym, ap, subst, inl, inr}
 use Rattle.std.proofs.lemmas.Bool.{eqb-true, eqb-false}
-use Rattle.std.proofs.lemmas.Str.Pattern.{split_parts}
-use Rattle.edit_script.specs.Lines.{Says, IsSpaced, IsOrder}
-use Rattle.edit_script.specs.Lines.IsLineOf.{order}
-use Rattle.edit_script.specs.Saying.{line_value, Orders}
-use Rattle.edit_script.proofs.FindLemmas.{finds_same}
-use Rattle.edit_script.proofs.SpaceLemmas.{split_there}
-use Rattle.edit_script.proofs.LineLemmas.{skips, order_line}
+use Rattle.edit_script.specs.Saying.{FindsLine}
+use Rattle.edit_script.proofs.LineLemmas.{skips, line_utf8}
 use Rattle.edit_script.proofs.line.read_line.Goals as goal
 
 pub returns-then-is_empty : goal.returns-then-is_empty
@@ -18,23 +12,14 @@ returns-then-line-eq35 c = (skips c.args.line.now (inr c.if-line-eq35.true), tt)
 
 pub returns-in_default : goal.returns-in_default
 returns-in_default c value says =
-    let is = order_line c.args.line.now value (eqb-false (length c.args.line.now) 0 (sym c.if-is_empty.ensures)) c.if-line-eq35.false says.0 in
-    c.in_default.ensures.cases.0 is.utf8
+    c.in_default.ensures.cases.0
+    (line_utf8 c.args.line.now value (λ none. eqb-false (length c.args.line.now) 0 (sym c.if-is_empty.ensures) (ap length none)) (λ rest is. c.if-line-eq35.false (ap (λ l. get_or l 0 0) is)) says.0)
 
-pub returns-in_err-word : goal.returns-in_err-word
-returns-in_err-word c = rw c.from_residual.ensures (λ value says.
-    let is = order_line c.args.line.now value (eqb-false (length c.args.line.now) 0 (sym c.if-is_empty.ensures)) c.if-line-eq35.false says.0 in
-    let there : IsSpaced is.word is.behind c.in-Ok.text.now = c.in-Ok.ensures.cases.0 ∙ is.text_is in
-    rw c.in_err-word.was at (split_there c.in-Ok.text.now is.word is.behind c.split_once.result c.split_once.ensures.cases is.space there))
+pub read_words-requires-clause-some : goal.read_words-requires-clause-some
+read_words-requires-clause-some c = λ none. eqb-false (length c.args.line.now) 0 (sym c.if-is_empty.ensures) (ap length (sym c.in-Ok.ensures.cases.0 ∙ none))
+
+pub read_words-requires-clause-no_comment : goal.read_words-requires-clause-no_comment
+read_words-requires-clause-no_comment c = λ rest is. c.if-line-eq35.false (ap (λ l. get_or l 0 0) (sym c.in-Ok.ensures.cases.0 ∙ is))
 
 pub returns : goal.returns
-returns c = finds_same (option_map line_value c.read_order.result) (Orders c.args.mode c.in_ok-word.word.now c.in_ok-word.behind.now) (Says c.args.mode c.args.line.now)
-    (λ value orders.
-    let parts = rw c.in_ok-word.was at (split_parts 32 c.in-Ok.text.now c.split_once.result c.split_once.ensures.cases (omega arith)) in
-    (order c.args.line.now c.in_ok-word.word.now c.in_ok-word.behind.now value (sym c.in-Ok.ensures.cases.0 ∙ parts.0) orders.0, orders.1))
-    (λ value says.
-    let is = order_line c.args.line.now value (eqb-false (length c.args.line.now) 0 (sym c.if-is_empty.ensures)) c.if-line-eq35.false says.0 in
-    let there : IsSpaced is.word is.behind c.in-Ok.text.now = c.in-Ok.ensures.cases.0 ∙ is.text_is in
-    let parts = rw c.in_ok-word.was at (split_there c.in-Ok.text.now is.word is.behind c.split_once.result c.split_once.ensures.cases is.space there) in
-    (subst (λ w. IsOrder w c.in_ok-word.behind.now value) (sym parts.0) (subst (λ b. IsOrder is.word b value) (sym parts.1) is.order), says.1))
-    c.read_order.ensures
+returns c = subst (λ text. FindsLine c.args.mode text c.read_words.result) c.in-Ok.ensures.cases.0 c.read_words.ensures

@@ -1,11 +1,11 @@
 use Rattle.std.proofs.Common.{sym, subst}
 use Rattle.std.specs.Option.{option_map}
 use Rattle.sheet_refs.specs.Names.{IsCellName, IsRangeName}
-use Rattle.edit_script.specs.Lines.{IsFor}
+use Rattle.edit_script.specs.Lines.{FitsMode}
 use Rattle.edit_script.specs.Lines.IsOrder.{client, set, clear, look, firm, work}
 use Rattle.edit_script.specs.Saying.{line_value, Orders}
 use Rattle.edit_script.proofs.FindLemmas.{finds_same}
-use Rattle.edit_script.proofs.OrderLemmas.{says_client, says_set, says_clear, says_work}
+use Rattle.edit_script.proofs.OrderLemmas.{says_client, says_set, says_clear, says_look, says_work}
 use Rattle.edit_script.proofs.line.read_order.Goals as goal
 
 pub returns-in-client : goal.returns-in-client
@@ -22,7 +22,7 @@ returns-in-set c = finds_same (option_map line_value c.read_setting.result) _ (O
 
 pub returns-in-work : goal.returns-in-work
 returns-in-work c = finds_same (option_map line_value c.read_turns.result) _ (Orders c.args.mode c.args.word.now c.args.behind.now)
-    (λ value found. subst (Orders c.args.mode c.args.word.now c.args.behind.now) (sym found.1) (work c.args.word.now c.args.behind.now found.0 c.in-work.is found.2, subst (IsFor c.args.mode) found.1 found.3))
+    (λ value found. subst (Orders c.args.mode c.args.word.now c.args.behind.now) (sym found.1) (work c.args.word.now c.args.behind.now found.0 c.in-work.is found.2, subst (FitsMode c.args.mode) found.1 found.3))
     (λ value meant. let says = says_work c.args.word.now c.args.behind.now value c.in-work.is meant.0 in (says.0, says.1, says.2, meant.1))
     c.read_turns.ensures
 
@@ -51,3 +51,8 @@ returns-in_ok-range_of-in-firm c = (
       (subst (λ n. IsRangeName n c.in_ok-range_of-in-firm.field-0) c.as_bytes-in-firm.ensures.value c.in_ok-range_of-in-firm.ensures),
   tt,
 )
+
+pub returns-in_err-range_of-in-look : goal.returns-in_err-range_of-in-look
+returns-in_err-range_of-in-look c = rw c.from_residual-in_err-range_of-in-look.ensures (λ value meant.
+    let says = says_look c.args.word.now c.args.behind.now value c.in-look.is meant.0 in
+    c.in_err-range_of-in-look.ensures says.0 (subst (λ n. IsRangeName n says.0) (sym c.as_bytes-in-look.ensures.value) says.2))

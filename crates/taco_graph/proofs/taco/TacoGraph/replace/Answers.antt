@@ -1,4 +1,4 @@
-use Rattle.std.proofs.Common.{◌≡◌, ◌+◌, ◌-◌, ◌/◌, ◌++◌, ◌∷◌, [], List, take, sym, ◌∙◌, ap, subst, arith}
+use Rattle.std.proofs.Common.{◌≡◌, ◌+◌, ◌-◌, refl, ◌++◌, ◌∷◌, [], List, take, sym, ◌∙◌, ap, subst, arith}
 use Rattle.std.proofs.lemmas.List.{take_all, take_more}
 use Rattle.sheet_refs.specs.Cells.{Corners}
 use Rattle.sheet_refs.specs.Refs.{AreRefs}
@@ -16,16 +16,16 @@ use Rattle.taco_graph.proofs.taco.TacoGraph.replace.Goals as goal
 
 pub take_out-requires : goal.take_out-requires
 take_out-requires g c =
-    let spare : c.self.inside.store.room / 765 ≡ c.args.self.now.spare = ap (λ (t : TacoValue). t.spare) c.self.view_is in
+    let spare : c.self.inside.ready ≡ c.args.self.now.spare = ap (λ (t : TacoValue). t.spare) c.self.view_is in
     record {
       joined = others_of_kept c.self.inside.store.slots c.args.cell c.self.invariant.joined;
-      room = record { most = 255; few = c.self.invariant.few c.args.cell; fits = omega (arith, spare, c.requires) };
+      room = record { most = 255; few = c.self.invariant.few c.args.cell; fits = omega (arith, spare, c.requires, c.self.invariant.room) };
     }
 
 pub loop-range-init : goal.loop-range-init
 loop-range-init g c =
-    let spare : c.self.inside.store.room / 765 ≡ c.args.self.now.spare = ap (λ (t : TacoValue). t.spare) c.self.view_is in
-    let left = c.take_out.ensures.room 255 (record { most = 255; few = c.self.invariant.few c.args.cell; fits = omega (arith, spare, c.requires) }) in (
+    let spare : c.self.inside.ready ≡ c.args.self.now.spare = ap (λ (t : TacoValue). t.spare) c.self.view_is in
+    let left = c.take_out.ensures.room 255 (record { most = 255; few = c.self.invariant.few c.args.cell; fits = omega (arith, spare, c.requires, c.self.invariant.room) }) in (
       subst (λ (l : List Corners). AreRefs l) (sym c.ranges-range-items.ensures.ranges) c.ranges-range-items.ensures.distinct_and_few,
       replaced_none c.take_out.new.store.slots c.take_out.new.store.slots c.args.cell c.take_out.ensures.gone (keeps_same c.take_out.new.store.slots c.args.cell),
       omega arith,
@@ -33,6 +33,7 @@ loop-range-init g c =
       kept_of_others c.take_out.new.store.slots c.args.cell c.take_out.ensures.gone c.take_out.ensures.joined,
       c.turn_to.ensures.names c.take_out.new.store.slots c.args.cell,
       subst (λ (r : Corners). AreRound r c.turn_to.new.self) c.of.ensures.corners c.turn_to.ensures.round,
+      refl,
     )
 
 pub add_single-requires-clause-apart : goal.add_single-requires-clause-apart
@@ -60,6 +61,7 @@ loop-range-preserved g c =
       c.add_single.ensures.joined,
       c.add_single.ensures.names,
       c.add_single.ensures.round,
+      c.loop-range.invariant.7,
     )
 
 pub invariant_of-self : goal.invariant_of-self
@@ -70,10 +72,13 @@ invariant_of-self g c =
     let replaced : AreReplaced c.self.inside.store.slots now c.args.cell c.args.refs.now =
     replaced_on c.self.inside.store.slots c.take_out.new.store.slots now c.args.cell c.args.refs.now c.take_out.ensures.others
     (subst (λ (l : List Corners). AreReplaced c.take_out.new.store.slots now c.args.cell l) all c.loop-range.invariant.1) in
+    let spare : c.self.inside.ready ≡ c.args.self.now.spare = ap (λ (t : TacoValue). t.spare) c.self.view_is in
+    let left = c.take_out.ensures.room (c.self.inside.store.room - 510) (record { most = 255; few = c.self.invariant.few c.args.cell; fits = omega (arith, spare, c.requires, c.self.invariant.room) }) in
     record {
       few = at_most_still c.self.inside.store.slots now c.args.cell c.args.refs.now
           (subst (λ (l : List Corners). AreRefs l) c.ranges-range-items.ensures.ranges c.loop-range.invariant.0) replaced c.self.invariant.few;
       joined = c.loop-range.invariant.4;
+      room = omega (arith, left.fits, c.self.invariant.room, c.loop-range.invariant.2, c.loop-range.invariant.0.few, c.loop-range-test.false, c.loop-range.invariant.7);
     }
 
 pub returns-clause-replaced : goal.returns-clause-replaced
@@ -90,9 +95,8 @@ returns-clause-replaced g c =
 
 pub returns-clause-room : goal.returns-clause-room
 returns-clause-room g c =
-    let spare : c.self.inside.store.room / 765 ≡ c.args.self.now.spare = ap (λ (t : TacoValue). t.spare) c.self.view_is in
-    let left = c.take_out.ensures.room (c.self.inside.store.room - 510) (record { most = 255; few = c.self.invariant.few c.args.cell; fits = omega (arith, spare, c.requires) }) in
-    omega (arith, spare, left.fits, c.loop-range.invariant.2, c.loop-range.invariant.0.few, c.loop-range-test.false)
+    let spare : c.self.inside.ready ≡ c.args.self.now.spare = ap (λ (t : TacoValue). t.spare) c.self.view_is in
+    omega (arith, spare, c.requires, c.loop-range.invariant.7)
 
 pub add_single-requires-clause-joined : goal.add_single-requires-clause-joined
 add_single-requires-clause-joined g c = c.loop-range.invariant.4

@@ -1,4 +1,4 @@
-use Rattle.std.proofs.Common.{◌+◌, ◌≤◌, take}
+use Rattle.std.proofs.Common.{◌≡◌, ◌+◌, ◌≤◌, take}
 use Rattle.sheet_refs.specs.Refs.{AreRefs}
 use Rattle.sheet_refs.specs.Cells.{span_of}
 use Rattle.taco_graph.specs.Joinable.{KeptAreJoined}
@@ -15,3 +15,4 @@ invariant-loop-range g l =
     × KeptAreJoined l.self-inside.store.slots
     × NameBeside l.self-inside.store.slots l.cell l.self-inside.sides
     × AreRound (span_of l.cell l.cell) l.self-inside.sides
+    × (l.self-inside.ready ≡ l.initial.self-inside.ready)

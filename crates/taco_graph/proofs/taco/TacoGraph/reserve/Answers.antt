@@ -11,3 +11,9 @@ returns-clause-same g c =
     let same : edges_of c.reserve.new.self.slots ≡ edges_of c.self.inside.store.slots = ap edges_of c.reserve.ensures.same in
     let view : edges_of c.self.inside.store.slots ≡ c.args.self.now.edges = ap (λ (t : TacoValue). t.edges) c.self.view_is in
     subst (λ (es : List EdgeValue). SamePairs (pairs_of es) (pairs_of (edges_of c.reserve.new.self.slots))) (same ∙ view) (λ pair. (λ has. has, λ has. has))
+
+pub returns-in_err-reserve_lists-clause-same : goal.returns-in_err-reserve_lists-clause-same
+returns-in_err-reserve_lists-clause-same g c =
+    let same : edges_of c.reserve.new.self.slots ≡ edges_of c.self.inside.store.slots = ap edges_of c.reserve.ensures.same in
+    let view : edges_of c.self.inside.store.slots ≡ c.args.self.now.edges = ap (λ (t : TacoValue). t.edges) c.self.view_is in
+    subst (λ (es : List EdgeValue). SamePairs (pairs_of es) (pairs_of (edges_of c.reserve.new.self.slots))) (same ∙ view) (λ pair. (λ has. has, λ has. has))

@@ -1,63 +1,9 @@
-use Rattle.std.proofs.Common.{◌≡◌, ◌≤◌, ◌<◌, true, [], ◌∷◌, ◌++◌, codes, ap, sym, ◌∙◌, subst, arith}
-use Rattle.sheet_refs.specs.Cells.{Position}
-use Rattle.sheet_refs.specs.Names.{range_text}
-use Rattle.text_pieces.specs.Pieces.{HandsOut}
-use Rattle.window_text.specs.Texts.{show_text, rows_text, shown_cell}
-use Rattle.text_pieces.proofs.PieceLemmas.{Completes, none, begun, next, ended, and_then, cut}
-use Rattle.window_text.proofs.RowLemmas.{rows_rest, rows_go_on, rows_end}
+use Rattle.std.proofs.Common.{codes}
+use Rattle.text_pieces.proofs.PieceLemmas.{and_then, cut}
 use Rattle.window_text.proofs.printer.Printer.show.Goals as goal
 
 pub returns-then-not-send : goal.returns-then-not-send
 returns-then-not-send g c = record { sent = cut g.F.FnMut _ _ (codes "sheet 0 ") _ c.if-not-send.ensures.sent }
 
-pub returns-then-not-send_range : goal.returns-then-not-send_range
-returns-then-not-send_range g c = record {
-  sent = and_then g.F.FnMut _ _ _ (codes "sheet 0 ") _ _ c.if-not-send.ensures.sent (cut g.F.FnMut _ _ (range_text c.args.range) _ c.if-not-send_range.ensures.sent);
-}
-
-pub returns-then-not-send-2 : goal.returns-then-not-send-2
-returns-then-not-send-2 g c = record {
-  sent = and_then g.F.FnMut _ _ _ (codes "sheet 0 ") _ _ c.if-not-send.ensures.sent
-      (and_then g.F.FnMut _ _ _ (range_text c.args.range) _ _ c.if-not-send_range.ensures.sent (cut g.F.FnMut _ _ (10 ∷ []) _ c.if-not-send-2.ensures.sent));
-}
-
-pub loop-row-init : goal.loop-row-init
-loop-row-init g c =
-    let shown = shown_cell c.args.sheet.now in
-    let first : c.row-row.result ≡ c.args.range.head.row = c.row-row.ensures.row ∙ ap (λ (cell : Position). cell.row) c.head.ensures.head in
-    let rows = rows_text shown c.args.range in (
-      c.if-not-send-2.ensures.callable,
-      subst (λ n. Completes g.F.FnMut c.args.to.now (show_text c.args.sheet.now c.args.range) c.send-2.new.to (rows_rest shown c.args.range n)) (sym first)
-          (next g.F.FnMut _ _ _ _ (10 ∷ []) rows
-          (next g.F.FnMut _ _ _ _ (range_text c.args.range) (10 ∷ rows)
-          (begun g.F.FnMut _ _ (codes "sheet 0 ") (range_text c.args.range ++ (10 ∷ rows)) c.if-not-send.ensures.sent) c.if-not-send_range.ensures.sent) c.if-not-send-2.ensures.sent),
-    )
-
-pub returns-then-not-send_row : goal.returns-then-not-send_row
-returns-then-not-send_row g c =
-    let shown = shown_cell c.args.sheet.now in
-    let last : c.row-row-end.result ≡ c.args.range.tail.row = c.row-row-end.ensures.row ∙ ap (λ (cell : Position). cell.row) c.tail.ensures.tail in
-    let within : c.loop-row.row ≤ c.args.range.tail.row = omega (arith, c.loop-row-test.true, last) in
-    record {
-      sent = ended g.F.FnMut _ _ _ _ _ _ (subst (Completes g.F.FnMut c.args.to.now (show_text c.args.sheet.now c.args.range) c.loop-row.to) (rows_go_on shown c.args.range c.loop-row.row within) c.loop-row.invariant.1)
-          c.if-not-send_row.ensures.sent;
-    }
-
-pub loop-row-preserved : goal.loop-row-preserved
-loop-row-preserved g c =
-    let shown = shown_cell c.args.sheet.now in
-    let last : c.row-row-end.result ≡ c.args.range.tail.row = c.row-row-end.ensures.row ∙ ap (λ (cell : Position). cell.row) c.tail.ensures.tail in
-    let within : c.loop-row.row ≤ c.args.range.tail.row = omega (arith, c.loop-row-test.true, last) in (
-      c.if-not-send_row.ensures.callable,
-      next g.F.FnMut _ _ _ _ _ _ (subst (Completes g.F.FnMut c.args.to.now (show_text c.args.sheet.now c.args.range) c.loop-row.to) (rows_go_on shown c.args.range c.loop-row.row within) c.loop-row.invariant.1)
-          c.if-not-send_row.ensures.sent,
-    )
-
 pub returns : goal.returns
-returns g c =
-    let shown = shown_cell c.args.sheet.now in
-    let last : c.row-row-end.result ≡ c.args.range.tail.row = c.row-row-end.ensures.row ∙ ap (λ (cell : Position). cell.row) c.tail.ensures.tail in
-    let past : c.args.range.tail.row < c.loop-row.row = omega (arith, c.loop-row-test.false, last) in
-    record {
-      sent = c.loop-row.invariant.1 _ true (subst (λ t. HandsOut g.F.FnMut c.loop-row.to t true c.loop-row.to) (sym (rows_end shown c.args.range c.loop-row.row past)) (none g.F.FnMut c.loop-row.to));
-    }
+returns g c = record { sent = and_then g.F.FnMut _ _ _ (codes "sheet 0 ") _ _ c.if-not-send.ensures.sent c.send_window.ensures.sent }

@@ -1,0 +1,4 @@
+pub mod OfficeLemmas
+pub mod OpenedLemmas
+pub mod OpeningLemmas
+pub mod SettleLemmas

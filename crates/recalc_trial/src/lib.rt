@@ -1,0 +1,25 @@
+//! Trials of recalculation across crates: plans over a graph, turns of a desk over a book of edits, and the settling of
+//! levels.
+//!
+//! No crate stands on it. `BookOffice` is the plainest office: it owns a book and the editor's seat, with no lock. What
+//! was done before a turn brings about its answer: which cells are to be computed, which jobs are offered, what another
+//! seat holds, and what the office marks while it is asked for a task. Below stand `recalc_plan`, `recalc_workers`,
+//! `edit_log`, `mark_words`, and `plain_graph`, a graph that is its list of pairs.
+#![tactic(auto)]
+
+mod crossing;
+mod lending;
+mod office;
+mod opening;
+#[cfg(test)]
+mod plan_tests;
+#[cfg(test)]
+mod settle_tests;
+#[cfg(test)]
+mod sheets;
+#[cfg(test)]
+mod turn_tests;
+
+pub use crossing::{entries_cross, subject_crosses};
+pub use office::BookOffice;
+pub use opening::opening_codes;

@@ -1,0 +1,95 @@
+// What no clause says: that a plan is made where memory is ample. The expected levels were worked out by hand.
+ghost use Rattle.std.specs.Prelude.{◌≢◌, AllPairs, IfOk, OnOk};
+
+use crate::sheets::{cell, sheet_of};
+use edit_log::graph_of;
+use plain_graph::PlainGraph;
+use recalc_plan::plan;
+use sheet_refs::Cell;
+use std::alloc::Global;
+use std::fmt::Write;
+use std::test::Fail;
+
+// The sheet of the two records `1,=A1+1` and `2,=A2+B1`, after an edit of A1.
+#[test]
+fn levels_follow_references(rt: HostRuntime) -> Result<(), Fail> {
+    let fields = &[("A1", "1"), ("B1", "=A1+1"), ("A2", "2"), ("B2", "=A2+B1")];
+    let told = planned(rt.alloc(), fields, &["A1", "B1", "B2"])?;
+    assert_eq!(rt; told.as_str(), "A1/B1/B2/ circular");
+    Ok(())
+}
+
+// A cycle of two, a cell that leads into it, and a cell beside it.
+#[test]
+fn cycles_stand_apart(rt: HostRuntime) -> Result<(), Fail> {
+    let fields = &[("A1", "=B1"), ("B1", "=A1"), ("C1", "=A1+1"), ("D1", "=A2")];
+    let told = planned(rt.alloc(), fields, &["A1", "B1", "C1", "D1"])?;
+    assert_eq!(rt; told.as_str(), "D1/ circular A1 B1 C1");
+    Ok(())
+}
+
+// No stale cell; and a block of which a cell in each column is stale, under a total.
+#[test]
+fn nothing_and_a_block(rt: HostRuntime) -> Result<(), Fail> {
+    let alloc = rt.alloc();
+    let fields = &[("D2", "=SUM(A1:C2)"), ("C2", "=A1")];
+    assert_eq!(rt; planned(alloc, fields, &[])?.as_str(), " circular");
+    assert_eq!(rt;
+        planned(alloc, fields, &["D2", "C2", "A1"])?.as_str(),
+        "A1/C2/D2/ circular"
+    );
+    assert_eq!(rt;
+        planned(alloc, fields, &["D2", "C2"])?.as_str(),
+        "C2/D2/ circular"
+    );
+    Ok(())
+}
+
+// Adds a cell that isn't there yet.
+fn add_new(cells: &mut Vec<Cell>, cell: Cell) -> Result<(), Fail>
+    requires { AllPairs (λ a b. a ≢ b) cells.old.items }
+    ensures { OnOk result (AllPairs (λ a b. a ≢ b) cells.new.items) }
+{
+    if cells.contains(&cell) {
+        return Err(Fail::from("a cell twice"));
+    }
+    cells.push(cell)?;
+    Ok(())
+}
+
+// The cells with these names.
+fn cells_of(alloc: Global, names: &[&str]) -> Result<Vec<Cell>, Fail>
+    ensures { IfOk result (λ cells. AllPairs (λ a b. a ≢ b) cells.items) }
+{
+    let mut cells = Vec::new(alloc);
+    for name in names {
+        add_new(&mut cells, cell(name)?)?;
+    }
+    Ok(cells)
+}
+
+// The plan of some stale cells of a sheet with these fields: the levels, each ended by a stroke, and then the circular
+// cells.
+fn planned(alloc: Global, fields: &[(&str, &str)], stale: &[&str]) -> Result<String, Fail> {
+    let sheet = sheet_of(alloc, fields)?;
+    let graph = graph_of(alloc, PlainGraph::new(alloc), &sheet)?;
+    let cells = cells_of(alloc, stale)?;
+    let plan = plan(alloc, &graph, &cells)?;
+    let mut text = String::new(alloc);
+    for level in &plan.levels {
+        write_cells(&mut text, level)?;
+        text.push('/')?;
+    }
+    text.push_str(" circular")?;
+    for cell in &plan.circular {
+        write!(text, " {cell}")?;
+    }
+    Ok(text)
+}
+
+fn write_cells(text: &mut String, cells: &[Cell]) -> Result<(), Fail> {
+    for cell in cells {
+        write!(text, "{cell}")?;
+    }
+    Ok(())
+}

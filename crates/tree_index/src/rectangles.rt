@@ -1,0 +1,53 @@
+// Rectangles that hold others.
+ghost use Rattle.std.specs.Prelude.{◌↔◌, ◌≡◌, IsTrue, IsNone, IfSome, length};
+ghost use Rattle.tree_index.specs.Rectangles.{Covers, CoverAll, IsLeast, IsSpan};
+
+use crate::item::Item;
+use sheet_refs::Range;
+
+/// The smallest rectangle that has both.
+pub(crate) fn span(a: Range, b: Range) -> Range
+    ensures first { Covers result a }
+    ensures second { Covers result b }
+    ensures least { IsSpan a b result }
+{
+    let heads = Range::of(a.head(), b.head());
+    let tails = Range::of(a.tail(), b.tail());
+    Range::of(heads.head(), tails.tail())
+}
+
+/// Whether each cell of the one is a cell of the other.
+pub(crate) fn covers(outer: Range, inner: Range) -> bool
+    ensures { IsTrue result ↔ Covers outer inner }
+{
+    let (head, tail) = (outer.head(), outer.tail());
+    let above = head.row() <= inner.head().row() && head.col() <= inner.head().col();
+    above && inner.tail().row() <= tail.row() && inner.tail().col() <= tail.col()
+}
+
+/// The smallest rectangle that has all of some; None exactly where there is none.
+pub(crate) fn span_of_all(items: &[Item]) -> Option<Range>
+    ensures none { IsNone result ↔ (length items.now ≡ 0) }
+    ensures covers { IfSome result (λ range. CoverAll range items.now) }
+    ensures least { IfSome result (λ range. IsLeast range items.now) }
+{
+    let Some(first) = items.first() else {
+        return None;
+    };
+    let mut whole = first.range;
+    for item in items {
+        whole = span(whole, item.range);
+    }
+    Some(whole)
+}
+
+/// How many cells a rectangle has.
+pub(crate) fn area(range: Range) -> u64 {
+    range.cells()
+}
+
+/// How many rows and columns a rectangle has, added up.
+pub(crate) fn extent(range: Range) -> u64 {
+    let (head, tail) = (range.head(), range.tail());
+    u64::from(tail.row() - head.row()) + u64::from(tail.col() - head.col())
+}

@@ -1,0 +1,63 @@
+// The index by a tree of rectangles.
+use crate::nodes::Tree;
+use range_index::RangeIndex;
+use sheet_refs::{Memory, Range};
+use std::alloc::Global;
+use std::marker::Model;
+
+/// An index by a tree of rectangles, an R-tree (Guttman, 1984).
+///
+/// A node has up to sixteen children, each with a rectangle; in a leaf they are the entries. An insert goes down to the
+/// child whose rectangle grows least, and splits each full node that it comes to in halves, in the order of rows,
+/// columns or sizes, whichever leaves the smallest rectangles. It takes nodes that `reserve` has made room for; where
+/// there is none left, the entry goes to a list that each query looks through, and the next `reserve` puts it into the
+/// tree. A removal makes the rectangles above it as small as they can be, and takes nodes without children out.
+///
+/// Costs: an insert, a removal and a change look at a node a level, and a query at the nodes whose rectangles overlap
+/// it. A level of the tree takes eight to sixteen times the entries of the one below it.
+#[derive(Drop)]
+pub struct TreeIndex {
+    tree: Tree,
+}
+
+impl Model for TreeIndex {
+    ghost use Rattle.tree_index.specs.Indexes.{TreeValue, HoldTree, tree_value};
+
+    ghost Value = { TreeValue };
+
+    ghost view = { λ i. tree_value i.tree };
+
+    ghost invariant = { λ i. HoldTree i.tree };
+}
+
+impl RangeIndex for TreeIndex {
+    ghost entries = { λ i. i.entries };
+
+    ghost spare = { λ i. i.spare };
+
+    fn empty(alloc: Global) -> TreeIndex {
+        TreeIndex {
+            tree: Tree::empty(alloc),
+        }
+    }
+
+    fn reserve(&mut self, inserts: u32) -> Result<(), Memory> {
+        self.tree.reserve(inserts as usize)
+    }
+
+    fn insert(&mut self, id: usize, range: Range) {
+        self.tree.add(id, range);
+    }
+
+    fn remove(&mut self, id: usize, range: Range) {
+        self.tree.take_out(id);
+    }
+
+    fn change(&mut self, id: usize, from: Range, to: Range) {
+        self.tree.change(id, to);
+    }
+
+    fn overlapping(&self, q: Range, out: &mut Vec<usize>) -> Result<(), Memory> {
+        self.tree.visit(q, out)
+    }
+}

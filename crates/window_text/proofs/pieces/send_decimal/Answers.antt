@@ -1,0 +1,7 @@
+use Rattle.std.proofs.Common.{◌∙◌, subst}
+use Rattle.text_pieces.specs.Pieces.{HandsOut}
+use Rattle.window_text.proofs.pieces.send_decimal.Goals as goal
+
+pub returns-clause-sent : goal.returns-clause-sent
+returns-clause-sent g c =
+    subst (λ t. HandsOut g.F.FnMut c.args.to.now t c.send.result c.send.new.to) (c.as_bytes.ensures.value ∙ c.format.ensures.text) c.send.ensures.sent

@@ -1,0 +1,2 @@
+for row in range(1025):
+    print(0)
