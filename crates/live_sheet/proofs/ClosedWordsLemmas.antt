@@ -1,9 +1,8 @@
 -- Values of closed words.
-use Rattle.std.proofs.Common.{◌≡◌, ◌<◌, ◌+◌, ◌⊎◌, inl, inr, ℕ, List, ◌∷◌, Some, None, length, All, refl, sym, ◌∙◌, ap, subst, arith}
+use Rattle.std.proofs.Common.{◌≡◌, ◌<◌, ◌+◌, ◌⊎◌, inl, inr, ℕ, List, None, length, refl, sym, ◌∙◌, ap, subst, arith}
 use Rattle.std.proofs.lemmas.List.Elements.{All-contains}
 use Rattle.std.proofs.lemmas.Option.{none-some}
 use Rattle.mark_core.specs.declared.subjects.Subject.{Ghosts}
-use Rattle.mark_core.specs.declared.words.Known.{Known}
 use Rattle.mark_core.specs.declared.actors.Edits.{Edits}
 use Rattle.mark_core.specs.Honest.{IsHonest, IsPendingMark, IsSettledMark, IsRightKnown, IsComputed}
 use Rattle.mark_core.specs.Mark.{IsLastMark}
@@ -11,7 +10,7 @@ use Rattle.mark_core.specs.Place.{Words, words_of, place_at}
 use Rattle.mark_core.specs.State.{State, view_at}
 use Rattle.mark_core.proofs.Prefixes.{last_mark_unique}
 use Rattle.mark_words.specs.Closed.{HasClosed}
-use Rattle.mark_words.specs.Token.{subject_of, view_of, log_of, edits_of, closed_places, closed_place, places_of}
+use Rattle.mark_words.specs.Token.{subject_of, view_of, log_of, edits_of, closed_place, places_of}
 use Rattle.mark_words.specs.declared.marks.Marks.{Marks}
 use Rattle.mark_words.specs.declared.seats.Seat.{Seat}
 use Rattle.mark_words.specs.declared.closing.Words.{Words as ClosedWords}

@@ -1,5 +1,5 @@
 -- What closing gives, from what was known before and what the closed words show.
-use Rattle.std.proofs.Common.{◌≡◌, ◌<◌, ◌≤◌, ℕ, List, [], Option, Some, None, Ok, Err, Result, OnOk, IsTrue, length, All, slice_get, slice_index_or, refl, sym, ◌∙◌, ap, subst, arith}
+use Rattle.std.proofs.Common.{◌≡◌, ◌<◌, ℕ, List, [], Option, Some, None, Ok, Err, Result, OnOk, IsTrue, length, All, slice_get, sym, ◌∙◌, ap, subst}
 use Rattle.sheet_refs.specs.Cells.{Position}
 use Rattle.sheet_refs.specs.Sizes.{cell_count, is_inside, place_of}
 use Rattle.sheet_refs.specs.declared.sizes.Sizes.{Sizes}
@@ -27,12 +27,11 @@ use Rattle.sheet_model.proofs.SheetValues.{value_in_range}
 use Rattle.value_core.specs.Values.{code_of}
 use Rattle.sheet_model.specs.declared.entry.Entry.{Entry}
 use Rattle.live_sheet.specs.Accepted.{AreAccepted}
-use Rattle.live_sheet.specs.Closed.{IsLegalOver, ReadsAreLegal, IsPassIn, EndsWith, HasClosedWith, AreInOrder, accepted_count}
+use Rattle.live_sheet.specs.Closed.{IsLegalOver, ReadsAreLegal, EndsWith, AreInOrder, accepted_count}
 use Rattle.live_sheet.specs.Held.{IsFreeSeat}
 use Rattle.live_sheet.specs.Passes.{client_of, pass_log, numbers_of}
 use Rattle.live_sheet.specs.Ranges.{KnowsAll}
 use Rattle.live_sheet.specs.declared.naming.Naming.{Ghosts}
-use Rattle.live_sheet.specs.declared.closed.Closed.{Closed}
 use Rattle.live_sheet.specs.declared.pass.Pass.{Pass}
 use Rattle.live_sheet.proofs.AcceptedLemmas.{accepted_still, same_accepted}
 use Rattle.live_sheet.proofs.CauseLemmas.{sizes_now}

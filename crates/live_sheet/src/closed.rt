@@ -4,8 +4,8 @@ use crate::naming::Naming;
 use crate::pass::Pass;
 use sheet_model::{Entry, Sheet};
 
-/// What a live sheet leaves when it is closed: the log, the sheet after it, and the code of the value of each cell, row by
-/// row.
+/// What a live sheet leaves when it is closed: the log, the sheet after it, and the code of the value of each cell, row
+/// by row.
 #[derive(Drop)]
 pub struct Closed {
     pub log: Vec<Entry>,

@@ -16,9 +16,9 @@ use crate::crossing::{entries_cross, subject_crosses};
 use edit_log::OverSheet;
 use mark_words::{Marks, Seat};
 
-/// Closes the words of a sheet of which the editor's seat knows each cell as clean: lists the codes of the values that the
-/// cells have after the log of that seat, row by row. What the other seats know is a part of that log, and each read of
-/// any of them is legal over it.
+/// Closes the words of a sheet of which the editor's seat knows each cell as clean: lists the codes of the values that
+/// the cells have after the log of that seat, row by row. What the other seats know is a part of that log, and each read
+/// of any of them is legal over it.
 pub(crate) fn close_cells(
     marks: Marks<OverSheet>,
     editor: Seat<OverSheet>,

@@ -96,10 +96,11 @@ impl<N: Naming> Locked<N> {
 
 impl<N: Naming> Live<N> {
     /// Computes all cells that aren't clean, and closes. The log goes on from the one that each pass knows, and each
-    /// client has in it the accepted edits of its pass and no others. The values are the codes of the values of all cells.
+    /// client has in it the accepted edits of its pass and no others. The values are the codes of the values of all
+    /// cells.
     ///
-    /// All memory is taken before anything is closed. After want of it, all that was handed in comes back, with the same
-    /// log; some cells may have been computed.
+    /// All memory is taken before anything is closed. After want of it, all that was handed in comes back, with the
+    /// same log; some cells may have been computed.
     pub fn close<R: Threads + Wait + Sync, T: Gate + Sync>(
         self,
         rt: &R,

@@ -1,6 +1,6 @@
 -- Cells and their places are one.
-use Rattle.std.proofs.Common.{◌<◌, ◌∷◌, ◌∙◌, Some, ap, subst, arith, refl, slice_index_or, suc}
-use Rattle.std.proofs.lemmas.List.Elements.{Contains-get_or, Contains-append_right}
+use Rattle.std.proofs.Common.{◌<◌, ◌∙◌, Some, ap, subst, arith, refl, slice_index_or, suc}
+use Rattle.std.proofs.lemmas.List.Elements.{Contains-get_or}
 use Rattle.edit_log.specs.Kept.{over_sheet}
 use Rattle.mark_words.specs.Token.{subject_of, topic_of, view_of, log_of, edits_of}
 use Rattle.sheet_refs.proofs.Places.{place-lt}

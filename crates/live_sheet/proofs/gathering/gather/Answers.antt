@@ -3,7 +3,7 @@ use Rattle.std.proofs.Common.{◌+◌, ◌∙◌, ap, arith, refl}
 use Rattle.mark_words.proofs.CloseLemmas.{no_items}
 use Rattle.live_sheet.specs.Closed.{IsPassIn}
 use Rattle.live_sheet.specs.Held.{IsFreeSeat}
-use Rattle.live_sheet.proofs.GatherLemmas.{gather_begins, gather_goes_on, gather_room, all_gone}
+use Rattle.live_sheet.proofs.GatherLemmas.{gather_begins, gather_goes_on, all_gone}
 use Rattle.live_sheet.proofs.gathering.gather.Goals as goal
 
 pub loop-pass-init : goal.loop-pass-init

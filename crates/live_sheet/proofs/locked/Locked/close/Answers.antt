@@ -1,15 +1,14 @@
 -- All shares together are the whole ledger, whose total is the length of the log.
 use Rattle.std.proofs.Common.{◌≡◌, ◌≤◌, List, length, slice_index_or, vec_capacity, sym, ◌∙◌, ap, subst, arith}
-use Rattle.std.proofs.lemmas.List.Elements.{All-contains, All-weaker}
+use Rattle.std.proofs.lemmas.List.Elements.{All-contains}
 use Rattle.mark_core.specs.Mark.{IsPrefix}
-use Rattle.mark_words.specs.Token.{IsSeatOf, subject_of, topic_of, view_of, log_of}
+use Rattle.mark_words.specs.Token.{subject_of, topic_of, view_of, log_of}
 use Rattle.edit_log.specs.Touches.{TouchesPlace}
 use Rattle.sheet_refs.specs.Sizes.{cell_count}
 use Rattle.sheet_model.specs.Logs.{after}
 use Rattle.sheet_model.specs.Sheets.{SheetValue}
 use Rattle.sheet_model.specs.declared.entry.Entry.{Entry}
 use Rattle.live_sheet.specs.Closed.{ReadsAreLegal, accepted_count}
-use Rattle.live_sheet.specs.Held.{IsFreeSeat}
 use Rattle.live_sheet.specs.Passes.{pass_log}
 use Rattle.live_sheet.specs.Ranges.{KnowsAll}
 use Rattle.live_sheet.proofs.ClosingLemmas.{seat_of_words, values_closed, all_end}
