@@ -124,4 +124,22 @@ impl<G: Graph> Book<G> {
         self.log.push_reserved(entry);
         Applied { number, touched }
     }
+
+    /// Gives up the book: the sheet, and the entries, the first one first. The graph is dropped.
+    pub fn into_parts(self) -> (Sheet, Vec<Entry>)
+    where
+        G: Drop,
+        ensures sheet { result.0 ≡ self.sheet }
+        ensures log { result.1.items ≡ self.log }
+        ensures kept { IsBook G.pairs self }
+    {
+        let Book {
+            opening: _,
+            sheet,
+            graph: _,
+            log,
+            alloc: _,
+        } = self;
+        (sheet, log)
+    }
 }

@@ -1,8 +1,12 @@
 pub mod AcceptedLemmas
 pub mod CauseLemmas
+pub mod ClosedWordsLemmas
+pub mod ClosingLemmas
+pub mod CountLemmas
 pub mod EditLemmas
 pub mod EnterLemmas
 pub mod FirmLemmas
+pub mod GatherLemmas
 pub mod LevelLemmas
 pub mod LookLemmas
 pub mod MeetingLemmas

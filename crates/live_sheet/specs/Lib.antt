@@ -1,4 +1,5 @@
 pub mod Accepted
+pub mod Closed
 pub mod Edited
 pub mod Edits
 pub mod Firm
@@ -11,6 +12,7 @@ pub mod Opened
 pub mod Openings
 pub mod Passes
 pub mod Ranges
+pub mod Rooms
 pub mod Setups
 pub mod Shares
 pub mod Stale

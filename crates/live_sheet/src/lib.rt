@@ -8,11 +8,15 @@
 //! `specs/Edits.antt` says); `look` takes no lock, no runtime and no memory (`specs/Looks.antt`). `firm` and `settle`
 //! compute what is stale first, level by level (`specs/Ranges.antt`, `specs/Levels.antt`, `specs/Firm.antt`). All speak
 //! of the pass that they are lent (`specs/Passes.antt`, `specs/Accepted.antt`). `work` is one turn at a worker's desk
-//! (`specs/Worked.antt`).
+//! (`specs/Worked.antt`). `close` settles and gives the log, the sheet and the values of all cells (`specs/Closed.antt`).
 //!
 //! Below stand `edit_log` over a compressed graph, `mark_words` and `recalc_workers`; above, the program.
 #![tactic(auto)]
 
+mod closed;
+mod closed_cells;
+mod closed_words;
+mod closing;
 mod codes;
 mod committed;
 mod crossing;
@@ -23,6 +27,7 @@ mod edits;
 mod entering;
 mod firm_cells;
 mod firming;
+mod gathering;
 mod graph;
 mod levels;
 mod live;
@@ -40,6 +45,7 @@ mod pass;
 mod passes;
 mod reading;
 mod rest;
+mod room;
 mod setting_up;
 mod settled;
 mod settling;
@@ -52,6 +58,7 @@ mod whole;
 mod window;
 mod working;
 
+pub use closed::{Closed, NotClosed};
 pub use committed::{Committed, EditRefused};
 pub use desk::Desk;
 pub use graph::LiveGraph;
