@@ -4,4 +4,13 @@ pub mod QuoteLemmas
 pub mod ReportLemmas
 pub mod RowLemmas
 pub mod RunsLemmas
+pub mod ToldCells
+pub mod ToldChanges
+pub mod ToldEntries
+pub mod ToldFormulas
+pub mod ToldNamed
+pub mod ToldReports
+pub mod ToldRows
+pub mod ToldRuns
+pub mod ToldSplit
 pub mod TranscriptLemmas

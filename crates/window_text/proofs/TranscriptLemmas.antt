@@ -3,7 +3,7 @@ use Rattle.std.proofs.Common.{◌≡◌, ◌<◌, ◌≤◌, ◌+◌, ◌*◌, �
 use Rattle.std.specs.Prelude.{if◌then◌else◌, nat_le, string_bytes, String}
 use Rattle.std.specs.Fmt.{decimal}
 use Rattle.std.proofs.Math.ListN.{drop_of_length-le}
-use Rattle.std.proofs.lemmas.Bool.{le-leb, eqb-false, ne_eqb}
+use Rattle.std.proofs.lemmas.Bool.{le-leb}
 use Rattle.std.proofs.lemmas.List.{drop_more, get_or-map, length-map}
 use Rattle.sheet_refs.specs.Cells.{IsNamed}
 use Rattle.sheet_refs.specs.declared.sizes.Sizes.{Sizes}

@@ -2,4 +2,5 @@ pub mod Changes
 pub mod Quotes
 pub mod Reports
 pub mod Texts
+pub mod Told
 pub mod Transcripts

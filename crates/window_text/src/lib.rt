@@ -5,6 +5,7 @@
 //! ranges, and lists of edges; in `specs/Reports.antt`: what was shown of windows after a number of edits; in
 //! `specs/Changes.antt`: the changes of an edit as lines of a script; and in `specs/Transcripts.antt`: a live run, with
 //! its log, its clients' reports and its closing sheet. No call takes memory.
+//! That the text of a live run tells one run, whose labels and clients are told by their texts, is a law (`specs/Told.antt`).
 //!
 //! Below stand `text_pieces`, `value_core`, `formula_syntax`, which prints formulas, `edge_patterns` and `sheet_model`;
 //! above stand `play_machine`, which makes the reports, and `sheet_cli`, which keeps the pieces.
@@ -12,6 +13,7 @@
 
 mod changes;
 mod edges;
+mod laws;
 mod live;
 mod pieces;
 mod printer;
@@ -20,6 +22,7 @@ mod reports;
 mod transcript;
 mod windows;
 
+pub use laws::text_laws;
 pub use printer::Printer;
 pub use report::Report;
 pub use transcript::Transcript;

@@ -1,4 +1,4 @@
-use Rattle.std.proofs.Common.{rules, ◌≡◌, ◌<◌, [], true, false, map, length, get_or, sym, ◌∙◌, ap, subst}
+use Rattle.std.proofs.Common.{rules, ◌≡◌, true, false, map, sym, subst}
 use Rattle.std.specs.Prelude.{string_bytes}
 use Rattle.text_pieces.specs.Pieces.{HandsOut}
 use Rattle.text_pieces.proofs.PieceLemmas.{Completes, none, next, ended}

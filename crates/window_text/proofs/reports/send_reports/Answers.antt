@@ -1,4 +1,4 @@
-use Rattle.std.proofs.Common.{true, false, sym, subst}
+use Rattle.std.proofs.Common.{true, sym, subst}
 use Rattle.text_pieces.specs.Pieces.{HandsOut}
 use Rattle.text_pieces.proofs.PieceLemmas.{none, next, ended}
 use Rattle.window_text.proofs.ReportLemmas.{next_report, reports_end}

@@ -2,7 +2,7 @@ use Rattle.std.proofs.Common.{true, false, [], ◌∷◌, ◌++◌, ap₂, subst
 use Rattle.std.specs.Prelude.{codes}
 use Rattle.text_pieces.specs.Pieces.{HandsOut}
 use Rattle.text_pieces.proofs.PieceLemmas.{and_then, cut}
-use Rattle.window_text.specs.Changes.{batch_text, changes_text}
+use Rattle.window_text.specs.Changes.{changes_text}
 use Rattle.window_text.proofs.printer.Printer.batch.Goals as goal
 
 pub returns-then-not-send : goal.returns-then-not-send

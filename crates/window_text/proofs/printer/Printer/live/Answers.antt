@@ -1,5 +1,4 @@
-use Rattle.std.proofs.Common.{◌≡◌, [], ◌++◌, true, false, codes, map, length, ap, subst}
-use Rattle.std.specs.Prelude.{string_bytes}
+use Rattle.std.proofs.Common.{◌≡◌, ◌++◌, true, false, codes, length, ap, subst}
 use Rattle.text_pieces.specs.Pieces.{HandsOut}
 use Rattle.text_pieces.proofs.PieceLemmas.{and_then, cut}
 use Rattle.window_text.specs.Texts.{count_line}
