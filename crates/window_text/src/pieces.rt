@@ -8,6 +8,7 @@ ghost use Rattle.sheet_model.specs.Labels.{label_text};
 ghost use Rattle.window_text.specs.Quotes.{HasNoQuote, IsFirstQuote};
 
 use itoa::Buffer;
+use memchr::memchr;
 use sheet_model::Labels;
 use text_pieces::send;
 use value_core::{ErrorKind, Value};
@@ -78,5 +79,5 @@ fn send_quoted<F: FnMut(&[u8]) -> bool>(text: &str, to: &mut F) -> bool
 fn quote_place(text: &[u8]) -> Option<usize>
     ensures { MatchOption result (HasNoQuote text.now) (IsFirstQuote text.now) }
 {
-    text.iter().position(|byte| *byte == b'"')
+    memchr(b'"', text)
 }
