@@ -8,7 +8,7 @@ use Rattle.sheet_io.specs.Sink.{AppendsPrefix}
 use Rattle.sheet_io.proofs.Prefixes.{prefix_more}
 use Rattle.text_pieces.specs.Pieces.{Taker, Sends, HandsOut}
 use Rattle.text_pieces.specs.Pieces.Sends.{nothing, stops, goes_on}
-use Rattle.sink_buffer.specs.Buffers.{HasPassed}
+use Rattle.sink_buffer.specs.Buffers.{HasPassed, Passes}
 use Rattle.sink_buffer.proofs.PassLemmas.{cut_then, passed_as, passed_before, passed_none, passed_then}
 
 -- a fault that rose later has risen
@@ -55,20 +55,27 @@ module _ {F : Type 0} (taker : Taker F) (told : F → Option (List ℕ)) (faults
       let b = sends_count mid last rest answer sends in
       omega (arith, a, b)
 
-  -- a text that was handed out whole has passed
-  pub text_passed : (f last : F) (text : List ℕ) → HandsOut taker f text true last → HasPassed (told f) (told last) (held f ++ text) (held last)
+  text_passed : (f last : F) (text : List ℕ) → HandsOut taker f text true last → HasPassed (told f) (told last) (held f ++ text) (held last)
   text_passed f last text out =
       let whole : text ≡ out.sent = out.begins ∙ (ap (λ l. out.sent ++ l) (out.whole refl) ∙ append-nil out.sent) in
       passed_as (told f) (told last) (held f ++ out.sent) (held f ++ text) (held last) (held last) (ap (λ t. held f ++ t) (sym whole)) refl (sends_passed f last out.sent true refl out.sends)
 
-  -- of a text that wasn't, a prefix was put, and a fault rose
-  pub text_cut : (f last : F) (text : List ℕ) → HandsOut taker f text false last → AppendsPrefix (told f) (told last) (held f ++ text)
+  text_cut : (f last : F) (text : List ℕ) → HandsOut taker f text false last → AppendsPrefix (told f) (told last) (held f ++ text)
   text_cut f last text out =
       subst (AppendsPrefix (told f) (told last)) (append_assoc (held f) out.sent out.left ∙ ap (λ t. held f ++ t) (sym out.begins))
       (prefix_more (told f) (told last) (held f ++ out.sent) out.left (sends_cut f last out.sent false refl out.sends))
 
-  pub text_rises : (f last : F) (text : List ℕ) → HandsOut taker f text false last → Rose (faults f) (faults last)
-  text_rises f last text out = sends_rise f last out.sent false refl out.sends
-
-  pub text_counts : (f last : F) (text : List ℕ) (answer : Bool) → HandsOut taker f text answer last → faults f ≤ faults last
-  text_counts f last text answer out = sends_count f last out.sent answer out.sends
+  -- a text that was handed out whole has passed; of one that wasn't a prefix was put, and a fault rose
+  pub text_passes : (f last : F) (text : List ℕ) (answer : Bool) → HandsOut taker f text answer last → Passes (told f) (told last) (faults f) (faults last) (held f ++ text) (held last) answer
+  text_passes f last text true out = record {
+    passed = λ yes. text_passed f last text out;
+    cut = λ no. absurd (no refl);
+    cause = λ no. absurd (no refl);
+    counted = sends_count f last out.sent true out.sends;
+  }
+  text_passes f last text false out = record {
+    passed = λ yes. no yes;
+    cut = λ no. text_cut f last text out;
+    cause = λ no. sends_rise f last out.sent false refl out.sends;
+    counted = sends_count f last out.sent false out.sends;
+  }
