@@ -11,6 +11,9 @@ RUNS runs each (3 by default), program and csv in turn:
 
 The program is started by a small process of its own: what a process had resident before it turned into the program counts as
 the program's, so it must not come from this one, which holds the texts.
+
+A last line, for a label of 8,192 bytes that is shown 100,001 times, has beside the program's time that in which as many bytes are
+written to the same file in pieces of 65,536, and the most memory that the program had resident, in MB.
 """
 
 import json
@@ -41,6 +44,19 @@ with open("sheet.csv", newline="") as file:
     rows = list(csv.reader(file))
 print(json.dumps([time.process_time() - start, len(rows) * max(map(len, rows))]))
 """
+
+
+WRITER = """
+import json, os, sys, time
+left, piece = int(sys.argv[1]), bytes(65536)
+start = time.process_time()
+file = os.open("output", os.O_WRONLY | os.O_CREAT | os.O_TRUNC, 0o644)
+while left:
+    left -= os.write(file, piece[:left])
+print(json.dumps([time.process_time() - start]))
+"""
+
+LABEL = "a label of 8,192 bytes, shown 100,001 times"
 
 
 def name(row, col):
@@ -119,6 +135,20 @@ def measure(folder, words, runs):
     return min(times), min(reads), min(peaks), cells
 
 
+def measure_label(folder, runs):
+    """The least times of the program and of writing as many bytes, and the program's least peak of memory, in as many runs."""
+    (folder / "sheet.csv").write_text("x" * 8_192 + "\n=A$1" * 100_000)
+    times, writes, peaks = [], [], []
+    for _ in range(runs):
+        status, taken, peak = told(STARTER, folder, PROGRAM, "show", "sheet.csv", "A1:A100001")
+        if status:
+            sys.exit(f"bench/show.py: {LABEL} ended with status {status}")
+        times.append(taken)
+        peaks.append(peak)
+        writes += told(WRITER, folder, str((folder / "output").stat().st_size))
+    return min(times), min(writes), min(peaks)
+
+
 def main():
     runs = int(sys.argv[1]) if len(sys.argv) > 1 else 3
     word = sys.argv[2] if len(sys.argv) > 2 else ""
@@ -137,6 +167,10 @@ def main():
             program, read, peak, cells = measure(folder, words, runs)
             each = f", {program / looks * 1e9:.1f} ns for each of {looks:,} looks" if looks else ""
             print(f"{program:8.3f} {read:8.3f} {program / read:7.2f} {peak / cells:8.0f}  {what}{each}", flush=True)
+        if word in LABEL:
+            program, write, peak = measure_label(folder, runs)
+            print(f"{'program':>8} {'write':>8} {'ratio':>7} {'MB':>8}")
+            print(f"{program:8.3f} {write:8.3f} {program / write:7.2f} {peak / 1e6:8.1f}  {LABEL}", flush=True)
 
 
 if __name__ == "__main__":

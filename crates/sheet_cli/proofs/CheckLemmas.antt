@@ -12,7 +12,7 @@ use Rattle.sheet_cli.specs.Answers.Owes.{answers, usage}
 use Rattle.sheet_cli.specs.Requests.Request.{of_check}
 use Rattle.sheet_cli.specs.Words.{Asks}
 use Rattle.sheet_cli.proofs.LawLemmas.{no_refusal, same_text}
-use Rattle.sheet_cli.proofs.OneAnswer.{one_request}
+use Rattle.sheet_cli.proofs.WordLemmas.{one_request}
 
 abbrev IsListed : List ℕ → Type 0
 IsListed text = (edges : List EdgeValue) × ((text ≡ check_text (length (pairs_of edges)) edges) × (AreInOrder edges × NoneJoins edges))

@@ -9,7 +9,7 @@ use Rattle.edit_log.specs.Pairs.{ArePairsOf}
 use Rattle.sheet_model.specs.Sheets.{SheetValue}
 use Rattle.sheet_cli.specs.Answers.{Writes}
 use Rattle.sheet_cli.specs.Graphs.{AreDependents, ArePrecedents}
-use Rattle.sheet_cli.specs.declared.words.WindowCommand.{WindowCommand}
+use Rattle.sheet_cli.specs.declared.window.WindowCommand.{WindowCommand}
 use Rattle.sheet_refs.proofs.VerticalRuns.{one_list}
 
 path_over : (step other : Position → Position → Type 0) → ((a b : Position) → step a b → other a b) → (from to : Position) (cells : List Position) → IsPath step from cells to → IsPath other from cells to

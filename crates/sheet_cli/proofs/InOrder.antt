@@ -5,16 +5,18 @@ use Rattle.sheet_refs.specs.Cells.{Corners}
 use Rattle.sheet_model.specs.Sheets.{SheetValue}
 use Rattle.window_text.specs.Texts.{IsWithinSheet}
 use Rattle.edit_script.specs.Scripts.{ScriptValue}
-use Rattle.sheet_cli.specs.Answers.{Answer, AnswersRequest, AnswersWindow, AnswersCheck, AnswersPlay, GivesScript, GivesSheet, HasNoScript, IsAccepted, IsInOrder, Owes, TellsTexts}
+use Rattle.sheet_cli.specs.Answers.{Answer, AnswersRequest, AnswersWindow, AnswersCheck, AnswersScript, GivesScript, GivesSheet, HasNoScript, IsAccepted, IsInOrder, Owes, TellsTexts, mode_of}
 use Rattle.sheet_cli.specs.Answers.Answer.{output, refusal}
 use Rattle.sheet_cli.specs.Answers.AnswersWindow.{written, outside, no_sheet}
 use Rattle.sheet_cli.specs.Answers.AnswersCheck.{listed, unlisted}
-use Rattle.sheet_cli.specs.Answers.AnswersPlay.{reported, unscripted, unplayed}
+use Rattle.sheet_cli.specs.Answers.AnswersScript.{scripted, unscripted, sheetless}
 use Rattle.sheet_cli.specs.Answers.Owes.{usage, answers}
 use Rattle.sheet_cli.specs.Requests.{Request, texts_named}
-use Rattle.sheet_cli.specs.Requests.Request.{of_window, of_check, of_play}
-use Rattle.sheet_cli.specs.declared.words.WindowCommand.{WindowCommand}
-use Rattle.sheet_cli.proofs.OneAnswer.{one_request, one_sheet, script_or_none, sheet_or_none}
+use Rattle.sheet_cli.specs.Requests.Request.{of_window, of_check, of_script}
+use Rattle.sheet_cli.specs.declared.script.ScriptCommand.{ScriptCommand}
+use Rattle.sheet_cli.specs.declared.window.WindowCommand.{WindowCommand}
+use Rattle.sheet_cli.proofs.OneAnswer.{one_sheet, script_or_none, sheet_or_none}
+use Rattle.sheet_cli.proofs.WordLemmas.{one_request}
 
 abbrev IsRefusal : Answer → Type 0
 IsRefusal answer = (status : ℕ) × (line : List ℕ) × (answer ≡ refusal status line)
@@ -35,12 +37,12 @@ module _ (holds : List ℕ → Option (List ℕ)) (name told : List ℕ) (here :
   in_check _ refused (listed _ text _ _) = no_output text refused
   in_check _ refused (unlisted status line none) = sheet_or_none holds name told here sheet status line gives none
 
-  in_play : (script_name spoken : List ℕ) → holds script_name ≡ Some spoken → (labels : List (List ℕ)) (script : ScriptValue) → GivesScript holds script_name sheet labels (Ok script) → (answer : Answer) → IsRefusal answer → AnswersPlay holds name script_name answer → ⊥
-  in_play script_name spoken there labels script given _ refused (reported _ _ _ text _ _ _) = no_output text refused
-  in_play script_name spoken there labels script given _ refused (unscripted other status line regives none) =
-      script_or_none holds script_name spoken there sheet labels script status line given
-      (subst (λ s. HasNoScript holds script_name s status line) (one_sheet holds name told here other sheet regives gives) none)
-  in_play script_name spoken there labels script given _ refused (unplayed status line none) = sheet_or_none holds name told here sheet status line gives none
+  in_script : (command : ScriptCommand) (script_name spoken : List ℕ) → holds script_name ≡ Some spoken → (labels : List (List ℕ)) (script : ScriptValue) → GivesScript holds (mode_of command) script_name sheet labels (Ok script) → (answer : Answer) → IsRefusal answer → AnswersScript holds command name script_name answer → ⊥
+  in_script command script_name spoken there labels script given _ refused (scripted _ _ _ text _ _ _) = no_output text refused
+  in_script command script_name spoken there labels script given _ refused (unscripted other status line regives none) =
+      script_or_none holds script_name spoken there (mode_of command) sheet labels script status line given
+      (subst (λ s. HasNoScript holds (mode_of command) script_name s status line) (one_sheet holds name told here other sheet regives gives) none)
+  in_script command script_name spoken there labels script given _ refused (sheetless status line none) = sheet_or_none holds name told here sheet status line gives none
 
 in_order : (holds : List ℕ → Option (List ℕ)) (request : Request) (answer : Answer) → All (λ name. (text : List ℕ) × (holds name ≡ Some text)) (texts_named request) → IsInOrder holds request → IsRefusal answer → AnswersRequest holds request answer → ⊥
 in_order holds (of_window command name window) answer tells (sheet, gives, within) refused given =
@@ -49,10 +51,10 @@ in_order holds (of_window command name window) answer tells (sheet, gives, withi
 in_order holds (of_check name) answer tells (sheet, gives) refused given =
     let (told, here) = tells 0 [] (omega arith) in
     in_check holds name told here sheet gives answer refused given
-in_order holds (of_play name script_name) answer tells (sheet, labels, script, gives, script_gives) refused given =
+in_order holds (of_script command name script_name) answer tells (sheet, labels, script, gives, script_gives) refused given =
     let (told, here) = tells 0 [] (omega arith) in
     let (spoken, there) = tells 1 [] (omega arith) in
-    in_play holds name told here sheet gives script_name spoken there labels script script_gives answer refused given
+    in_script holds name told here sheet gives command script_name spoken there labels script script_gives answer refused given
 
 owed_in_order : (words : List (List ℕ)) (holds : List ℕ → Option (List ℕ)) (answer : Answer) → TellsTexts words holds → IsAccepted words holds → IsRefusal answer → Owes words holds answer → ⊥
 owed_in_order words holds _ tells accepted refused (usage none) = none accepted.request accepted.asked

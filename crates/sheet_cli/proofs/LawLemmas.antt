@@ -11,31 +11,34 @@ use Rattle.sheet_cli.specs.Answers.Answer.{output, refusal}
 use Rattle.sheet_cli.specs.Laws.{AreChecks, CalmLineIsWhole, ChecksHaveOneCount, DueIsNamed, LineIsTakenFromItsFront, NoOutputAndRefusal, OneOutput, OneRefusal, TellsOfCheck, TellsOfPlay, TellsOfWindow, UnfetchedOfCheck, UnfetchedOfPlay, UnfetchedOfWindow}
 use Rattle.sheet_cli.specs.Lines.{read_failed_line}
 use Rattle.sheet_cli.specs.Requests.{Request, texts_named}
-use Rattle.sheet_cli.specs.Requests.Request.{of_window, of_check, of_play}
+use Rattle.sheet_cli.specs.Requests.Request.{of_window, of_check, of_script}
 use Rattle.sheet_cli.specs.Words.{Asks, command_word}
 use Rattle.sheet_cli.specs.Words.Asks.{asks_of_window, asks_check, asks_play}
-use Rattle.sheet_cli.specs.declared.words.WindowCommand.{WindowCommand}
-use Rattle.sheet_cli.proofs.OneAnswer.{not_play, not_refused, one_answer}
+use Rattle.sheet_cli.specs.declared.script.ScriptCommand.TheVariants.{Play}
+use Rattle.sheet_cli.specs.declared.window.WindowCommand.{WindowCommand}
+use Rattle.sheet_cli.proofs.OneAnswer.{not_refused, one_answer}
+use Rattle.sheet_cli.proofs.WordLemmas.{behind_check, behind_play, behind_window}
 
 -- ---- what words name
 
 pub window_names : (command : WindowCommand) (sheet range : List ℕ) (request : Request) → Asks (command_word command ∷ sheet ∷ range ∷ []) request → texts_named request ≡ sheet ∷ []
-window_names command sheet range _ (asks_of_window given name again window is plain named) = let same : name ≡ sheet = cc is in ap (λ s. s ∷ []) same
-window_names command sheet range _ (asks_check name is _) = absurd (omega (arith, ap length is))
-window_names command sheet range _ (asks_play name script is _ _) = let word : command_word command ≡ codes "play" = cc is in absurd (not_play command word)
+window_names command sheet range request asked =
+    let asks = behind_window command (sheet ∷ range ∷ []) request asked in
+    let same : asks.sheet ≡ sheet = cc asks.positions.words_are in
+    ap texts_named asks.request_is ∙ ap (λ s. s ∷ []) same
 
 pub check_names : (sheet : List ℕ) (request : Request) → Asks (codes "check" ∷ sheet ∷ []) request → texts_named request ≡ sheet ∷ []
-check_names sheet _ (asks_of_window given name again window is plain named) = absurd (omega (arith, ap length is))
-check_names sheet _ (asks_check name is _) = let same : name ≡ sheet = cc is in ap (λ s. s ∷ []) same
-check_names sheet _ (asks_play name script is _ _) = absurd (omega (arith, ap length is))
+check_names sheet request asked =
+    let asks = behind_check (sheet ∷ []) request asked in
+    let same : asks.sheet ≡ sheet = cc asks.position.words_are in
+    ap texts_named asks.request_is ∙ ap (λ s. s ∷ []) same
 
 pub play_names : (sheet script : List ℕ) (request : Request) → Asks (codes "play" ∷ sheet ∷ script ∷ []) request → texts_named request ≡ sheet ∷ script ∷ []
-play_names sheet script _ (asks_of_window given name again window is plain named) = let word : command_word given ≡ codes "play" = cc is in absurd (not_play given word)
-play_names sheet script _ (asks_check name is _) = absurd (omega (arith, ap length is))
-play_names sheet script _ (asks_play name other is _ _) =
-    let same : name ≡ sheet = cc is in
-    let also : other ≡ script = cc is in
-    λ i. same i ∷ also i ∷ []
+play_names sheet script request asked =
+    let asks = behind_play (sheet ∷ script ∷ []) request asked in
+    let same : asks.sheet ≡ sheet = cc asks.positions.words_are in
+    let also : asks.script ≡ script = cc asks.positions.words_are in
+    ap texts_named asks.request_is ∙ (λ i. same i ∷ also i ∷ [])
 
 abbrev IsTold : (List ℕ → Option (List ℕ)) → List ℕ → Type 0
 IsTold holds name = (text : List ℕ) × (holds name ≡ Some text)
@@ -130,7 +133,7 @@ asked_check words _ name re (asks_of_window command sheet range window is _ _) =
 asked_check words _ name re (asks_check sheet is _) = let same : sheet ≡ name = cc re in is ∙ ap (λ n. codes "check" ∷ n ∷ []) same
 asked_check words _ name re (asks_play sheet script is _ _) = absurd (no re)
   where
-    no : of_play sheet script ≡ of_check name → ⊥
+    no : of_script Play sheet script ≡ of_check name → ⊥
     no h = cc
 
 -- what stands behind the number of pairs

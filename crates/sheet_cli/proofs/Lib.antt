@@ -5,6 +5,7 @@ pub mod GraphLemmas
 pub mod InOrder
 pub mod LawLemmas
 pub mod OneAnswer
+pub mod OutputLemmas
 pub mod ReplyLemmas
 pub mod RowGraph
 pub mod RowPlay

@@ -1,13 +1,12 @@
 -- Words and the texts that they name are answered in one way.
-use Rattle.std.proofs.Common.{◌≡◌, ℕ, ◌<◌, ◌≤◌, ◌⊎◌, inl, inr, All, Contains, List, [], length, codes, refl, sym, ◌∙◌, ap, subst, arith, slice_index_or}
+use Rattle.std.proofs.Common.{◌≡◌, ℕ, ◌<◌, ◌≤◌, ◌⊎◌, inl, inr, All, Contains, List, [], length, refl, sym, ◌∙◌, ap, subst, arith}
 use Rattle.std.specs.Prelude.{Option, Some, IfSome, Result, Ok, Err}
 use Rattle.std.proofs.lemmas.Option.{MatchOption-at_some}
 use Rattle.sheet_refs.specs.Cells.{Corners}
-use Rattle.sheet_refs.proofs.NameLemmas.{one_range}
 use Rattle.sheet_model.specs.Sheets.{SheetValue, with_labels}
 use Rattle.edit_script.specs.Scripts.{ScriptValue, IsScriptResult}
 use Rattle.edit_script.specs.declared.refused.ScriptRefused.{ScriptRefused}
-use Rattle.edit_script.specs.declared.script.Mode.TheVariants.{Play}
+use Rattle.edit_script.specs.declared.script.Mode.{Mode}
 use Rattle.edit_script.proofs.OneResult.{one_result as one_script_result}
 use Rattle.play_machine.proofs.OnePlay.{one_list}
 use Rattle.window_text.specs.Reports.{play_text}
@@ -19,72 +18,25 @@ use Rattle.taco_graph.specs.Pairs.{pairs_of}
 use Rattle.range_index.proofs.DistinctLemmas.{no_longer}
 use Rattle.window_text.specs.Texts.{IsWithinSheet, check_text, runs_text}
 use Rattle.sheet_cli.specs.Graphs.{ListsEdges}
-use Rattle.sheet_cli.specs.Answers.{Answer, AnswersRequest, AnswersWindow, AnswersCheck, AnswersPlay, AreOfCheck, GivesSheet, GivesScript, HasNoScript, HasNoSheet, IsPlayed, IsTextOf, Owes, TellsTexts, Writes, OneAnswer, WordsAskForOne, status_of}
+use Rattle.sheet_cli.specs.Answers.{Answer, AnswersRequest, AnswersWindow, AnswersCheck, AnswersScript, AreOfCheck, GivesSheet, GivesScript, HasNoScript, HasNoSheet, IsPlayed, IsTextOf, Owes, TellsTexts, Writes, WritesOfScript, OneAnswer, mode_of, status_of}
 use Rattle.sheet_cli.specs.Answers.Answer.{output, refusal}
 use Rattle.sheet_cli.specs.Answers.AnswersWindow.{written, outside, no_sheet}
 use Rattle.sheet_cli.specs.Answers.AnswersCheck.{listed, unlisted}
-use Rattle.sheet_cli.specs.Answers.AnswersPlay.{reported, unscripted, unplayed}
+use Rattle.sheet_cli.specs.Answers.AnswersScript.{scripted, unscripted, sheetless}
 use Rattle.sheet_cli.specs.Answers.HasNoScript.{long_script, refused_script}
 use Rattle.sheet_cli.specs.Answers.Writes.{values, dependents, precedents}
 use Rattle.sheet_cli.specs.Answers.HasNoSheet.{too_long, refused}
 use Rattle.sheet_cli.specs.Answers.Owes.{usage, answers}
 use Rattle.sheet_cli.specs.Lines.{refused_line, script_line}
 use Rattle.sheet_cli.specs.Requests.{Request, texts_named}
-use Rattle.sheet_cli.specs.Requests.Request.{of_window, of_check, of_play}
-use Rattle.sheet_cli.specs.Words.{Asks, command_word}
-use Rattle.sheet_cli.specs.Words.Asks.{asks_of_window, asks_check, asks_play}
-use Rattle.sheet_cli.specs.declared.words.WindowCommand.{WindowCommand}
-use Rattle.sheet_cli.specs.declared.words.WindowCommand.TheVariants.{Show, Deps, Precs}
+use Rattle.sheet_cli.specs.Requests.Request.{of_window, of_check, of_script}
+use Rattle.sheet_cli.specs.Words.{Asks}
+use Rattle.sheet_cli.specs.declared.script.ScriptCommand.{ScriptCommand}
+use Rattle.sheet_cli.specs.declared.script.ScriptCommand.TheVariants.{Play}
+use Rattle.sheet_cli.specs.declared.window.WindowCommand.{WindowCommand}
+use Rattle.sheet_cli.specs.declared.window.WindowCommand.TheVariants.{Show, Deps, Precs}
 use Rattle.sheet_cli.proofs.GraphLemmas.{one_ahead, one_behind}
-
--- the commands are told by the first letters of their words
-abbrev letter : WindowCommand → ℕ
-letter Show = 115
-letter Deps = 100
-letter Precs = 112
-
-letter_first : (command : WindowCommand) → slice_index_or (command_word command) 0 0 ≡ letter command
-letter_first Show = refl
-letter_first Deps = refl
-letter_first Precs = refl
-
-one_command : (a b : WindowCommand) → letter a ≡ letter b → a ≡ b
-one_command Show Show same = refl
-one_command Show Deps same = absurd (omega (arith, same))
-one_command Show Precs same = absurd (omega (arith, same))
-one_command Deps Show same = absurd (omega (arith, same))
-one_command Deps Deps same = refl
-one_command Deps Precs same = absurd (omega (arith, same))
-one_command Precs Show same = absurd (omega (arith, same))
-one_command Precs Deps same = absurd (omega (arith, same))
-one_command Precs Precs same = refl
-
--- none of them is the word of `play`
-pub not_play : (command : WindowCommand) → command_word command ≡ codes "play" → ⊥
-not_play Show same = let first = ap (λ w. slice_index_or w 0 0) same in absurd (omega (arith, first))
-not_play Deps same = let first = ap (λ w. slice_index_or w 0 0) same in absurd (omega (arith, first))
-not_play Precs same = let long = ap length same in absurd (omega (arith, long))
-
-same_request : (a b : WindowCommand) (name again : List ℕ) (window range : Corners) → a ≡ b → name ≡ again → window ≡ range → of_window a name window ≡ of_window b again range
-same_request a b name again window range commands names windows = λ i. of_window (commands i) (names i) (windows i)
-
-pub one_request : WordsAskForOne
-one_request words _ _ (asks_of_window command sheet name window is plain named) (asks_of_window given other again range re _ renamed) =
-    let commands : command_word command ≡ command_word given = cc (is, re) in
-    let sheets : sheet ≡ other = cc (is, re) in
-    let names : name ≡ again = cc (is, re) in
-    same_request command given sheet other window range (one_command command given (sym (letter_first command) ∙ (ap (λ w. slice_index_or w 0 0) commands ∙ letter_first given))) sheets (one_range again window range (rw names at named) renamed)
-one_request words _ _ (asks_of_window command sheet name window is plain named) (asks_check other re _) = absurd (omega (arith, ap length (sym is ∙ re)))
-one_request words _ _ (asks_check other re _) (asks_of_window command sheet name window is plain named) = absurd (omega (arith, ap length (sym is ∙ re)))
-one_request words _ _ (asks_check sheet is _) (asks_check other re _) = let sheets : sheet ≡ other = cc (is, re) in ap of_check sheets
-one_request words _ _ (asks_of_window command sheet name window is plain named) (asks_play other script re _ _) = let word : command_word command ≡ codes "play" = cc (is, re) in absurd (not_play command word)
-one_request words _ _ (asks_play other script re _ _) (asks_of_window command sheet name window is plain named) = let word : command_word command ≡ codes "play" = cc (is, re) in absurd (not_play command word)
-one_request words _ _ (asks_check sheet is _) (asks_play other script re _ _) = absurd (omega (arith, ap length (sym is ∙ re)))
-one_request words _ _ (asks_play other script re _ _) (asks_check sheet is _) = absurd (omega (arith, ap length (sym is ∙ re)))
-one_request words _ _ (asks_play sheet script is _ _) (asks_play other again re _ _) =
-    let sheets : sheet ≡ other = cc (is, re) in
-    let scripts : script ≡ again = cc (is, re) in
-    λ i. of_play (sheets i) (scripts i)
+use Rattle.sheet_cli.proofs.WordLemmas.{one_request}
 
 abbrev no_script_for : ScriptRefused → Result ScriptValue ScriptRefused
 no_script_for cause = Err cause
@@ -199,25 +151,25 @@ module _ (holds : List ℕ → Option (List ℕ)) (name told : List ℕ) (here :
   one_check words _ _ asked (unlisted status line none) (unlisted other reline renone) = inl (one_cause status other line reline none renone)
 
 -- where the text under a name is told, it gives one thing as a script over a sheet
-module _ (holds : List ℕ → Option (List ℕ)) (name told : List ℕ) (here : holds name ≡ Some told) (sheet : SheetValue) where
-  script_one : (labels others : List (List ℕ)) (a b : Result ScriptValue ScriptRefused) → GivesScript holds name sheet labels a → GivesScript holds name sheet others b → (a ≡ b) × (labels ≡ others)
+module _ (holds : List ℕ → Option (List ℕ)) (name told : List ℕ) (here : holds name ≡ Some told) (mode : Mode) (sheet : SheetValue) where
+  script_one : (labels others : List (List ℕ)) (a b : Result ScriptValue ScriptRefused) → GivesScript holds mode name sheet labels a → GivesScript holds mode name sheet others b → (a ≡ b) × (labels ≡ others)
   script_one labels others a b one other =
-      one_script_result Play sheet.sizes sheet.labels labels others other.text a b one.table
-      (subst (λ t. IsScriptResult Play sheet.sizes sheet.labels labels t a) (is_told holds name told here one.text one.stands ∙ sym (is_told holds name told here other.text other.stands)) one.gives) other.gives
+      one_script_result mode sheet.sizes sheet.labels labels others other.text a b one.table
+      (subst (λ t. IsScriptResult mode sheet.sizes sheet.labels labels t a) (is_told holds name told here one.text one.stands ∙ sym (is_told holds name told here other.text other.stands)) one.gives) other.gives
 
-  no_long_script : (labels : List (List ℕ)) (a : Result ScriptValue ScriptRefused) → GivesScript holds name sheet labels a → IfSome (holds name) (λ t. 16777216 < length t) → ⊥
+  no_long_script : (labels : List (List ℕ)) (a : Result ScriptValue ScriptRefused) → GivesScript holds mode name sheet labels a → IfSome (holds name) (λ t. 16777216 < length t) → ⊥
   no_long_script labels a given long =
       let short = MatchOption-at_some _ _ told here given.stands.short in
       let past = MatchOption-at_some _ _ told here long in
       omega (arith, short, past)
 
-  pub script_or_none : (labels : List (List ℕ)) (script : ScriptValue) (status : ℕ) (line : List ℕ) → GivesScript holds name sheet labels (Ok script) → HasNoScript holds name sheet status line → ⊥
+  pub script_or_none : (labels : List (List ℕ)) (script : ScriptValue) (status : ℕ) (line : List ℕ) → GivesScript holds mode name sheet labels (Ok script) → HasNoScript holds mode name sheet status line → ⊥
   script_or_none labels script _ _ given (long_script long) = no_long_script labels (Ok script) given long
   script_or_none labels script _ _ given (refused_script why others gives) =
       let both : Ok script ≡ Err why = (script_one labels others (Ok script) (Err why) given gives).0 in
       cc
 
-  one_script_cause : (status other : ℕ) (line again : List ℕ) → HasNoScript holds name sheet status line → HasNoScript holds name sheet other again → refusal status line ≡ refusal other again
+  one_script_cause : (status other : ℕ) (line again : List ℕ) → HasNoScript holds mode name sheet status line → HasNoScript holds mode name sheet other again → refusal status line ≡ refusal other again
   one_script_cause _ _ _ _ (long_script _) (long_script _) = refl
   one_script_cause _ _ _ _ (long_script long) (refused_script why labels gives) = absurd (no_long_script labels (Err why) gives long)
   one_script_cause _ _ _ _ (refused_script why labels gives) (long_script long) = absurd (no_long_script labels (Err why) gives long)
@@ -226,31 +178,36 @@ module _ (holds : List ℕ → Option (List ℕ)) (name told : List ℕ) (here :
       let same : why ≡ also = cc both in
       ap (λ w. refusal 4 (script_line w)) same
 
-  one_played : (labels others : List (List ℕ)) (script another : ScriptValue) (text said : List ℕ) → GivesScript holds name sheet labels (Ok script) → GivesScript holds name sheet others (Ok another) → IsPlayed (with_labels sheet labels) script.steps text → IsPlayed (with_labels sheet others) another.steps said → text ≡ said
-  one_played labels others script another text said gives regives plays replays =
-      let both = script_one labels others (Ok script) (Ok another) gives regives in
-      let scripts : script ≡ another = cc both.0 in
+-- a command writes one text of a script over a sheet
+module _ (holds : List ℕ → Option (List ℕ)) (name told : List ℕ) (here : holds name ≡ Some told) (sheet : SheetValue) where
+  one_played : (labels others : List (List ℕ)) (script another : ScriptValue) (text said : List ℕ) → script ≡ another → labels ≡ others → IsPlayed (with_labels sheet labels) script.steps text → IsPlayed (with_labels sheet others) another.steps said → text ≡ said
+  one_played labels others script another text said scripts tables plays replays =
       let again : IsPlayed (with_labels sheet labels) script.steps said =
-      subst (λ ls. IsPlayed (with_labels sheet ls) script.steps said) (sym both.1) (subst (λ (s : ScriptValue). IsPlayed (with_labels sheet others) s.steps said) (sym scripts) replays) in
+      subst (λ ls. IsPlayed (with_labels sheet ls) script.steps said) (sym tables) (subst (λ (s : ScriptValue). IsPlayed (with_labels sheet others) s.steps said) (sym scripts) replays) in
       plays.text_is ∙ ap (play_text labels) (one_list (with_labels sheet labels) script.steps plays.reports again.reports plays.played again.played) ∙ sym again.text_is
 
--- and `play`, where both texts are told
-module _ (holds : List ℕ → Option (List ℕ)) (name told script_name spoken : List ℕ) (here : holds name ≡ Some told) (there : holds script_name ≡ Some spoken) where
-  one_play : (a b : Answer) → AnswersPlay holds name script_name a → AnswersPlay holds name script_name b → a ≡ b
-  one_play _ _ (reported sheet labels script text gives given plays) (reported other others another said regives regiven replays) =
+  one_of_script : (command : ScriptCommand) (labels others : List (List ℕ)) (script another : ScriptValue) (text said : List ℕ) → GivesScript holds (mode_of command) name sheet labels (Ok script) → GivesScript holds (mode_of command) name sheet others (Ok another) → WritesOfScript command (with_labels sheet labels) script text → WritesOfScript command (with_labels sheet others) another said → text ≡ said
+  one_of_script Play labels others script another text said gives regives writes rewrites =
+      let both = script_one holds name told here (mode_of Play) sheet labels others (Ok script) (Ok another) gives regives in
+      one_played labels others script another text said (cc both.0) both.1 writes rewrites
+
+-- and so it is answered, where both texts are told
+module _ (holds : List ℕ → Option (List ℕ)) (command : ScriptCommand) (name told script_name spoken : List ℕ) (here : holds name ≡ Some told) (there : holds script_name ≡ Some spoken) where
+  one_script : (a b : Answer) → AnswersScript holds command name script_name a → AnswersScript holds command name script_name b → a ≡ b
+  one_script _ _ (scripted sheet labels script text gives given writes) (scripted other others another said regives regiven rewrites) =
       let sheets = one_sheet holds name told here other sheet regives gives in
-      ap output (one_played holds script_name spoken there sheet labels others script another text said given (subst (λ s. GivesScript holds script_name s others (Ok another)) sheets regiven) plays (subst (λ s. IsPlayed (with_labels s others) another.steps said) sheets replays))
-  one_play _ _ (reported sheet labels script text gives given plays) (unscripted other status line regives none) =
-      absurd (script_or_none holds script_name spoken there sheet labels script status line given (subst (λ s. HasNoScript holds script_name s status line) (one_sheet holds name told here other sheet regives gives) none))
-  one_play _ _ (reported sheet labels script text gives given plays) (unplayed status line none) = absurd (sheet_or_none holds name told here sheet status line gives none)
-  one_play _ _ (unscripted other status line regives none) (reported sheet labels script text gives given plays) =
-      absurd (script_or_none holds script_name spoken there sheet labels script status line given (subst (λ s. HasNoScript holds script_name s status line) (one_sheet holds name told here other sheet regives gives) none))
-  one_play _ _ (unscripted sheet status line gives none) (unscripted other restatus reline regives renone) =
-      one_script_cause holds script_name spoken there sheet status restatus line reline none (subst (λ s. HasNoScript holds script_name s restatus reline) (one_sheet holds name told here other sheet regives gives) renone)
-  one_play _ _ (unscripted sheet status line gives none) (unplayed restatus reline renone) = absurd (sheet_or_none holds name told here sheet restatus reline gives renone)
-  one_play _ _ (unplayed status line none) (reported sheet labels script text gives given plays) = absurd (sheet_or_none holds name told here sheet status line gives none)
-  one_play _ _ (unplayed status line none) (unscripted sheet restatus reline gives renone) = absurd (sheet_or_none holds name told here sheet status line gives none)
-  one_play _ _ (unplayed status line none) (unplayed other reline renone) = one_cause holds name told here status other line reline none renone
+      ap output (one_of_script holds script_name spoken there sheet command labels others script another text said given (subst (λ s. GivesScript holds (mode_of command) script_name s others (Ok another)) sheets regiven) writes (subst (λ s. WritesOfScript command (with_labels s others) another said) sheets rewrites))
+  one_script _ _ (scripted sheet labels script text gives given writes) (unscripted other status line regives none) =
+      absurd (script_or_none holds script_name spoken there (mode_of command) sheet labels script status line given (subst (λ s. HasNoScript holds (mode_of command) script_name s status line) (one_sheet holds name told here other sheet regives gives) none))
+  one_script _ _ (scripted sheet labels script text gives given writes) (sheetless status line none) = absurd (sheet_or_none holds name told here sheet status line gives none)
+  one_script _ _ (unscripted other status line regives none) (scripted sheet labels script text gives given writes) =
+      absurd (script_or_none holds script_name spoken there (mode_of command) sheet labels script status line given (subst (λ s. HasNoScript holds (mode_of command) script_name s status line) (one_sheet holds name told here other sheet regives gives) none))
+  one_script _ _ (unscripted sheet status line gives none) (unscripted other restatus reline regives renone) =
+      one_script_cause holds script_name spoken there (mode_of command) sheet status restatus line reline none (subst (λ s. HasNoScript holds (mode_of command) script_name s restatus reline) (one_sheet holds name told here other sheet regives gives) renone)
+  one_script _ _ (unscripted sheet status line gives none) (sheetless restatus reline renone) = absurd (sheet_or_none holds name told here sheet restatus reline gives renone)
+  one_script _ _ (sheetless status line none) (scripted sheet labels script text gives given writes) = absurd (sheet_or_none holds name told here sheet status line gives none)
+  one_script _ _ (sheetless status line none) (unscripted sheet restatus reline gives renone) = absurd (sheet_or_none holds name told here sheet status line gives none)
+  one_script _ _ (sheetless status line none) (sheetless other reline renone) = one_cause holds name told here status other line reline none renone
 
 -- a request is answered in one way, where the shelf tells the texts that it names
 one_reply : (words : List (List ℕ)) (holds : List ℕ → Option (List ℕ)) (request : Request) (a b : Answer) → Asks words request → All (λ name. (text : List ℕ) × (holds name ≡ Some text)) (texts_named request) → AnswersRequest holds request a → AnswersRequest holds request b → (a ≡ b) ⊎ AreOfCheck words a b
@@ -260,10 +217,10 @@ one_reply words holds (of_window command name window) a b asked tells given regi
 one_reply words holds (of_check name) a b asked tells given regiven =
     let (told, here) = tells 0 [] (omega arith) in
     one_check holds name told here words a b asked given regiven
-one_reply words holds (of_play name script) a b asked tells given regiven =
+one_reply words holds (of_script command name script) a b asked tells given regiven =
     let (told, here) = tells 0 [] (omega arith) in
     let (spoken, there) = tells 1 [] (omega arith) in
-    inl (one_play holds name told script spoken here there a b given regiven)
+    inl (one_script holds command name told script spoken here there a b given regiven)
 
 pub one_answer : OneAnswer
 one_answer words holds _ _ tells (usage none) (usage _) = inl refl

@@ -7,27 +7,28 @@ use Rattle.csv_sheet.specs.declared.refused.SheetRefused.{SheetRefused}
 use Rattle.csv_sheet.specs.declared.refused.SheetRefused.TheVariants as why
 use Rattle.csv_sheet.specs.Records.{Rows, all_fields, longest}
 use Rattle.sheet_model.specs.Labels.{IsTable}
-use Rattle.sheet_model.specs.Sheets.{SheetValue, with_labels}
+use Rattle.sheet_model.specs.Sheets.{SheetValue}
 use Rattle.sheet_model.proofs.TableLemmas.{adds_few}
 use Rattle.edit_script.specs.Scripts.{ScriptValue, IsScriptResult}
 use Rattle.edit_script.specs.declared.refused.ScriptRefused.{ScriptRefused}
-use Rattle.edit_script.specs.declared.script.Mode.TheVariants.{Play}
 use Rattle.edit_script.specs.declared.refused.ScriptRefused.TheVariants as script_why
-use Rattle.sheet_cli.specs.Answers.{Answer, AnswersRequest, AnswersWindow, AnswersCheck, AnswersPlay, GivesSheet, HasGivenSheet, HasNoScript, IsDue, IsPlayed, Owes, HasNoSheet, status_of}
+use Rattle.edit_script.specs.declared.script.Mode.{Mode}
+use Rattle.sheet_cli.specs.Answers.{Answer, AnswersRequest, AnswersWindow, AnswersCheck, AnswersScript, GivesSheet, HasGivenSheet, HasNoScript, IsDue, Owes, HasNoSheet, mode_of, status_of}
 use Rattle.sheet_cli.specs.Answers.Answer.{output, refusal}
 use Rattle.sheet_cli.specs.Answers.AnswersWindow.{written, outside, no_sheet}
 use Rattle.sheet_cli.specs.Answers.AnswersCheck.{listed, unlisted}
-use Rattle.sheet_cli.specs.Answers.AnswersPlay.{reported, unscripted, unplayed}
+use Rattle.sheet_cli.specs.Answers.AnswersScript.{scripted, unscripted, sheetless}
 use Rattle.sheet_cli.specs.Answers.HasNoScript.{long_script, refused_script}
 use Rattle.sheet_cli.specs.Answers.HasNoSheet.{too_long, refused}
 use Rattle.sheet_cli.specs.Answers.Owes.{answers, usage}
 use Rattle.sheet_io.specs.Faults.{Rose}
-use Rattle.sheet_cli.specs.Lines.{long_script_line, read_failed_line, refused_line, script_line, too_long_line, usage_line}
+use Rattle.sheet_cli.specs.Lines.{read_failed_line, refused_line, script_line, too_long_line, usage_line}
 use Rattle.sheet_cli.specs.Requests.{Request, texts_named}
-use Rattle.sheet_cli.specs.Requests.Request.{of_window, of_check, of_play}
-use Rattle.sheet_cli.specs.Replies.{HasFetched, HasSheet, IsMissed, IsOwed, IsRefusedStatus, RepliesPlay, RepliesScript, RepliesTo, answer_of}
+use Rattle.sheet_cli.specs.Requests.Request.{of_window, of_check, of_script}
+use Rattle.sheet_cli.specs.Replies.{HasFetched, HasSheet, IsMissed, IsOwed, IsRefusedStatus, RepliesOfText, RepliesOverSheet, RepliesTo, answer_of}
 use Rattle.sheet_cli.specs.Words.{Asks, AsksNothing}
-use Rattle.sheet_cli.specs.declared.words.WindowCommand.{WindowCommand}
+use Rattle.sheet_cli.specs.declared.script.ScriptCommand.{ScriptCommand}
+use Rattle.sheet_cli.specs.declared.window.WindowCommand.{WindowCommand}
 use Rattle.sheet_cli.specs.declared.reply.Reply.{Reply}
 use Rattle.sheet_cli.specs.declared.reply.Reply.TheVariants.{Output, Refusal}
 
@@ -66,14 +67,6 @@ fields_within (row ∷ rows) most =
 
 -- ---- what a text gives
 
-pub long_sheet : (text : List ℕ) (reply : Reply) → 16777216 < length text → answer_of reply ≡ refusal 3 too_long_line → HasSheet text (Err reply)
-long_sheet text reply past is holds name stands = record {
-  status = 3;
-  line = too_long_line;
-  none = too_long (is_past (holds name) text stands.told past);
-  reply_is = is;
-}
-
 pub unread_sheet : (text : List ℕ) (cause : SheetRefused) (reply : Reply) → answer_of reply ≡ refusal 3 (refused_line cause) → cause ≢ why.Memory → (no_sheet_for cause ≢ no_sheet_for why.Memory → IsSheetResult text (no_sheet_for cause)) → HasSheet text (Err reply)
 unread_sheet text cause reply is known gives holds name stands = record {
   status = 3;
@@ -96,16 +89,9 @@ same_script_cause h = cc
 pub a_script : (script : ScriptValue) → script_for script ≢ no_script_for script_why.Memory
 a_script script h = cc
 
-pub long_reply : (sheet : SheetValue) (text : List ℕ) (reply : Reply) → 16777216 < length text → answer_of reply ≡ refusal 4 long_script_line → RepliesPlay sheet text reply
-long_reply sheet text reply past is holds name script gives stands = subst (AnswersPlay holds name script) (sym is) (unscripted sheet 4 long_script_line gives (long_script (is_past (holds script) text stands.told past)))
-
-pub no_script_reply : (sheet : SheetValue) (labels : List (List ℕ)) (text : List ℕ) (cause : ScriptRefused) (reply : Reply) → IsTable labels → IsScriptResult Play sheet.sizes sheet.labels labels text (Err cause) → answer_of reply ≡ refusal 4 (script_line cause) → RepliesPlay sheet text reply
-no_script_reply sheet labels text cause reply table gives is holds name script sheet_gives stands =
-    subst (AnswersPlay holds name script) (sym is) (unscripted sheet 4 (script_line cause) sheet_gives (refused_script cause labels (record { text = text; stands = stands; gives = gives; table = table })))
-
-pub played_reply : (sheet : SheetValue) (labels : List (List ℕ)) (text : List ℕ) (script : ScriptValue) (reply : Reply) (said : List ℕ) → IsTable labels → IsScriptResult Play sheet.sizes sheet.labels labels text (Ok script) → IsPlayed (with_labels sheet labels) script.steps said → answer_of reply ≡ output said → RepliesPlay sheet text reply
-played_reply sheet labels text script reply said table gives plays is holds name script_name sheet_gives stands =
-    subst (AnswersPlay holds name script_name) (sym is) (reported sheet labels script said sheet_gives (record { text = text; stands = stands; gives = gives; table = table }) plays)
+pub no_script_reply : (command : ScriptCommand) (sheet : SheetValue) (labels : List (List ℕ)) (text : List ℕ) (cause : ScriptRefused) (reply : Reply) → IsTable labels → IsScriptResult (mode_of command) sheet.sizes sheet.labels labels text (Err cause) → answer_of reply ≡ refusal 4 (script_line cause) → RepliesOfText command sheet text reply
+no_script_reply command sheet labels text cause reply table gives is holds name script sheet_gives stands =
+    subst (AnswersScript holds command name script) (sym is) (unscripted sheet 4 (script_line cause) sheet_gives (refused_script cause labels (record { text = text; stands = stands; gives = gives; table = table })))
 
 -- ---- over a shelf
 
@@ -132,9 +118,9 @@ module _ (holds : List ℕ → Option (List ℕ)) (name : List ℕ) (before afte
   no_check reply (inl miss) = read_failure (of_check name) reply (first_due (of_check name) [] refl) miss
   no_check reply (inr lacks) = inr (subst (AnswersCheck holds name) (sym lacks.reply_is) (unlisted lacks.status lacks.line lacks.none))
 
-  pub no_play : (script : List ℕ) (reply : Reply) → HasFetched holds name before after (Err reply) → RepliesTo (of_play name script) holds before after reply
-  no_play script reply (inl miss) = read_failure (of_play name script) reply (first_due (of_play name script) (script ∷ []) refl) miss
-  no_play script reply (inr lacks) = inr (subst (AnswersPlay holds name script) (sym lacks.reply_is) (unplayed lacks.status lacks.line lacks.none))
+  pub no_sheet_of_script : (command : ScriptCommand) (script : List ℕ) (reply : Reply) → HasFetched holds name before after (Err reply) → RepliesTo (of_script command name script) holds before after reply
+  no_sheet_of_script command script reply (inl miss) = read_failure (of_script command name script) reply (first_due (of_script command name script) (script ∷ []) refl) miss
+  no_sheet_of_script command script reply (inr lacks) = inr (subst (AnswersScript holds command name script) (sym lacks.reply_is) (sheetless lacks.status lacks.line lacks.none))
 
 -- a fault that rose later has risen
 rose_from : (before mid after : ℕ) → before ≤ mid → Rose mid after → Rose before after
@@ -142,17 +128,17 @@ rose_from before mid after grown (inl more) = inl (omega (arith, grown, more))
 rose_from before mid after grown (inr most) = inr most
 
 -- the script is due once the sheet is there
-second_due : (holds : List ℕ → Option (List ℕ)) (name script : List ℕ) (sheet : SheetValue) → GivesSheet holds name (Ok sheet) → IsDue holds (of_play name script) script
-second_due holds name script sheet gives = record { before = name ∷ []; after = []; named = refl; there = only }
+second_due : (holds : List ℕ → Option (List ℕ)) (command : ScriptCommand) (name script : List ℕ) (sheet : SheetValue) → GivesSheet holds name (Ok sheet) → IsDue holds (of_script command name script) script
+second_due holds command name script sheet gives = record { before = name ∷ []; after = []; named = refl; there = only }
   where
     only : All (HasGivenSheet holds) (name ∷ [])
     only zero d within = record { sheet = sheet; gives = gives }
     only (suc k) d within = absurd (omega (arith, within))
 
 -- the reply over a sheet is one to the words
-pub play_replies : (holds : List ℕ → Option (List ℕ)) (name script : List ℕ) (sheet : SheetValue) (before mid after : ℕ) (reply : Reply) → before ≤ mid → GivesSheet holds name (Ok sheet) → RepliesScript holds sheet script mid after reply → RepliesTo (of_play name script) holds before after reply
-play_replies holds name script sheet before mid after reply grown gives (inl miss) = inl (record { name = script; due = second_due holds name script sheet gives; rose = rose_from before mid after grown miss.rose; reply_is = miss.reply_is })
-play_replies holds name script sheet before mid after reply grown gives (inr plays) = inr (plays name gives)
+pub script_replies : (holds : List ℕ → Option (List ℕ)) (command : ScriptCommand) (name script : List ℕ) (sheet : SheetValue) (before mid after : ℕ) (reply : Reply) → before ≤ mid → GivesSheet holds name (Ok sheet) → RepliesOverSheet holds command sheet script mid after reply → RepliesTo (of_script command name script) holds before after reply
+script_replies holds command name script sheet before mid after reply grown gives (inl miss) = inl (record { name = script; due = second_due holds command name script sheet gives; rose = rose_from before mid after grown miss.rose; reply_is = miss.reply_is })
+script_replies holds command name script sheet before mid after reply grown gives (inr writes) = inr (writes name gives)
 
 -- a sheet that was read has no more labels than cells
 labels_few : (holds : List ℕ → Option (List ℕ)) (name : List ℕ) (sheet : SheetValue) → GivesSheet holds name (Ok sheet) → length sheet.labels ≤ 1048576
@@ -185,14 +171,14 @@ cause_status : (holds : List ℕ → Option (List ℕ)) (name : List ℕ) (statu
 cause_status holds name _ _ (too_long _) = inr (inl refl)
 cause_status holds name _ _ (refused _ _) = inr (inl refl)
 
-script_status : (holds : List ℕ → Option (List ℕ)) (name : List ℕ) (sheet : SheetValue) (status : ℕ) (line : List ℕ) → HasNoScript holds name sheet status line → IsRefusedStatus status
-script_status holds name sheet _ _ (long_script _) = inr (inr refl)
-script_status holds name sheet _ _ (refused_script _ _ _) = inr (inr refl)
+none_status : (holds : List ℕ → Option (List ℕ)) (mode : Mode) (name : List ℕ) (sheet : SheetValue) (status : ℕ) (line : List ℕ) → HasNoScript holds mode name sheet status line → IsRefusedStatus status
+none_status holds mode name sheet _ _ (long_script _) = inr (inr refl)
+none_status holds mode name sheet _ _ (refused_script _ _ _) = inr (inr refl)
 
-play_status : (holds : List ℕ → Option (List ℕ)) (name script : List ℕ) (answer : Answer) (status : ℕ) (line : List ℕ) → answer ≡ refusal status line → AnswersPlay holds name script answer → IsRefusedStatus status
-play_status holds name script _ status line is (reported _ _ _ _ _ _ _) = absurd (no_output is)
-play_status holds name script _ status line is (unscripted sheet given said gives none) = subst IsRefusedStatus (same_status is) (script_status holds script sheet given said none)
-play_status holds name script _ status line is (unplayed given said none) = subst IsRefusedStatus (same_status is) (cause_status holds name given said none)
+script_status : (holds : List ℕ → Option (List ℕ)) (command : ScriptCommand) (name script : List ℕ) (answer : Answer) (status : ℕ) (line : List ℕ) → answer ≡ refusal status line → AnswersScript holds command name script answer → IsRefusedStatus status
+script_status holds command name script _ status line is (scripted _ _ _ _ _ _ _) = absurd (no_output is)
+script_status holds command name script _ status line is (unscripted sheet given said gives none) = subst IsRefusedStatus (same_status is) (none_status holds (mode_of command) script sheet given said none)
+script_status holds command name script _ status line is (sheetless given said none) = subst IsRefusedStatus (same_status is) (cause_status holds name given said none)
 
 -- the status of a refusal that a request is answered
 window_status : (holds : List ℕ → Option (List ℕ)) (command : WindowCommand) (name : List ℕ) (window : Corners) (answer : Answer) (status : ℕ) (line : List ℕ) → answer ≡ refusal status line → AnswersWindow holds command name window answer → IsRefusedStatus status
@@ -207,12 +193,12 @@ check_status holds name _ status line is (unlisted given said none) = subst IsRe
 refusal_of_request : (holds : List ℕ → Option (List ℕ)) (request : Request) (status : ℕ) (line : List ℕ) → AnswersRequest holds request (refusal status line) → IsRefusedStatus status
 refusal_of_request holds (of_window command name window) status line given = window_status holds command name window (refusal status line) status line refl given
 refusal_of_request holds (of_check name) status line given = check_status holds name (refusal status line) status line refl given
-refusal_of_request holds (of_play name script) status line given = play_status holds name script (refusal status line) status line refl given
+refusal_of_request holds (of_script command name script) status line given = script_status holds command name script (refusal status line) status line refl given
 
 -- the reply to what the words ask for
 pub to_words : (words : List (List ℕ)) (holds : List ℕ → Option (List ℕ)) (before after : ℕ) (request : Request) (reply : Reply) → Asks words request → RepliesTo request holds before after reply → IsOwed words holds before after reply
 to_words words holds before after request (Output text) asked (inl failure) = absurd (no_output failure.reply_is)
-to_words words holds before after request (Output text) asked (inr given) = answers request (output text.items) asked given
+to_words words holds before after request (Output text) asked (inr given) = answers request (output text) asked given
 to_words words holds before after request (Refusal status line) asked (inl failure) =
     inl (record {
       request = request;

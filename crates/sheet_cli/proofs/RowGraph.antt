@@ -17,9 +17,10 @@ use Rattle.sheet_cli.specs.Answers.Writes.{dependents, precedents}
 use Rattle.sheet_cli.specs.Requests.Request.{of_check, of_window}
 use Rattle.sheet_cli.specs.Rows.{CheckRow, DepsRow, ListedRow, PrecsRow, TellsWorked, worked_words}
 use Rattle.sheet_cli.specs.Words.Asks.{asks_check}
-use Rattle.sheet_cli.specs.declared.words.WindowCommand.TheVariants.{Deps, Precs}
+use Rattle.sheet_cli.specs.declared.window.WindowCommand.TheVariants.{Deps, Precs}
 use Rattle.sheet_cli.proofs.LawLemmas.{behind, in_front, no_refusal, same_text}
-use Rattle.sheet_cli.proofs.OneAnswer.{as_many, one_request, one_sheet}
+use Rattle.sheet_cli.proofs.OneAnswer.{as_many, one_sheet}
+use Rattle.sheet_cli.proofs.WordLemmas.{one_request}
 use Rattle.sheet_cli.proofs.RowShow.{asks_window, just_written, no_option, not_check, tells, within_worked}
 use Rattle.sheet_cli.proofs.WorkedGraph.{at, dependents_of_a1, from_to, lists_worked, three_listed, worked_check, worked_runs}
 use Rattle.sheet_cli.proofs.WorkedPrecedents.{precedents_of_b2, runs_before}

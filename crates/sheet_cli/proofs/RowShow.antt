@@ -19,8 +19,8 @@ use Rattle.sheet_cli.specs.Requests.Request.{of_window}
 use Rattle.sheet_cli.specs.Rows.{AcceptedRow, OutsideRow, RefusedJust, ShowRow, TellsWorked, UsageRow, WritesJust, worked_words}
 use Rattle.sheet_cli.specs.Words.{Asks, AsksNothing, IsOption, command_word}
 use Rattle.sheet_cli.specs.Words.Asks.{asks_check, asks_of_window, asks_play}
-use Rattle.sheet_cli.specs.declared.words.WindowCommand.{WindowCommand}
-use Rattle.sheet_cli.specs.declared.words.WindowCommand.TheVariants.{Show}
+use Rattle.sheet_cli.specs.declared.window.WindowCommand.{WindowCommand}
+use Rattle.sheet_cli.specs.declared.window.WindowCommand.TheVariants.{Show}
 use Rattle.sheet_cli.proofs.LawLemmas.{one_output, one_refusal, tells_window}
 use Rattle.sheet_cli.proofs.WorkedSheet.{gives_worked, in_a, in_b, worked_sheet}
 

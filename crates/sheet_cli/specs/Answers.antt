@@ -8,7 +8,8 @@ use Rattle.csv_sheet.specs.Results.{IsSheetResult}
 use Rattle.csv_sheet.specs.declared.refused.SheetRefused.{SheetRefused}
 use Rattle.edit_script.specs.Scripts.{ScriptValue, IsScriptResult}
 use Rattle.edit_script.specs.declared.refused.ScriptRefused.{ScriptRefused}
-use Rattle.edit_script.specs.declared.script.Mode.TheVariants.{Play}
+use Rattle.edit_script.specs.declared.script.Mode.{Mode}
+use Rattle.edit_script.specs.declared.script.Mode.TheVariants.{Play as as_played}
 use Rattle.edit_script.specs.declared.script.Step.{Step}
 use Rattle.play_machine.specs.Machine.{ArePlayed}
 use Rattle.window_text.specs.Reports.{play_text}
@@ -20,10 +21,12 @@ use Rattle.taco_graph.specs.Pairs.{pairs_of}
 use Rattle.sheet_cli.specs.Graphs.{AreDependents, ArePrecedents, ListsEdges}
 use Rattle.sheet_cli.specs.Lines.{usage_line, outside_line, too_long_line, refused_line, long_script_line, script_line}
 use Rattle.sheet_cli.specs.Requests.{Request, texts_named}
-use Rattle.sheet_cli.specs.Requests.Request.{of_window, of_check, of_play}
+use Rattle.sheet_cli.specs.Requests.Request.{of_window, of_check, of_script}
 use Rattle.sheet_cli.specs.Words.{Asks, AsksNothing}
-use Rattle.sheet_cli.specs.declared.words.WindowCommand.{WindowCommand}
-use Rattle.sheet_cli.specs.declared.words.WindowCommand.TheVariants.{Show, Deps, Precs}
+use Rattle.sheet_cli.specs.declared.script.ScriptCommand.{ScriptCommand}
+use Rattle.sheet_cli.specs.declared.script.ScriptCommand.TheVariants.{Play}
+use Rattle.sheet_cli.specs.declared.window.WindowCommand.{WindowCommand}
+use Rattle.sheet_cli.specs.declared.window.WindowCommand.TheVariants.{Show, Deps, Precs}
 
 -- what a command line is answered: the text that is written, or the status and the line of a refusal
 pub data Answer : Type 0 where
@@ -87,20 +90,24 @@ pub data AnswersCheck (holds : Texts) (name : List ℕ) : Answer → Type 0 wher
   unlisted : (status : ℕ) (line : List ℕ) → HasNoSheet holds name status line
       → AnswersCheck holds name (refusal status line)
 
+-- for whom the script of a command is written
+abbrev pub mode_of : ScriptCommand → Mode
+mode_of Play = as_played
+
 -- what the text under a name gives as a script over a sheet, and the sheet's labels after it
-pub record GivesScript (holds : Texts) (name : List ℕ) (sheet : SheetValue) (labels : List (List ℕ)) (result : Result ScriptValue ScriptRefused) : Type 0 where
+pub record GivesScript (holds : Texts) (mode : Mode) (name : List ℕ) (sheet : SheetValue) (labels : List (List ℕ)) (result : Result ScriptValue ScriptRefused) : Type 0 where
   pub text : List ℕ
   pub stands : IsTextOf holds name text
-  pub gives : IsScriptResult Play sheet.sizes sheet.labels labels text result
+  pub gives : IsScriptResult mode sheet.sizes sheet.labels labels text result
   pub table : IsTable labels
 
 -- there is no script under a name, and this says why
-pub data HasNoScript (holds : Texts) (name : List ℕ) (sheet : SheetValue) : ℕ → List ℕ → Type 0 where
+pub data HasNoScript (holds : Texts) (mode : Mode) (name : List ℕ) (sheet : SheetValue) : ℕ → List ℕ → Type 0 where
   -- its text is past the limit
-  long_script : IfSome (holds name) (λ t. 16777216 < length t) → HasNoScript holds name sheet 4 long_script_line
+  long_script : IfSome (holds name) (λ t. 16777216 < length t) → HasNoScript holds mode name sheet 4 long_script_line
   -- its text is no script over the sheet
-  refused_script : (why : ScriptRefused) (labels : List (List ℕ)) → GivesScript holds name sheet labels (Err why)
-      → HasNoScript holds name sheet 4 (script_line why)
+  refused_script : (why : ScriptRefused) (labels : List (List ℕ)) → GivesScript holds mode name sheet labels (Err why)
+      → HasNoScript holds mode name sheet 4 (script_line why)
 
 -- what `play` writes of steps over a sheet
 pub record IsPlayed (sheet : SheetValue) (steps : List Step) (text : List ℕ) : Type 0 where
@@ -108,24 +115,30 @@ pub record IsPlayed (sheet : SheetValue) (steps : List Step) (text : List ℕ) :
   pub played : ArePlayed sheet steps reports
   pub text_is : text ≡ play_text sheet.labels reports
 
--- what `play` is answered
-pub data AnswersPlay (holds : Texts) (name script_name : List ℕ) : Answer → Type 0 where
-  -- it writes the reports of the script
-  reported : (sheet : SheetValue) (labels : List (List ℕ)) (script : ScriptValue) (text : List ℕ)
-      → GivesSheet holds name (Ok sheet) → GivesScript holds script_name sheet labels (Ok script)
-      → IsPlayed (with_labels sheet labels) script.steps text → AnswersPlay holds name script_name (output text)
+-- what a command writes of a script over a sheet
+abbrev pub WritesOfScript : ScriptCommand → SheetValue → ScriptValue → List ℕ → Type 0
+WritesOfScript Play sheet script text = IsPlayed sheet script.steps text
+
+-- what a command about a script is answered
+pub data AnswersScript (holds : Texts) (command : ScriptCommand) (name script_name : List ℕ) : Answer → Type 0 where
+  -- it writes what it writes of the script
+  scripted : (sheet : SheetValue) (labels : List (List ℕ)) (script : ScriptValue) (text : List ℕ)
+      → GivesSheet holds name (Ok sheet) → GivesScript holds (mode_of command) script_name sheet labels (Ok script)
+      → WritesOfScript command (with_labels sheet labels) script text
+      → AnswersScript holds command name script_name (output text)
   -- or there is no script
   unscripted : (sheet : SheetValue) (status : ℕ) (line : List ℕ) → GivesSheet holds name (Ok sheet)
-      → HasNoScript holds script_name sheet status line → AnswersPlay holds name script_name (refusal status line)
+      → HasNoScript holds (mode_of command) script_name sheet status line
+      → AnswersScript holds command name script_name (refusal status line)
   -- or there is no sheet
-  unplayed : (status : ℕ) (line : List ℕ) → HasNoSheet holds name status line
-      → AnswersPlay holds name script_name (refusal status line)
+  sheetless : (status : ℕ) (line : List ℕ) → HasNoSheet holds name status line
+      → AnswersScript holds command name script_name (refusal status line)
 
 -- what a request is answered
 abbrev pub AnswersRequest : Texts → Request → Answer → Type 0
 AnswersRequest holds (of_window command name window) = AnswersWindow holds command name window
 AnswersRequest holds (of_check name) = AnswersCheck holds name
-AnswersRequest holds (of_play name script) = AnswersPlay holds name script
+AnswersRequest holds (of_script command name script) = AnswersScript holds command name script
 
 -- what words are answered, over the texts of a shelf
 pub data Owes (words : List (List ℕ)) (holds : Texts) : Answer → Type 0 where
@@ -180,9 +193,9 @@ abbrev pub IsInOrder : Texts → Request → Type 0
 IsInOrder holds (of_window command name window) =
     (sheet : SheetValue) × GivesSheet holds name (Ok sheet) × IsWithinSheet window sheet
 IsInOrder holds (of_check name) = (sheet : SheetValue) × GivesSheet holds name (Ok sheet)
-IsInOrder holds (of_play name script_name) =
+IsInOrder holds (of_script command name script_name) =
     (sheet : SheetValue) × (labels : List (List ℕ)) × (script : ScriptValue)
-    × GivesSheet holds name (Ok sheet) × GivesScript holds script_name sheet labels (Ok script)
+    × GivesSheet holds name (Ok sheet) × GivesScript holds (mode_of command) script_name sheet labels (Ok script)
 
 -- words ask for what is in order
 pub record IsAccepted (words : List (List ℕ)) (holds : Texts) : Type 0 where

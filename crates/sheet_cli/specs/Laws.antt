@@ -16,7 +16,7 @@ use Rattle.sheet_cli.specs.Requests.{Request, texts_named}
 use Rattle.sheet_cli.specs.Requests.Request.{of_check}
 use Rattle.sheet_cli.specs.Runs.{HasBegun, HasWritten, IsCalm, IsRefused, IsStatus, IsUnfetched, TakesLine}
 use Rattle.sheet_cli.specs.Words.{Asks, command_word}
-use Rattle.sheet_cli.specs.declared.words.WindowCommand.{WindowCommand}
+use Rattle.sheet_cli.specs.declared.window.WindowCommand.{WindowCommand}
 
 -- the words of a command line, as bytes
 abbrev pub Line : Type 0

@@ -3,6 +3,7 @@ pub mod Clap
 pub mod Graphs
 pub mod Laws
 pub mod Lines
+pub mod Outputs
 pub mod Replies
 pub mod Requests
 pub mod Rows

@@ -1,20 +1,23 @@
 -- Replies, before a byte is written.
-use Rattle.std.specs.Prelude.{◌≡◌, ℕ, List, ◌⊎◌, Result, Ok, Err, string_bytes}
+use Rattle.std.specs.Prelude.{◌≡◌, ℕ, ◌<◌, ◌≤◌, List, ◌⊎◌, length, Result, Ok, Err, IfSome, string_bytes}
 use Rattle.sheet_refs.specs.Cells.{Corners}
 use Rattle.sheet_model.specs.Sheets.{SheetValue}
 use Rattle.sheet_io.specs.Faults.{Rose}
-use Rattle.sheet_cli.specs.Answers.{Answer, AnswersRequest, AnswersPlay, AnswersWindow, GivesSheet, HasNoSheet, IsDue, IsTextOf, Owes, Texts}
+use Rattle.sheet_cli.specs.Answers.{Answer, AnswersRequest, AnswersScript, AnswersWindow, GivesSheet, HasNoSheet, IsDue, IsTextOf, Owes, Texts}
 use Rattle.sheet_cli.specs.Answers.Answer.{output, refusal}
 use Rattle.sheet_cli.specs.Lines.{read_failed_line}
 use Rattle.sheet_cli.specs.Requests.{Request}
 use Rattle.sheet_cli.specs.Words.{Asks}
-use Rattle.sheet_cli.specs.declared.words.WindowCommand.{WindowCommand}
+use Rattle.sheet_cli.specs.declared.script.ScriptCommand.{ScriptCommand}
+use Rattle.sheet_cli.specs.declared.window.WindowCommand.{WindowCommand}
+use Rattle.sheet_cli.specs.declared.texts.Fetched.{Fetched}
+use Rattle.sheet_cli.specs.declared.texts.Fetched.TheVariants.{Text, Missed, TooLong}
 use Rattle.sheet_cli.specs.declared.reply.Reply.{Reply}
 use Rattle.sheet_cli.specs.declared.reply.Reply.TheVariants.{Output, Refusal}
 
 -- a reply as an answer
 abbrev pub answer_of : Reply → Answer
-answer_of (Output text) = output text.items
+answer_of (Output text) = output text
 answer_of (Refusal status line) = refusal status (string_bytes line)
 
 -- why the text under a name gives no sheet
@@ -39,11 +42,11 @@ RepliesWindow sheet command window reply =
     (holds : Texts) (name : List ℕ) → GivesSheet holds name (Ok sheet)
     → AnswersWindow holds command name window (answer_of reply)
 
--- a reply to `play` over a sheet and a script's text, under whatever names these stand
-abbrev pub RepliesPlay : SheetValue → List ℕ → Reply → Type 0
-RepliesPlay sheet text reply =
+-- a reply to a command about a script over a sheet and the script's text, under whatever names these stand
+abbrev pub RepliesOfText : ScriptCommand → SheetValue → List ℕ → Reply → Type 0
+RepliesOfText command sheet text reply =
     (holds : Texts) (name script : List ℕ) → GivesSheet holds name (Ok sheet) → IsTextOf holds script text
-    → AnswersPlay holds name script (answer_of reply)
+    → AnswersScript holds command name script (answer_of reply)
 
 -- a text that is due for a request was not fetched
 pub record IsReadFailure (request : Request) (holds : Texts) (before after : ℕ) (reply : Reply) : Type 0 where
@@ -57,11 +60,18 @@ pub record IsMissed (name : List ℕ) (before after : ℕ) (reply : Reply) : Typ
   pub rose : Rose before after
   pub reply_is : answer_of reply ≡ refusal 5 (read_failed_line name)
 
--- a reply to `play` over a sheet, from a shelf whose faults went from a number to another
-abbrev pub RepliesScript : Texts → SheetValue → List ℕ → ℕ → ℕ → Reply → Type 0
-RepliesScript holds sheet script before after reply =
+-- the text under a name on a shelf whose faults went from a number to another, or that it is past the limit, or the reply
+-- which says that it wasn't fetched
+abbrev pub HasText : Texts → List ℕ → ℕ → ℕ → Fetched → Type 0
+HasText holds name before after (Text text) = IsTextOf holds name text.items × (length text.items ≤ 16777216)
+HasText holds name before after (Missed reply) = IsMissed name before after reply
+HasText holds name before after TooLong = IfSome (holds name) (λ t. 16777216 < length t)
+
+-- a reply to such a command over a sheet, from a shelf whose faults went from a number to another
+abbrev pub RepliesOverSheet : Texts → ScriptCommand → SheetValue → List ℕ → ℕ → ℕ → Reply → Type 0
+RepliesOverSheet holds command sheet script before after reply =
     IsMissed script before after reply
-    ⊎ ((name : List ℕ) → GivesSheet holds name (Ok sheet) → AnswersPlay holds name script (answer_of reply))
+    ⊎ ((name : List ℕ) → GivesSheet holds name (Ok sheet) → AnswersScript holds command name script (answer_of reply))
 
 -- the sheet under a name on a shelf whose faults went from a number to another, or the reply that says why there is none
 abbrev pub HasFetched : Texts → List ℕ → ℕ → ℕ → Result SheetValue Reply → Type 0
@@ -94,6 +104,6 @@ pub record IsRefusal (words : List (List ℕ)) (holds : Texts) (status : ℕ) (l
 
 -- a reply to words over a shelf, whose faults went from a number to another
 abbrev pub IsOwed : List (List ℕ) → Texts → ℕ → ℕ → Reply → Type 0
-IsOwed words holds before after (Output text) = Owes words holds (output text.items)
+IsOwed words holds before after (Output text) = Owes words holds (output text)
 IsOwed words holds before after (Refusal status line) =
     IsUnread words holds before after status (string_bytes line) ⊎ IsRefusal words holds status (string_bytes line)

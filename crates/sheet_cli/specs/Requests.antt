@@ -1,7 +1,8 @@
 -- What the words of a command line can ask for, and which texts it names.
 use Rattle.std.specs.Prelude.{ℕ, List, [], ◌∷◌}
 use Rattle.sheet_refs.specs.Cells.{Corners}
-use Rattle.sheet_cli.specs.declared.words.WindowCommand.{WindowCommand}
+use Rattle.sheet_cli.specs.declared.script.ScriptCommand.{ScriptCommand}
+use Rattle.sheet_cli.specs.declared.window.WindowCommand.{WindowCommand}
 
 -- a command with what it is given
 pub data Request : Type 0 where
@@ -9,11 +10,11 @@ pub data Request : Type 0 where
   of_window : (command : WindowCommand) (sheet : List ℕ) (window : Corners) → Request
   -- how far a sheet's pairs can be compressed
   of_check : (sheet : List ℕ) → Request
-  -- a script, one step after the other
-  of_play : (sheet script : List ℕ) → Request
+  -- a command about a script over a sheet
+  of_script : (command : ScriptCommand) (sheet script : List ℕ) → Request
 
 -- the names of the texts that a request reads, in the order in which they are fetched
 abbrev pub texts_named : Request → List (List ℕ)
 texts_named (of_window command sheet window) = sheet ∷ []
 texts_named (of_check sheet) = sheet ∷ []
-texts_named (of_play sheet script) = sheet ∷ script ∷ []
+texts_named (of_script command sheet script) = sheet ∷ script ∷ []

@@ -4,11 +4,12 @@ use Rattle.std.specs.declared.alloc.Global.{Global}
 use Rattle.sheet_refs.specs.Cells.{Corners}
 use Rattle.sheet_refs.specs.Names.{IsRangeName}
 use Rattle.sheet_cli.specs.Requests.{Request}
-use Rattle.sheet_cli.specs.Requests.Request.{of_window, of_check, of_play}
+use Rattle.sheet_cli.specs.Requests.Request.{of_window, of_check, of_script}
 use Rattle.sheet_cli.specs.declared.words.Asked.{Asked}
-use Rattle.sheet_cli.specs.declared.words.Asked.TheVariants.{Nothing, OfWindow, OfCheck, OfPlay}
-use Rattle.sheet_cli.specs.declared.words.WindowCommand.{WindowCommand}
-use Rattle.sheet_cli.specs.declared.words.WindowCommand.TheVariants.{Show, Deps, Precs}
+use Rattle.sheet_cli.specs.declared.words.Asked.TheVariants.{Nothing, OfWindow, OfCheck, OfScript}
+use Rattle.sheet_cli.specs.declared.script.ScriptCommand.TheVariants.{Play}
+use Rattle.sheet_cli.specs.declared.window.WindowCommand.{WindowCommand}
+use Rattle.sheet_cli.specs.declared.window.WindowCommand.TheVariants.{Show, Deps, Precs}
 
 -- the words of a command line, as bytes
 abbrev pub bytes_of : List (String Global) → List (List ℕ)
@@ -17,6 +18,17 @@ bytes_of words = map string_bytes words
 -- a word is written as an option is: it begins with a dash, also where it is nothing else
 abbrev pub IsOption : List ℕ → Type 0
 IsOption word = slice_get word 0 ≡ Some 45
+
+-- words are one position, which isn't written as an option
+pub record IsOnePosition (words : List (List ℕ)) (first : List ℕ) : Type 0 where
+  pub words_are : words ≡ first ∷ []
+  pub first_plain : ¬ IsOption first
+
+-- words are two positions
+pub record AreTwoPositions (words : List (List ℕ)) (first second : List ℕ) : Type 0 where
+  pub words_are : words ≡ first ∷ second ∷ []
+  pub first_plain : ¬ IsOption first
+  pub second_plain : ¬ IsOption second
 
 -- the word of a command about a window
 abbrev pub command_word : WindowCommand → List ℕ
@@ -38,7 +50,7 @@ pub data Asks (words : List (List ℕ)) : Request → Type 0 where
   asks_check : (sheet : List ℕ) → words ≡ codes "check" ∷ sheet ∷ [] → ¬ IsOption sheet → Asks words (of_check sheet)
   -- `play SHEET SCRIPT`
   asks_play : (sheet script : List ℕ) → words ≡ codes "play" ∷ sheet ∷ script ∷ [] → ¬ IsOption sheet → ¬ IsOption script
-      → Asks words (of_play sheet script)
+      → Asks words (of_script Play sheet script)
 
 -- the words are no command
 abbrev pub AsksNothing : List (List ℕ) → Type 0
@@ -49,4 +61,4 @@ abbrev pub IsAskedBy : List (List ℕ) → Asked → Type 0
 IsAskedBy words Nothing = AsksNothing words
 IsAskedBy words (OfWindow command sheet window) = Asks words (of_window command (string_bytes sheet) window)
 IsAskedBy words (OfCheck sheet) = Asks words (of_check (string_bytes sheet))
-IsAskedBy words (OfPlay sheet script) = Asks words (of_play (string_bytes sheet) (string_bytes script))
+IsAskedBy words (OfScript command sheet script) = Asks words (of_script command (string_bytes sheet) (string_bytes script))

@@ -15,20 +15,27 @@
 //! `sheet_io`, through which all input and output goes; above stands the program's `main`.
 #![tactic(auto)]
 
+mod check;
 mod laws;
 mod output;
+mod play;
+mod positions;
 mod reply;
 mod script;
 mod sure;
 #[cfg(test)]
 mod tests;
+mod texts;
 mod top;
+mod window;
 mod words;
 
 pub use laws::{
     check_laws, ending_laws, note_laws, row_laws, run_laws, script_row_laws, status_laws,
     told_laws, unfetched_laws,
 };
+pub use script::ScriptCommand;
 pub use sure::run_without_faults;
 pub use top::{no_memory, run};
+pub use window::WindowCommand;
 pub use words::{Asked, read_words};

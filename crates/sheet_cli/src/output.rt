@@ -1,101 +1,166 @@
-ghost use Rattle.std.specs.Prelude.{◌≡◌, length, IfOk};
-ghost use Rattle.sheet_cli.specs.Answers.{Writes};
-ghost use Rattle.sheet_cli.specs.Graphs.{AreDependents, ArePrecedents, ListsEdges};
+// The text that a command writes, in parts that are printed piece by piece.
+ghost use Rattle.std.specs.Prelude.{◌≡◌, ◌≤◌, ◌++◌, length, All, IfOk, OnErr};
+ghost use Rattle.sheet_io.specs.Faults.{Rose};
+ghost use Rattle.sheet_io.specs.Sink.{Puts};
+ghost use Rattle.sink_buffer.specs.Buffers.{Passes};
 ghost use Rattle.taco_graph.specs.Pairs.{HaveFewPairs, pairs_of};
+ghost use Rattle.text_pieces.specs.Pieces.{HandsOut};
+ghost use Rattle.window_text.specs.Reports.{IsFull, play_text};
 ghost use Rattle.window_text.specs.Texts.{IsWithinSheet, check_text, runs_text, show_text};
+ghost use Rattle.sheet_cli.specs.Outputs.{CanBePrinted, parts_text};
 
-use crate::words::WindowCommand;
 use edge_patterns::Edge;
-use edit_log::graph_of;
-use graph_walk::{dependents, precedents};
+use edit_log::Book;
 use range_index::GridIndex;
+use sheet_io::{Failed, Sink};
 use sheet_model::{Sheet, all_values};
 use sheet_refs::{Memory, Range};
+use sink_buffer::SinkBuffer;
 use std::alloc::Global;
+use std::marker::Model;
 use taco_graph::{Taco, pair_count};
-use window_text::Printer;
+use window_text::{Printer, Report};
 
-/// The whole text that a command writes of a window of the sheet.
-pub(crate) fn window_output(
-    alloc: Global,
-    command: WindowCommand,
-    sheet: &Sheet,
-    range: Range,
-) -> Result<Vec<u8>, Memory>
-    requires { IsWithinSheet range sheet.now }
-    ensures { IfOk result (λ text. Writes sheet.now range command text.items) }
-{
-    match command {
-        WindowCommand::Show => show_output(alloc, sheet, range),
-        WindowCommand::Deps => runs_output(alloc, &dependents_of(alloc, sheet, range)?),
-        WindowCommand::Precs => runs_output(alloc, &precedents_of(alloc, sheet, range)?),
+/// What a text is printed of.
+#[derive(Drop)]
+pub(crate) enum Parts {
+    /// A range of a sheet, and the codes of all of the sheet's cells.
+    Window {
+        sheet: Sheet,
+        range: Range,
+        values: Vec<u64>,
+    },
+    /// A list of ranges.
+    Runs(Vec<Range>),
+    /// A list of edges, and the number of their pairs.
+    Edges {
+        pairs: u64,
+        edges: Vec<Edge>,
+    },
+    /// The reports of a script, and the book that has the sheet with its labels.
+    Reports {
+        book: Book<Taco<GridIndex>>,
+        reports: Vec<Report>,
+    },
+}
+
+/// A text that is to be written, with all that its writing takes: what is printed, and the buffer on its way out.
+///
+/// Contracts see it as the text.
+#[derive(Drop)]
+pub(crate) struct Output {
+    parts: Parts,
+    buffer: SinkBuffer,
+}
+
+impl Model for Output {
+    ghost use Rattle.std.specs.Prelude.{ℕ, List};
+    ghost use Rattle.sheet_cli.specs.Outputs.{IsReady, parts_text};
+
+    ghost Value = { List ℕ };
+
+    ghost view = { λ o. parts_text o.parts };
+
+    ghost invariant = { λ o. IsReady o.parts o.buffer };
+}
+
+impl Output {
+    // The text of these parts. The buffer's memory is taken here.
+    fn of_parts(alloc: Global, parts: Parts) -> Result<Output, Memory>
+        requires { CanBePrinted parts }
+        ensures { IfOk result (λ text. text ≡ parts_text parts) }
+    {
+        match SinkBuffer::new(alloc) {
+            Ok(buffer) => Ok(Output { parts, buffer }),
+            Err(_) => Err(Memory),
+        }
+    }
+
+    /// The text of the values of a range of a sheet.
+    pub(crate) fn of_window(alloc: Global, sheet: Sheet, range: Range) -> Result<Output, Memory>
+        requires { IsWithinSheet range sheet }
+        ensures { IfOk result (λ text. text ≡ show_text sheet range) }
+    {
+        let values = all_values(alloc, &sheet)?;
+        Output::of_parts(
+            alloc,
+            Parts::Window {
+                sheet,
+                range,
+                values,
+            },
+        )
+    }
+
+    /// The text of a list of ranges.
+    pub(crate) fn of_runs(alloc: Global, runs: Vec<Range>) -> Result<Output, Memory>
+        ensures { IfOk result (λ text. text ≡ runs_text runs.items) }
+    {
+        Output::of_parts(alloc, Parts::Runs(runs))
+    }
+
+    /// The text of a list of edges.
+    pub(crate) fn of_edges(alloc: Global, edges: Vec<Edge>) -> Result<Output, Memory>
+        requires { HaveFewPairs edges.items }
+        ensures { IfOk result (λ text.
+            text ≡ check_text (length (pairs_of edges.items)) edges.items) }
+    {
+        let pairs = pair_count(&edges);
+        Output::of_parts(alloc, Parts::Edges { pairs, edges })
+    }
+
+    /// The text of reports of a script, beside the labels of a book's sheet.
+    pub(crate) fn of_reports(
+        alloc: Global,
+        book: Book<Taco<GridIndex>>,
+        reports: Vec<Report>,
+    ) -> Result<Output, Memory>
+        requires { All (λ report. IsFull report.board) reports.items }
+        ensures { IfOk result (λ text. text ≡ play_text book.sheet.labels reports.items) }
+    {
+        Output::of_parts(alloc, Parts::Reports { book, reports })
+    }
+
+    /// Writes the text to a sink, in pieces of 65,536 bytes and a last one of at most that many. It takes no memory.
+    pub(crate) fn write<K: Sink>(self, out: &mut K) -> Result<(), Failed>
+        ensures taken { Puts (K.written out.old) (K.written out.new) self result }
+        ensures counted { K.faults out.old ≤ K.faults out.new }
+        ensures cause { OnErr result (Rose (K.faults out.old) (K.faults out.new)) }
+    {
+        let Output { parts, buffer } = self;
+        let mut buffer = buffer;
+        if !pass_parts(&parts, &mut buffer, out) {
+            return Err(Failed);
+        }
+        buffer.finish(out)
     }
 }
 
-// The vertical runs of the cells of a range and of all that depend on them.
-fn dependents_of(alloc: Global, sheet: &Sheet, range: Range) -> Result<Vec<Range>, Memory>
-    ensures { IfOk result (λ runs. AreDependents sheet.now range runs.items) }
+// Has the text of these parts pass a buffer on its way to a sink; false where a put fails.
+fn pass_parts<K: Sink>(parts: &Parts, buffer: &mut SinkBuffer, out: &mut K) -> bool
+    requires { CanBePrinted parts.now }
+    ensures { Passes (K.written out.old) (K.written out.new)
+        (K.faults out.old) (K.faults out.new)
+        (buffer.old ++ parts_text parts.now) buffer.new result }
 {
-    let graph = graph_of(alloc, Taco::<GridIndex>::new(alloc), sheet)?;
-    dependents(alloc, &graph, range)?.columns()
+    let mut take = |piece: &[u8]| buffer.take(piece, out);
+    send_parts(parts, &mut take)
 }
 
-// The vertical runs of the cells of a range and of all on which they depend.
-fn precedents_of(alloc: Global, sheet: &Sheet, range: Range) -> Result<Vec<Range>, Memory>
-    ensures { IfOk result (λ runs. ArePrecedents sheet.now range runs.items) }
+// Hands out the text of these parts.
+fn send_parts<F: FnMut(&[u8]) -> bool>(parts: &Parts, to: &mut F) -> bool
+    requires callable { F.IsAlwaysCallable to.old }
+    requires printable { CanBePrinted parts.now }
+    ensures sent { HandsOut F.FnMut to.old (parts_text parts.now) result to.new }
 {
-    let graph = graph_of(alloc, Taco::<GridIndex>::new(alloc), sheet)?;
-    precedents(alloc, &graph, range)?.columns()
-}
-
-/// The whole text that `check` writes of a sheet.
-pub(crate) fn check_output(alloc: Global, sheet: &Sheet) -> Result<Vec<u8>, Memory>
-    ensures { IfOk result (λ text. ListsEdges sheet.now text.items) }
-{
-    let graph = graph_of(alloc, Taco::<GridIndex>::new(alloc), sheet)?;
-    edges_output(alloc, &graph.edges()?)
-}
-
-// The text of a list of edges.
-fn edges_output(alloc: Global, edges: &[Edge]) -> Result<Vec<u8>, Memory>
-    requires { HaveFewPairs edges.now }
-    ensures { IfOk result (λ text.
-        text.items ≡ check_text (length (pairs_of edges.now)) edges.now) }
-{
-    let pairs = pair_count(edges);
-    let mut text = Vec::new(alloc);
-    let mut keep = |piece: &[u8]| text.extend_from_slice(piece).is_ok();
-    if Printer::check(pairs, edges, &mut keep) {
-        Ok(text)
-    } else {
-        Err(Memory)
-    }
-}
-
-// The text of a list of ranges.
-fn runs_output(alloc: Global, runs: &[Range]) -> Result<Vec<u8>, Memory>
-    ensures { IfOk result (λ text. text.items ≡ runs_text runs.now) }
-{
-    let mut text = Vec::new(alloc);
-    let mut keep = |piece: &[u8]| text.extend_from_slice(piece).is_ok();
-    if Printer::runs(runs, &mut keep) {
-        Ok(text)
-    } else {
-        Err(Memory)
-    }
-}
-
-// The text of the values of a range of the sheet.
-fn show_output(alloc: Global, sheet: &Sheet, range: Range) -> Result<Vec<u8>, Memory>
-    requires { IsWithinSheet range sheet.now }
-    ensures { IfOk result (λ text. text.items ≡ show_text sheet.now range) }
-{
-    let values = all_values(alloc, sheet)?;
-    let mut text = Vec::new(alloc);
-    let mut keep = |piece: &[u8]| text.extend_from_slice(piece).is_ok();
-    if Printer::show(sheet, range, &values, &mut keep) {
-        Ok(text)
-    } else {
-        Err(Memory)
+    match parts {
+        Parts::Window {
+            sheet,
+            range,
+            values,
+        } => Printer::show(sheet, *range, values, to),
+        Parts::Runs(runs) => Printer::runs(runs, to),
+        Parts::Edges { pairs, edges } => Printer::check(*pairs, edges, to),
+        Parts::Reports { book, reports } => Printer::play(book.sheet(), reports, to),
     }
 }

@@ -1,105 +1,135 @@
-ghost use Rattle.std.specs.Prelude.{◌≡◌, ◌≢◌, ◌≤◌, length, All, Err, IfOk};
+// The commands about a script over a sheet: the two texts, and what the command writes of them.
+ghost use Rattle.std.specs.Prelude.{◌≡◌, ◌≢◌, ◌≤◌, length, Err, IfOk};
 ghost use Rattle.edit_script.specs.declared.refused.ScriptRefused.TheVariants as script_refused;
 ghost use Rattle.edit_script.specs.Scripts.{IsScriptResult};
-ghost use Rattle.edit_script.specs.declared.script.Mode.TheVariants.{Play};
 ghost use Rattle.sheet_model.specs.Labels.{IsTable};
 ghost use Rattle.sheet_model.specs.Sheets.{with_labels};
-ghost use Rattle.window_text.specs.Reports.{IsFull, play_text};
 ghost use Rattle.play_machine.specs.Playing.{AreFit};
-ghost use Rattle.sheet_cli.specs.Answers.{IsPlayed};
+ghost use Rattle.sheet_cli.specs.Answers.{WritesOfScript, mode_of};
 ghost use Rattle.sheet_cli.specs.Answers.Answer.{refusal as refusal_answer};
 ghost use Rattle.sheet_cli.specs.Lines.{long_script_line, script_line};
-ghost use Rattle.sheet_cli.specs.Replies.{RepliesPlay, RepliesScript, answer_of};
+ghost use Rattle.sheet_cli.specs.Replies.{RepliesOfText, RepliesOverSheet, RepliesTo, answer_of};
+ghost use Rattle.sheet_cli.specs.Requests.Request.{of_script};
 
-use crate::reply::{MAX_SHEET, Reply, refusal};
-use edit_log::Book;
-use edit_script::{Mode, Script, ScriptRefused, Step, read_script};
-use play_machine::play;
-use range_index::GridIndex;
-use sheet_io::{Fetch, Shelf};
+use crate::output::Output;
+use crate::play::play_output;
+use crate::reply::{Reply, refusal};
+use crate::texts::{Fetched, fetch_sheet, fetch_text};
+use edit_script::{Mode, Script, ScriptRefused, read_script};
+use sheet_io::Shelf;
 use sheet_model::Sheet;
 use sheet_refs::Memory;
 use std::alloc::Global;
-use taco_graph::Taco;
-use window_text::{Printer, Report};
 
-/// The reply to `play` over a sheet, for which the script is fetched.
+/// A command about a script over a sheet.
+#[derive(Clone, Copy)]
+pub enum ScriptCommand {
+    /// `play`: the reports of the script, by the play machine.
+    Play,
+}
+
+impl ScriptCommand {
+    // For whom the script of a command is written.
+    fn mode(self) -> Mode
+        ensures { result ≡ mode_of self }
+    {
+        match self {
+            ScriptCommand::Play => Mode::Play,
+        }
+    }
+}
+
+/// The reply to a command about a script. The sheet is fetched and read, then the script; the first of these that
+/// fails gives the refusal.
 pub(crate) fn reply_of_script<F: Shelf>(
     alloc: Global,
+    command: ScriptCommand,
+    name: &str,
+    script: &str,
+    shelf: &mut F,
+) -> Result<Reply, Memory>
+    ensures reply { IfOk result (RepliesTo (of_script command name.now script.now)
+        (F.holds shelf.old) (F.faults shelf.old) (F.faults shelf.new)) }
+    ensures held { F.holds shelf.new ≡ F.holds shelf.old }
+    ensures counted { F.faults shelf.old ≤ F.faults shelf.new }
+{
+    match fetch_sheet(alloc, name, shelf)? {
+        Ok(sheet) => reply_over_sheet(alloc, command, sheet, script, shelf),
+        Err(reply) => Ok(reply),
+    }
+}
+
+// The reply to a command over a sheet, for which the script is fetched.
+fn reply_over_sheet<F: Shelf>(
+    alloc: Global,
+    command: ScriptCommand,
     sheet: Sheet,
     name: &str,
     shelf: &mut F,
 ) -> Result<Reply, Memory>
     requires few { length sheet.labels ≤ 3000000000 }
-    ensures reply { IfOk result (RepliesScript (F.holds shelf.old) sheet name.now
+    ensures reply { IfOk result (RepliesOverSheet (F.holds shelf.old) command sheet name.now
         (F.faults shelf.old) (F.faults shelf.new)) }
     ensures held { F.holds shelf.new ≡ F.holds shelf.old }
     ensures counted { F.faults shelf.old ≤ F.faults shelf.new }
 {
-    let mut text = Vec::new(alloc);
-    match shelf.fetch(name, MAX_SHEET, &mut text) {
-        Ok(()) => script_reply(alloc, sheet, &text),
-        Err(Fetch::Failed) => Ok(Reply::Refusal {
-            status: 5,
-            line: format!(in alloc; "antifreeze: {name}: read failed\n")?,
-        }),
-        Err(Fetch::TooLong) => Ok(long_script(alloc)?),
-        Err(Fetch::Memory) => Err(Memory),
+    match fetch_text(alloc, name, shelf)? {
+        Fetched::Text(text) => reply_of_text(alloc, command, sheet, &text),
+        Fetched::Missed(reply) => Ok(reply),
+        Fetched::TooLong => long_script(alloc),
     }
 }
 
-// The reply to `play` over a sheet and the text of a script.
-fn script_reply(alloc: Global, sheet: Sheet, text: &[u8]) -> Result<Reply, Memory>
+// The reply to a command over a sheet and the text of a script.
+fn reply_of_text(
+    alloc: Global,
+    command: ScriptCommand,
+    sheet: Sheet,
+    text: &[u8],
+) -> Result<Reply, Memory>
+    requires short { length text.now ≤ 16777216 }
     requires few { length sheet.labels ≤ 3000000000 }
-    ensures { IfOk result (RepliesPlay sheet text.now) }
+    ensures { IfOk result (RepliesOfText command sheet text.now) }
 {
-    // A shelf that doesn't tell its texts may give more than it was asked for.
-    if text.len() > MAX_SHEET {
-        return long_script(alloc);
-    }
     let mut sheet = sheet;
-    match script_of(alloc, text, &mut sheet) {
-        Ok(script) => Ok(Reply::Output(play_output(alloc, sheet, script.steps())?)),
+    match script_of(alloc, command.mode(), text, &mut sheet) {
+        Ok(script) => Ok(Reply::Output(output_of_script(alloc, command, sheet, &script)?)),
         Err(why) => Ok(no_script(alloc, why)?),
     }
 }
 
 // The script of a text over a sheet, whose table of labels is one afterwards too.
-fn script_of(alloc: Global, text: &[u8], sheet: &mut Sheet) -> Result<Script, ScriptRefused>
+fn script_of(
+    alloc: Global,
+    mode: Mode,
+    text: &[u8],
+    sheet: &mut Sheet,
+) -> Result<Script, ScriptRefused>
     requires short { length text.now ≤ 16777216 }
     requires few { length sheet.old.labels ≤ 3000000000 }
     ensures result { result ≢ Err script_refused.Memory
-        → IsScriptResult Play sheet.old.sizes sheet.old.labels sheet.new.labels text.now result }
+        → IsScriptResult mode sheet.old.sizes sheet.old.labels sheet.new.labels text.now result }
     ensures kept { sheet.new ≡ with_labels sheet.old sheet.new.labels }
     ensures table { IsTable sheet.new.labels }
 {
-    let script = read_script(alloc, text, Mode::Play, sheet);
+    let script = read_script(alloc, text, mode, sheet);
     // The contract of a reader says that the table is one.
     let _ = sheet.labels();
     script
 }
 
-// The whole text that `play` writes of steps over a sheet.
-fn play_output(alloc: Global, sheet: Sheet, steps: &[Step]) -> Result<Vec<u8>, Memory>
-    requires { AreFit sheet steps.now }
-    ensures { IfOk result (λ text. IsPlayed sheet steps.now text.items) }
+// The text that a command writes of a script over a sheet.
+fn output_of_script(
+    alloc: Global,
+    command: ScriptCommand,
+    sheet: Sheet,
+    script: &Script,
+) -> Result<Output, Memory>
+    requires { AreFit sheet script.now.steps }
+    ensures { IfOk result (λ text. WritesOfScript command sheet script.now text) }
 {
-    let book = Book::open(alloc, sheet, Taco::<GridIndex>::new(alloc))?;
-    let (book, reports) = play(alloc, book, steps)?;
-    reports_output(alloc, book.sheet(), &reports)
-}
-
-// The text of reports.
-fn reports_output(alloc: Global, sheet: &Sheet, reports: &[Report]) -> Result<Vec<u8>, Memory>
-    requires { All (λ report. IsFull report.board) reports.now }
-    ensures { IfOk result (λ text. text.items ≡ play_text sheet.now.labels reports.now) }
-{
-    let mut text = Vec::new(alloc);
-    let mut keep = |piece: &[u8]| text.extend_from_slice(piece).is_ok();
-    if Printer::play(sheet, reports, &mut keep) {
-        Ok(text)
-    } else {
-        Err(Memory)
+    match command {
+        ScriptCommand::Play => play_output(alloc, sheet, script.steps()),
     }
 }
 

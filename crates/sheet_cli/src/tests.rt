@@ -1,4 +1,5 @@
 // What no clause says: that calls succeed with ample memory, and that the statuses and lines are those meant.
+use crate::reply::USAGE;
 use crate::top::run;
 use sheet_io::{Fetch, MemoryShelf, MemorySink, Shelf, SureShelf, SureSink};
 use std::alloc::{AllocError, Global};
@@ -7,9 +8,6 @@ use std::test::Fail;
 const WORKED: &str = "1,=A1+1\n2,=A2+B1\n";
 
 const SHOWN: &str = "sheet 0 A1:B2\n1,2\n2,4\n";
-
-const USAGE: &str = "antifreeze: usage: antifreeze show|deps|precs SHEET RANGE; check SHEET; \
-    play|live SHEET SCRIPT; gen NUMBER; --workers N with live, gen\n";
 
 const MISSED: &str = "antifreeze: s: read failed\n";
 
@@ -29,13 +27,16 @@ fn split_words(alloc: Global, line: &str) -> Result<Vec<String>, AllocError> {
     Ok(words)
 }
 
+// The call that is to fail, from 1; of number 0 there is none.
+fn failing_at(alloc: Global, call: u32) -> Result<Vec<u32>, AllocError> {
+    let mut calls = Vec::new(alloc);
+    calls.push(call)?;
+    Ok(calls)
+}
+
 // The calls that are to fail: the first one, or none.
 fn failing(alloc: Global, first: bool) -> Result<Vec<u32>, AllocError> {
-    let mut calls = Vec::new(alloc);
-    if first {
-        calls.push(1)?;
-    }
-    Ok(calls)
+    failing_at(alloc, if first { 1 } else { 0 })
 }
 
 // What stands in the way of a run: first calls that fail, and the bytes that `out` takes.
@@ -254,6 +255,54 @@ fn out_has_what_fits_in_its_room(rt: HostRuntime) -> Result<(), Fail> {
             &text[..bytes.min(text.len())],
             "{room} bytes"
         );
+    }
+    Ok(())
+}
+
+// A label of 8,192 bytes and 40 formulas that name it, each behind what parts it from the cell before.
+fn label_shown_often(alloc: Global, formula: &[u8]) -> Result<Vec<u8>, AllocError> {
+    let mut text = vec![in alloc; b'x'; 8_192]?;
+    for _ in 0..40 {
+        text.extend_from_slice(formula)?;
+    }
+    Ok(text)
+}
+
+// The status and the number of bytes that are written, where the put with this number is to fail.
+fn show_failing_at(
+    alloc: Global,
+    sheet: &[u8],
+    line: &str,
+    put: u32,
+) -> Result<(u8, usize), AllocError> {
+    let words = split_words(alloc, line)?;
+    let mut shelf = MemoryShelf::new(one_text(alloc, sheet)?, failing_at(alloc, 0)?);
+    let Ok(mut out) = MemorySink::new(alloc, 400_000, failing_at(alloc, put)?) else {
+        return Err(AllocError);
+    };
+    let status = run(alloc, &words, &mut shelf, &mut out, &mut SureSink::new());
+    Ok((status, out.written().len()))
+}
+
+// The text has 336,010 bytes, in 41 lines or in one: five full pieces, and a sixth one.
+#[test]
+fn a_long_text_is_written_in_pieces(rt: HostRuntime) -> Result<(), Fail> {
+    let alloc = rt.alloc();
+    let column = label_shown_often(alloc, b"\n=A$1")?;
+    let row = label_shown_often(alloc, b",=$A1")?;
+    for (put, status, written) in [
+        (1, 6, 0),
+        (2, 6, 65_536),
+        (3, 6, 131_072),
+        (4, 6, 196_608),
+        (5, 6, 262_144),
+        (6, 6, 327_680),
+        (7, 0, 336_010),
+    ] {
+        let lines = show_failing_at(alloc, &column, "show s A1:A41", put)?;
+        assert_eq!(rt; lines, (status, written), "put {put} of lines");
+        let line = show_failing_at(alloc, &row, "show s A1:AO1", put)?;
+        assert_eq!(rt; line, (status, written), "put {put} of a line");
     }
     Ok(())
 }

@@ -18,7 +18,8 @@ use std::alloc::Global;
 /// The result is the status of the process: 0 for done, 2 for words that are no command or a range that
 /// isn't in the sheet, 3 for a sheet's text that is refused, 4 for a script's, 5 for a fetch that failed,
 /// 6 for a put on `out` that failed, and 7 for want of memory. With every status but 0 one line goes to `notes`, and
-/// nothing is written to `out` with any but 0 and 6: all memory is taken before the first byte.
+/// nothing is written to `out` with any but 0 and 6: all memory is taken before the first byte, and what is written
+/// goes out in pieces, so that no text is put together in memory.
 pub fn run<F: Shelf, K: Sink, N: Sink>(
     alloc: Global,
     words: &[String],
@@ -61,7 +62,7 @@ pub fn run<F: Shelf, K: Sink, N: Sink>(
         → RefusesAll (bytes_of words.now) (F.holds shelf.old) result }
 {
     match reply_to(alloc, words, shelf) {
-        Ok(Reply::Output(text)) => match out.put(&text) {
+        Ok(Reply::Output(text)) => match text.write(out) {
             Ok(()) => 0,
             Err(_) => {
                 tell(notes, "antifreeze: write failed\n");

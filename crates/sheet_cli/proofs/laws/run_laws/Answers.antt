@@ -1,4 +1,5 @@
-use Rattle.sheet_cli.proofs.OneAnswer.{one_answer, one_request}
+use Rattle.sheet_cli.proofs.OneAnswer.{one_answer}
+use Rattle.sheet_cli.proofs.WordLemmas.{one_request}
 use Rattle.sheet_cli.proofs.laws.run_laws.Goals as goal
 
 pub returns : goal.returns

@@ -21,14 +21,14 @@ pub returns-in-OfCheck-clause-nothing_fetched : goal.returns-in-OfCheck-clause-n
 returns-in-OfCheck-clause-nothing_fetched g c =
     λ none. absurd (none _ (subst (IsAskedBy (bytes_of c.args.words.now)) c.in-OfCheck.is c.in_ok-command.ensures))
 
-pub returns-in-OfPlay-clause-owed : goal.returns-in-OfPlay-clause-owed
-returns-in-OfPlay-clause-owed g c =
-    let asked = subst (IsAskedBy (bytes_of c.args.words.now)) c.in-OfPlay.is c.in_ok-command.ensures in
-    if_reply c.reply_of_play.result _ _ c.reply_of_play.ensures.reply (λ reply is. to_words _ _ _ _ _ reply asked (rw (c.as_str-in-OfPlay.ensures.value, c.as_str-in-OfPlay-2.ensures.value) at is))
+pub returns-in-OfScript-clause-owed : goal.returns-in-OfScript-clause-owed
+returns-in-OfScript-clause-owed g c =
+    let asked = subst (IsAskedBy (bytes_of c.args.words.now)) c.in-OfScript.is c.in_ok-command.ensures in
+    if_reply c.reply_of_script.result _ _ c.reply_of_script.ensures.reply (λ reply is. to_words _ _ _ _ _ reply asked (rw (c.as_str-in-OfScript.ensures.value, c.as_str-in-OfScript-2.ensures.value) at is))
 
-pub returns-in-OfPlay-clause-nothing_fetched : goal.returns-in-OfPlay-clause-nothing_fetched
-returns-in-OfPlay-clause-nothing_fetched g c =
-    λ none. absurd (none _ (subst (IsAskedBy (bytes_of c.args.words.now)) c.in-OfPlay.is c.in_ok-command.ensures))
+pub returns-in-OfScript-clause-nothing_fetched : goal.returns-in-OfScript-clause-nothing_fetched
+returns-in-OfScript-clause-nothing_fetched g c =
+    λ none. absurd (none _ (subst (IsAskedBy (bytes_of c.args.words.now)) c.in-OfScript.is c.in_ok-command.ensures))
 
 pub returns-in-Nothing-clause-owed : goal.returns-in-Nothing-clause-owed
 returns-in-Nothing-clause-owed g c =

@@ -1,16 +1,20 @@
-use Rattle.std.proofs.Common.{ap, inl, inr, sym, subst}
-use Rattle.sheet_cli.specs.Answers.{AnswersPlay}
-use Rattle.sheet_cli.specs.Answers.Answer.{refusal}
-use Rattle.sheet_cli.specs.Answers.AnswersPlay.{unscripted}
-use Rattle.sheet_cli.specs.Answers.HasNoScript.{long_script}
-use Rattle.sheet_cli.specs.Lines.{long_script_line}
+use Rattle.std.proofs.Common.{subst}
+use Rattle.sheet_cli.specs.Replies.{HasFetched, RepliesOverSheet}
+use Rattle.sheet_cli.proofs.ReplyLemmas.{if_reply, no_sheet_of_script, room_for_labels, script_replies}
 use Rattle.sheet_cli.proofs.script.reply_of_script.Goals as goal
 
-pub returns-in-Err-Failed-clause-reply : goal.returns-in-Err-Failed-clause-reply
-returns-in-Err-Failed-clause-reply g c =
-    inl (record { rose = c.in-Err-Failed.ensures.cause cc; reply_is = ap (refusal 5) c.in_ok-format-in-Err-Failed.ensures.ok })
+pub returns-in-Err-clause-reply : goal.returns-in-Err-clause-reply
+returns-in-Err-clause-reply g c =
+    no_sheet_of_script _ c.args.name.now _ _ c.args.command c.args.script.now c.in-Err.reply (subst (HasFetched (g.F.Shelf.holds c.args.shelf.now) c.args.name.now (g.F.Shelf.faults c.args.shelf.now) (g.F.Shelf.faults c.fetch_sheet.new.shelf)) c.in-Err.is c.in_ok-sheet.ensures.found)
 
-pub returns-in-Err-TooLong-clause-reply : goal.returns-in-Err-TooLong-clause-reply
-returns-in-Err-TooLong-clause-reply g c =
-    inr (λ name gives. subst (AnswersPlay (g.F.Shelf.holds c.args.shelf.now) name c.args.name.now) (sym c.in_ok-long_script-in-Err-TooLong.ensures)
-    (unscripted c.args.sheet 4 long_script_line gives (long_script (c.in-Err-TooLong.ensures.fetched.too_long cc))))
+pub reply_over_sheet-requires : goal.reply_over_sheet-requires
+reply_over_sheet-requires g c =
+    let gives = subst (HasFetched (g.F.Shelf.holds c.args.shelf.now) c.args.name.now (g.F.Shelf.faults c.args.shelf.now) (g.F.Shelf.faults c.fetch_sheet.new.shelf)) c.in-Ok.is c.in_ok-sheet.ensures.found in
+    record { few = room_for_labels (g.F.Shelf.holds c.args.shelf.now) c.args.name.now c.in-Ok.sheet gives }
+
+pub returns-in-Ok-clause-reply : goal.returns-in-Ok-clause-reply
+returns-in-Ok-clause-reply g c =
+    let gives = subst (HasFetched (g.F.Shelf.holds c.args.shelf.now) c.args.name.now (g.F.Shelf.faults c.args.shelf.now) (g.F.Shelf.faults c.fetch_sheet.new.shelf)) c.in-Ok.is c.in_ok-sheet.ensures.found in
+    if_reply c.reply_over_sheet.result _ _ c.reply_over_sheet.ensures.reply
+    (λ reply is. script_replies (g.F.Shelf.holds c.args.shelf.now) c.args.command c.args.name.now c.args.script.now c.in-Ok.sheet (g.F.Shelf.faults c.args.shelf.now) (g.F.Shelf.faults c.fetch_sheet.new.shelf) (g.F.Shelf.faults c.reply_over_sheet.new.shelf) reply c.in_ok-sheet.ensures.counted gives
+    (subst (λ h. RepliesOverSheet h c.args.command c.in-Ok.sheet c.args.script.now (g.F.Shelf.faults c.fetch_sheet.new.shelf) (g.F.Shelf.faults c.reply_over_sheet.new.shelf) reply) c.in_ok-sheet.ensures.held is))

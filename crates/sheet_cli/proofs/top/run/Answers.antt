@@ -7,8 +7,8 @@ returns-in-Ok-clause-complete g c = λ calm quiet. output_complete _ _ _ (rw c.i
 pub returns-in-Ok-clause-refuses : goal.returns-in-Ok-clause-refuses
 returns-in-Ok-clause-refuses g c = λ calm. output_refuses _ _ _ 0 (rw c.in-Ok-Output.field-0-is at c.in-Ok-Output.ensures.owed)
 
-pub returns-in-Ok-Output-clause-refuses : goal.returns-in-Ok-Output-clause-refuses
-returns-in-Ok-Output-clause-refuses g c = λ calm. output_refuses _ _ _ 6 (rw c.in-Ok-Output.field-0-is at c.in-Ok-Output.ensures.owed)
+pub returns-in-Err-write-clause-refuses : goal.returns-in-Err-write-clause-refuses
+returns-in-Err-write-clause-refuses g c = λ calm. output_refuses _ _ _ 6 (rw c.in-Ok-Output.field-0-is at c.in-Ok-Output.ensures.owed)
 
 pub returns-in-Ok-Refusal-clause-complete : goal.returns-in-Ok-Refusal-clause-complete
 returns-in-Ok-Refusal-clause-complete g c = λ calm quiet. refusal_complete _ _ (g.F.Shelf.faults c.args.shelf.now) (g.F.Shelf.faults c.reply_to.new.shelf) c.in-Ok-Refusal.status c.in-Ok-Refusal.line (rw c.in-Ok-Refusal.field-0-is at c.in-Ok-Refusal.ensures.owed) calm

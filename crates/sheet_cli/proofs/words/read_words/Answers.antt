@@ -2,22 +2,10 @@ use Rattle.std.proofs.Common.{◌≡◌, ap, sym, ◌∙◌, ◌∷◌, subst}
 use Rattle.sheet_cli.specs.Words.{IsAskedBy, bytes_of, command_word}
 use Rattle.std.proofs.lemmas.Option.{MatchOption-at_some}
 use Rattle.std.specs.Prelude.{IfOk, string_bytes}
-use Rattle.sheet_cli.proofs.WordLemmas.{plain_rest, as_bytes, refuted}
 use Rattle.sheet_cli.proofs.words.read_words.Goals as goal
-
-pub returns-then-not-are_positions : goal.returns-then-not-are_positions
-returns-then-not-are_positions c = λ request asked.
-    refuted c.are_positions.result c.are_positions.ensures c.if-not-are_positions.true
-    (plain_rest (string_bytes c.in-Some.command.now) c.in-Some.rest.now request (rw c.in-Some.ensures.cases.0 at asked))
-
-pub read_window-requires : goal.read_window-requires
-read_window-requires c = record { plain = as_bytes c.in-Some.rest.now (c.are_positions.ensures.0 c.if-not-are_positions.false) }
 
 pub returns-in-Some-window_command : goal.returns-in-Some-window_command
 returns-in-Some-window_command c =
     let named : string_bytes c.in-Some.command.now ≡ command_word c.in-Some-window_command.window = sym c.as_str.ensures.value ∙ MatchOption-at_some _ _ _ c.in-Some-window_command.is c.window_command.ensures in
     let words_are : bytes_of c.args.words.now ≡ command_word c.in-Some-window_command.window ∷ bytes_of c.in-Some.rest.now = ap bytes_of c.in-Some.ensures.cases.0 ∙ ap (λ w. w ∷ bytes_of c.in-Some.rest.now) named in
     subst (λ words. IfOk c.read_window.result (IsAskedBy words)) (sym words_are) c.read_window.ensures
-
-pub read_other-requires-clause-plain : goal.read_other-requires-clause-plain
-read_other-requires-clause-plain c = as_bytes c.in-Some.rest.now (c.are_positions.ensures.0 c.if-not-are_positions.false)

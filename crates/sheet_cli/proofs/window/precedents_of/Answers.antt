@@ -1,0 +1,9 @@
+use Rattle.taco_graph.specs.Pairs.{pairs_of}
+use Rattle.sheet_cli.specs.Graphs.{ArePrecedents}
+use Rattle.sheet_cli.proofs.GraphLemmas.{if_listed}
+use Rattle.sheet_cli.proofs.window.precedents_of.Goals as goal
+
+pub returns : goal.returns
+returns c =
+    if_listed (λ v. v.items) c.columns-2.result c.in_ok-precedents.field-0 (ArePrecedents c.args.sheet.now c.args.range) c.columns-2.ensures.listed c.columns-2.ensures.runs
+    (λ maximal. record { pairs = pairs_of c.in_ok-graph.graph.edges; of_sheet = c.in_ok-graph.ensures; reached = c.in_ok-precedents.ensures; maximal = maximal })

@@ -1,0 +1,26 @@
+-- The texts that commands write, by what they are printed of.
+use Rattle.std.specs.Prelude.{◌≡◌, ℕ, List, [], All}
+use Rattle.sheet_model.specs.Values.{AreValues}
+use Rattle.window_text.specs.Reports.{IsFull, play_text}
+use Rattle.window_text.specs.Texts.{IsWithinSheet, check_text, runs_text, show_text}
+use Rattle.sheet_cli.specs.declared.output.Parts.{Parts}
+use Rattle.sheet_cli.specs.declared.output.Parts.TheVariants.{Window, Runs, Edges, Reports}
+
+-- the text of what is to be printed
+abbrev pub parts_text : Parts → List ℕ
+parts_text (Window sheet range values) = show_text sheet range
+parts_text (Runs runs) = runs_text runs.items
+parts_text (Edges pairs edges) = check_text pairs edges.items
+parts_text (Reports book reports) = play_text book.sheet.labels reports.items
+
+-- it can be printed: the values are the sheet's and the range lies in it, and the reports tell of all their cells
+abbrev pub CanBePrinted : Parts → Type 0
+CanBePrinted (Window sheet range values) = AreValues sheet values.items × IsWithinSheet range sheet
+CanBePrinted (Runs runs) = Unit {0}
+CanBePrinted (Edges pairs edges) = Unit {0}
+CanBePrinted (Reports book reports) = All (λ report. IsFull report.board) reports.items
+
+-- and nothing waits in the buffer yet
+pub record IsReady (parts : Parts) (held : List ℕ) : Type 0 where
+  pub printable : CanBePrinted parts
+  pub empty : held ≡ []

@@ -1,0 +1,124 @@
+// The words after a command's name, read with clap.
+ghost use Rattle.std.specs.Prelude.{◌≡◌, ◌≢◌, ◌↔◌, ◌∷◌, ℕ, List, [], length};
+ghost use Rattle.std.specs.Prelude.{IsTrue, IfOk, MatchOption, All, string_bytes};
+ghost use Rattle.clap.specs.Simple.{app_of};
+ghost use Rattle.clap.specs.Values.{kind_of};
+ghost use Rattle.sheet_cli.specs.Clap.{one_position, two_positions};
+ghost use Rattle.sheet_cli.specs.Words.{AreTwoPositions, IsOnePosition, IsOption, bytes_of};
+
+use clap::error::ErrorKind;
+use clap::{Arg, Command, Error};
+use sheet_refs::Memory;
+use std::alloc::{AllocError, Global};
+
+/// The position of a command that has one and no option; None exactly where the words are anything else.
+pub(crate) fn one_word<'a>(alloc: Global, words: &'a [String]) -> Result<Option<&'a str>, Memory>
+    ensures { IfOk result (λ found.
+        MatchOption found ((word : List ℕ) → ¬ IsOnePosition (bytes_of words.now) word)
+        (λ word. IsOnePosition (bytes_of words.now) word.now)) }
+{
+    if !are_positions(words) {
+        return Ok(None);
+    }
+    match_one(alloc, words)
+}
+
+/// The positions of a command that has two and no option; None exactly where the words are anything else.
+pub(crate) fn two_words<'a>(
+    alloc: Global,
+    words: &'a [String],
+) -> Result<Option<(&'a str, &'a str)>, Memory>
+    ensures { IfOk result (λ found.
+        MatchOption found ((first second : List ℕ) → ¬ AreTwoPositions (bytes_of words.now) first second)
+        (λ pair. AreTwoPositions (bytes_of words.now) pair.0.now pair.1.now)) }
+{
+    if !are_positions(words) {
+        return Ok(None);
+    }
+    match_two(alloc, words)
+}
+
+// Whether none of the words is written as an option.
+fn are_positions(words: &[String]) -> bool
+    ensures { IsTrue result ↔ All (λ w. ¬ IsOption (string_bytes w)) words.now }
+{
+    words.iter().all(|word| !is_option(word.as_str()))
+}
+
+// Whether a word is written as an option is: it begins with a dash.
+fn is_option(word: &str) -> bool
+    ensures { IsTrue result ↔ IsOption word.now }
+{
+    word.as_bytes().first() == Some(&b'-')
+}
+
+// The one of these words.
+fn match_one<'a>(alloc: Global, words: &'a [String]) -> Result<Option<&'a str>, Memory>
+    requires plain { All (λ w. ¬ IsOption w) (bytes_of words.now) }
+    ensures { IfOk result (λ found. MatchOption found (length (bytes_of words.now) ≢ 1)
+        (λ word. bytes_of words.now ≡ word.now ∷ [])) }
+{
+    match one_position(alloc)?.try_get_matches_from(words) {
+        Ok(matches) => Ok(Some(matches.get_str("first").unwrap())),
+        Err(error) => {
+            if ran_out(&error) {
+                Err(Memory)
+            } else {
+                Ok(None)
+            }
+        }
+    }
+}
+
+// The two of these words.
+fn match_two<'a>(alloc: Global, words: &'a [String]) -> Result<Option<(&'a str, &'a str)>, Memory>
+    requires plain { All (λ w. ¬ IsOption w) (bytes_of words.now) }
+    ensures { IfOk result (λ found. MatchOption found (length (bytes_of words.now) ≢ 2)
+        (λ pair. bytes_of words.now ≡ pair.0.now ∷ pair.1.now ∷ [])) }
+{
+    match two_positions(alloc)?.try_get_matches_from(words) {
+        Ok(matches) => {
+            let first = matches.get_str("first").unwrap();
+            let second = matches.get_str("second").unwrap();
+            Ok(Some((first, second)))
+        }
+        Err(error) => {
+            if ran_out(&error) {
+                Err(Memory)
+            } else {
+                Ok(None)
+            }
+        }
+    }
+}
+
+// Whether a parse failed for want of memory.
+fn ran_out(error: &Error) -> bool
+    ensures { IsTrue result ↔ kind_of error.now ≡ ErrorKind.OutOfMemory }
+{
+    error.kind() == ErrorKind::OutOfMemory
+}
+
+// A command of one position, without options.
+fn one_position<'a>(alloc: Global) -> Result<Command<'a>, AllocError>
+    ensures { IfOk result (λ c. app_of c ≡ one_position) }
+{
+    let first = Arg::new(alloc, "first").required(true);
+    Command::new(alloc, "command")
+        .no_binary_name(true)
+        .disable_help_flag(true)
+        .arg(first)
+}
+
+// A command of two positions, without options.
+fn two_positions<'a>(alloc: Global) -> Result<Command<'a>, AllocError>
+    ensures { IfOk result (λ c. app_of c ≡ two_positions) }
+{
+    let first = Arg::new(alloc, "first").required(true);
+    let second = Arg::new(alloc, "second").required(true);
+    Command::new(alloc, "command")
+        .no_binary_name(true)
+        .disable_help_flag(true)
+        .arg(first)?
+        .arg(second)
+}
