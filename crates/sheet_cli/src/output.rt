@@ -8,11 +8,10 @@ use crate::words::WindowCommand;
 use edge_patterns::Edge;
 use edit_log::graph_of;
 use graph_walk::{dependents, precedents};
-use range_index::GridIndex;
 use sheet_model::{Sheet, all_values};
 use sheet_refs::{Memory, Range};
 use std::alloc::Global;
-use taco_graph::{Taco, pair_count};
+use taco_graph::{SheetGraph, pair_count};
 use window_text::Printer;
 
 /// The whole text that a command writes of a window of the sheet.
@@ -36,7 +35,7 @@ pub(crate) fn window_output(
 fn dependents_of(alloc: Global, sheet: &Sheet, range: Range) -> Result<Vec<Range>, Memory>
     ensures { IfOk result (λ runs. AreDependents sheet.now range runs.items) }
 {
-    let graph = graph_of(alloc, Taco::<GridIndex>::new(alloc), sheet)?;
+    let graph = graph_of(alloc, SheetGraph::new(alloc), sheet)?;
     dependents(alloc, &graph, range)?.columns()
 }
 
@@ -44,7 +43,7 @@ fn dependents_of(alloc: Global, sheet: &Sheet, range: Range) -> Result<Vec<Range
 fn precedents_of(alloc: Global, sheet: &Sheet, range: Range) -> Result<Vec<Range>, Memory>
     ensures { IfOk result (λ runs. ArePrecedents sheet.now range runs.items) }
 {
-    let graph = graph_of(alloc, Taco::<GridIndex>::new(alloc), sheet)?;
+    let graph = graph_of(alloc, SheetGraph::new(alloc), sheet)?;
     precedents(alloc, &graph, range)?.columns()
 }
 
@@ -52,7 +51,7 @@ fn precedents_of(alloc: Global, sheet: &Sheet, range: Range) -> Result<Vec<Range
 pub(crate) fn check_output(alloc: Global, sheet: &Sheet) -> Result<Vec<u8>, Memory>
     ensures { IfOk result (λ text. ListsEdges sheet.now text.items) }
 {
-    let graph = graph_of(alloc, Taco::<GridIndex>::new(alloc), sheet)?;
+    let graph = graph_of(alloc, SheetGraph::new(alloc), sheet)?;
     edges_output(alloc, &graph.edges()?)
 }
 

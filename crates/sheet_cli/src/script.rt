@@ -15,12 +15,11 @@ use crate::reply::{MAX_SHEET, Reply, refusal};
 use edit_log::Book;
 use edit_script::{Mode, Script, ScriptRefused, Step, read_script};
 use play_machine::play;
-use range_index::GridIndex;
 use sheet_io::{Fetch, Shelf};
 use sheet_model::Sheet;
 use sheet_refs::Memory;
 use std::alloc::Global;
-use taco_graph::Taco;
+use taco_graph::SheetGraph;
 use window_text::{Printer, Report};
 
 /// The reply to `play` over a sheet, for which the script is fetched.
@@ -84,7 +83,7 @@ fn play_output(alloc: Global, sheet: Sheet, steps: &[Step]) -> Result<Vec<u8>, M
     requires { AreFit sheet steps.now }
     ensures { IfOk result (λ text. IsPlayed sheet steps.now text.items) }
 {
-    let book = Book::open(alloc, sheet, Taco::<GridIndex>::new(alloc))?;
+    let book = Book::open(alloc, sheet, SheetGraph::new(alloc))?;
     let (book, reports) = play(alloc, book, steps)?;
     reports_output(alloc, book.sheet(), &reports)
 }
