@@ -1,5 +1,4 @@
-use range_index::GridIndex;
-use taco_graph::Taco;
+use taco_graph::SheetGraph;
 
 /// The dependency graph under the book of a live sheet.
-pub type LiveGraph = Taco<GridIndex>;
+pub type LiveGraph = SheetGraph;

@@ -11,12 +11,11 @@ use crate::reply::Reply;
 use crate::texts::fetch_sheet;
 use crate::words::Asked;
 use edit_log::graph_of;
-use range_index::GridIndex;
 use sheet_io::Shelf;
 use sheet_model::Sheet;
 use sheet_refs::Memory;
 use std::alloc::Global;
-use taco_graph::Taco;
+use taco_graph::SheetGraph;
 
 /// What `check` and the words after it ask for.
 pub(crate) fn read_check(alloc: Global, words: &[String]) -> Result<Asked, Memory>
@@ -50,6 +49,6 @@ pub(crate) fn reply_of_check<F: Shelf>(
 fn check_output(alloc: Global, sheet: &Sheet) -> Result<Output, Memory>
     ensures { IfOk result (λ text. ListsEdges sheet.now text) }
 {
-    let graph = graph_of(alloc, Taco::<GridIndex>::new(alloc), sheet)?;
+    let graph = graph_of(alloc, SheetGraph::new(alloc), sheet)?;
     Output::of_edges(alloc, graph.edges()?)
 }

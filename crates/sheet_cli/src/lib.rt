@@ -10,7 +10,7 @@
 //!
 //! The words after a command's name are read with the kit's `clap`, once it is known that none of them is
 //! written as an option. Below stand `csv_sheet` and `edit_script`, which read sheets and scripts, `sheet_model`,
-//! which computes values, `edit_log`, `taco_graph` with `range_index` and `edge_patterns`, and `graph_walk`, by which
+//! which computes values, `edit_log`, `taco_graph` with `edge_patterns`, and `graph_walk`, by which
 //! edges, dependents and precedents are found, `play_machine`, which plays scripts, `window_text`, which prints, and
 //! `sheet_io`, through which all input and output goes; above stands the program's `main`.
 #![tactic(auto)]

@@ -11,14 +11,13 @@ ghost use Rattle.sheet_cli.specs.Outputs.{CanBePrinted, parts_text};
 
 use edge_patterns::Edge;
 use edit_log::Book;
-use range_index::GridIndex;
 use sheet_io::{Failed, Sink};
 use sheet_model::{Sheet, all_values};
 use sheet_refs::{Memory, Range};
 use sink_buffer::SinkBuffer;
 use std::alloc::Global;
 use std::marker::Model;
-use taco_graph::{Taco, pair_count};
+use taco_graph::{SheetGraph, pair_count};
 use window_text::{Printer, Report};
 
 /// What a text is printed of.
@@ -39,7 +38,7 @@ pub(crate) enum Parts {
     },
     /// The reports of a script, and the book that has the sheet with its labels.
     Reports {
-        book: Book<Taco<GridIndex>>,
+        book: Book<SheetGraph>,
         reports: Vec<Report>,
     },
 }
@@ -112,7 +111,7 @@ impl Output {
     /// The text of reports of a script, beside the labels of a book's sheet.
     pub(crate) fn of_reports(
         alloc: Global,
-        book: Book<Taco<GridIndex>>,
+        book: Book<SheetGraph>,
         reports: Vec<Report>,
     ) -> Result<Output, Memory>
         requires { All (λ report. IsFull report.board) reports.items }

@@ -11,11 +11,10 @@ use crate::words::Asked;
 use edit_log::Book;
 use edit_script::Step;
 use play_machine::play;
-use range_index::GridIndex;
 use sheet_model::Sheet;
 use sheet_refs::Memory;
 use std::alloc::Global;
-use taco_graph::Taco;
+use taco_graph::SheetGraph;
 
 /// What `play` and the words after it ask for.
 pub(crate) fn read_play(alloc: Global, words: &[String]) -> Result<Asked, Memory>
@@ -38,7 +37,7 @@ pub(crate) fn play_output(alloc: Global, sheet: Sheet, steps: &[Step]) -> Result
     requires { AreFit sheet steps.now }
     ensures { IfOk result (λ text. IsPlayed sheet steps.now text) }
 {
-    let book = Book::open(alloc, sheet, Taco::<GridIndex>::new(alloc))?;
+    let book = Book::open(alloc, sheet, SheetGraph::new(alloc))?;
     let (book, reports) = play(alloc, book, steps)?;
     Output::of_reports(alloc, book, reports)
 }

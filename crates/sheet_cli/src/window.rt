@@ -15,12 +15,11 @@ use crate::texts::fetch_sheet;
 use crate::words::Asked;
 use edit_log::graph_of;
 use graph_walk::{dependents, precedents};
-use range_index::GridIndex;
 use sheet_io::Shelf;
 use sheet_model::Sheet;
 use sheet_refs::{Memory, Range, range_of};
 use std::alloc::Global;
-use taco_graph::Taco;
+use taco_graph::SheetGraph;
 
 /// A command about a window of a sheet.
 #[derive(Clone, Copy)]
@@ -130,7 +129,7 @@ fn window_output(
 fn dependents_of(alloc: Global, sheet: &Sheet, range: Range) -> Result<Vec<Range>, Memory>
     ensures { IfOk result (λ runs. AreDependents sheet.now range runs.items) }
 {
-    let graph = graph_of(alloc, Taco::<GridIndex>::new(alloc), sheet)?;
+    let graph = graph_of(alloc, SheetGraph::new(alloc), sheet)?;
     dependents(alloc, &graph, range)?.columns()
 }
 
@@ -138,6 +137,6 @@ fn dependents_of(alloc: Global, sheet: &Sheet, range: Range) -> Result<Vec<Range
 fn precedents_of(alloc: Global, sheet: &Sheet, range: Range) -> Result<Vec<Range>, Memory>
     ensures { IfOk result (λ runs. ArePrecedents sheet.now range runs.items) }
 {
-    let graph = graph_of(alloc, Taco::<GridIndex>::new(alloc), sheet)?;
+    let graph = graph_of(alloc, SheetGraph::new(alloc), sheet)?;
     precedents(alloc, &graph, range)?.columns()
 }

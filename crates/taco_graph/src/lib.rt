@@ -12,7 +12,8 @@
 //! A query looks at the edges that an index names. A change takes the cell out of the edges that hold it and joins
 //! what is left and what comes with edges at the sides of its run (`specs/Sides.antt`).
 //!
-//! Below stand `sheet_refs`, `graph_walk` with the trait, `edge_patterns`, and `range_index` with the indexes.
+//! Below stand `sheet_refs`, `graph_walk` with the trait, `edge_patterns`, `range_index` with the trait of indexes, and
+//! `tree_index`, over which the program has its graph (`SheetGraph`).
 #![tactic(auto)]
 
 mod answers;

@@ -86,7 +86,7 @@ pub(crate) struct Side {
     asked: bool,
     whole: bool,
     // The place of the key that was found last. The ranges of like cells come in one order, and so do the keys of the
-    // edges that they join.
+    // edges that they join, where the keys stand by size: a slab gives edges that come one after another rising keys.
     next: usize,
 }
 
@@ -137,6 +137,7 @@ impl Side {
             Ok(()) => true,
             Err(_) => false,
         };
+        self.keys.sort_unstable();
     }
 
     // Among the keys that were listed, from the one that was found last on.

@@ -3,10 +3,11 @@
 use crate::Taco;
 use edge_patterns::{Edge, Pattern, back, join};
 use graph_walk::Graph;
-use range_index::{GridIndex, ListIndex, RangeIndex};
+use range_index::{ListIndex, RangeIndex};
 use sheet_refs::{Cell, Memory, Range, Refs};
 use std::alloc::Global;
 use std::test::Fail;
+use tree_index::TreeIndex;
 
 // An index whose queries want memory, always, after they have answered.
 #[derive(Drop)]
@@ -208,7 +209,7 @@ fn walk<I: RangeIndex + Drop>(alloc: Global, changes: u32, first: u32) -> Result
 
 #[test]
 fn no_two_edges_can_be_joined(rt: HostRuntime) -> Result<(), Fail> {
-    assert!(rt; walk::<GridIndex>(rt.alloc(), 5000, 1)?);
+    assert!(rt; walk::<TreeIndex>(rt.alloc(), 5000, 1)?);
     Ok(())
 }
 

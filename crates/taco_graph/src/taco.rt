@@ -11,10 +11,11 @@ use crate::order::sort_edges;
 use crate::store::EdgeStore;
 use edge_patterns::Edge;
 use graph_walk::Graph;
-use range_index::{GridIndex, RangeIndex};
+use range_index::RangeIndex;
 use sheet_refs::{Cell, Memory, Range, Refs};
 use std::alloc::Global;
 use std::marker::Model;
+use tree_index::TreeIndex;
 
 /// The most ranges to which one cell refers.
 const MOST_REFS: u32 = 255;
@@ -35,7 +36,7 @@ pub struct Taco<I: RangeIndex> {
 }
 
 /// The graph on which the program's commands and the edits of a sheet stand, over the index that is chosen for them.
-pub type SheetGraph = Taco<GridIndex>;
+pub type SheetGraph = Taco<TreeIndex>;
 
 impl<I: RangeIndex> Model for Taco<I> {
     ghost use Rattle.std.specs.Prelude.{◌*◌};

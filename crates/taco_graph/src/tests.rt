@@ -1,22 +1,19 @@
 // What no clause says: which edges are joined, and that calls succeed where memory is ample. The expected edges were
 // worked out by hand.
-use crate::Taco;
+use crate::SheetGraph;
 use edge_patterns::Pattern;
 use graph_walk::Graph;
-use range_index::GridIndex;
 use sheet_refs::{Cell, Range, Refs};
 use std::alloc::Global;
 use std::fmt::Write;
 use std::test::Fail;
-
-type Compressed = Taco<GridIndex>;
 
 fn at(row: u32, col: u32) -> Result<Cell, Fail> {
     Ok(Cell::new(row, col).ok_or("no cell")?)
 }
 
 // A cell refers to this range alone now.
-fn refer(alloc: Global, graph: &mut Compressed, cell: Cell, range: Range) -> Result<(), Fail> {
+fn refer(alloc: Global, graph: &mut SheetGraph, cell: Cell, range: Range) -> Result<(), Fail> {
     let refs = Refs::of(alloc, &[range])?;
     graph.reserve(1)?;
     graph.replace(cell, &refs);
@@ -24,7 +21,7 @@ fn refer(alloc: Global, graph: &mut Compressed, cell: Cell, range: Range) -> Res
 }
 
 // A cell refers to nothing now.
-fn clear(alloc: Global, graph: &mut Compressed, cell: Cell) -> Result<(), Fail> {
+fn clear(alloc: Global, graph: &mut SheetGraph, cell: Cell) -> Result<(), Fail> {
     let refs = Refs::of(alloc, &[])?;
     graph.reserve(1)?;
     graph.replace(cell, &refs);
@@ -42,7 +39,7 @@ fn name_of(pattern: Pattern) -> &'static str {
     }
 }
 
-fn shown(alloc: Global, graph: &Compressed) -> Result<String, Fail> {
+fn shown(alloc: Global, graph: &SheetGraph) -> Result<String, Fail> {
     let mut text = String::new(alloc);
     for edge in &graph.edges()? {
         let (dep, prec) = (edge.dep(), edge.prec());
@@ -64,7 +61,7 @@ fn growing_sums_are_one_edge(rt: HostRuntime) -> Result<(), Fail> {
 }
 
 // Each cell refers to the one above it.
-fn chain(alloc: Global) -> Result<Compressed, Fail> {
+fn chain(alloc: Global) -> Result<SheetGraph, Fail> {
     let mut graph = Taco::new(alloc);
     for row in 2..12 {
         let above = at(row - 1, 1)?;
@@ -115,7 +112,7 @@ fn row_at(order: u32, step: u32) -> u32 {
 }
 
 // In a row, A refers to the cell above it, B to column A down to the row, and D to A and B.
-fn fill_row(alloc: Global, graph: &mut Compressed, row: u32) -> Result<(), Fail> {
+fn fill_row(alloc: Global, graph: &mut SheetGraph, row: u32) -> Result<(), Fail> {
     let left = at(row, 1)?;
     if row > 1 {
         let above = at(row - 1, 1)?;

@@ -14,7 +14,7 @@ use Rattle.tree_index.proofs.RectangleLemmas.{covers_more}
 use Rattle.tree_index.proofs.ShapeLemmas.{link_cases, listed_in, same_level}
 use Rattle.tree_index.proofs.WayLemmas.{range_rest}
 
-module _ (old new : Tree) (key place : ℕ) (range wide : Corners) (tree : HoldTree old) (inside : IsInner old key) (has : Admits (node_at old) key range) (below : HasPlaceBelow old key place)
+module _ (old new : Tree) (key place : ℕ) (range wide : Corners) (tree : HoldTree old) (inside : IsInner old key) (has : Admits (node_at old) key range)
     (child : Entry) (child_is : child_of old key place ≡ Some child) (sets : SetsRange old new key place wide) (first : Covers wide child.range) (second : Covers wide range) (least : IsSpan child.range range wide) where
   same_child : sets.child ≡ child
   same_child = some_same sets.child child (sym sets.here ∙ ap (λ (o : Option Node). child_in o place) (sym sets.there) ∙ child_is)
@@ -37,8 +37,8 @@ module _ (old new : Tree) (key place : ℕ) (range wide : Corners) (tree : HoldT
       subst (λ (c : Entry). Covers rectangle c.range) same_child (over.covers sets.child (listed_in (node_at old key) sets.node over.node sets.child sets.there over.there (listed_at sets.node.children place sets.child sets.here))))
       (has parent rectangle link))
 
-  pub place_below : HasPlace new child.id
-  place_below =
+  pub place_below : HasPlaceBelow old key place → HasPlace new child.id
+  place_below below =
       let same : below.child ≡ child = some_same below.child child (sym below.here ∙ child_is) in
       let id : below.child.id ≡ child.id = ap (λ (e : Entry). e.id) same in
       record { node = below.room.node; there = sets.set.nodes.others child.id differs ∙ ap (node_at old) (sym id) ∙ below.room.there; few = below.room.few }

@@ -4,7 +4,7 @@ use Rattle.std.specs.List.{IsDistinct}
 use Rattle.std.specs.Map.{lookup, keys_of}
 use Rattle.sheet_refs.specs.Cells.{Corners}
 use Rattle.std.specs.Prelude.{slice_index_or, slice_set}
-use Rattle.range_index.specs.Entries.{Entry, entry_of, ChangesRange, HasNoId, HaveOneRange, Inserts, Removes, SameEntries}
+use Rattle.range_index.specs.Entries.{Entry, entry_of, ChangesRange, HasId, HasNoId, HaveOneRange, Inserts, Removes, SameEntries}
 use Rattle.tree_index.specs.declared.notes.Place.{Place}
 use Rattle.tree_index.specs.declared.nodes.Tree.{Tree}
 use Rattle.tree_index.specs.Rectangles.{CoverAll}
@@ -128,3 +128,15 @@ inserts_on a b c id range same inserts e = (
 
 pub removes_on : (a b c : List Entry) (id : ℕ) → Removes a b id → SameEntries b c → Removes a c id
 removes_on a b c id removes same e = ((λ listed. (removes e).0 ((same e).0 listed)), (λ kept. (same e).1 ((removes e).1 kept)))
+
+pub has_on : (a b : List Entry) (id : ℕ) → SameEntries a b → HasId a id → HasId b id
+has_on a b id same has = record { range = has.range; listed = (same (entry_of id has.range)).1 has.listed }
+
+pub changes_on : (a b c : List Entry) (id : ℕ) (range : Corners) → SameEntries a b → ChangesRange b c id range → ChangesRange a c id range
+changes_on a b c id range same changes e = (
+  λ listed. elim ((changes e).0 listed) [ inl kept ↦ inl (kept.0, (same e).0 kept.1) | inr is ↦ inr is ],
+  λ either. (changes e).1 (elim either [ inl kept ↦ inl (kept.0, (same e).1 kept.1) | inr is ↦ inr is ]),
+)
+
+pub changed_on : (a b c : List Entry) (id : ℕ) (range : Corners) → ChangesRange a b id range → SameEntries b c → ChangesRange a c id range
+changed_on a b c id range changes same e = ((λ listed. (changes e).0 ((same e).0 listed)), (λ either. (same e).1 ((changes e).1 either)))

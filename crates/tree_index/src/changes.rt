@@ -5,9 +5,11 @@ ghost use Rattle.tree_index.specs.declared.notes.Place.TheVariants.{Leaf};
 ghost use Rattle.tree_index.specs.Indexes.{HoldTree, entries_in, room_of, node_at};
 ghost use Rattle.tree_index.specs.Changes.{Rearranges, Admits, IsNotedAt, note_at, place_noted};
 
+use crate::choices::stays;
 use crate::node::TOP;
 use crate::nodes::Tree;
 use crate::notes::Place;
+use crate::rectangles::covers;
 use sheet_refs::{Memory, Range};
 
 /// How many nodes are made ready for so many inserts; what finds no node waits for the next `reserve`.
@@ -96,23 +98,67 @@ impl Tree {
         }
     }
 
-    // The leaf of an id, where its rectangle has a range.
-    fn leaf_that_admits(&self, id: usize, range: Range) -> Option<usize>
-        requires { HoldTree self.now }
-        ensures noted { IfSome result (λ leaf. IsNotedAt self.now id (Leaf leaf)) }
-        ensures admits { IfSome result (λ leaf. Admits (node_at self.now) leaf range) }
+    // The range of an id that stands in a leaf, and the leaf.
+    fn leaf_of(&self, id: usize) -> Option<(usize, Range)>
+        ensures { IfSome result (λ found. IsNotedAt self.now id (Leaf found.0)) }
     {
-        let Some(Place::Leaf(leaf)) = self.stands(id) else {
+        let Some(note) = self.notes.get(&id) else {
             return None;
         };
-        if self.admits(leaf, range) {
-            Some(leaf)
+        match note.place {
+            Place::Leaf(leaf) => Some((leaf, note.range)),
+            Place::Late => None,
+        }
+    }
+
+    // The leaf of an id where the id is to stay there with a range, which the leaf's rectangle has then, and whether
+    // the range before it has cells that it lacks.
+    fn leaf_in_reach(&mut self, id: usize, range: Range) -> Option<(usize, bool)>
+        requires { HoldTree self.old }
+        ensures rest { Rearranges self.old self.new }
+        ensures noted { IfSome result (λ found. IsNotedAt self.new id (Leaf found.0)) }
+        ensures admits { IfSome result (λ found. Admits (node_at self.new) found.0 range) }
+    {
+        let Some((leaf, before)) = self.leaf_of(id) else {
+            return None;
+        };
+        if !stays(before, range) {
+            return None;
+        }
+        if self.widen(TOP + 1, leaf, range) {
+            Some((leaf, !covers(range, before)))
         } else {
             None
         }
     }
 
-    /// Gives an id another range: in its leaf, where the leaf's rectangle has it.
+    // Gives an id another range in its leaf, whose rectangle has it, and makes the rectangles as small as they can be.
+    fn shrink_in_leaf(&mut self, leaf: usize, id: usize, range: Range)
+        requires tree { HoldTree self.old }
+        requires there { IsNotedAt self.old id (Leaf leaf) }
+        requires admits { Admits (node_at self.old) leaf range }
+        ensures tree { HoldTree self.new }
+        ensures changed { ChangesRange (entries_in self.old) (entries_in self.new) id range }
+        ensures room { room_of self.old ≤ room_of self.new }
+    {
+        self.change_in_leaf(leaf, id, range);
+        self.mend(leaf);
+    }
+
+    // Gives an id another range, for which it is taken out and put in again.
+    fn replace(&mut self, id: usize, range: Range)
+        requires tree { HoldTree self.old }
+        requires there { HasId (entries_in self.old) id }
+        requires room { 1 ≤ room_of self.old }
+        ensures tree { HoldTree self.new }
+        ensures changed { ChangesRange (entries_in self.old) (entries_in self.new) id range }
+        ensures room { room_of self.old ≤ room_of self.new + 1 }
+    {
+        self.take_out(id);
+        self.add(id, range);
+    }
+
+    /// Gives an id another range: in its leaf, if the range is near the one before, and else wherever it fits.
     pub(crate) fn change(&mut self, id: usize, range: Range)
         requires tree { HoldTree self.old }
         requires there { HasId (entries_in self.old) id }
@@ -121,12 +167,14 @@ impl Tree {
         ensures changed { ChangesRange (entries_in self.old) (entries_in self.new) id range }
         ensures room { room_of self.old ≤ room_of self.new + 1 }
     {
-        match self.leaf_that_admits(id, range) {
-            Some(leaf) => self.change_in_leaf(leaf, id, range),
-            None => {
-                self.take_out(id);
-                self.add(id, range);
-            }
+        let Some((leaf, shrinks)) = self.leaf_in_reach(id, range) else {
+            self.replace(id, range);
+            return;
+        };
+        if shrinks {
+            self.shrink_in_leaf(leaf, id, range);
+        } else {
+            self.change_in_leaf(leaf, id, range);
         }
     }
 

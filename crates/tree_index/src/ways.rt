@@ -1,5 +1,5 @@
 // The way down to a leaf.
-ghost use Rattle.std.specs.Prelude.{◌≡◌, ◌<◌, IfSome};
+ghost use Rattle.std.specs.Prelude.{◌≡◌, ◌<◌, IsTrue, IfSome};
 ghost use Rattle.tree_index.specs.Indexes.{HoldTree, node_at};
 ghost use Rattle.tree_index.specs.Changes.{Rearranges, Admits, HasPlace, HasPlaceBelow, IsInner, TakesIn};
 
@@ -121,6 +121,61 @@ impl Tree {
         };
         self.set_range(key, place, span(child.range, range));
         Some(child.id)
+    }
+
+    // Whether a node is there, above the leaves.
+    fn is_inner(&self, key: usize) -> bool
+        ensures { IsTrue result → IsInner self.now key }
+    {
+        match self.nodes.get(key) {
+            Some(node) => node.level > 0,
+            None => false,
+        }
+    }
+
+    // Widens the rectangle of the child under a key, if it is at a place of a node, so that it has a range, which the
+    // node's own has; whether it is there.
+    fn widen_child(&mut self, above: usize, place: usize, key: usize, range: Range) -> bool
+        requires tree { HoldTree self.old }
+        requires admits { Admits (node_at self.old) above range }
+        ensures rest { Rearranges self.old self.new }
+        ensures notes { self.new.notes ≡ self.old.notes }
+        ensures admits { IsTrue result → Admits (node_at self.new) key range }
+    {
+        if !self.is_inner(above) {
+            return false;
+        }
+        let Some(child) = self.child_at(above, place) else {
+            return false;
+        };
+        if child.id != key {
+            return false;
+        }
+        self.set_range(above, place, span(child.range, range));
+        true
+    }
+
+    /// Widens the rectangle of a node so that it has a range, and those above it first, up to so many levels; whether
+    /// it has the range.
+    pub(crate) fn widen(&mut self, levels: u32, key: usize, range: Range) -> bool
+        requires tree { HoldTree self.old }
+        ensures rest { Rearranges self.old self.new }
+        ensures notes { self.new.notes ≡ self.old.notes }
+        ensures admits { IsTrue result → Admits (node_at self.new) key range }
+    {
+        if self.admits(key, range) {
+            return true;
+        }
+        if levels == 0 {
+            return false;
+        }
+        let Some((above, place)) = self.place_above(key) else {
+            return false;
+        };
+        if !self.widen(levels - 1, above, range) {
+            return false;
+        }
+        self.widen_child(above, place, key, range)
     }
 
     /// A leaf with room whose rectangle has a range, where nodes suffice.
