@@ -1,5 +1,5 @@
 -- What a look reads and shows.
-use Rattle.std.specs.Prelude.{◌≡◌, ◌≢◌, ◌<◌, ◌≤◌, ◌+◌, ◌==◌, ℕ, List, [], ◌∷◌, ◌++◌, Some, None, if◌then◌else◌, map, flat_map}
+use Rattle.std.specs.Prelude.{◌≡◌, ◌≢◌, ◌<◌, ◌≤◌, ◌+◌, ◌==◌, ℕ, List, [], ◌∷◌, ◌++◌, Some, None, if◌then◌else◌, length, map, flat_map}
 use Rattle.sheet_refs.specs.Cells.{Position, Corners, cells_of}
 use Rattle.sheet_refs.specs.Sizes.{place_of}
 use Rattle.sheet_refs.specs.declared.sizes.Sizes.{Sizes}
@@ -10,7 +10,7 @@ use Rattle.mark_core.specs.declared.words.Known.{Known}
 use Rattle.mark_core.specs.View.{floor_of, with_count}
 use Rattle.mark_core.specs.declared.subjects.Subject.{Ghosts}
 use Rattle.mark_words.specs.declared.seats.Seat.{Seat}
-use Rattle.mark_words.specs.Token.{doing_of, view_of, seen_of, own_steps}
+use Rattle.mark_words.specs.Token.{doing_of, view_of, log_of, seen_of, own_steps}
 use Rattle.mark_words.specs.Words.{word_of_clean}
 use Rattle.sheet_model.specs.Boards.{BoardValue}
 use Rattle.sheet_model.specs.declared.board.Shown.{Shown}
@@ -86,9 +86,11 @@ pub record HasReadCells {S E : Type 0} {G : Ghosts S E} (sizes : Sizes) (number 
   pub are_shown : AreShown number reads shown
 
 -- A look from one moment of a seat to another: one see, whose count is the number, and then a read of each cell of the
--- window, row by row, by three loads, each with the number. The number isn't below what the seat had seen.
+-- window, row by row, by three loads, each with the number. The number isn't below what the seat had seen, nor below the
+-- length of the log that it knew.
 pub record HasLooked {S E : Type 0} {G : Ghosts S E} (sizes : Sizes) (window : Corners) (old new : Seat S E G) (board : BoardValue) : Type 0 where
   pub covers : seen_of old ≤ board.number
+  pub told : length (log_of old) ≤ board.number
   pub window_is : board.window ≡ window
   pub reads : List (Position × Loads)
   pub of_cells : map (λ read. read.0) reads ≡ cells_of window
