@@ -17,4 +17,5 @@ pub mod PassLemmas
 pub mod PlanLemmas
 pub mod RangeLemmas
 pub mod RefusalLemmas
+pub mod Sent
 pub mod StaleLemmas

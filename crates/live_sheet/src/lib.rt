@@ -50,6 +50,7 @@ mod setting_up;
 mod settled;
 mod settling;
 mod setup;
+mod sharing;
 mod stale;
 mod telling;
 #[cfg(test)]
@@ -68,3 +69,4 @@ pub use naming::Naming;
 pub use opened::Opened;
 pub use pass::Pass;
 pub use setup::Setup;
+pub use sharing::{desks_cross, live_crosses, passes_cross};

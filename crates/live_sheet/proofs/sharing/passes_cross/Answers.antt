@@ -1,0 +1,5 @@
+use Rattle.live_sheet.proofs.Sent.{pass_send}
+use Rattle.live_sheet.proofs.sharing.passes_cross.Goals as goal
+
+pub returns : goal.returns
+returns g c = pass_send _ g.N.Naming g.N.Ledger c.type_bounds.send-N c.type_bounds.sync-N c.entries_cross.ensures.send

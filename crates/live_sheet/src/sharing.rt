@@ -1,0 +1,57 @@
+ghost use Rattle.std.specs.Thread.{IsSend, IsSync};
+ghost use Rattle.live_sheet.specs.contracts.desk.Desk.{the_row as desk_row};
+ghost use Rattle.live_sheet.specs.contracts.live.Live.{the_row as live_row};
+ghost use Rattle.live_sheet.specs.contracts.locked.Locked.{the_row as locked_row};
+ghost use Rattle.live_sheet.specs.contracts.pass.Pass.{the_row as pass_row};
+
+use crate::crossing::entries_cross;
+use crate::graph::LiveGraph;
+use crate::naming::Naming;
+use edit_log::{OverSheet, book_crosses};
+use mark_words::Marks;
+use recalc_workers::Jobs;
+use std::alloc::Global;
+use std::marker::PhantomData;
+
+// A type that threads may share is one by its values.
+fn may_be_shared<T: Sync>()
+    ensures { IsSync T.row }
+{}
+
+/// A pass may go to another thread. The search that proves this of a thread's closure doesn't find it by itself: a function
+/// that hands passes to threads calls this first. So it is of a desk, and of a live sheet that threads share.
+pub fn passes_cross<N: Naming + Send + Sync>()
+    ensures { IsSend (pass_row N.row (record { words = N.words; queue = N.queue; opening = N.opening; clients = N.clients })
+        (record { name = N.name; parts = N.parts })) }
+{
+    entries_cross();
+}
+
+/// A desk may go to another thread.
+pub fn desks_cross<N: Naming + Send + Sync>()
+    ensures { IsSend (desk_row N.row (record { words = N.words; queue = N.queue; opening = N.opening; clients = N.clients })
+        (record { name = N.name; parts = N.parts })) }
+{
+    entries_cross();
+}
+
+// What lies behind the lock may go to another thread.
+fn locked_crosses<N: Naming + Send + Sync>()
+    ensures { IsSend (locked_row N.row (record { words = N.words; queue = N.queue; opening = N.opening; clients = N.clients })
+        (record { name = N.name; parts = N.parts })) }
+{
+    entries_cross();
+    book_crosses::<LiveGraph>();
+}
+
+/// Threads may share a live sheet.
+pub fn live_crosses<N: Naming + Send + Sync>()
+    ensures { IsSync (live_row N.row (record { words = N.words; queue = N.queue; opening = N.opening; clients = N.clients })
+        (record { name = N.name; parts = N.parts })) }
+{
+    may_be_shared::<Marks<OverSheet>>();
+    may_be_shared::<Jobs>();
+    may_be_shared::<Global>();
+    may_be_shared::<PhantomData<N>>();
+    locked_crosses::<N>();
+}
