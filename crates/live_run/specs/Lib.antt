@@ -1,0 +1,7 @@
+pub mod Client
+pub mod Legal
+pub mod Orders
+pub mod Parts
+pub mod Runs
+pub mod Tasks
+pub mod Told

@@ -1,0 +1,103 @@
+ghost use Rattle.std.specs.Prelude.{◌≡◌, length, All};
+ghost use Rattle.std.specs.Thread.{IsSync};
+ghost use Rattle.live_run.specs.Client.{Begins};
+ghost use Rattle.live_run.specs.Tasks.{AllEnd, IsEndOf};
+
+use crate::client::{Client, run_client};
+use crate::sharing::clients_cross;
+use crate::workers::work_on;
+use live_sheet::{Desk, Live, Naming, desks_cross, live_crosses};
+use recalc_workers::Gate;
+use std::sync::Wait;
+use std::sync::atomic::{AtomicU64, Ordering};
+use std::thread::{Threads, for_each_mut, join};
+
+/// Runs the client's commands; then one client less is left.
+fn run_and_leave<N: Naming, R: Threads + Wait + Sync, T: Gate + Sync>(
+    rt: &R,
+    live: &Live<N>,
+    left: &AtomicU64,
+    task: &mut Client<N>,
+    gate: &T,
+)
+    requires { Begins N.opening task.old }
+    ensures { IsEndOf N.opening task.old task.new }
+{
+    run_client(rt, live, gate, task);
+    let _ = left.fetch_sub(1, Ordering::SeqCst);
+}
+
+/// Runs all clients side by side, each in a task of its own.
+fn run_clients<N: Naming + Send + Sync, R: Threads + Wait + Sync, T: Gate + Sync>(
+    rt: &R,
+    live: &Live<N>,
+    left: &AtomicU64,
+    tasks: Vec<Client<N>>,
+    gate: &T,
+) -> Vec<Client<N>>
+    requires { All (Begins N.opening) tasks.items }
+    ensures { AllEnd N.opening tasks.items result.items }
+{
+    live_crosses::<N>();
+    clients_cross::<N>();
+    let mut tasks = tasks;
+    let threads = tasks.len().max(1);
+    for_each_mut(
+        rt,
+        &mut tasks,
+        threads,
+        &|_: usize, task: &mut Client<N>|
+            requires { IsSync R.row × Begins N.opening task.now }
+            ensures { IsEndOf N.opening task.entry.now task.exit.now }
+        { run_and_leave(rt, live, left, task, gate) },
+    );
+    tasks
+}
+
+/// Works at all desks side by side, at each in a task of its own.
+fn work_at_desks<N: Naming + Send + Sync, R: Threads + Wait + Sync, T: Gate + Sync>(
+    rt: &R,
+    live: &Live<N>,
+    left: &AtomicU64,
+    desks: Vec<Desk<N>>,
+    gate: &T,
+) -> Vec<Desk<N>> {
+    live_crosses::<N>();
+    desks_cross::<N>();
+    let mut desks = desks;
+    let threads = desks.len().max(1);
+    for_each_mut(
+        rt,
+        &mut desks,
+        threads,
+        &|_: usize, desk: &mut Desk<N>| { work_on(rt, live, left, desk, gate) },
+    );
+    desks
+}
+
+/// Runs all clients, and works at all desks beside them, until all have come to their end.
+pub(crate) fn run_all<N: Naming + Send + Sync, R: Threads + Wait + Sync, T: Gate + Sync>(
+    rt: &R,
+    live: &Live<N>,
+    tasks: Vec<Client<N>>,
+    desks: Vec<Desk<N>>,
+    gate: &T,
+) -> (Vec<Desk<N>>, Vec<Client<N>>)
+    requires { All (Begins N.opening) tasks.items }
+    ensures { AllEnd N.opening tasks.items result.1.items }
+{
+    live_crosses::<N>();
+    desks_cross::<N>();
+    let left = AtomicU64::new(tasks.len() as u64);
+    let left = &left;
+    join(
+        rt,
+        || -> Vec<Desk<N>>
+            requires { IsSync R.row }
+        { work_at_desks(rt, live, left, desks, gate) },
+        || -> Vec<Client<N>>
+            requires { IsSync R.row × All (Begins N.opening) tasks.items }
+            ensures { AllEnd N.opening tasks.items result.items }
+        { run_clients(rt, live, left, tasks, gate) },
+    )
+}
