@@ -1,6 +1,7 @@
 pub mod AddLemmas
 pub mod ClientSent
 pub mod CommandLemmas
+pub mod CoverLemmas
 pub mod EndLemmas
 pub mod FollowLemmas
 pub mod GrowLemmas

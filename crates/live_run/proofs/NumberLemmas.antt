@@ -11,20 +11,20 @@ use Rattle.sheet_model.specs.declared.entry.Entry.{Entry}
 use Rattle.live_run.specs.Legal.{edits_by, numbers_from, numbers_by}
 
 module _ (client : ℕ) where
-  abbrev own : List Entry → List Entry
+  abbrev pub own : List Entry → List Entry
   own log = filter (λ (entry : Entry). entry.client == client) log
 
-  own_first : (entry : Entry) (log : List Entry) → entry.client ≡ client → own (entry ∷ log) ≡ entry ∷ own log
+  pub own_first : (entry : Entry) (log : List Entry) → entry.client ≡ client → own (entry ∷ log) ≡ entry ∷ own log
   own_first entry log is = cond-true (entry.client == client) (entry ∷ own log) (own log) (eq-eqb entry.client client is)
 
-  own_later : (entry : Entry) (log : List Entry) → (entry.client ≡ client → ⊥) → own (entry ∷ log) ≡ own log
+  pub own_later : (entry : Entry) (log : List Entry) → (entry.client ≡ client → ⊥) → own (entry ∷ log) ≡ own log
   own_later entry log other = cond-false (entry.client == client) (entry ∷ own log) (own log) (ne_eqb entry.client client other)
 
-  number_first : (first : ℕ) (entry : Entry) (log : List Entry) → entry.client ≡ client → numbers_from first client (entry ∷ log) ≡ first ∷ numbers_from (first + 1) client log
+  pub number_first : (first : ℕ) (entry : Entry) (log : List Entry) → entry.client ≡ client → numbers_from first client (entry ∷ log) ≡ first ∷ numbers_from (first + 1) client log
   number_first first entry log is =
       cond-true (entry.client == client) (first ∷ numbers_from (first + 1) client log) (numbers_from (first + 1) client log) (eq-eqb entry.client client is)
 
-  number_later : (first : ℕ) (entry : Entry) (log : List Entry) → (entry.client ≡ client → ⊥) → numbers_from first client (entry ∷ log) ≡ numbers_from (first + 1) client log
+  pub number_later : (first : ℕ) (entry : Entry) (log : List Entry) → (entry.client ≡ client → ⊥) → numbers_from first client (entry ∷ log) ≡ numbers_from (first + 1) client log
   number_later first entry log other =
       cond-false (entry.client == client) (first ∷ numbers_from (first + 1) client log) (numbers_from (first + 1) client log) (ne_eqb entry.client client other)
 

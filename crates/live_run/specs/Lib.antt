@@ -1,4 +1,5 @@
 pub mod Client
+pub mod Laws
 pub mod Legal
 pub mod Orders
 pub mod Parts

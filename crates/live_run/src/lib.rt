@@ -17,6 +17,7 @@ mod boards;
 mod client;
 mod cut;
 mod ended;
+mod laws;
 mod order;
 mod ordering;
 mod part;
@@ -28,4 +29,5 @@ mod sharing;
 mod tasks;
 mod workers;
 
+pub use laws::legal_laws;
 pub use run::run_live;
