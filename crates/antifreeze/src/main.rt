@@ -5,6 +5,7 @@
 //! `sheet_cli`, and `sheet_io`, through which all input and output goes.
 #![tactic(auto)]
 
+use recalc_workers::OpenGate;
 use sheet_cli::{no_memory, run};
 use sheet_io::{FileShelf, StreamSink};
 use sheet_refs::Memory;
@@ -16,7 +17,7 @@ fn main(rt: HostRuntime) -> ExitCode {
     let mut out = StreamSink::new(rt.stdout());
     let mut notes = StreamSink::new(rt.stderr());
     let status = match command_words(&rt) {
-        Ok(words) => run(rt.alloc(), &words, &mut shelf, &mut out, &mut notes),
+        Ok(words) => run(&rt, rt.alloc(), &words, &mut shelf, &mut out, &mut notes, &OpenGate),
         Err(Memory) => no_memory(&mut notes),
     };
     ExitCode::from(status)

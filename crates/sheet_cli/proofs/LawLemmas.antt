@@ -6,18 +6,19 @@ use Rattle.std.specs.Fmt.{decimal}
 use Rattle.std.specs.Io.KnownBytes.{Appends}
 use Rattle.window_text.specs.Texts.{check_text, count_line, edge_line}
 use Rattle.edge_patterns.specs.Edges.{EdgeValue}
-use Rattle.sheet_cli.specs.Answers.{HasGivenSheet, status_of}
+use Rattle.sheet_cli.specs.Answers.{HasGivenSheet, IsLived, status_of}
 use Rattle.sheet_cli.specs.Answers.Answer.{output, refusal}
-use Rattle.sheet_cli.specs.Laws.{AreChecks, CalmLineIsWhole, ChecksHaveOneCount, DueIsNamed, LineIsTakenFromItsFront, NoOutputAndRefusal, OneOutput, OneRefusal, TellsOfCheck, TellsOfPlay, TellsOfWindow, UnfetchedOfCheck, UnfetchedOfPlay, UnfetchedOfWindow}
+use Rattle.sheet_cli.specs.Laws.{AreChecks, AreLives, CalmLineIsWhole, ChecksHaveOneCount, DueIsNamed, LineIsTakenFromItsFront, LivesHaveOneScript, NoOutputAndRefusal, OneOutput, OneRefusal, TellsOfCheck, TellsOfLive, TellsOfPlay, TellsOfWindow, UnfetchedOfCheck, UnfetchedOfLive, UnfetchedOfPlay, UnfetchedOfWindow}
 use Rattle.sheet_cli.specs.Lines.{read_failed_line}
 use Rattle.sheet_cli.specs.Requests.{Request, texts_named}
+use Rattle.sheet_cli.specs.Runs.{IsUnfetched}
 use Rattle.sheet_cli.specs.Requests.Request.{of_window, of_check, of_script}
 use Rattle.sheet_cli.specs.Words.{Asks, command_word}
-use Rattle.sheet_cli.specs.Words.Asks.{asks_of_window, asks_check, asks_play}
-use Rattle.sheet_cli.specs.declared.script.ScriptCommand.TheVariants.{Play}
+use Rattle.sheet_cli.specs.Words.Asks.{asks_of_window, asks_check, asks_live, asks_play}
+use Rattle.sheet_cli.specs.declared.script.ScriptCommand.TheVariants.{Live, Play}
 use Rattle.sheet_cli.specs.declared.window.WindowCommand.{WindowCommand}
 use Rattle.sheet_cli.proofs.OneAnswer.{not_refused, one_answer}
-use Rattle.sheet_cli.proofs.WordLemmas.{behind_check, behind_play, behind_window}
+use Rattle.sheet_cli.proofs.WordLemmas.{behind_check, behind_play, behind_window, one_request}
 
 -- ---- what words name
 
@@ -40,6 +41,9 @@ play_names sheet script request asked =
     let also : asks.script ≡ script = cc asks.positions.words_are in
     ap texts_named asks.request_is ∙ (λ i. same i ∷ also i ∷ [])
 
+pub live_names : (words : List (List ℕ)) (workers : ℕ) (sheet script : List ℕ) (request : Request) → Asks words (of_script (Live workers) sheet script) → Asks words request → texts_named request ≡ sheet ∷ script ∷ []
+live_names words workers sheet script request asked other = ap texts_named (one_request words request (of_script (Live workers) sheet script) other asked)
+
 abbrev IsTold : (List ℕ → Option (List ℕ)) → List ℕ → Type 0
 IsTold holds name = (text : List ℕ) × (holds name ≡ Some text)
 
@@ -61,6 +65,10 @@ tells_check sheet text holds here request asked = subst (All (IsTold holds)) (sy
 pub tells_play : TellsOfPlay
 tells_play sheet script text steps holds here there request asked =
     subst (All (IsTold holds)) (sym (play_names sheet script request asked)) (two_told holds sheet script text steps here there)
+
+pub tells_live : TellsOfLive
+tells_live words workers sheet script text steps holds asked here there request other =
+    subst (All (IsTold holds)) (sym (live_names words workers sheet script request asked other)) (two_told holds sheet script text steps here there)
 
 -- ---- what is due
 
@@ -86,12 +94,19 @@ pub unfetched_check : UnfetchedOfCheck
 unfetched_check sheet holds line missed =
     sym missed.noted ∙ ap read_failed_line (only_name missed.due.before missed.due.after missed.name sheet (sym (check_names sheet missed.request missed.asked) ∙ missed.due.named))
 
-pub unfetched_play : UnfetchedOfPlay
-unfetched_play sheet script holds line missed =
-    elim (either_name missed.due.before missed.due.after missed.name sheet script (sym (play_names sheet script missed.request missed.asked) ∙ missed.due.named)) [
+-- of two texts
+unfetched_two : (words : List (List ℕ)) (sheet script : List ℕ) (holds : List ℕ → Option (List ℕ)) (line : List ℕ) → (missed : IsUnfetched words holds (λ noted. noted ≡ line)) → texts_named missed.request ≡ sheet ∷ script ∷ [] → (line ≡ read_failed_line sheet) ⊎ ((line ≡ read_failed_line script) × HasGivenSheet holds sheet)
+unfetched_two words sheet script holds line missed names =
+    elim (either_name missed.due.before missed.due.after missed.name sheet script (sym names ∙ missed.due.named)) [
       | inl same ↦ inl (sym missed.noted ∙ ap read_failed_line same)
       | inr both ↦ inr (sym missed.noted ∙ ap read_failed_line both.0, subst (All (HasGivenSheet holds)) both.1 missed.due.there 0 [] (omega arith))
     ]
+
+pub unfetched_play : UnfetchedOfPlay
+unfetched_play sheet script holds line missed = unfetched_two _ sheet script holds line missed (play_names sheet script missed.request missed.asked)
+
+pub unfetched_live : UnfetchedOfLive
+unfetched_live words workers sheet script holds line asked missed = unfetched_two words sheet script holds line missed (live_names words workers sheet script missed.request asked missed.asked)
 
 -- ---- lines
 
@@ -135,6 +150,26 @@ asked_check words _ name re (asks_play sheet script is _ _) = absurd (no re)
   where
     no : of_script Play sheet script ≡ of_check name → ⊥
     no h = cc
+asked_check words _ name re (asks_live rest left workers sheet script is _ _) = absurd (no re)
+  where
+    no : of_script (Live workers) sheet script ≡ of_check name → ⊥
+    no h = cc
+
+-- the words of `live` begin with it
+begins_live : (words : List (List ℕ)) (request : Request) (workers : ℕ) (name script_name : List ℕ) → request ≡ of_script (Live workers) name script_name → Asks words request → (rest : List (List ℕ)) × (words ≡ codes "live" ∷ rest)
+begins_live words _ workers name script_name re (asks_of_window command sheet range window is _ _) = absurd (no re)
+  where
+    no : of_window command sheet window ≡ of_script (Live workers) name script_name → ⊥
+    no h = cc
+begins_live words _ workers name script_name re (asks_check sheet is _) = absurd (no re)
+  where
+    no : of_check sheet ≡ of_script (Live workers) name script_name → ⊥
+    no h = cc
+begins_live words _ workers name script_name re (asks_play sheet script is _ _) = absurd (no re)
+  where
+    no : of_script Play sheet script ≡ of_script (Live workers) name script_name → ⊥
+    no h = cc
+begins_live words _ workers name script_name re (asks_live rest left given sheet script is _ _) = (rest, is)
 
 -- what stands behind the number of pairs
 abbrev pub behind : List EdgeValue → List ℕ
@@ -154,6 +189,28 @@ one_count words a b checks = record {
   other = same_text checks.other ∙ in_front checks.pairs checks.others;
 }
 
+pub one_script_lives : LivesHaveOneScript
+one_script_lives words a b lives =
+    let begins = begins_live words (of_script (Live lives.workers) lives.name lives.script_name) lives.workers lives.name lives.script_name refl lives.asked in
+    record {
+      rest = begins.0;
+      words_are = begins.1;
+      sheet = lives.sheet;
+      script = lives.script;
+      one = subst (IsLived lives.sheet lives.script) (sym (same_text lives.one)) lives.lived;
+      other = subst (IsLived lives.sheet lives.script) (sym (same_text lives.other)) lives.again;
+    }
+
+two_lives : (words : List (List ℕ)) (a b text said : List ℕ) → a ≡ text → b ≡ said → AreLives words text said → AreLives words a b
+two_lives words a b text said is re lives = record {
+  rest = lives.rest;
+  words_are = lives.words_are;
+  sheet = lives.sheet;
+  script = lives.script;
+  one = subst (IsLived lives.sheet lives.script) (sym is) lives.one;
+  other = subst (IsLived lives.sheet lives.script) (sym re) lives.other;
+}
+
 two_checks : (words : List (List ℕ)) (a b text said : List ℕ) → a ≡ text → b ≡ said → AreChecks words text said → AreChecks words a b
 two_checks words a b text said is re checks = record {
   name = checks.name;
@@ -168,13 +225,15 @@ two_checks words a b text said is re checks = record {
 pub one_output : OneOutput
 one_output words holds a b tells x y = elim (one_answer words holds (output x.text) (output y.text) tells x.owed y.owed) [
   | inl same ↦ inl (x.gained ∙ same_text same ∙ sym y.gained)
-  | inr checks ↦ inr (two_checks words a b x.text y.text x.gained y.gained (one_count words x.text y.text checks))
+  | inr (inl checks) ↦ inr (inl (two_checks words a b x.text y.text x.gained y.gained (one_count words x.text y.text checks)))
+  | inr (inr lives) ↦ inr (inr (two_lives words a b x.text y.text x.gained y.gained (one_script_lives words x.text y.text lives)))
 ]
 
 pub one_refusal : OneRefusal
 one_refusal words holds status given line other tells x y = elim (one_answer words holds (refusal status x.line) (refusal given y.line) tells x.owed y.owed) [
   | inl same ↦ (ap status_of same, sym x.noted ∙ same_line same ∙ y.noted)
-  | inr checks ↦ absurd (no_refusal checks.one)
+  | inr (inl checks) ↦ absurd (no_refusal checks.one)
+  | inr (inr lives) ↦ absurd (no_refusal lives.one)
 ]
 
 pub not_both : NoOutputAndRefusal

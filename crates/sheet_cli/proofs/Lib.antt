@@ -1,10 +1,12 @@
 pub mod CheckLemmas
 pub mod ClapLemmas
 pub mod ClapOne
+pub mod CommandLemmas
 pub mod GraphLemmas
 pub mod InOrder
 pub mod LawLemmas
 pub mod OneAnswer
+pub mod OptionLemmas
 pub mod OutputLemmas
 pub mod ReplyLemmas
 pub mod RowGraph

@@ -7,6 +7,7 @@ use Rattle.sheet_model.specs.Sheets.{SheetValue, with_labels}
 use Rattle.edit_script.specs.Scripts.{ScriptValue, IsScriptResult}
 use Rattle.edit_script.specs.declared.refused.ScriptRefused.{ScriptRefused}
 use Rattle.edit_script.specs.declared.script.Mode.{Mode}
+use Rattle.edit_script.specs.declared.script.Step.{Step}
 use Rattle.edit_script.proofs.OneResult.{one_result as one_script_result}
 use Rattle.play_machine.proofs.OnePlay.{one_list}
 use Rattle.window_text.specs.Reports.{play_text}
@@ -18,7 +19,7 @@ use Rattle.taco_graph.specs.Pairs.{pairs_of}
 use Rattle.range_index.proofs.DistinctLemmas.{no_longer}
 use Rattle.window_text.specs.Texts.{IsWithinSheet, check_text, runs_text}
 use Rattle.sheet_cli.specs.Graphs.{ListsEdges}
-use Rattle.sheet_cli.specs.Answers.{Answer, AnswersRequest, AnswersWindow, AnswersCheck, AnswersScript, AreOfCheck, GivesSheet, GivesScript, HasNoScript, HasNoSheet, IsPlayed, IsTextOf, Owes, TellsTexts, Writes, WritesOfScript, OneAnswer, mode_of, status_of}
+use Rattle.sheet_cli.specs.Answers.{Answer, AnswersRequest, AnswersWindow, AnswersCheck, AnswersScript, AreOfCheck, AreOfLive, GivesSheet, GivesScript, HasNoScript, HasNoSheet, IsPlayed, IsTextOf, Owes, TellsTexts, Writes, WritesOfScript, OneAnswer, mode_of, status_of}
 use Rattle.sheet_cli.specs.Answers.Answer.{output, refusal}
 use Rattle.sheet_cli.specs.Answers.AnswersWindow.{written, outside, no_sheet}
 use Rattle.sheet_cli.specs.Answers.AnswersCheck.{listed, unlisted}
@@ -32,7 +33,7 @@ use Rattle.sheet_cli.specs.Requests.{Request, texts_named}
 use Rattle.sheet_cli.specs.Requests.Request.{of_window, of_check, of_script}
 use Rattle.sheet_cli.specs.Words.{Asks}
 use Rattle.sheet_cli.specs.declared.script.ScriptCommand.{ScriptCommand}
-use Rattle.sheet_cli.specs.declared.script.ScriptCommand.TheVariants.{Play}
+use Rattle.sheet_cli.specs.declared.script.ScriptCommand.TheVariants.{Live, Play}
 use Rattle.sheet_cli.specs.declared.window.WindowCommand.{WindowCommand}
 use Rattle.sheet_cli.specs.declared.window.WindowCommand.TheVariants.{Show, Deps, Precs}
 use Rattle.sheet_cli.proofs.GraphLemmas.{one_ahead, one_behind}
@@ -178,49 +179,69 @@ module _ (holds : List ℕ → Option (List ℕ)) (name told : List ℕ) (here :
       let same : why ≡ also = cc both in
       ap (λ w. refusal 4 (script_line w)) same
 
--- a command writes one text of a script over a sheet
-module _ (holds : List ℕ → Option (List ℕ)) (name told : List ℕ) (here : holds name ≡ Some told) (sheet : SheetValue) where
-  one_played : (labels others : List (List ℕ)) (script another : ScriptValue) (text said : List ℕ) → script ≡ another → labels ≡ others → IsPlayed (with_labels sheet labels) script.steps text → IsPlayed (with_labels sheet others) another.steps said → text ≡ said
-  one_played labels others script another text said scripts tables plays replays =
-      let again : IsPlayed (with_labels sheet labels) script.steps said =
-      subst (λ ls. IsPlayed (with_labels sheet ls) script.steps said) (sym tables) (subst (λ (s : ScriptValue). IsPlayed (with_labels sheet others) s.steps said) (sym scripts) replays) in
-      plays.text_is ∙ ap (play_text labels) (one_list (with_labels sheet labels) script.steps plays.reports again.reports plays.played again.played) ∙ sym again.text_is
+-- a command writes one text of a script over a sheet, but for `live`
+one_played : (sheet : SheetValue) (steps : List Step) (text said : List ℕ) → IsPlayed sheet steps text → IsPlayed sheet steps said → text ≡ said
+one_played sheet steps text said plays again =
+    plays.text_is ∙ ap (play_text sheet.labels) (one_list sheet steps plays.reports again.reports plays.played again.played) ∙ sym again.text_is
 
-  one_of_script : (command : ScriptCommand) (labels others : List (List ℕ)) (script another : ScriptValue) (text said : List ℕ) → GivesScript holds (mode_of command) name sheet labels (Ok script) → GivesScript holds (mode_of command) name sheet others (Ok another) → WritesOfScript command (with_labels sheet labels) script text → WritesOfScript command (with_labels sheet others) another said → text ≡ said
-  one_of_script Play labels others script another text said gives regives writes rewrites =
-      let both = script_one holds name told here (mode_of Play) sheet labels others (Ok script) (Ok another) gives regives in
-      one_played labels others script another text said (cc both.0) both.1 writes rewrites
+one_of_script : (words : List (List ℕ)) (command : ScriptCommand) (name script_name : List ℕ) (sheet : SheetValue) (script : ScriptValue) (text said : List ℕ) → Asks words (of_script command name script_name) → WritesOfScript command sheet script text → WritesOfScript command sheet script said → (output text ≡ output said) ⊎ AreOfLive words (output text) (output said)
+one_of_script words Play name script_name sheet script text said asked plays again = inl (ap output (one_played sheet script.steps text said plays again))
+one_of_script words (Live workers) name script_name sheet script text said asked lived again = inr (record {
+  workers = workers;
+  name = name;
+  script_name = script_name;
+  asked = asked;
+  sheet = sheet;
+  script = script;
+  text = text;
+  said = said;
+  lived = lived;
+  again = again;
+  one = refl;
+  other = refl;
+})
 
 -- and so it is answered, where both texts are told
-module _ (holds : List ℕ → Option (List ℕ)) (command : ScriptCommand) (name told script_name spoken : List ℕ) (here : holds name ≡ Some told) (there : holds script_name ≡ Some spoken) where
-  one_script : (a b : Answer) → AnswersScript holds command name script_name a → AnswersScript holds command name script_name b → a ≡ b
+module _ (holds : List ℕ → Option (List ℕ)) (words : List (List ℕ)) (command : ScriptCommand) (name told script_name spoken : List ℕ) (asked : Asks words (of_script command name script_name)) (here : holds name ≡ Some told) (there : holds script_name ≡ Some spoken) where
+  one_script : (a b : Answer) → AnswersScript holds command name script_name a → AnswersScript holds command name script_name b → (a ≡ b) ⊎ AreOfLive words a b
   one_script _ _ (scripted sheet labels script text gives given writes) (scripted other others another said regives regiven rewrites) =
       let sheets = one_sheet holds name told here other sheet regives gives in
-      ap output (one_of_script holds script_name spoken there sheet command labels others script another text said given (subst (λ s. GivesScript holds (mode_of command) script_name s others (Ok another)) sheets regiven) writes (subst (λ s. WritesOfScript command (with_labels s others) another said) sheets rewrites))
+      let both = script_one holds script_name spoken there (mode_of command) sheet labels others (Ok script) (Ok another) given (subst (λ s. GivesScript holds (mode_of command) script_name s others (Ok another)) sheets regiven) in
+      let scripts : script ≡ another = cc both.0 in
+      let again : WritesOfScript command (with_labels sheet others) another said = subst (λ s. WritesOfScript command (with_labels s others) another said) sheets rewrites in
+      let same : WritesOfScript command (with_labels sheet labels) script said =
+      subst (λ ls. WritesOfScript command (with_labels sheet ls) script said) (sym both.1) (subst (λ (s : ScriptValue). WritesOfScript command (with_labels sheet others) s said) (sym scripts) again) in
+      one_of_script words command name script_name (with_labels sheet labels) script text said asked writes same
   one_script _ _ (scripted sheet labels script text gives given writes) (unscripted other status line regives none) =
       absurd (script_or_none holds script_name spoken there (mode_of command) sheet labels script status line given (subst (λ s. HasNoScript holds (mode_of command) script_name s status line) (one_sheet holds name told here other sheet regives gives) none))
   one_script _ _ (scripted sheet labels script text gives given writes) (sheetless status line none) = absurd (sheet_or_none holds name told here sheet status line gives none)
   one_script _ _ (unscripted other status line regives none) (scripted sheet labels script text gives given writes) =
       absurd (script_or_none holds script_name spoken there (mode_of command) sheet labels script status line given (subst (λ s. HasNoScript holds (mode_of command) script_name s status line) (one_sheet holds name told here other sheet regives gives) none))
   one_script _ _ (unscripted sheet status line gives none) (unscripted other restatus reline regives renone) =
-      one_script_cause holds script_name spoken there (mode_of command) sheet status restatus line reline none (subst (λ s. HasNoScript holds (mode_of command) script_name s restatus reline) (one_sheet holds name told here other sheet regives gives) renone)
+      inl (one_script_cause holds script_name spoken there (mode_of command) sheet status restatus line reline none (subst (λ s. HasNoScript holds (mode_of command) script_name s restatus reline) (one_sheet holds name told here other sheet regives gives) renone))
   one_script _ _ (unscripted sheet status line gives none) (sheetless restatus reline renone) = absurd (sheet_or_none holds name told here sheet restatus reline gives renone)
   one_script _ _ (sheetless status line none) (scripted sheet labels script text gives given writes) = absurd (sheet_or_none holds name told here sheet status line gives none)
   one_script _ _ (sheetless status line none) (unscripted sheet restatus reline gives renone) = absurd (sheet_or_none holds name told here sheet status line gives none)
-  one_script _ _ (sheetless status line none) (sheetless other reline renone) = one_cause holds name told here status other line reline none renone
+  one_script _ _ (sheetless status line none) (sheetless other reline renone) = inl (one_cause holds name told here status other line reline none renone)
 
 -- a request is answered in one way, where the shelf tells the texts that it names
-one_reply : (words : List (List ℕ)) (holds : List ℕ → Option (List ℕ)) (request : Request) (a b : Answer) → Asks words request → All (λ name. (text : List ℕ) × (holds name ≡ Some text)) (texts_named request) → AnswersRequest holds request a → AnswersRequest holds request b → (a ≡ b) ⊎ AreOfCheck words a b
+one_reply : (words : List (List ℕ)) (holds : List ℕ → Option (List ℕ)) (request : Request) (a b : Answer) → Asks words request → All (λ name. (text : List ℕ) × (holds name ≡ Some text)) (texts_named request) → AnswersRequest holds request a → AnswersRequest holds request b → (a ≡ b) ⊎ (AreOfCheck words a b ⊎ AreOfLive words a b)
 one_reply words holds (of_window command name window) a b asked tells given regiven =
     let (told, here) = tells 0 [] (omega arith) in
     inl (one_window holds name told here command window a b given regiven)
 one_reply words holds (of_check name) a b asked tells given regiven =
     let (told, here) = tells 0 [] (omega arith) in
-    one_check holds name told here words a b asked given regiven
+    elim (one_check holds name told here words a b asked given regiven) [
+      | inl same ↦ inl same
+      | inr checks ↦ inr (inl checks)
+    ]
 one_reply words holds (of_script command name script) a b asked tells given regiven =
     let (told, here) = tells 0 [] (omega arith) in
     let (spoken, there) = tells 1 [] (omega arith) in
-    inl (one_script holds command name told script spoken here there a b given regiven)
+    elim (one_script holds words command name told script spoken asked here there a b given regiven) [
+      | inl same ↦ inl same
+      | inr lives ↦ inr (inr lives)
+    ]
 
 pub one_answer : OneAnswer
 one_answer words holds _ _ tells (usage none) (usage _) = inl refl
@@ -233,14 +254,16 @@ one_answer words holds _ _ tells (answers request a asked given) (answers other 
 pub one_status : (words : List (List ℕ)) (holds : List ℕ → Option (List ℕ)) (a b : Answer) → TellsTexts words holds → Owes words holds a → Owes words holds b → status_of a ≡ status_of b
 one_status words holds a b tells owed again = elim (one_answer words holds a b tells owed again) [
   | inl same ↦ ap status_of same
-  | inr checks ↦ ap status_of checks.one ∙ sym (ap status_of checks.other)
+  | inr (inl checks) ↦ ap status_of checks.one ∙ sym (ap status_of checks.other)
+  | inr (inr lives) ↦ ap status_of lives.one ∙ sym (ap status_of lives.other)
 ]
 
 -- a text isn't refused
 pub not_refused : (words : List (List ℕ)) (holds : List ℕ → Option (List ℕ)) (text line : List ℕ) (status : ℕ) → TellsTexts words holds → Owes words holds (output text) → Owes words holds (refusal status line) → ⊥
 not_refused words holds text line status tells owed again = elim (one_answer words holds (output text) (refusal status line) tells owed again) [
   | inl same ↦ no same
-  | inr checks ↦ no (sym checks.other)
+  | inr (inl checks) ↦ no (sym checks.other)
+  | inr (inr lives) ↦ no (sym lives.other)
 ]
   where
     no : {t l : List ℕ} {s : ℕ} → output t ≡ refusal s l → ⊥

@@ -21,7 +21,7 @@ use Rattle.sheet_cli.specs.declared.window.WindowCommand.TheVariants.{Deps, Prec
 use Rattle.sheet_cli.proofs.LawLemmas.{behind, in_front, no_refusal, same_text}
 use Rattle.sheet_cli.proofs.OneAnswer.{as_many, one_sheet}
 use Rattle.sheet_cli.proofs.WordLemmas.{one_request}
-use Rattle.sheet_cli.proofs.RowShow.{asks_window, just_written, no_option, not_check, tells, within_worked}
+use Rattle.sheet_cli.proofs.RowShow.{asks_window, just_written, no_option, not_check, not_live, tells, within_worked}
 use Rattle.sheet_cli.proofs.WorkedGraph.{at, dependents_of_a1, from_to, lists_worked, three_listed, worked_check, worked_runs}
 use Rattle.sheet_cli.proofs.WorkedPrecedents.{precedents_of_b2, runs_before}
 use Rattle.sheet_cli.proofs.WorkedSheet.{gives_worked, in_a, in_b, worked_sheet}
@@ -35,7 +35,7 @@ runs_shown = refl
 
 pub deps_row : DepsRow
 deps_row =
-    just_written (worked_words (codes "deps") (codes "A1")) (codes "A1:A1\nB1:B2\n") (not_check (codes "deps") (codes "A1")) (tells Deps (codes "A1"))
+    just_written (worked_words (codes "deps") (codes "A1")) (codes "A1:A1\nB1:B2\n") (not_check (codes "deps") (codes "A1")) (not_live (codes "deps") (codes "A1") (λ same. omega (arith, same))) (tells Deps (codes "A1"))
     (λ holds here. answers (of_window Deps (codes "s") (from_to (at 1 1) (at 1 1))) (output (codes "A1:A1\nB1:B2\n")) (asks_window Deps (codes "A1") (from_to (at 1 1) (at 1 1)) named_a1)
     (subst (λ t. AnswersWindow holds Deps (codes "s") (from_to (at 1 1) (at 1 1)) (output t)) runs_shown
     (written worked_sheet (runs_text worked_runs) (gives_worked holds here) (within_worked (from_to (at 1 1) (at 1 1)) (omega arith) (omega arith) (omega arith) (omega arith)) (dependents worked_runs dependents_of_a1))))
@@ -49,7 +49,7 @@ before_shown = refl
 
 pub precs_row : PrecsRow
 precs_row =
-    just_written (worked_words (codes "precs") (codes "B2")) (codes "A1:A2\nB1:B2\n") (not_check (codes "precs") (codes "B2")) (tells Precs (codes "B2"))
+    just_written (worked_words (codes "precs") (codes "B2")) (codes "A1:A2\nB1:B2\n") (not_check (codes "precs") (codes "B2")) (not_live (codes "precs") (codes "B2") (λ same. omega (arith, same))) (tells Precs (codes "B2"))
     (λ holds here. answers (of_window Precs (codes "s") (from_to (at 2 2) (at 2 2))) (output (codes "A1:A2\nB1:B2\n")) (asks_window Precs (codes "B2") (from_to (at 2 2) (at 2 2)) named_b2)
     (subst (λ t. AnswersWindow holds Precs (codes "s") (from_to (at 2 2) (at 2 2)) (output t)) before_shown
     (written worked_sheet (runs_text runs_before) (gives_worked holds here) (within_worked (from_to (at 2 2) (at 2 2)) (omega arith) (omega arith) (omega arith) (omega arith)) (precedents runs_before precedents_of_b2))))

@@ -19,7 +19,7 @@ use Rattle.sheet_cli.specs.Words.{IsOption}
 use Rattle.sheet_cli.specs.Words.Asks.{asks_play}
 use Rattle.sheet_cli.specs.declared.script.ScriptCommand.TheVariants.{Play}
 use Rattle.sheet_cli.proofs.LawLemmas.{one_output, one_refusal, tells_play}
-use Rattle.sheet_cli.proofs.RowShow.{no_option, not_check, same_byte}
+use Rattle.sheet_cli.proofs.RowShow.{no_option, not_check, not_live, same_byte}
 use Rattle.sheet_cli.proofs.WorkedPlay.{are_played, play_shown, worked_reports}
 use Rattle.sheet_cli.proofs.WorkedScript.{is_fault, is_script, played_script}
 use Rattle.sheet_cli.proofs.WorkedSheet.{gives_worked, is_sheet, worked_sheet}
@@ -37,7 +37,8 @@ plays_just : (script text : List ℕ) → ((holds : List ℕ → Option (List �
 plays_just script text answered holds said here there = (
   λ has. elim (one_output play_words holds said text (tells_play (codes "s") (codes "t") worked_text script holds here there) has (record { text = text; owed = owes_play holds (output text) (answered holds here there); gained = refl })) [
     | inl same ↦ same
-    | inr checks ↦ absurd (not_check (codes "play") (codes "t") checks.name checks.words_are)
+    | inr (inl checks) ↦ absurd (not_check (codes "play") (codes "t") checks.name checks.words_are)
+    | inr (inr lives) ↦ absurd (not_live (codes "play") (codes "t") (λ same. omega (arith, same)) lives.rest lives.words_are)
   ],
   λ is. record { text = text; owed = owes_play holds (output text) (answered holds here there); gained = is },
 )

@@ -1,5 +1,5 @@
 -- Worked rows of `show` over the worked sheet.
-use Rattle.std.proofs.Common.{◌≡◌, ℕ, ◌≤◌, false, true, List, [], ◌∷◌, length, codes, refl, sym, ap, subst, arith, slice_index_or, inl, inr}
+use Rattle.std.proofs.Common.{◌≡◌, ◌≢◌, ℕ, ◌≤◌, false, true, List, [], ◌∷◌, length, codes, refl, sym, ap, subst, arith, slice_index_or, inl, inr}
 use Rattle.std.specs.Prelude.{Option, Some}
 use Rattle.std.specs.Fmt.{digits}
 use Rattle.sheet_refs.specs.Cells.{Corners}
@@ -18,19 +18,20 @@ use Rattle.sheet_cli.specs.Lines.{outside_line, usage_line}
 use Rattle.sheet_cli.specs.Requests.Request.{of_window}
 use Rattle.sheet_cli.specs.Rows.{AcceptedRow, OutsideRow, RefusedJust, ShowRow, TellsWorked, UsageRow, WritesJust, worked_words}
 use Rattle.sheet_cli.specs.Words.{Asks, AsksNothing, IsOption, command_word}
-use Rattle.sheet_cli.specs.Words.Asks.{asks_check, asks_of_window, asks_play}
+use Rattle.sheet_cli.specs.Words.Asks.{asks_check, asks_live, asks_of_window, asks_play}
 use Rattle.sheet_cli.specs.declared.window.WindowCommand.{WindowCommand}
 use Rattle.sheet_cli.specs.declared.window.WindowCommand.TheVariants.{Show}
 use Rattle.sheet_cli.proofs.LawLemmas.{one_output, one_refusal, tells_window}
 use Rattle.sheet_cli.proofs.WorkedSheet.{gives_worked, in_a, in_b, worked_sheet}
 
--- words that aren't those of `check` and are owed a text write just that text
-pub just_written : (words : List (List ℕ)) (text : List ℕ) → ((name : List ℕ) → words ≡ codes "check" ∷ name ∷ [] → ⊥)
+-- words that are neither those of `check` nor of `live` and are owed a text write just that text
+pub just_written : (words : List (List ℕ)) (text : List ℕ) → ((name : List ℕ) → words ≡ codes "check" ∷ name ∷ [] → ⊥) → ((rest : List (List ℕ)) → words ≡ codes "live" ∷ rest → ⊥)
     → ((holds : List ℕ → Option (List ℕ)) → TellsWorked holds → TellsTexts words holds) → ((holds : List ℕ → Option (List ℕ)) → TellsWorked holds → Owes words holds (output text)) → WritesJust words text
-just_written words text other tells owed holds said here = (
+just_written words text other unlike tells owed holds said here = (
   λ has. elim (one_output words holds said text (tells holds here) has (record { text = text; owed = owed holds here; gained = refl })) [
     | inl same ↦ same
-    | inr checks ↦ absurd (other checks.name checks.words_are)
+    | inr (inl checks) ↦ absurd (other checks.name checks.words_are)
+    | inr (inr lives) ↦ absurd (unlike lives.rest lives.words_are)
   ],
   λ is. record { text = text; owed = owed holds here; gained = is },
 )
@@ -66,6 +67,9 @@ tells command name holds here = tells_window command (codes "s") name _ holds he
 pub not_check : (command name other : List ℕ) → worked_words command name ≡ codes "check" ∷ other ∷ [] → ⊥
 not_check command name other is = omega (arith, ap length is)
 
+pub not_live : (command name : List ℕ) → slice_index_or command 0 0 ≢ 108 → (rest : List (List ℕ)) → worked_words command name ≡ codes "live" ∷ rest → ⊥
+not_live command name differs rest is = (let first : command ≡ codes "live" = cc is in differs (ap (λ w. slice_index_or w 0 0) first))
+
 -- a window of at most two rows and two columns is in the sheet
 pub within_worked : (window : Corners) → 1 ≤ window.head.row → 1 ≤ window.head.col → window.tail.row ≤ 2 → window.tail.col ≤ 2 → IsWithinSheet window worked_sheet
 within_worked window top left bottom right cell inside =
@@ -85,7 +89,7 @@ shown = refl
 
 pub show_row : ShowRow
 show_row =
-    just_written (worked_words (codes "show") (codes "A1:B2")) (codes "sheet 0 A1:B2\n1,2\n2,4\n") (not_check (codes "show") (codes "A1:B2")) (tells Show (codes "A1:B2"))
+    just_written (worked_words (codes "show") (codes "A1:B2")) (codes "sheet 0 A1:B2\n1,2\n2,4\n") (not_check (codes "show") (codes "A1:B2")) (not_live (codes "show") (codes "A1:B2") (λ same. omega (arith, same))) (tells Show (codes "A1:B2"))
     (λ holds here. answers (of_window Show (codes "s") (corners 2 2)) (output (codes "sheet 0 A1:B2\n1,2\n2,4\n")) (asks_window Show (codes "A1:B2") (corners 2 2) named_whole)
     (subst (λ t. AnswersWindow holds Show (codes "s") (corners 2 2) (output t)) shown (written worked_sheet (show_text worked_sheet (corners 2 2)) (gives_worked holds here) within_whole values)))
 
@@ -114,6 +118,7 @@ no_command : AsksNothing (codes "show" ∷ codes "s" ∷ [])
 no_command _ (asks_of_window command sheet name window is _ _) = omega (arith, ap length is)
 no_command _ (asks_check sheet is _) = (let first = ap (λ ws. length (slice_index_or ws 0 [])) is in omega (arith, first))
 no_command _ (asks_play sheet script is _ _) = omega (arith, ap length is)
+no_command _ (asks_live rest left workers sheet script is _ _) = (let first = ap (λ ws. slice_index_or (slice_index_or ws 0 []) 0 0) is in omega (arith, first))
 
 pub usage_row : UsageRow
 usage_row = just_refused (codes "show" ∷ codes "s" ∷ []) 2 usage_line (λ holds here request asked. absurd (no_command request asked)) (λ holds here. usage no_command)

@@ -11,11 +11,12 @@ use Rattle.sheet_refs.proofs.NameLemmas.{one_range}
 use Rattle.sheet_cli.specs.Answers.{WordsAskForOne}
 use Rattle.sheet_cli.specs.Requests.{Request}
 use Rattle.sheet_cli.specs.Requests.Request.{of_window, of_check, of_script}
-use Rattle.sheet_cli.specs.Words.{AreTwoPositions, Asks, AsksNothing, IsNoWindowWord, IsOnePosition, IsOption, bytes_of, command_word}
-use Rattle.sheet_cli.specs.Words.Asks.{asks_of_window, asks_check, asks_play}
-use Rattle.sheet_cli.specs.declared.script.ScriptCommand.TheVariants.{Play}
+use Rattle.sheet_cli.specs.Words.{AreTwoPositions, Asks, AsksNothing, IsNoWindowWord, IsOnePosition, IsOption, TakesWorkers, bytes_of, command_word}
+use Rattle.sheet_cli.specs.Words.Asks.{asks_of_window, asks_check, asks_live, asks_play}
+use Rattle.sheet_cli.specs.declared.script.ScriptCommand.TheVariants.{Live, Play}
 use Rattle.sheet_cli.specs.declared.window.WindowCommand.{WindowCommand}
 use Rattle.sheet_cli.specs.declared.window.WindowCommand.TheVariants.{Show, Deps, Precs}
+use Rattle.sheet_cli.proofs.OptionLemmas.{one_left}
 
 -- a name of a cell, and what follows it, begins with a letter
 letters_first : (letters rest : List ℕ) → 0 < length letters → ((k : ℕ) (d : ℕ) → k < length letters → ((65 ≤ slice_index_or letters k d) × (slice_index_or letters k d ≤ 90)) ⊎ ((97 ≤ slice_index_or letters k d) × (slice_index_or letters k d ≤ 122))) → ¬ IsOption (letters ++ rest)
@@ -118,6 +119,17 @@ not_play Show same = let first = ap (λ w. slice_index_or w 0 0) same in absurd 
 not_play Deps same = let first = ap (λ w. slice_index_or w 0 0) same in absurd (omega (arith, first))
 not_play Precs same = let long = ap length same in absurd (omega (arith, long))
 
+not_live : (command : WindowCommand) → command_word command ≡ codes "live" → ⊥
+not_live Show same = let first = ap (λ w. slice_index_or w 0 0) same in absurd (omega (arith, first))
+not_live Deps same = let first = ap (λ w. slice_index_or w 0 0) same in absurd (omega (arith, first))
+not_live Precs same = let long = ap length same in absurd (omega (arith, long))
+
+check_is_not_live : codes "check" ≡ codes "live" → ⊥
+check_is_not_live same = let long = ap length same in absurd (omega (arith, long))
+
+play_is_not_live : codes "play" ≡ codes "live" → ⊥
+play_is_not_live same = let first = ap (λ w. slice_index_or w 0 0) same in absurd (omega (arith, first))
+
 check_is_not_play : codes "check" ≡ codes "play" → ⊥
 check_is_not_play same = let long = ap length same in absurd (omega (arith, long))
 
@@ -143,6 +155,7 @@ behind_window command rest _ (asks_of_window given sheet name window is plain na
     }
 behind_window command rest _ (asks_check sheet is plain) = let word : command_word command ≡ codes "check" = cc is in absurd (not_check command word)
 behind_window command rest _ (asks_play sheet script is plain also) = let word : command_word command ≡ codes "play" = cc is in absurd (not_play command word)
+behind_window command rest _ (asks_live others left workers sheet script is takes are) = let word : command_word command ≡ codes "live" = cc is in absurd (not_live command word)
 
 pub record AsksCheck (rest : List (List ℕ)) (request : Request) : Type 0 where
   pub sheet : List ℕ
@@ -155,6 +168,7 @@ behind_check rest _ (asks_check sheet is plain) =
     let tail : rest ≡ sheet ∷ [] = cc is in
     record { sheet = sheet; position = record { words_are = tail; first_plain = plain }; request_is = refl }
 behind_check rest _ (asks_play sheet script is plain also) = let word : codes "check" ≡ codes "play" = cc is in absurd (check_is_not_play word)
+behind_check rest _ (asks_live others left workers sheet script is takes are) = let word : codes "check" ≡ codes "live" = cc is in absurd (check_is_not_live word)
 
 pub record AsksPlay (rest : List (List ℕ)) (request : Request) : Type 0 where
   pub sheet : List ℕ
@@ -168,12 +182,31 @@ behind_play rest _ (asks_check sheet is plain) = let word : codes "check" ≡ co
 behind_play rest _ (asks_play sheet script is plain also) =
     let tail : rest ≡ sheet ∷ script ∷ [] = cc is in
     record { sheet = sheet; script = script; positions = record { words_are = tail; first_plain = plain; second_plain = also }; request_is = refl }
+behind_play rest _ (asks_live others left workers sheet script is takes are) = let word : codes "play" ≡ codes "live" = cc is in absurd (play_is_not_live word)
+
+pub record AsksLive (rest : List (List ℕ)) (request : Request) : Type 0 where
+  pub left : List (List ℕ)
+  pub workers : ℕ
+  pub sheet : List ℕ
+  pub script : List ℕ
+  pub takes : TakesWorkers rest left workers
+  pub positions : AreTwoPositions left sheet script
+  pub request_is : request ≡ of_script (Live workers) sheet script
+
+pub behind_live : (rest : List (List ℕ)) (request : Request) → Asks (codes "live" ∷ rest) request → AsksLive rest request
+behind_live rest _ (asks_of_window given sheet name window is plain named) = let word : command_word given ≡ codes "live" = cc is in absurd (not_live given word)
+behind_live rest _ (asks_check sheet is plain) = let word : codes "live" ≡ codes "check" = cc is in absurd (check_is_not_live (sym word))
+behind_live rest _ (asks_play sheet script is plain also) = let word : codes "live" ≡ codes "play" = cc is in absurd (play_is_not_live (sym word))
+behind_live rest _ (asks_live others left workers sheet script is takes are) =
+    let tail : others ≡ rest = cc is in
+    record { left = left; workers = workers; sheet = sheet; script = script; takes = subst (λ ws. TakesWorkers ws left workers) tail takes; positions = are; request_is = refl }
 
 -- other words are no command
-pub no_other : (word : List ℕ) (rest : List (List ℕ)) → IsNoWindowWord word → word ≢ codes "check" → word ≢ codes "play" → AsksNothing (word ∷ rest)
-no_other word rest window check play _ (asks_of_window given sheet name range is plain named) = let same : word ≡ command_word given = cc is in window given same
-no_other word rest window check play _ (asks_check sheet is plain) = let same : word ≡ codes "check" = cc is in check same
-no_other word rest window check play _ (asks_play sheet script is plain also) = let same : word ≡ codes "play" = cc is in play same
+pub no_other : (word : List ℕ) (rest : List (List ℕ)) → IsNoWindowWord word → word ≢ codes "check" → word ≢ codes "play" → word ≢ codes "live" → AsksNothing (word ∷ rest)
+no_other word rest window check play live _ (asks_of_window given sheet name range is plain named) = let same : word ≡ command_word given = cc is in window given same
+no_other word rest window check play live _ (asks_check sheet is plain) = let same : word ≡ codes "check" = cc is in check same
+no_other word rest window check play live _ (asks_play sheet script is plain also) = let same : word ≡ codes "play" = cc is in play same
+no_other word rest window check play live _ (asks_live others left workers sheet script is takes are) = let same : word ≡ codes "live" = cc is in live same
 
 -- words ask for one thing
 pub one_request : WordsAskForOne
@@ -192,6 +225,13 @@ one_request words _ b (asks_play sheet script is plain also) other =
     let sheets : sheet ≡ asks.sheet = cc asks.positions.words_are in
     let scripts : script ≡ asks.script = cc asks.positions.words_are in
     (λ i. of_script Play (sheets i) (scripts i)) ∙ sym asks.request_is
+one_request words _ b (asks_live rest left workers sheet script is takes are) other =
+    let asks = behind_live rest b (subst (λ ws. Asks ws b) is other) in
+    let same = one_left rest left asks.left workers asks.workers takes asks.takes in
+    let two : sheet ∷ script ∷ [] ≡ asks.sheet ∷ asks.script ∷ [] = sym are.words_are ∙ same.0 ∙ asks.positions.words_are in
+    let sheets : sheet ≡ asks.sheet = cc two in
+    let scripts : script ≡ asks.script = cc two in
+    (λ i. of_script (Live (same.1 i)) (sheets i) (scripts i)) ∙ sym asks.request_is
 
 -- what a test that failed has told
 pub refuted : {P : Type 0} (b : Bool) → IsTrue b ↔ P → b ≡ false → ¬ P

@@ -9,12 +9,14 @@ use Rattle.csv_sheet.specs.declared.refused.SheetRefused.{SheetRefused}
 use Rattle.edit_script.specs.Scripts.{ScriptValue, IsScriptResult}
 use Rattle.edit_script.specs.declared.refused.ScriptRefused.{ScriptRefused}
 use Rattle.edit_script.specs.declared.script.Mode.{Mode}
-use Rattle.edit_script.specs.declared.script.Mode.TheVariants.{Play as as_played}
+use Rattle.edit_script.specs.declared.script.Mode.TheVariants.{Live as as_run, Play as as_played}
 use Rattle.edit_script.specs.declared.script.Step.{Step}
+use Rattle.live_run.specs.Legal.{IsLegalTranscript}
 use Rattle.play_machine.specs.Machine.{ArePlayed}
 use Rattle.window_text.specs.Reports.{play_text}
 use Rattle.window_text.specs.declared.report.Report.{Report}
 use Rattle.window_text.specs.Texts.{IsWithinSheet, check_text, show_text, runs_text}
+use Rattle.window_text.specs.Transcripts.{TranscriptValue, live_text}
 use Rattle.edge_patterns.specs.Edges.{EdgeValue}
 use Rattle.graph_walk.specs.Graphs.{SamePairs}
 use Rattle.taco_graph.specs.Pairs.{pairs_of}
@@ -24,7 +26,7 @@ use Rattle.sheet_cli.specs.Requests.{Request, texts_named}
 use Rattle.sheet_cli.specs.Requests.Request.{of_window, of_check, of_script}
 use Rattle.sheet_cli.specs.Words.{Asks, AsksNothing}
 use Rattle.sheet_cli.specs.declared.script.ScriptCommand.{ScriptCommand}
-use Rattle.sheet_cli.specs.declared.script.ScriptCommand.TheVariants.{Play}
+use Rattle.sheet_cli.specs.declared.script.ScriptCommand.TheVariants.{Live, Play}
 use Rattle.sheet_cli.specs.declared.window.WindowCommand.{WindowCommand}
 use Rattle.sheet_cli.specs.declared.window.WindowCommand.TheVariants.{Show, Deps, Precs}
 
@@ -93,6 +95,7 @@ pub data AnswersCheck (holds : Texts) (name : List ℕ) : Answer → Type 0 wher
 -- for whom the script of a command is written
 abbrev pub mode_of : ScriptCommand → Mode
 mode_of Play = as_played
+mode_of (Live workers) = as_run
 
 -- what the text under a name gives as a script over a sheet, and the sheet's labels after it
 pub record GivesScript (holds : Texts) (mode : Mode) (name : List ℕ) (sheet : SheetValue) (labels : List (List ℕ)) (result : Result ScriptValue ScriptRefused) : Type 0 where
@@ -115,9 +118,21 @@ pub record IsPlayed (sheet : SheetValue) (steps : List Step) (text : List ℕ) :
   pub played : ArePlayed sheet steps reports
   pub text_is : text ≡ play_text sheet.labels reports
 
+-- What `live` writes of a script over a sheet, whatever these are and however many workers there are: it prints one log
+-- with each client's edits once and in order, and no others; for each look of a client, in order, a report with a number of
+-- edits, which never falls for that client and covers its own earlier edits and none of its later ones; each value in a
+-- report is the one that one thread computes after that many edits of the log, and a firm report shows values alone; a cell
+-- whose value a client was shown waits, in a later report of that client, for a later edit alone; and the closing sheet has
+-- the one-thread values after the whole log. So much is said by `IsLegalTranscript`, of the transcript whose text it is.
+pub record IsLived (sheet : SheetValue) (script : ScriptValue) (text : List ℕ) : Type 0 where
+  pub transcript : TranscriptValue
+  pub legal : IsLegalTranscript sheet script transcript
+  pub text_is : text ≡ live_text transcript
+
 -- what a command writes of a script over a sheet
 abbrev pub WritesOfScript : ScriptCommand → SheetValue → ScriptValue → List ℕ → Type 0
 WritesOfScript Play sheet script text = IsPlayed sheet script.steps text
+WritesOfScript (Live workers) sheet script text = IsLived sheet script text
 
 -- what a command about a script is answered
 pub data AnswersScript (holds : Texts) (command : ScriptCommand) (name script_name : List ℕ) : Answer → Type 0 where
@@ -182,11 +197,28 @@ pub record AreOfCheck (words : List (List ℕ)) (a b : Answer) : Type 0 where
   pub one : a ≡ output (check_text pairs edges)
   pub other : b ≡ output (check_text pairs others)
 
--- words are answered in one way, where the shelf tells the texts that they name, but for the edges that `check` lists
+-- two texts of `live`, of one script over one sheet; which of those that it may write a run writes, turns on its threads
+pub record AreOfLive (words : List (List ℕ)) (a b : Answer) : Type 0 where
+  pub workers : ℕ
+  pub name : List ℕ
+  pub script_name : List ℕ
+  pub asked : Asks words (of_script (Live workers) name script_name)
+  pub sheet : SheetValue
+  pub script : ScriptValue
+  pub text : List ℕ
+  pub said : List ℕ
+  pub lived : IsLived sheet script text
+  pub again : IsLived sheet script said
+  pub one : a ≡ output text
+  pub other : b ≡ output said
+
+-- words are answered in one way, where the shelf tells the texts that they name, but for the edges that `check` lists, and
+-- for what `live` may write
 abbrev pub OneAnswer : Type 0
 OneAnswer =
     (words : List (List ℕ)) (holds : Texts) (a b : Answer)
-    → TellsTexts words holds → Owes words holds a → Owes words holds b → (a ≡ b) ⊎ AreOfCheck words a b
+    → TellsTexts words holds → Owes words holds a → Owes words holds b
+    → (a ≡ b) ⊎ (AreOfCheck words a b ⊎ AreOfLive words a b)
 
 -- a request is in order: the texts that it names give a sheet, and a script where it names one, and its window is in the sheet
 abbrev pub IsInOrder : Texts → Request → Type 0

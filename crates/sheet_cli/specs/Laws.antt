@@ -3,19 +3,22 @@ use Rattle.std.specs.Prelude.{◌≡◌, ◌↔◌, ℕ, ◌<◌, ◌≤◌, ◌
 use Rattle.std.specs.Fmt.{decimal}
 use Rattle.std.specs.declared.option.Option.{Option}
 use Rattle.edge_patterns.specs.Edges.{EdgeValue}
+use Rattle.edit_script.specs.Scripts.{ScriptValue}
+use Rattle.sheet_model.specs.Sheets.{SheetValue}
 use Rattle.taco_graph.specs.Joinable.{NoneJoins}
 use Rattle.taco_graph.specs.Order.{AreInOrder}
 use Rattle.taco_graph.specs.Pairs.{pairs_of}
 use Rattle.window_text.specs.Texts.{check_text}
 use Rattle.sheet_io.specs.Faults.{Rose}
-use Rattle.sheet_cli.specs.Answers.{AreOfCheck, HasGivenSheet, IsAccepted, IsDue, Owes, TellsTexts, Texts}
+use Rattle.sheet_cli.specs.Answers.{AreOfCheck, AreOfLive, HasGivenSheet, IsAccepted, IsDue, IsLived, Owes, TellsTexts, Texts}
 use Rattle.sheet_cli.specs.Answers.Answer.{output, refusal}
 use Rattle.sheet_cli.specs.Lines.{read_failed_line}
 use Rattle.sheet_cli.specs.Replies.{IsRefusedStatus}
 use Rattle.sheet_cli.specs.Requests.{Request, texts_named}
-use Rattle.sheet_cli.specs.Requests.Request.{of_check}
+use Rattle.sheet_cli.specs.Requests.Request.{of_check, of_script}
 use Rattle.sheet_cli.specs.Runs.{HasBegun, HasWritten, IsCalm, IsRefused, IsStatus, IsUnfetched, TakesLine}
 use Rattle.sheet_cli.specs.Words.{Asks, command_word}
+use Rattle.sheet_cli.specs.declared.script.ScriptCommand.TheVariants.{Live}
 use Rattle.sheet_cli.specs.declared.window.WindowCommand.{WindowCommand}
 
 -- the words of a command line, as bytes
@@ -79,6 +82,13 @@ UnfetchedOfPlay =
     → IsUnfetched (codes "play" ∷ sheet ∷ script ∷ []) holds (λ noted. noted ≡ line)
     → (line ≡ read_failed_line sheet) ⊎ ((line ≡ read_failed_line script) × HasGivenSheet holds sheet)
 
+-- the same of `live`, with however many workers
+abbrev pub UnfetchedOfLive : Type 0
+UnfetchedOfLive =
+    (words : Line) (workers : ℕ) (sheet script : List ℕ) (holds : Texts) (line : List ℕ) → Asks words (of_script (Live workers) sheet script)
+    → IsUnfetched words holds (λ noted. noted ≡ line)
+    → (line ≡ read_failed_line sheet) ⊎ ((line ≡ read_failed_line script) × HasGivenSheet holds sheet)
+
 -- a shelf that tells the sheet of a command about a window tells the texts of its words, whatever else it tells
 abbrev pub TellsOfWindow : Type 0
 TellsOfWindow =
@@ -96,6 +106,12 @@ TellsOfPlay =
     (sheet script text steps : List ℕ) (holds : Texts) → holds sheet ≡ Some text → holds script ≡ Some steps
     → TellsTexts (codes "play" ∷ sheet ∷ script ∷ []) holds
 
+-- or of `live`
+abbrev pub TellsOfLive : Type 0
+TellsOfLive =
+    (words : Line) (workers : ℕ) (sheet script text steps : List ℕ) (holds : Texts) → Asks words (of_script (Live workers) sheet script)
+    → holds sheet ≡ Some text → holds script ≡ Some steps → TellsTexts words holds
+
 -- two texts of `check`, with one number of pairs in front
 pub record AreChecks (words : Line) (a b : List ℕ) : Type 0 where
   pub name : List ℕ
@@ -109,11 +125,24 @@ pub record AreChecks (words : Line) (a b : List ℕ) : Type 0 where
 abbrev pub ChecksHaveOneCount : Type 0
 ChecksHaveOneCount = (words : Line) (a b : List ℕ) → AreOfCheck words (output a) (output b) → AreChecks words a b
 
+-- two texts that `live` may write of one script over one sheet
+pub record AreLives (words : Line) (a b : List ℕ) : Type 0 where
+  pub rest : Line
+  pub words_are : words ≡ codes "live" ∷ rest
+  pub sheet : SheetValue
+  pub script : ScriptValue
+  pub one : IsLived sheet script a
+  pub other : IsLived sheet script b
+
+abbrev pub LivesHaveOneScript : Type 0
+LivesHaveOneScript = (words : Line) (a b : List ℕ) → AreOfLive words (output a) (output b) → AreLives words a b
+
 -- where the shelf tells the texts of the words, an empty output that has gained what they ask for holds one text
 abbrev pub OneOutput : Type 0
 OneOutput =
     (words : Line) (holds : Texts) (a b : List ℕ) → TellsTexts words holds
-    → HasWritten words holds (Some []) (Some a) → HasWritten words holds (Some []) (Some b) → (a ≡ b) ⊎ AreChecks words a b
+    → HasWritten words holds (Some []) (Some a) → HasWritten words holds (Some []) (Some b)
+    → (a ≡ b) ⊎ (AreChecks words a b ⊎ AreLives words a b)
 
 -- they are refused with one status and one line
 abbrev pub OneRefusal : Type 0

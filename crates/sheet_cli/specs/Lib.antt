@@ -3,9 +3,11 @@ pub mod Clap
 pub mod Graphs
 pub mod Laws
 pub mod Lines
+pub mod Options
 pub mod Outputs
 pub mod Replies
 pub mod Requests
 pub mod Rows
 pub mod Runs
+pub mod Scripts
 pub mod Words

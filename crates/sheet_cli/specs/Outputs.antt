@@ -3,8 +3,9 @@ use Rattle.std.specs.Prelude.{◌≡◌, ℕ, List, [], All}
 use Rattle.sheet_model.specs.Values.{AreValues}
 use Rattle.window_text.specs.Reports.{IsFull, play_text}
 use Rattle.window_text.specs.Texts.{IsWithinSheet, check_text, runs_text, show_text}
+use Rattle.window_text.specs.Transcripts.{IsWhole, live_text, transcript_value}
 use Rattle.sheet_cli.specs.declared.output.Parts.{Parts}
-use Rattle.sheet_cli.specs.declared.output.Parts.TheVariants.{Window, Runs, Edges, Reports}
+use Rattle.sheet_cli.specs.declared.output.Parts.TheVariants.{Window, Runs, Edges, Reports, Run}
 
 -- the text of what is to be printed
 abbrev pub parts_text : Parts → List ℕ
@@ -12,13 +13,16 @@ parts_text (Window sheet range values) = show_text sheet range
 parts_text (Runs runs) = runs_text runs.items
 parts_text (Edges pairs edges) = check_text pairs edges.items
 parts_text (Reports book reports) = play_text book.sheet.labels reports.items
+parts_text (Run transcript) = live_text (transcript_value transcript)
 
--- it can be printed: the values are the sheet's and the range lies in it, and the reports tell of all their cells
+-- it can be printed: the values are the sheet's and the range lies in it, the reports tell of all their cells, and so does
+-- a whole run
 abbrev pub CanBePrinted : Parts → Type 0
 CanBePrinted (Window sheet range values) = AreValues sheet values.items × IsWithinSheet range sheet
 CanBePrinted (Runs runs) = Unit {0}
 CanBePrinted (Edges pairs edges) = Unit {0}
 CanBePrinted (Reports book reports) = All (λ report. IsFull report.board) reports.items
+CanBePrinted (Run transcript) = IsWhole transcript
 
 -- and nothing waits in the buffer yet
 pub record IsReady (parts : Parts) (held : List ℕ) : Type 0 where

@@ -1,14 +1,18 @@
 -- How a run ends: its status, what it wrote and what it noted.
-use Rattle.std.specs.Prelude.{◌≡◌, ℕ, List, ◌⊎◌}
+use Rattle.std.specs.Prelude.{◌≡◌, ℕ, List, ◌⊎◌, Ok}
 use Rattle.std.specs.declared.option.Option.{Option}
 use Rattle.std.specs.Io.KnownBytes.{Appends}
+use Rattle.edit_script.specs.Scripts.{ScriptValue}
+use Rattle.sheet_model.specs.Sheets.{SheetValue, with_labels}
 use Rattle.sheet_io.specs.Faults.{Rose}
 use Rattle.sheet_io.specs.Sink.{AppendsPrefix}
-use Rattle.sheet_cli.specs.Answers.{Answer, IsAccepted, IsDue, Owes, TellsTexts, Texts, status_of}
+use Rattle.sheet_cli.specs.Answers.{Answer, GivesScript, GivesSheet, IsAccepted, IsDue, IsLived, Owes, TellsTexts, Texts, mode_of, status_of}
 use Rattle.sheet_cli.specs.Answers.Answer.{output, refusal}
 use Rattle.sheet_cli.specs.Lines.{read_failed_line}
 use Rattle.sheet_cli.specs.Requests.{Request}
+use Rattle.sheet_cli.specs.Requests.Request.{of_script}
 use Rattle.sheet_cli.specs.Words.{Asks}
+use Rattle.sheet_cli.specs.declared.script.ScriptCommand.TheVariants.{Live}
 
 -- all done; words or range refused; sheet refused; script refused; a fetch failed; a put failed; want of memory
 abbrev pub IsStatus : ℕ → Type 0
@@ -29,6 +33,22 @@ pub record HasWritten (words : List (List ℕ)) (holds : Texts) (old new : Optio
   pub text : List ℕ
   pub owed : Owes words holds (output text)
   pub gained : Appends old new text
+
+-- out has gained what `live` writes of the script that stands under one name over the sheet that stands under another
+pub record HasLived (holds : Texts) (workers : ℕ) (name script_name : List ℕ) (old new : Option (List ℕ)) : Type 0 where
+  pub sheet : SheetValue
+  pub labels : List (List ℕ)
+  pub script : ScriptValue
+  pub gives : GivesSheet holds name (Ok sheet)
+  pub reads : GivesScript holds (mode_of (Live workers)) script_name sheet labels (Ok script)
+  pub text : List ℕ
+  pub lived : IsLived (with_labels sheet labels) script text
+  pub gained : Appends old new text
+
+-- so it is with words that ask for `live`, whatever the texts and the number of workers
+abbrev pub LivesAsAsked : List (List ℕ) → Texts → Option (List ℕ) → Option (List ℕ) → Type 0
+LivesAsAsked words holds old new =
+    (workers : ℕ) (name script : List ℕ) → Asks words (of_script (Live workers) name script) → HasLived holds workers name script old new
 
 -- out has gained a prefix of the text that is owed
 pub record HasBegun (words : List (List ℕ)) (holds : Texts) (old new : Option (List ℕ)) : Type 0 where

@@ -1,13 +1,13 @@
 -- Which words ask for what.
-use Rattle.std.specs.Prelude.{◌≡◌, ◌≢◌, ℕ, List, [], ◌∷◌, map, codes, slice_get, Some, String, string_bytes}
+use Rattle.std.specs.Prelude.{◌≡◌, ◌≢◌, ◌≤◌, ℕ, List, [], ◌∷◌, ◌++◌, All, length, map, codes, slice_get, Some, String, string_bytes}
 use Rattle.std.specs.declared.alloc.Global.{Global}
 use Rattle.sheet_refs.specs.Cells.{Corners}
-use Rattle.sheet_refs.specs.Names.{IsRangeName}
+use Rattle.sheet_refs.specs.Names.{IsDecimal, IsRangeName}
 use Rattle.sheet_cli.specs.Requests.{Request}
 use Rattle.sheet_cli.specs.Requests.Request.{of_window, of_check, of_script}
 use Rattle.sheet_cli.specs.declared.words.Asked.{Asked}
 use Rattle.sheet_cli.specs.declared.words.Asked.TheVariants.{Nothing, OfWindow, OfCheck, OfScript}
-use Rattle.sheet_cli.specs.declared.script.ScriptCommand.TheVariants.{Play}
+use Rattle.sheet_cli.specs.declared.script.ScriptCommand.TheVariants.{Live, Play}
 use Rattle.sheet_cli.specs.declared.window.WindowCommand.{WindowCommand}
 use Rattle.sheet_cli.specs.declared.window.WindowCommand.TheVariants.{Show, Deps, Precs}
 
@@ -30,6 +30,25 @@ pub record AreTwoPositions (words : List (List ℕ)) (first second : List ℕ) :
   pub first_plain : ¬ IsOption first
   pub second_plain : ¬ IsOption second
 
+-- the number of workers that digits write: one or two of them, and a number from 1 to 64
+pub record IsWorkers (digits : List ℕ) (workers : ℕ) : Type 0 where
+  pub short : length digits ≤ 2
+  pub number : IsDecimal digits 64 workers
+  pub some : 1 ≤ workers
+
+-- what is left of words where the option for the number of workers, if they have it, is taken out of them, and that number
+pub data TakesWorkers (words left : List (List ℕ)) (workers : ℕ) : Type 0 where
+  -- no word is written as an option: there are 4 workers
+  without : All (λ word. ¬ IsOption word) words → left ≡ words → workers ≡ 4 → TakesWorkers words left workers
+  -- the first that is, is `--workers`, and the word behind it has the number
+  in_two_words : (before after : List (List ℕ)) (digits : List ℕ) → All (λ word. ¬ IsOption word) before
+      → words ≡ before ++ codes "--workers" ∷ digits ∷ after → IsWorkers digits workers → left ≡ before ++ after
+      → TakesWorkers words left workers
+  -- or it is `--workers=N`
+  in_one_word : (before after : List (List ℕ)) (digits : List ℕ) → All (λ word. ¬ IsOption word) before
+      → words ≡ before ++ (codes "--workers=" ++ digits) ∷ after → IsWorkers digits workers → left ≡ before ++ after
+      → TakesWorkers words left workers
+
 -- the word of a command about a window
 abbrev pub command_word : WindowCommand → List ℕ
 command_word Show = codes "show"
@@ -51,6 +70,9 @@ pub data Asks (words : List (List ℕ)) : Request → Type 0 where
   -- `play SHEET SCRIPT`
   asks_play : (sheet script : List ℕ) → words ≡ codes "play" ∷ sheet ∷ script ∷ [] → ¬ IsOption sheet → ¬ IsOption script
       → Asks words (of_script Play sheet script)
+  -- `live SHEET SCRIPT`, and in any place behind `live` at most once `--workers N` or `--workers=N`
+  asks_live : (rest left : List (List ℕ)) (workers : ℕ) (sheet script : List ℕ) → words ≡ codes "live" ∷ rest → TakesWorkers rest left workers
+      → AreTwoPositions left sheet script → Asks words (of_script (Live workers) sheet script)
 
 -- the words are no command
 abbrev pub AsksNothing : List (List ℕ) → Type 0

@@ -2,16 +2,18 @@
 ghost use Rattle.sheet_cli.specs.Answers.{OneAnswer, WordsAskForOne};
 ghost use Rattle.sheet_cli.specs.Laws.{CalmIsStill, RefusedStatusesAreThree, StatusesAreSeven};
 ghost use Rattle.sheet_cli.specs.Laws.{CalmLineIsWhole, LineIsTakenFromItsFront};
-ghost use Rattle.sheet_cli.specs.Laws.{DueIsNamed, UnfetchedOfCheck, UnfetchedOfPlay};
-ghost use Rattle.sheet_cli.specs.Laws.{UnfetchedOfWindow, TellsOfCheck, TellsOfPlay, TellsOfWindow};
+ghost use Rattle.sheet_cli.specs.Laws.{DueIsNamed, UnfetchedOfCheck, UnfetchedOfLive, UnfetchedOfPlay};
+ghost use Rattle.sheet_cli.specs.Laws.{UnfetchedOfWindow, TellsOfCheck, TellsOfLive, TellsOfPlay};
+ghost use Rattle.sheet_cli.specs.Laws.{TellsOfWindow};
 ghost use Rattle.sheet_cli.specs.Laws.{AcceptedIsNotRefused, BegunIsAPrefix, ChecksHaveOneCount};
+ghost use Rattle.sheet_cli.specs.Laws.{LivesHaveOneScript};
 ghost use Rattle.sheet_cli.specs.Laws.{NoOutputAndRefusal, OneOutput, OneRefusal, RefusedIsOwed};
 ghost use Rattle.sheet_cli.specs.Laws.{WrittenIsOwed, ListedEdgesAreJoined};
 ghost use Rattle.sheet_cli.specs.Rows.{AcceptedRow, CheckRow, DepsRow, ListedRow, OutsideRow};
 ghost use Rattle.sheet_cli.specs.Rows.{PlayRow, PrecsRow, RefusedScriptRow, ShowRow, UsageRow};
 
 /// Words ask for at most one thing; and words and the texts that they name, where the shelf tells these, are
-/// answered in one way, but for which edges `check` lists.
+/// answered in one way, but for which edges `check` lists, and which of the texts that it may write `live` does.
 pub fn run_laws()
     ensures request { WordsAskForOne }
     ensures answer { OneAnswer }
@@ -36,6 +38,7 @@ pub fn unfetched_laws()
     ensures window { UnfetchedOfWindow }
     ensures check { UnfetchedOfCheck }
     ensures play { UnfetchedOfPlay }
+    ensures live { UnfetchedOfLive }
 {}
 
 /// A shelf that tells just the texts that the words name tells the texts of the words.
@@ -43,14 +46,17 @@ pub fn told_laws()
     ensures window { TellsOfWindow }
     ensures check { TellsOfCheck }
     ensures play { TellsOfPlay }
+    ensures live { TellsOfLive }
 {}
 
 /// What a run leaves behind, in plain bytes, where the shelf tells the texts of the words: outputs of one
-/// input are equal, but for the lines of `check` behind the number of pairs; so are refusals; there are not
-/// both, and no refusal where what the words ask for is in order. What was written or begun is what is owed.
+/// input are equal, but for the lines of `check` behind the number of pairs, and for the texts that `live` may write of
+/// one script over one sheet; refusals are equal; there are not both, and no refusal where what the words ask for is
+/// in order. What was written or begun is what is owed.
 pub fn ending_laws()
     ensures output { OneOutput }
     ensures checks { ChecksHaveOneCount }
+    ensures lives { LivesHaveOneScript }
     ensures refusal { OneRefusal }
     ensures apart { NoOutputAndRefusal }
     ensures accepted { AcceptedIsNotRefused }

@@ -17,6 +17,8 @@
 
 mod check;
 mod laws;
+mod live;
+mod options;
 mod output;
 mod play;
 mod positions;

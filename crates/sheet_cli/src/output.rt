@@ -7,6 +7,7 @@ ghost use Rattle.taco_graph.specs.Pairs.{HaveFewPairs, pairs_of};
 ghost use Rattle.text_pieces.specs.Pieces.{HandsOut};
 ghost use Rattle.window_text.specs.Reports.{IsFull, play_text};
 ghost use Rattle.window_text.specs.Texts.{IsWithinSheet, check_text, runs_text, show_text};
+ghost use Rattle.window_text.specs.Transcripts.{IsWhole, live_text, transcript_value};
 ghost use Rattle.sheet_cli.specs.Outputs.{CanBePrinted, parts_text};
 
 use edge_patterns::Edge;
@@ -18,7 +19,7 @@ use sink_buffer::SinkBuffer;
 use std::alloc::Global;
 use std::marker::Model;
 use taco_graph::{SheetGraph, pair_count};
-use window_text::{Printer, Report};
+use window_text::{Printer, Report, Transcript};
 
 /// What a text is printed of.
 #[derive(Drop)]
@@ -41,6 +42,8 @@ pub(crate) enum Parts {
         book: Book<SheetGraph>,
         reports: Vec<Report>,
     },
+    /// What a live run has come to.
+    Run(Transcript),
 }
 
 /// A text that is to be written, with all that its writing takes: what is printed, and the buffer on its way out.
@@ -120,6 +123,14 @@ impl Output {
         Output::of_parts(alloc, Parts::Reports { book, reports })
     }
 
+    /// The text of what a live run has come to.
+    pub(crate) fn of_run(alloc: Global, transcript: Transcript) -> Result<Output, Memory>
+        requires { IsWhole transcript }
+        ensures { IfOk result (λ text. text ≡ live_text (transcript_value transcript)) }
+    {
+        Output::of_parts(alloc, Parts::Run(transcript))
+    }
+
     /// Writes the text to a sink, in pieces of 65,536 bytes and a last one of at most that many. It takes no memory.
     pub(crate) fn write<K: Sink>(self, out: &mut K) -> Result<(), Failed>
         ensures taken { Puts (K.written out.old) (K.written out.new) self result }
@@ -161,5 +172,6 @@ fn send_parts<F: FnMut(&[u8]) -> bool>(parts: &Parts, to: &mut F) -> bool
         Parts::Runs(runs) => Printer::runs(runs, to),
         Parts::Edges { pairs, edges } => Printer::check(*pairs, edges, to),
         Parts::Reports { book, reports } => Printer::play(book.sheet(), reports, to),
+        Parts::Run(transcript) => Printer::live(transcript, to),
     }
 }

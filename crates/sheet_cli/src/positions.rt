@@ -45,8 +45,8 @@ fn are_positions(words: &[String]) -> bool
     words.iter().all(|word| !is_option(word.as_str()))
 }
 
-// Whether a word is written as an option is: it begins with a dash.
-fn is_option(word: &str) -> bool
+/// Whether a word is written as an option is: it begins with a dash.
+pub(crate) fn is_option(word: &str) -> bool
     ensures { IsTrue result ↔ IsOption word.now }
 {
     word.as_bytes().first() == Some(&b'-')

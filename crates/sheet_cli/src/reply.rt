@@ -9,9 +9,12 @@ use crate::output::Output;
 use crate::script::reply_of_script;
 use crate::window::reply_of_window;
 use crate::words::{Asked, read_words};
+use recalc_workers::Gate;
 use sheet_io::Shelf;
 use sheet_refs::Memory;
 use std::alloc::Global;
+use std::sync::Wait;
+use std::thread::Threads;
 
 pub(crate) const USAGE: &str =
     "antifreeze: usage: antifreeze show|deps|precs SHEET RANGE; check SHEET; \
@@ -27,10 +30,12 @@ pub(crate) enum Reply {
 }
 
 /// The reply to the words over the texts of a shelf.
-pub(crate) fn reply_to<F: Shelf>(
+pub(crate) fn reply_to<R: Threads + Wait + Sync, F: Shelf, G: Gate + Sync>(
+    rt: &R,
     alloc: Global,
     words: &[String],
     shelf: &mut F,
+    gate: &G,
 ) -> Result<Reply, Memory>
     ensures owed { IfOk result (IsOwed (bytes_of words.now)
         (F.holds shelf.old) (F.faults shelf.old) (F.faults shelf.new)) }
@@ -50,7 +55,15 @@ pub(crate) fn reply_to<F: Shelf>(
             command,
             sheet,
             script,
-        } => reply_of_script(alloc, command, sheet.as_str(), script.as_str(), shelf),
+        } => reply_of_script(
+            rt,
+            alloc,
+            command,
+            sheet.as_str(),
+            script.as_str(),
+            shelf,
+            gate,
+        ),
         Asked::Nothing => refusal(alloc, 2, USAGE),
     }
 }

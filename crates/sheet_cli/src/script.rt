@@ -4,28 +4,35 @@ ghost use Rattle.edit_script.specs.declared.refused.ScriptRefused.TheVariants as
 ghost use Rattle.edit_script.specs.Scripts.{IsScriptResult};
 ghost use Rattle.sheet_model.specs.Labels.{IsTable};
 ghost use Rattle.sheet_model.specs.Sheets.{with_labels};
-ghost use Rattle.play_machine.specs.Playing.{AreFit};
 ghost use Rattle.sheet_cli.specs.Answers.{WritesOfScript, mode_of};
 ghost use Rattle.sheet_cli.specs.Answers.Answer.{refusal as refusal_answer};
 ghost use Rattle.sheet_cli.specs.Lines.{long_script_line, script_line};
 ghost use Rattle.sheet_cli.specs.Replies.{RepliesOfText, RepliesOverSheet, RepliesTo, answer_of};
 ghost use Rattle.sheet_cli.specs.Requests.Request.{of_script};
+ghost use Rattle.sheet_cli.specs.Scripts.{HasWorkers, SuitsCommand};
 
+use crate::live::live_output;
 use crate::output::Output;
 use crate::play::play_output;
 use crate::reply::{Reply, refusal};
 use crate::texts::{Fetched, fetch_sheet, fetch_text};
 use edit_script::{Mode, Script, ScriptRefused, read_script};
+use recalc_workers::Gate;
 use sheet_io::Shelf;
 use sheet_model::Sheet;
 use sheet_refs::Memory;
 use std::alloc::Global;
+use std::sync::Wait;
+use std::thread::Threads;
 
 /// A command about a script over a sheet.
 #[derive(Clone, Copy)]
 pub enum ScriptCommand {
     /// `play`: the reports of the script, by the play machine.
     Play,
+    /// `live`: the log, the reports and the closing sheet of a run by threads, with so many workers, 1 to 64, beside
+    /// the clients.
+    Live { workers: u32 },
 }
 
 impl ScriptCommand {
@@ -35,38 +42,45 @@ impl ScriptCommand {
     {
         match self {
             ScriptCommand::Play => Mode::Play,
+            ScriptCommand::Live { .. } => Mode::Live,
         }
     }
 }
 
 /// The reply to a command about a script. The sheet is fetched and read, then the script; the first of these that
 /// fails gives the refusal.
-pub(crate) fn reply_of_script<F: Shelf>(
+pub(crate) fn reply_of_script<R: Threads + Wait + Sync, F: Shelf, G: Gate + Sync>(
+    rt: &R,
     alloc: Global,
     command: ScriptCommand,
     name: &str,
     script: &str,
     shelf: &mut F,
+    gate: &G,
 ) -> Result<Reply, Memory>
+    requires workers { HasWorkers command }
     ensures reply { IfOk result (RepliesTo (of_script command name.now script.now)
         (F.holds shelf.old) (F.faults shelf.old) (F.faults shelf.new)) }
     ensures held { F.holds shelf.new ≡ F.holds shelf.old }
     ensures counted { F.faults shelf.old ≤ F.faults shelf.new }
 {
     match fetch_sheet(alloc, name, shelf)? {
-        Ok(sheet) => reply_over_sheet(alloc, command, sheet, script, shelf),
+        Ok(sheet) => reply_over_sheet(rt, alloc, command, sheet, script, shelf, gate),
         Err(reply) => Ok(reply),
     }
 }
 
 // The reply to a command over a sheet, for which the script is fetched.
-fn reply_over_sheet<F: Shelf>(
+fn reply_over_sheet<R: Threads + Wait + Sync, F: Shelf, G: Gate + Sync>(
+    rt: &R,
     alloc: Global,
     command: ScriptCommand,
     sheet: Sheet,
     name: &str,
     shelf: &mut F,
+    gate: &G,
 ) -> Result<Reply, Memory>
+    requires workers { HasWorkers command }
     requires few { length sheet.labels ≤ 3000000000 }
     ensures reply { IfOk result (RepliesOverSheet (F.holds shelf.old) command sheet name.now
         (F.faults shelf.old) (F.faults shelf.new)) }
@@ -74,26 +88,31 @@ fn reply_over_sheet<F: Shelf>(
     ensures counted { F.faults shelf.old ≤ F.faults shelf.new }
 {
     match fetch_text(alloc, name, shelf)? {
-        Fetched::Text(text) => reply_of_text(alloc, command, sheet, &text),
+        Fetched::Text(text) => reply_of_text(rt, alloc, command, sheet, &text, gate),
         Fetched::Missed(reply) => Ok(reply),
         Fetched::TooLong => long_script(alloc),
     }
 }
 
 // The reply to a command over a sheet and the text of a script.
-fn reply_of_text(
+fn reply_of_text<R: Threads + Wait + Sync, G: Gate + Sync>(
+    rt: &R,
     alloc: Global,
     command: ScriptCommand,
     sheet: Sheet,
     text: &[u8],
+    gate: &G,
 ) -> Result<Reply, Memory>
+    requires workers { HasWorkers command }
     requires short { length text.now ≤ 16777216 }
     requires few { length sheet.labels ≤ 3000000000 }
     ensures { IfOk result (RepliesOfText command sheet text.now) }
 {
     let mut sheet = sheet;
     match script_of(alloc, command.mode(), text, &mut sheet) {
-        Ok(script) => Ok(Reply::Output(output_of_script(alloc, command, sheet, &script)?)),
+        Ok(script) => Ok(Reply::Output(output_of_script(
+            rt, alloc, command, sheet, &script, gate,
+        )?)),
         Err(why) => Ok(no_script(alloc, why)?),
     }
 }
@@ -119,17 +138,20 @@ fn script_of(
 }
 
 // The text that a command writes of a script over a sheet.
-fn output_of_script(
+fn output_of_script<R: Threads + Wait + Sync, G: Gate + Sync>(
+    rt: &R,
     alloc: Global,
     command: ScriptCommand,
     sheet: Sheet,
     script: &Script,
+    gate: &G,
 ) -> Result<Output, Memory>
-    requires { AreFit sheet script.now.steps }
+    requires { SuitsCommand command sheet script.now }
     ensures { IfOk result (λ text. WritesOfScript command sheet script.now text) }
 {
     match command {
         ScriptCommand::Play => play_output(alloc, sheet, script.steps()),
+        ScriptCommand::Live { workers } => live_output(rt, alloc, sheet, script, workers, gate),
     }
 }
 

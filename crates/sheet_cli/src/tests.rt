@@ -1,9 +1,14 @@
 // What no clause says: that calls succeed with ample memory, and that the statuses and lines are those meant.
+mod scripts;
+
 use crate::reply::USAGE;
 use crate::top::run;
+use recalc_workers::OpenGate;
 use sheet_io::{Fetch, MemoryShelf, MemorySink, Shelf, SureShelf, SureSink};
 use std::alloc::{AllocError, Global};
+use std::sync::Wait;
 use std::test::Fail;
+use std::thread::Threads;
 
 const WORKED: &str = "1,=A1+1\n2,=A2+B1\n";
 
@@ -63,7 +68,13 @@ struct Ended {
     notes: MemorySink,
 }
 
-fn run_with(alloc: Global, sheet: &[u8], line: &str, limits: Limits) -> Result<Ended, AllocError> {
+fn run_with<R: Threads + Wait + Sync>(
+    rt: &R,
+    alloc: Global,
+    sheet: &[u8],
+    line: &str,
+    limits: Limits,
+) -> Result<Ended, AllocError> {
     let words = split_words(alloc, line)?;
     let fetches = failing(alloc, limits.fetch_fails)?;
     let mut shelf = MemoryShelf::new(one_text(alloc, sheet)?, fetches);
@@ -73,7 +84,9 @@ fn run_with(alloc: Global, sheet: &[u8], line: &str, limits: Limits) -> Result<E
     let Ok(mut notes) = MemorySink::new(alloc, 1_000, failing(alloc, limits.note_fails)?) else {
         return Err(AllocError);
     };
-    let status = run(alloc, &words, &mut shelf, &mut out, &mut notes);
+    let status = run(
+        rt, alloc, &words, &mut shelf, &mut out, &mut notes, &OpenGate,
+    );
     Ok(Ended { status, out, notes })
 }
 
@@ -154,7 +167,7 @@ fn a_run_ends_by_its_words_and_its_sheet(rt: HostRuntime) -> Result<(), Fail> {
         (WORKED, "show --help", 2, "", USAGE),
         (WORKED, "show - A1:B2", 2, "", USAGE),
     ] {
-        let ended = run_with(rt.alloc(), sheet.as_bytes(), line, FREE)?;
+        let ended = run_with(&rt, rt.alloc(), sheet.as_bytes(), line, FREE)?;
         assert_eq!(rt; ended.status, status, "{line}");
         assert_eq!(rt; ended.out.written(), out.as_bytes(), "{line}");
         assert_eq!(rt; ended.notes.written(), notes.as_bytes(), "{line}");
@@ -164,11 +177,11 @@ fn a_run_ends_by_its_words_and_its_sheet(rt: HostRuntime) -> Result<(), Fail> {
 
 #[test]
 fn check_lists_the_edges_of_a_sheet(rt: HostRuntime) -> Result<(), Fail> {
-    let ended = run_with(rt.alloc(), WORKED.as_bytes(), "check s", FREE)?;
+    let ended = run_with(&rt, rt.alloc(), WORKED.as_bytes(), "check s", FREE)?;
     assert_eq!(rt; ended.status, 0);
     let edges = b"pairs 3\nedges 2\nB1:B2 A1:A2 RR\nB2:B2 B1:B1 Single\n";
     assert_eq!(rt; ended.out.written(), edges.as_slice());
-    let ended = run_with(rt.alloc(), WORKED.as_bytes(), "check s A1:B2", FREE)?;
+    let ended = run_with(&rt, rt.alloc(), WORKED.as_bytes(), "check s A1:B2", FREE)?;
     assert_eq!(rt; ended.status, 2);
     assert_eq!(rt; ended.notes.written(), USAGE.as_bytes());
     Ok(())
@@ -211,7 +224,7 @@ fn a_run_ends_by_its_first_failing_call(rt: HostRuntime) -> Result<(), Fail> {
         (WORKED, "show s A0", unnoted, 2, ""),
         (WORKED, "show t A1:B2", unnoted, 5, ""),
     ] {
-        let ended = run_with(rt.alloc(), sheet.as_bytes(), line, limits)?;
+        let ended = run_with(&rt, rt.alloc(), sheet.as_bytes(), line, limits)?;
         assert_eq!(rt; ended.status, status, "{line} over {sheet}");
         assert_eq!(rt; ended.out.written(), b"".as_slice(), "{line} over {sheet}");
         assert_eq!(rt;
@@ -229,11 +242,13 @@ fn refused_words_fetch_nothing(rt: HostRuntime) -> Result<(), Fail> {
     let words = split_words(alloc, "show s A0")?;
     let mut shelf = MemoryShelf::new(one_text(alloc, WORKED.as_bytes())?, failing(alloc, true)?);
     let status = run(
+        &rt,
         alloc,
         &words,
         &mut shelf,
         &mut SureSink::new(),
         &mut SureSink::new(),
+        &OpenGate,
     );
     assert_eq!(rt; status, 2);
     // The call that is to fail is the first one, and it is still to come.
@@ -248,7 +263,7 @@ fn out_has_what_fits_in_its_room(rt: HostRuntime) -> Result<(), Fail> {
     let text = SHOWN.as_bytes();
     for (room, bytes) in (0..23u32).zip(0..23usize) {
         let limits = Limits { room, ..FREE };
-        let ended = run_with(rt.alloc(), WORKED.as_bytes(), "show s A1:B2", limits)?;
+        let ended = run_with(&rt, rt.alloc(), WORKED.as_bytes(), "show s A1:B2", limits)?;
         assert_eq!(rt; ended.status, if room < 22 { 6 } else { 0 }, "{room} bytes");
         assert_eq!(rt;
             ended.out.written(),
@@ -269,7 +284,8 @@ fn label_shown_often(alloc: Global, formula: &[u8]) -> Result<Vec<u8>, AllocErro
 }
 
 // The status and the number of bytes that are written, where the put with this number is to fail.
-fn show_failing_at(
+fn show_failing_at<R: Threads + Wait + Sync>(
+    rt: &R,
     alloc: Global,
     sheet: &[u8],
     line: &str,
@@ -280,7 +296,15 @@ fn show_failing_at(
     let Ok(mut out) = MemorySink::new(alloc, 400_000, failing_at(alloc, put)?) else {
         return Err(AllocError);
     };
-    let status = run(alloc, &words, &mut shelf, &mut out, &mut SureSink::new());
+    let status = run(
+        rt,
+        alloc,
+        &words,
+        &mut shelf,
+        &mut out,
+        &mut SureSink::new(),
+        &OpenGate,
+    );
     Ok((status, out.written().len()))
 }
 
@@ -299,90 +323,53 @@ fn a_long_text_is_written_in_pieces(rt: HostRuntime) -> Result<(), Fail> {
         (6, 6, 327_680),
         (7, 0, 336_010),
     ] {
-        let lines = show_failing_at(alloc, &column, "show s A1:A41", put)?;
+        let lines = show_failing_at(&rt, alloc, &column, "show s A1:A41", put)?;
         assert_eq!(rt; lines, (status, written), "put {put} of lines");
-        let line = show_failing_at(alloc, &row, "show s A1:AO1", put)?;
+        let line = show_failing_at(&rt, alloc, &row, "show s A1:AO1", put)?;
         assert_eq!(rt; line, (status, written), "put {put} of a line");
     }
     Ok(())
 }
 
 // The status of a run over a shelf and sinks that never fail.
-fn sure_status(alloc: Global, sheet: Vec<u8>) -> Result<u8, AllocError> {
+fn sure_status<R: Threads + Wait + Sync>(
+    rt: &R,
+    alloc: Global,
+    sheet: Vec<u8>,
+) -> Result<u8, AllocError> {
     let words = split_words(alloc, "show s A1:B2")?;
     let mut texts = Vec::new(alloc);
     texts.push((String::from_str(alloc, "s")?, sheet))?;
     let mut shelf = SureShelf::new(texts);
     Ok(run(
+        rt,
         alloc,
         &words,
         &mut shelf,
         &mut SureSink::new(),
         &mut SureSink::new(),
+        &OpenGate,
     ))
 }
 
 #[test]
 fn sheets_are_read_to_the_limit(rt: HostRuntime) -> Result<(), Fail> {
     let alloc = rt.alloc();
-    assert_eq!(rt; sure_status(alloc, WORKED.as_bytes().to_vec(alloc)?)?, 0);
+    assert_eq!(rt;
+        sure_status(&rt, alloc, WORKED.as_bytes().to_vec(alloc)?)?,
+        0
+    );
     // Line feeds alone are a sheet without rows.
-    assert_eq!(rt; sure_status(alloc, vec![in alloc; b'\n'; 16_777_216]?)?, 2);
+    assert_eq!(rt;
+        sure_status(&rt, alloc, vec![in alloc; b'\n'; 16_777_216]?)?,
+        2
+    );
     let past = vec![in alloc; b'\n'; 16_777_217]?;
-    let ended = run_with(alloc, &past, "show s A1:B2", FREE)?;
+    let ended = run_with(&rt, alloc, &past, "show s A1:B2", FREE)?;
     assert_eq!(rt; ended.status, 3);
     assert_eq!(rt;
         ended.notes.written(),
         b"antifreeze: sheet: text too long\n".as_slice()
     );
-    Ok(())
-}
-
-// How `play s t` ends over a sheet and a script.
-fn play_with(alloc: Global, sheet: &[u8], script: &[u8]) -> Result<Ended, AllocError> {
-    let words = split_words(alloc, "play s t")?;
-    let mut texts = one_text(alloc, sheet)?;
-    texts.push((String::from_str(alloc, "t")?, script.to_vec(alloc)?))?;
-    let mut shelf = MemoryShelf::new(texts, failing(alloc, false)?);
-    let Ok(mut out) = MemorySink::new(alloc, 1_000, failing(alloc, false)?) else {
-        return Err(AllocError);
-    };
-    let Ok(mut notes) = MemorySink::new(alloc, 1_000, failing(alloc, false)?) else {
-        return Err(AllocError);
-    };
-    let status = run(alloc, &words, &mut shelf, &mut out, &mut notes);
-    Ok(Ended { status, out, notes })
-}
-
-#[test]
-fn a_script_is_played(rt: HostRuntime) -> Result<(), Fail> {
-    for (sheet, script, status, out, notes) in [
-        (
-            WORKED,
-            "set A1 5\nlook A1:B2\nwork 2\nlook A1:B2\n",
-            0,
-            "look 1 A1:B2\n~1,~1\n2,~1\nlook 1 A1:B2\n5,6\n2,~1\n",
-            "",
-        ),
-        (
-            "1,=A1",
-            "set A1 =B1\nlook A1:B1\nwork 1\nlook A1:B1\nfirm A1:B1",
-            0,
-            "look 1 A1:B1\n~1,~1\nlook 1 A1:B1\n#CIRC!,~1\nfirm 1 A1:B1\n#CIRC!,#CIRC!\n",
-            "",
-        ),
-        (
-            WORKED,
-            "set Z99 1",
-            4,
-            "",
-            "antifreeze: script: line 1: cell outside the sheet\n",
-        ),
-    ] {
-        let ended = play_with(rt.alloc(), sheet.as_bytes(), script.as_bytes())?;
-        assert_eq!(rt; ended.status, status, "{script}");
-        assert_eq!(rt; ended.out.written(), out.as_bytes(), "{script}");
-        assert_eq!(rt; ended.notes.written(), notes.as_bytes(), "{script}");
-    }
     Ok(())
 }

@@ -3,35 +3,49 @@ ghost use Rattle.sheet_io.specs.Faults.{Rose};
 ghost use Rattle.sheet_cli.specs.Lines.{write_failed_line, no_memory_line};
 ghost use Rattle.sheet_cli.specs.Replies.{IsRefusedStatus};
 ghost use Rattle.sheet_cli.specs.Runs.{IsStatus, HasWritten, HasBegun, IsRefused, IsUnfetched};
-ghost use Rattle.sheet_cli.specs.Runs.{TakesLine, IsCalm, IsComplete, AcceptsAll, RefusesAll};
+ghost use Rattle.sheet_cli.specs.Runs.{LivesAsAsked, TakesLine, IsCalm, IsComplete, AcceptsAll, RefusesAll};
 ghost use Rattle.sheet_cli.specs.Words.{AsksNothing, bytes_of};
 
 use crate::reply::{Reply, reply_to};
+use recalc_workers::Gate;
 use sheet_io::{Shelf, Sink};
 use std::alloc::Global;
+use std::sync::Wait;
+use std::thread::Threads;
 
 /// Does what the words ask for, and writes it to `out`: `show SHEET RANGE` the values of the range; `deps`
 /// and `precs` with the same words the vertical runs of the range's cells and of all that depend on them, or
 /// on which they depend; `check SHEET` the number of the sheet's pairs, and the edges that stand for them;
-/// `play SHEET SCRIPT` what the looks of the script show. A text is what stands under its name on the shelf.
+/// `play SHEET SCRIPT` what the looks of the script show, one step after the other; and `live SHEET SCRIPT`, with the
+/// option `--workers N`, what a run of the script by threads has come to: each client runs its commands in a task, and
+/// N workers recalculate in others; ahead of each command, and between a claim and its put, the gate is called. A text
+/// is what stands under its name on the shelf.
 ///
 /// The result is the status of the process: 0 for done, 2 for words that are no command or a range that
 /// isn't in the sheet, 3 for a sheet's text that is refused, 4 for a script's, 5 for a fetch that failed,
 /// 6 for a put on `out` that failed, and 7 for want of memory. With every status but 0 one line goes to `notes`, and
 /// nothing is written to `out` with any but 0 and 6: all memory is taken before the first byte, and what is written
 /// goes out in pieces, so that no text is put together in memory.
-pub fn run<F: Shelf, K: Sink, N: Sink>(
+pub fn run<R: Threads + Wait + Sync, F: Shelf, K: Sink, N: Sink, G: Gate + Sync>(
+    rt: &R,
     alloc: Global,
     words: &[String],
     shelf: &mut F,
     out: &mut K,
     notes: &mut N,
+    gate: &G,
 ) -> u8
     ensures status { IsStatus result }
 
     // What each status tells.
     ensures done { result ≡ 0
         → HasWritten (bytes_of words.now) (F.holds shelf.old)
+        (K.written out.old) (K.written out.new) }
+    // With `live`, one log with each client's edits once and in order; each value in a look the one-thread value after as
+    // many edits as the look's number, which never falls for a client and covers its own earlier edits; and the closing
+    // sheet with the one-thread values after the whole log.
+    ensures lived { result ≡ 0
+        → LivesAsAsked (bytes_of words.now) (F.holds shelf.old)
         (K.written out.old) (K.written out.new) }
     ensures refused { IsRefusedStatus result
         → IsRefused (bytes_of words.now) (F.holds shelf.old) result
@@ -61,7 +75,7 @@ pub fn run<F: Shelf, K: Sink, N: Sink>(
     ensures refuses { IsCalm F.faults shelf.old shelf.new
         → RefusesAll (bytes_of words.now) (F.holds shelf.old) result }
 {
-    match reply_to(alloc, words, shelf) {
+    match reply_to(rt, alloc, words, shelf, gate) {
         Ok(Reply::Output(text)) => match text.write(out) {
             Ok(()) => 0,
             Err(_) => {

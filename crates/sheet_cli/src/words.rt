@@ -2,6 +2,7 @@ ghost use Rattle.std.specs.Prelude.{◌∷◌, IfOk};
 ghost use Rattle.sheet_cli.specs.Words.{IsAskedBy, IsNoWindowWord, bytes_of};
 
 use crate::check::read_check;
+use crate::live::read_live;
 use crate::play::read_play;
 use crate::script::ScriptCommand;
 use crate::window::{WindowCommand, read_window, window_command};
@@ -23,7 +24,8 @@ pub enum Asked {
     OfCheck {
         sheet: String,
     },
-    /// `play SHEET SCRIPT`: what a command writes of the script with this name over the sheet with this name.
+    /// `play SHEET SCRIPT`, or `live SHEET SCRIPT` with or without the option for the number of workers: what a command
+    /// writes of the script with this name over the sheet with this name.
     OfScript {
         command: ScriptCommand,
         sheet: String,
@@ -54,6 +56,7 @@ fn read_other(alloc: Global, command: &str, words: &[String]) -> Result<Asked, M
     match command {
         "check" => read_check(alloc, words),
         "play" => read_play(alloc, words),
+        "live" => read_live(alloc, words),
         _ => Ok(Asked::Nothing),
     }
 }

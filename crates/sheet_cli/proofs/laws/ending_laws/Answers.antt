@@ -1,5 +1,5 @@
 use Rattle.sheet_cli.proofs.InOrder.{accepted_not_refused}
-use Rattle.sheet_cli.proofs.LawLemmas.{not_both, one_count, one_output, one_refusal}
+use Rattle.sheet_cli.proofs.LawLemmas.{not_both, one_count, one_output, one_refusal, one_script_lives}
 use Rattle.sheet_cli.proofs.laws.ending_laws.Goals as goal
 
 pub returns-clause-output : goal.returns-clause-output
@@ -7,6 +7,9 @@ returns-clause-output c = one_output
 
 pub returns-clause-checks : goal.returns-clause-checks
 returns-clause-checks c = one_count
+
+pub returns-clause-lives : goal.returns-clause-lives
+returns-clause-lives c = one_script_lives
 
 pub returns-clause-refusal : goal.returns-clause-refusal
 returns-clause-refusal c = one_refusal

@@ -1,5 +1,6 @@
-use Rattle.std.proofs.Common.{subst}
+use Rattle.std.proofs.Common.{rules, subst}
 use Rattle.sheet_cli.specs.Words.{IsAskedBy, bytes_of}
+use Rattle.sheet_cli.proofs.CommandLemmas.{has_workers}
 use Rattle.sheet_cli.proofs.ReplyLemmas.{if_reply, owed_usage, to_words}
 use Rattle.sheet_cli.proofs.reply.reply_to.Goals as goal
 
@@ -25,6 +26,12 @@ pub returns-in-OfScript-clause-owed : goal.returns-in-OfScript-clause-owed
 returns-in-OfScript-clause-owed g c =
     let asked = subst (IsAskedBy (bytes_of c.args.words.now)) c.in-OfScript.is c.in_ok-command.ensures in
     if_reply c.reply_of_script.result _ _ c.reply_of_script.ensures.reply (λ reply is. to_words _ _ _ _ _ reply asked (rw (c.as_str-in-OfScript.ensures.value, c.as_str-in-OfScript-2.ensures.value) at is))
+
+pub reply_of_script-requires : goal.reply_of_script-requires
+reply_of_script-requires g c =
+    let asked = subst (IsAskedBy (bytes_of c.args.words.now)) c.in-OfScript.is c.in_ok-command.ensures in
+    let workers = has_workers (bytes_of c.args.words.now) c.in-OfScript.command _ _ asked in
+    search rules
 
 pub returns-in-OfScript-clause-nothing_fetched : goal.returns-in-OfScript-clause-nothing_fetched
 returns-in-OfScript-clause-nothing_fetched g c =

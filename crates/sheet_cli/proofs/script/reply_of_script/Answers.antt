@@ -1,4 +1,4 @@
-use Rattle.std.proofs.Common.{subst}
+use Rattle.std.proofs.Common.{rules, subst}
 use Rattle.sheet_cli.specs.Replies.{HasFetched, RepliesOverSheet}
 use Rattle.sheet_cli.proofs.ReplyLemmas.{if_reply, no_sheet_of_script, room_for_labels, script_replies}
 use Rattle.sheet_cli.proofs.script.reply_of_script.Goals as goal
@@ -10,7 +10,8 @@ returns-in-Err-clause-reply g c =
 pub reply_over_sheet-requires : goal.reply_over_sheet-requires
 reply_over_sheet-requires g c =
     let gives = subst (HasFetched (g.F.Shelf.holds c.args.shelf.now) c.args.name.now (g.F.Shelf.faults c.args.shelf.now) (g.F.Shelf.faults c.fetch_sheet.new.shelf)) c.in-Ok.is c.in_ok-sheet.ensures.found in
-    record { few = room_for_labels (g.F.Shelf.holds c.args.shelf.now) c.args.name.now c.in-Ok.sheet gives }
+    let few = room_for_labels (g.F.Shelf.holds c.args.shelf.now) c.args.name.now c.in-Ok.sheet gives in
+    search rules
 
 pub returns-in-Ok-clause-reply : goal.returns-in-Ok-clause-reply
 returns-in-Ok-clause-reply g c =

@@ -1,5 +1,9 @@
-use Rattle.sheet_cli.proofs.RunLemmas.{output_complete, output_refuses, refusal_accepts, refusal_complete, refusal_refuses, unfetched}
+use Rattle.sheet_cli.proofs.RunLemmas.{lives_as_asked, output_complete, output_refuses, refusal_accepts, refusal_complete, refusal_refuses, unfetched}
 use Rattle.sheet_cli.proofs.top.run.Goals as goal
+
+pub returns-in-Ok-clause-lived : goal.returns-in-Ok-clause-lived
+returns-in-Ok-clause-lived g c = λ done.
+    lives_as_asked _ _ _ _ (record { text = c.in-Ok-Output.text; owed = rw c.in-Ok-Output.field-0-is at c.in-Ok-Output.ensures.owed; gained = c.in-Ok.ensures.taken })
 
 pub returns-in-Ok-clause-complete : goal.returns-in-Ok-clause-complete
 returns-in-Ok-clause-complete g c = λ calm quiet. output_complete _ _ _ (rw c.in-Ok-Output.field-0-is at c.in-Ok-Output.ensures.owed)
