@@ -5,11 +5,13 @@ Run by hand: bench/graph.py [RUNS] [WORD]. A line for each sheet whose name cont
 runs each (5 by default), the commands in turn:
 
     show      seconds of processor time of `show` of one cell
-    deps      the time of `deps A1`, divided by that
+    deps      the time of `deps` of one cell, divided by that
     check     the time of `check`, divided by that
     us/pair   microseconds of `check` for each pair
     edges     how many edges stand for how many pairs
     B/pair    the most memory that `check` had resident, divided by the pairs
+
+Below them stand the times of two lines that tell something together, the second's divided by the first's.
 
 What it starts and how is that of bench/show.py.
 """
@@ -51,12 +53,39 @@ def chain(count):
     return SHOW.lines(count, lambda r: f"=A{r - 1}+1" if r > 1 else "1")
 
 
+def shared(count, rows):
+    """Each so many cells of a column refer to one cell, those below them to the next such cell."""
+    return SHOW.lines(count, lambda r: f"=$B${r - (r - 1) % rows}")
+
+
+def sums_above(count, least, most):
+    """Each cell but the first adds up the cells above it, of which it takes between so few and so many."""
+    return SHOW.lines(count, lambda r: f"=SUM(A{max(r - random.Random(r).randint(least, most), 1)}:A{r - 1})" if r > 1 else "1")
+
+
+def drawn_chain(with_sums):
+    """A chain through 1,000 rows and 40 columns from C1, in an order that is drawn, beside 20,000 sums of prefixes of two columns or as many numbers."""
+    cells = [(row, col) for row in range(1, 1_001) for col in range(3, 43)]
+    random.Random(1).shuffle(cells)
+    cells.insert(0, cells.pop(cells.index((1, 3))))
+    before = {cell: SHOW.name(*last) for last, cell in zip(cells, cells[1:])}
+
+    ends = random.Random(2)
+
+    def line(row):
+        steps = (f"={before[row, col]}+1" if (row, col) in before else "1" for col in range(3, 43))
+        beside = (f"=SUM($A$1:B{end})" if with_sums else str(end) for end in (ends.randint(1, 1_024) for _ in range(20)))
+        return ",".join([str(row), "2", *steps, *beside])
+
+    return SHOW.lines(1_000, line)
+
+
 def alike(references):
     """5,000 rows, in each of which the first cell refers to so many cells behind it."""
     return SHOW.lines(5_000, lambda r: "=SUM(" + ";".join(SHOW.name(r, col) for col in range(2, references + 2)) + ")")
 
 
-# What is measured: the sheet's text, and the cell that is shown.
+# What is measured: the sheet's text, the cell that is shown, and the cell whose dependents are asked for, where it isn't A1.
 MEASURED = {
     "100,000 formulas =$A$1*2": (lambda: SHOW.lines(100_000, lambda r: f"{r},=$A$1*2"), "B100000"),
     "a chain of 100,000": (lambda: chain(100_000), "A100000"),
@@ -70,7 +99,20 @@ MEASURED = {
     "a chain of 10,000": (lambda: chain(10_000), "A10000"),
     "a chain of 1,000,000": (lambda: chain(1_000_000), "A1000000"),
     "100,000 formulas with references drawn at random": (lambda: SHOW.lines(100_000, at_random), "A1"),
+    "1,000,000 cells of which each eight share a reference": (lambda: shared(1_000_000, 8), "A1000000"),
+    "1,000,000 cells of which each ten share a reference": (lambda: shared(1_000_000, 10), "A1000000"),
+    "100,000 sums of the 2 to 7 cells above": (lambda: sums_above(100_000, 2, 7), "A1"),
+    "100,000 sums of the 9 to 30 cells above": (lambda: sums_above(100_000, 9, 30), "A1"),
+    "a drawn chain of 40,000 beside 20,000 numbers": (lambda: drawn_chain(False), "A1", "C1"),
+    "a drawn chain of 40,000 beside 20,000 sums =SUM($A$1:Bk)": (lambda: drawn_chain(True), "A1", "C1"),
 }
+
+# Lines of which the second's command is to take little more than the first's.
+COMPARED = [
+    ("check", "1,000,000 cells of which each eight share a reference", "1,000,000 cells of which each ten share a reference"),
+    ("deps", "100,000 sums of the 2 to 7 cells above", "100,000 sums of the 9 to 30 cells above"),
+    ("deps", "a drawn chain of 40,000 beside 20,000 numbers", "a drawn chain of 40,000 beside 20,000 sums =SUM($A$1:Bk)"),
+]
 
 
 def timed(folder, *words):
@@ -81,12 +123,12 @@ def timed(folder, *words):
     return taken, peak
 
 
-def measure(folder, cell, runs):
+def measure(folder, runs, cell, asked="A1"):
     """The least times of the three commands, in as many runs, in turn, and what the last `check` says and takes."""
     shows, deps, checks = [], [], []
     for _ in range(runs):
         shows.append(timed(folder, "show", "sheet.csv", cell)[0])
-        deps.append(timed(folder, "deps", "sheet.csv", "A1")[0])
+        deps.append(timed(folder, "deps", "sheet.csv", asked)[0])
         taken, peak = timed(folder, "check", "sheet.csv")
         checks.append(taken)
     with open(folder / "output") as output:
@@ -105,12 +147,17 @@ def main():
     print(f"{'show':>8} {'deps':>7} {'check':>7} {'us/pair':>8} {'B/pair':>8}  edges of pairs")
     with tempfile.TemporaryDirectory(prefix="antifreeze-bench-") as folder:
         folder = pathlib.Path(folder)
-        for what, (text, cell) in MEASURED.items():
+        taken = {}
+        for what, (text, *cells) in MEASURED.items():
             if word not in what:
                 continue
             (folder / "sheet.csv").write_text(text())
-            show, deps, check, pairs, edges, peak = measure(folder, cell, runs)
+            show, deps, check, pairs, edges, peak = measure(folder, runs, *cells)
+            taken["deps", what], taken["check", what] = deps, check
             print(f"{show:8.3f} {deps / show:7.2f} {check / show:7.2f} {check / pairs * 1e6:8.2f} {peak / pairs:8.0f}  {edges:,} of {pairs:,}: {what}", flush=True)
+    for command, first, second in COMPARED:
+        if (command, first) in taken and (command, second) in taken:
+            print(f"{taken[command, second] / taken[command, first]:5.2f} {command} of {second}, by that of {first}")
 
 
 if __name__ == "__main__":
