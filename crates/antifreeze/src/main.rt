@@ -1,8 +1,9 @@
 //! The program: it makes the shelf of files and the two sinks over the standard streams, hands them with
-//! its words to `run` of `sheet_cli`, and ends with the status that `run` answers.
+//! its words, the runtime and a gate at which nothing happens to `run` of `sheet_cli`, and ends with the status
+//! that `run` answers.
 //!
 //! What each status tells, what was written and what was noted, the contract of `run` says. Below stand
-//! `sheet_cli`, and `sheet_io`, through which all input and output goes.
+//! `sheet_cli`, `sheet_io`, through which all input and output goes, and `recalc_workers`, which has the gate.
 #![tactic(auto)]
 
 use recalc_workers::OpenGate;
@@ -17,7 +18,15 @@ fn main(rt: HostRuntime) -> ExitCode {
     let mut out = StreamSink::new(rt.stdout());
     let mut notes = StreamSink::new(rt.stderr());
     let status = match command_words(&rt) {
-        Ok(words) => run(&rt, rt.alloc(), &words, &mut shelf, &mut out, &mut notes, &OpenGate),
+        Ok(words) => run(
+            &rt,
+            rt.alloc(),
+            &words,
+            &mut shelf,
+            &mut out,
+            &mut notes,
+            &OpenGate,
+        ),
         Err(Memory) => no_memory(&mut notes),
     };
     ExitCode::from(status)

@@ -4,15 +4,17 @@
 //! `run` is all that it does. Its contract says what each status tells, what was written and what was noted.
 //! Words ask for at most one thing (`specs/Words.antt`, `specs/Requests.antt`), and words and the texts that
 //! they name are answered in one way, by a text or by the status and the line of a refusal, but for which
-//! edges `check` lists (`specs/Answers.antt`); `run_laws` says both. Each command is a case of each of these
-//! definitions. What their words mean in plain bytes are further laws (`specs/Laws.antt`), with rows worked out
-//! over a small sheet (`specs/Rows.antt`); `run_without_faults` shows that the premises of success can be met.
+//! edges `check` lists and which legal transcript `live` writes (`specs/Answers.antt`); `run_laws` says both.
+//! Each command is a case of each of these definitions. What their words mean in plain bytes are further laws
+//! (`specs/Laws.antt`), with rows worked out over a small sheet (`specs/Rows.antt`); `run_without_faults` shows
+//! that the premises of success can be met.
 //!
 //! The words after a command's name are read with the kit's `clap`, once it is known that none of them is
-//! written as an option. Below stand `csv_sheet` and `edit_script`, which read sheets and scripts, `sheet_model`,
-//! which computes values, `edit_log`, `taco_graph` with `edge_patterns`, and `graph_walk`, by which
-//! edges, dependents and precedents are found, `play_machine`, which plays scripts, `window_text`, which prints, and
-//! `sheet_io`, through which all input and output goes; above stands the program's `main`.
+//! written as an option; that of `live` is taken out before. Below stand `csv_sheet` and `edit_script`, which
+//! read sheets and scripts, `sheet_model`, which computes values, `edit_log`, `taco_graph` with `edge_patterns`,
+//! and `graph_walk`, by which edges, dependents and precedents are found, `play_machine`, which plays scripts,
+//! `live_run`, which runs them by threads, `window_text`, which prints, and `sheet_io`, through which all input
+//! and output goes; above stands the program's `main`.
 #![tactic(auto)]
 
 mod check;
