@@ -53,8 +53,6 @@ mod setup;
 mod sharing;
 mod stale;
 mod telling;
-#[cfg(test)]
-mod tests;
 mod whole;
 mod window;
 mod working;

@@ -1,0 +1,66 @@
+use recalc_workers::Gate;
+use sheet_refs::Cell;
+use std::sync::atomic::{AtomicU64, Ordering};
+use std::thread::yield_now;
+
+/// The most turns of a hold: a turn is one look at the flag and one yield.
+const TURNS: u32 = 10_000_000;
+
+/// Holds until the count is as great as that. Where the limit of turns ends it, the flag is set.
+fn hold(count: &AtomicU64, least: u64, late: &AtomicU64) {
+    for _ in 0..TURNS {
+        if count.load(Ordering::SeqCst) >= least {
+            return;
+        }
+        yield_now();
+    }
+    late.store(1, Ordering::SeqCst);
+}
+
+/// Holds a client ahead of one of its commands until a worker is between its claim and its put of a cell.
+#[derive(Drop)]
+pub(crate) struct UntilClaimed {
+    pub(crate) client: u32,
+    pub(crate) number: u32,
+    pub(crate) cell: Cell,
+    pub(crate) claims: AtomicU64,
+    pub(crate) late: AtomicU64,
+}
+
+impl Gate for UntilClaimed {
+    fn between(&self, cell: Cell) {
+        if cell == self.cell {
+            let _ = self.claims.fetch_add(1, Ordering::SeqCst);
+        }
+    }
+
+    fn before(&self, client: u32, number: u32) {
+        if client == self.client && number == self.number {
+            hold(&self.claims, 1, &self.late);
+        }
+    }
+}
+
+/// Holds the first worker that is between a claim and a put until there is a second one, and the client ahead of one of
+/// its commands until both are there.
+#[derive(Drop)]
+pub(crate) struct UntilTwo {
+    pub(crate) client: u32,
+    pub(crate) number: u32,
+    pub(crate) claims: AtomicU64,
+    pub(crate) late: AtomicU64,
+}
+
+impl Gate for UntilTwo {
+    fn between(&self, _: Cell) {
+        if self.claims.fetch_add(1, Ordering::SeqCst) == 0 {
+            hold(&self.claims, 2, &self.late);
+        }
+    }
+
+    fn before(&self, client: u32, number: u32) {
+        if client == self.client && number == self.number {
+            hold(&self.claims, 2, &self.late);
+        }
+    }
+}

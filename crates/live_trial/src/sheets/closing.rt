@@ -1,0 +1,79 @@
+ghost use Rattle.std.specs.Prelude.{◌≤◌};
+ghost use Rattle.live_sheet.specs.Setups.{IsNamedBy};
+
+use crate::sheets::edits::sheet_of;
+use crate::sheets::texts::write_codes;
+use live_sheet::{Live, Naming, Opened, Setup};
+use recalc_workers::OpenGate;
+use sheet_model::Sheet;
+use std::alloc::Global;
+use std::fmt::Write;
+use std::marker::Brand;
+use std::sync::Wait;
+use std::test::Fail;
+use std::thread::Threads;
+
+// Opens a live sheet and closes it at once, and tells how many entries it leaves, and the values.
+fn opens_and_closes<N: Naming, R: Threads + Wait + Sync>(
+    rt: &R,
+    alloc: Global,
+    setup: Setup,
+) -> Result<String, Fail>
+    requires { IsNamedBy N.name N.parts N.words N.queue N.opening N.clients setup }
+{
+    let opened = Live::<N>::open(alloc, setup)?;
+    let Opened {
+        live,
+        passes,
+        desks,
+    } = opened;
+    let Ok(closed) = live.close(rt, passes, desks, &OpenGate) else {
+        return Err(Fail::from("a sheet that is not closed"));
+    };
+    let mut text = String::new(alloc);
+    write!(text, "{}:", closed.log.len())?;
+    write_codes(&mut text, &closed.values)?;
+    Ok(text)
+}
+
+// The same over a sheet, for so many clients and workers.
+fn closed<R: Threads + Wait + Sync>(
+    rt: &R,
+    alloc: Global,
+    sheet: Sheet,
+    clients: u32,
+    workers: u32,
+) -> Result<String, Fail> {
+    if clients > 32 || workers == 0 || workers > 64 {
+        return Err(Fail::from("too many"));
+    }
+    let setup = Setup::new(alloc, sheet, clients, workers)?;
+    opens_and_closes::<Brand, _>(rt, alloc, setup)
+}
+
+#[test]
+fn a_sheet_at_whose_desks_nobody_worked_is_closed(rt: HostRuntime) -> Result<(), Fail> {
+    let alloc = rt.alloc();
+    let fields = [("A1", "1"), ("B1", "=A1+1"), ("A2", "2"), ("B2", "=A2+B1")];
+    let text = closed(&rt, alloc, sheet_of(alloc, 2, 2, &fields)?, 2, 4)?;
+    assert_eq!(rt; text.as_str(), "0: 1 2 2 4");
+    Ok(())
+}
+
+#[test]
+fn the_smallest_and_the_most(rt: HostRuntime) -> Result<(), Fail> {
+    let alloc = rt.alloc();
+    let text = closed(&rt, alloc, sheet_of(alloc, 0, 0, &[])?, 1, 1)?;
+    assert_eq!(rt; text.as_str(), "0:");
+    let text = closed(&rt, alloc, sheet_of(alloc, 1, 2, &[])?, 0, 1)?;
+    assert_eq!(rt; text.as_str(), "0: - -");
+    let text = closed(
+        &rt,
+        alloc,
+        sheet_of(alloc, 1, 2, &[("A1", "=B1+3")])?,
+        32,
+        64,
+    )?;
+    assert_eq!(rt; text.as_str(), "0: 3 -");
+    Ok(())
+}

@@ -1,0 +1,39 @@
+use sheet_model::{Board, Shown};
+use std::fmt::Write;
+use std::test::Fail;
+use value_core::{Value, decode};
+
+// Writes a value.
+fn write_value(text: &mut String, value: &Value) -> Result<(), Fail> {
+    match value {
+        Value::Number(number) => write!(text, " {number}")?,
+        Value::Error(kind) => write!(text, " {kind}")?,
+        Value::Empty => text.push_str(" -")?,
+        _ => text.push_str(" ?")?,
+    }
+    Ok(())
+}
+
+/// Writes the number of a board, and what is shown of each cell.
+pub(crate) fn write_board(text: &mut String, board: &Board) -> Result<(), Fail> {
+    write!(text, "{}:", board.number())?;
+    for shown in board.cells() {
+        match shown {
+            Shown::Value(value) => write_value(text, value)?,
+            Shown::Stale(number) => write!(text, " ~{number}")?,
+            Shown::Newer(number) => write!(text, " ^{number}")?,
+        }
+    }
+    Ok(())
+}
+
+/// Writes the values of which these are the codes.
+pub(crate) fn write_codes(text: &mut String, codes: &[u64]) -> Result<(), Fail> {
+    for code in codes {
+        let Some(value) = decode(*code) else {
+            return Err(Fail::from("no code"));
+        };
+        write_value(text, &value)?;
+    }
+    Ok(())
+}

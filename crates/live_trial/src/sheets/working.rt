@@ -1,0 +1,158 @@
+ghost use Rattle.std.specs.Prelude.{◌≡◌, ℕ};
+ghost use Rattle.sheet_model.specs.Edits.{HaveLabels};
+ghost use Rattle.live_sheet.specs.Setups.{IsNamedBy};
+
+use crate::sheets::edits::{cell, sets, sheet_of};
+use crate::sheets::stories::{edit, look, work};
+use live_sheet::{Live, Naming, Opened, Setup};
+use recalc_workers::OpenGate;
+use sheet_model::{Board, Edit, Sheet};
+use sheet_refs::{Range, Sizes};
+use std::alloc::Global;
+use std::marker::Brand;
+use std::sync::Wait;
+use std::test::Fail;
+use std::thread::Threads;
+
+// Looks, edits, looks, takes turns at a desk, and looks again.
+fn edits_and_works<N: Naming, R: Wait>(
+    rt: &R,
+    alloc: Global,
+    setup: Setup,
+    sizes: Sizes,
+    range: Range,
+    change: Edit,
+    turns: u32,
+) -> Result<String, Fail>
+    requires named { IsNamedBy N.name N.parts N.words N.queue N.opening N.clients setup }
+    requires sizes { sizes ≡ N.opening.sizes }
+    requires labels { (labels : ℕ) → HaveLabels labels change }
+{
+    let Opened {
+        live,
+        mut passes,
+        desks,
+    } = Live::<N>::open(alloc, setup)?;
+    let Some(mut pass) = passes.pop() else {
+        return Err(Fail::from("no pass"));
+    };
+    let mut board = Board::new(alloc, 4)?;
+    let mut text = String::new(alloc);
+    look(&live, &mut pass, sizes, range, &mut board, &mut text)?;
+    edit(rt, &live, &mut pass, change, &mut text)?;
+    look(&live, &mut pass, sizes, range, &mut board, &mut text)?;
+    work(rt, &live, desks, turns, &mut text)?;
+    look(&live, &mut pass, sizes, range, &mut board, &mut text)?;
+    Ok(text)
+}
+
+// The same over a sheet, with one client and one desk.
+fn worked<R: Wait>(
+    rt: &R,
+    alloc: Global,
+    sheet: Sheet,
+    range: Range,
+    change: Edit,
+    turns: u32,
+) -> Result<String, Fail>
+    requires { (labels : ℕ) → HaveLabels labels change }
+{
+    let sizes = sheet.sizes();
+    let setup = Setup::new(alloc, sheet, 1, 1)?;
+    edits_and_works::<Brand, _>(rt, alloc, setup, sizes, range, change, turns)
+}
+
+// A sheet of two rows and columns, with two formulas.
+fn two_formulas(alloc: Global) -> Result<Sheet, Fail> {
+    let fields = [("A1", "1"), ("B1", "=A1+1"), ("A2", "2"), ("B2", "=A2+B1")];
+    sheet_of(alloc, 2, 2, &fields)
+}
+
+#[test]
+fn an_edit_leaves_its_cells_stale_where_no_desk_works(rt: HostRuntime) -> Result<(), Fail> {
+    let alloc = rt.alloc();
+    let mut sheet = two_formulas(alloc)?;
+    let change = sets(alloc, &mut sheet, "A1", "5")?;
+    let range = Range::of(cell("A1")?, cell("B2")?);
+    let text = worked(&rt, alloc, sheet, range, change, 0)?;
+    assert_eq!(rt;
+        text.as_str(),
+        "0: 1 ~0 2 ~0 #1 1: ~1 ~1 2 ~1 1: ~1 ~1 2 ~1"
+    );
+    Ok(())
+}
+
+#[test]
+fn one_desk_computes_a_cycle(rt: HostRuntime) -> Result<(), Fail> {
+    let alloc = rt.alloc();
+    let mut sheet = sheet_of(alloc, 1, 2, &[("A1", "1"), ("B1", "=A1")])?;
+    let change = sets(alloc, &mut sheet, "A1", "=B1")?;
+    let range = Range::of(cell("A1")?, cell("B1")?);
+    let text = worked(&rt, alloc, sheet, range, change, 3)?;
+    assert_eq!(rt;
+        text.as_str(),
+        "0: 1 ~0 #1 1: ~1 ~1 A1 B1 idle 1: #CIRC! #CIRC!"
+    );
+    Ok(())
+}
+
+// Edits twice, settles, and looks.
+fn edits_and_settles<N: Naming, R: Threads + Wait + Sync>(
+    rt: &R,
+    alloc: Global,
+    setup: Setup,
+    sizes: Sizes,
+    range: Range,
+    first: Edit,
+    second: Edit,
+) -> Result<String, Fail>
+    requires named { IsNamedBy N.name N.parts N.words N.queue N.opening N.clients setup }
+    requires sizes { sizes ≡ N.opening.sizes }
+    requires first { (labels : ℕ) → HaveLabels labels first }
+    requires second { (labels : ℕ) → HaveLabels labels second }
+{
+    let Opened {
+        live,
+        mut passes,
+        desks: _,
+    } = Live::<N>::open(alloc, setup)?;
+    let Some(mut pass) = passes.pop() else {
+        return Err(Fail::from("no pass"));
+    };
+    let mut board = Board::new(alloc, 4)?;
+    let mut text = String::new(alloc);
+    edit(rt, &live, &mut pass, first, &mut text)?;
+    edit(rt, &live, &mut pass, second, &mut text)?;
+    live.settle(rt, &mut pass, &OpenGate)?;
+    look(&live, &mut pass, sizes, range, &mut board, &mut text)?;
+    Ok(text)
+}
+
+// The same over a sheet, with one client and so many desks.
+fn settled<R: Threads + Wait + Sync>(
+    rt: &R,
+    alloc: Global,
+    sheet: Sheet,
+    range: Range,
+    first: Edit,
+    second: Edit,
+) -> Result<String, Fail>
+    requires first { (labels : ℕ) → HaveLabels labels first }
+    requires second { (labels : ℕ) → HaveLabels labels second }
+{
+    let sizes = sheet.sizes();
+    let setup = Setup::new(alloc, sheet, 1, 2)?;
+    edits_and_settles::<Brand, _>(rt, alloc, setup, sizes, range, first, second)
+}
+
+#[test]
+fn settling_computes_all_cells(rt: HostRuntime) -> Result<(), Fail> {
+    let alloc = rt.alloc();
+    let mut sheet = two_formulas(alloc)?;
+    let first = sets(alloc, &mut sheet, "A1", "5")?;
+    let second = sets(alloc, &mut sheet, "A2", "=a1 * 2")?;
+    let range = Range::of(cell("A1")?, cell("B2")?);
+    let text = settled(&rt, alloc, sheet, range, first, second)?;
+    assert_eq!(rt; text.as_str(), " #1  #2 2: 5 6 10 16");
+    Ok(())
+}
