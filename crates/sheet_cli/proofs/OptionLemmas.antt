@@ -1,5 +1,5 @@
 -- Words without the option for the number of workers: there is one way to take it out.
-use Rattle.std.proofs.Common.{◌≡◌, ◌≢◌, ℕ, ◌≤◌, ◌<◌, zero, suc, List, [], ◌∷◌, ◌++◌, length, length-append, codes, refl, sym, ◌∙◌, ap, subst, arith, All, slice_index_or}
+use Rattle.std.proofs.Common.{◌≡◌, ◌≢◌, ℕ, suc, List, [], ◌∷◌, ◌++◌, length, length-append, codes, refl, sym, ◌∙◌, ap, subst, arith, All}
 use Rattle.std.specs.Prelude.{Err, IfOk, MatchOption, None, Ok, Option, Result, Some}
 use Rattle.sheet_refs.specs.Names.{decimal_number}
 use Rattle.sheet_cli.specs.Options.{HasTaken}
