@@ -1,5 +1,6 @@
 ghost use Rattle.std.specs.Prelude.{IfOk};
 ghost use Rattle.live_run.specs.Runs.{IsRunnable};
+ghost use Rattle.window_text.specs.Transcripts.{IsWhole};
 
 use edit_script::{Mode, Script, read_script};
 use live_run::run_live;
@@ -62,7 +63,9 @@ fn script_of(alloc: Global, text: &str, sheet: &mut Sheet) -> Result<Script, Fai
 }
 
 // What `live` prints of a run.
-fn text_of(alloc: Global, transcript: &Transcript) -> Result<String, Fail> {
+fn text_of(alloc: Global, transcript: &Transcript) -> Result<String, Fail>
+    requires { IsWhole transcript.now }
+{
     let mut bytes = Vec::new(alloc);
     let mut keep = |piece: &[u8]| bytes.extend_from_slice(piece).is_ok();
     if !Printer::live(transcript, &mut keep) {
