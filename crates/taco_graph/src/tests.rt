@@ -51,7 +51,7 @@ fn shown(alloc: Global, graph: &SheetGraph) -> Result<String, Fail> {
 // Each cell of column B adds up all cells of column A from the first one to the one beside it.
 #[test]
 fn growing_sums_are_one_edge(rt: HostRuntime) -> Result<(), Fail> {
-    let mut graph = Taco::new(rt.alloc());
+    let mut graph = SheetGraph::new(rt.alloc());
     for row in 1..101 {
         let range = Range::of(at(1, 1)?, at(row, 1)?);
         refer(rt.alloc(), &mut graph, at(row, 2)?, range)?;
@@ -62,7 +62,7 @@ fn growing_sums_are_one_edge(rt: HostRuntime) -> Result<(), Fail> {
 
 // Each cell refers to the one above it.
 fn chain(alloc: Global) -> Result<SheetGraph, Fail> {
-    let mut graph = Taco::new(alloc);
+    let mut graph = SheetGraph::new(alloc);
     for row in 2..12 {
         let above = at(row - 1, 1)?;
         refer(alloc, &mut graph, at(row, 1)?, Range::of(above, above))?;
@@ -125,7 +125,7 @@ fn fill_row(alloc: Global, graph: &mut SheetGraph, row: u32) -> Result<(), Fail>
 
 // The edges of twelve such rows, built in one of the orders.
 fn built(alloc: Global, order: u32) -> Result<String, Fail> {
-    let mut graph = Taco::new(alloc);
+    let mut graph = SheetGraph::new(alloc);
     for step in 1..13 {
         fill_row(alloc, &mut graph, row_at(order, step))?;
     }
