@@ -3,7 +3,10 @@ pub mod Complete
 pub mod Depths
 pub mod Measures
 pub mod Printed
+pub mod Rebuildings
 pub mod PrintedWords
+pub mod Shifts
+pub mod Flatter
 pub mod Shorter
 pub mod Signs
 pub mod TokenLemmas
@@ -15,3 +18,4 @@ pub mod Sound
 pub mod Spells
 pub mod Steps
 pub mod WordLemmas
+pub mod Withins

@@ -5,6 +5,7 @@ use Rattle.std.proofs.lemmas.Bool.Decides.{nat_tests}
 use Rattle.std.proofs.lemmas.List.{append-nil, length-append}
 use Rattle.formula_syntax.specs.declared.tokens.Token.{Token}
 use Rattle.formula_syntax.specs.declared.tokens.Token.TheVariants as token
+use Rattle.formula_syntax.specs.declared.edition.Edition.{Edition}
 use Rattle.formula_syntax.specs.Functions.{function_name}
 use Rattle.formula_syntax.specs.Tree.{Tree, Trees, number, truth, error, reference, prefix, binary, call, no_trees, and_trees}
 use Rattle.formula_syntax.specs.Grammar.{level_of, sign_written, Derives, AreDerived, AreSome}
@@ -21,27 +22,27 @@ use Rattle.formula_syntax.proofs.Measures.{fitting, tokens_written}
 use Rattle.formula_syntax.proofs.Printed.{enclosed, at_tokens, tree_tokens, all_tokens, other_tokens, printed_tokens, spelt_plain}
 
 -- how many parentheses tokens open and close
-abbrev opening : Token → ℕ
+abbrev pub opening : Token → ℕ
 opening token.Open = 1
 opening _ = 0
 
-abbrev closing : Token → ℕ
+abbrev pub closing : Token → ℕ
 closing token.Close = 1
 closing _ = 0
 
-abbrev opened : List Token → ℕ
+abbrev pub opened : List Token → ℕ
 opened [] = 0
 opened (t ∷ ts) = opening t + opened ts
 
-abbrev closed : List Token → ℕ
+abbrev pub closed : List Token → ℕ
 closed [] = 0
 closed (t ∷ ts) = closing t + closed ts
 
-opened-append : (ts us : List Token) → opened (ts ++ us) ≡ opened ts + opened us
+pub opened-append : (ts us : List Token) → opened (ts ++ us) ≡ opened ts + opened us
 opened-append [] us = omega arith
 opened-append (t ∷ ts) us = omega (arith, opened-append ts us)
 
-closed-append : (ts us : List Token) → closed (ts ++ us) ≡ closed ts + closed us
+pub closed-append : (ts us : List Token) → closed (ts ++ us) ≡ closed ts + closed us
 closed-append [] us = omega arith
 closed-append (t ∷ ts) us = omega (arith, closed-append ts us)
 
@@ -50,7 +51,7 @@ size-append [] us = omega arith
 size-append (t ∷ ts) us = omega (arith, size-append ts us)
 
 -- tokens behind others begin at the depth that these leave
-depth-append : (ts us : List Token) → depth_of_tokens (ts ++ us) ≡ max (depth_of_tokens ts) (opened ts + depth_of_tokens us - closed ts)
+pub depth-append : (ts us : List Token) → depth_of_tokens (ts ++ us) ≡ max (depth_of_tokens ts) (opened ts + depth_of_tokens us - closed ts)
 depth-append [] us = omega arith
 depth-append (token.Open ∷ ts) us = omega (arith, depth-append ts us)
 depth-append (token.Close ∷ ts) us = omega (arith, depth-append ts us)
@@ -83,10 +84,10 @@ behind t ts us no_open no_close same h = record {
   level = omega (arith, h.level, no_open, no_close);
 }
 
-enclosed_depth : (ts : List Token) → opened ts ≡ closed ts → depth_of_tokens (enclosed ts) ≡ suc (depth_of_tokens ts)
+pub enclosed_depth : (ts : List Token) → opened ts ≡ closed ts → depth_of_tokens (enclosed ts) ≡ suc (depth_of_tokens ts)
 enclosed_depth ts even = omega (arith, even, depth-append ts (token.Close ∷ []))
 
-enclosed_even : (ts : List Token) → opened ts ≡ closed ts → opened (enclosed ts) ≡ closed (enclosed ts)
+pub enclosed_even : (ts : List Token) → opened ts ≡ closed ts → opened (enclosed ts) ≡ closed (enclosed ts)
 enclosed_even ts even = omega (arith, even, opened-append ts (token.Close ∷ []), closed-append ts (token.Close ∷ []))
 
 enclosed_size : (ts : List Token) → size_of_tokens (enclosed ts) ≡ size_of_tokens ts + 2
@@ -237,9 +238,10 @@ plain_no_deeper text t spells deep =
     deep_text text (omega (arith, far, ours, theirs, less.shallow))
 
 -- so it is read wherever the text is
-pub plain_read : (text : List ℕ) (t : Tree) → IsRead text t → IsRead (plain t) t
-plain_read text t read = record {
+pub plain_read : (edition : Edition) (text : List ℕ) (t : Tree) → IsRead edition text t → IsRead edition (plain t) t
+plain_read edition text t read = record {
   shallow = λ deep. read.shallow (plain_no_deeper text t read.spelt deep);
   spelt = spelt_plain text t read.spelt;
+  within = read.within;
   few = read.few;
 }

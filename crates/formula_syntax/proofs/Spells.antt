@@ -11,6 +11,8 @@ use Rattle.std.proofs.lemmas.List.Sums.{count_by_more_yes, count_by_more_no}
 use Rattle.formula_syntax.specs.declared.tokens.Token.{Token}
 use Rattle.formula_syntax.specs.declared.reader.ReadRefused.{ReadRefused}
 use Rattle.formula_syntax.specs.declared.reader.ReadRefused.TheVariants.{NotFormula, TooDeep, TooManyRefs, Memory}
+use Rattle.formula_syntax.specs.declared.edition.Edition.{Edition}
+use Rattle.formula_syntax.specs.Editions.{has_tokens}
 use Rattle.formula_syntax.specs.Tree.{Tree, references_of}
 use Rattle.formula_syntax.specs.Formula.{IsFormula}
 use Rattle.formula_syntax.specs.Grammar.{Derives}
@@ -18,8 +20,9 @@ use Rattle.formula_syntax.specs.Lexing.{HasTokens}
 use Rattle.formula_syntax.specs.Reading.{read, steps, Answers}
 use Rattle.formula_syntax.specs.declared.reading.Unread.{Unread}
 use Rattle.formula_syntax.specs.declared.reading.Unread.TheVariants as unread
-use Rattle.formula_syntax.specs.Spelling.{IsIntroduced, Spells, IsTooDeep, IsNoFormula, HasTooManyRefs, IsRead, IsAnswer, is_reference_token, refusal_of}
+use Rattle.formula_syntax.specs.Spelling.{IsIntroduced, Spells, SpellsIn, IsTooDeep, IsNoFormula, HasTooManyRefs, IsRead, IsAnswer, is_reference_token, refusal_of}
 use Rattle.formula_syntax.specs.Spelling.IsIntroduced.{plain, prefixed}
+use Rattle.formula_syntax.proofs.Withins.{tokens_within}
 use Rattle.formula_syntax.proofs.Lexemes.{tokens_unique}
 use Rattle.formula_syntax.proofs.Complete.{derived_unique, read_whole}
 use Rattle.formula_syntax.proofs.Sound.{read_derives}
@@ -94,36 +97,39 @@ introduction_length text rest (prefixed _ _ e) = omega (arith, ap length e, leng
 apart : {A : Type 0} {B : Type 0} → (A → B → ⊥) → B → A → ⊥
 apart f b a = f a b
 
-pub exactly_deep : (text : List ℕ) (r : Result Tree ReadRefused) → r ≢ Err Memory → IsAnswer text r → (r ≡ Err TooDeep) ↔ IsTooDeep text
-exactly_deep text (Ok t) m a = (λ e. absurd (cc), λ deep. absurd (a.shallow deep))
-exactly_deep text (Err NotFormula) m a = (λ e. absurd (cc), λ deep. absurd (a.0 deep))
-exactly_deep text (Err TooDeep) m a = (λ _. a, λ _. refl)
-exactly_deep text (Err TooManyRefs) m a = (λ e. absurd (cc), λ deep. absurd (a.0 deep))
-exactly_deep text (Err Memory) m a = absurd (m refl)
+read_in : (edition : Edition) (text : List ℕ) (t : Tree) → IsRead edition text t → SpellsIn edition text t
+read_in edition text t is = record { spelt = is.spelt; within = is.within }
 
-pub exactly_none : (text : List ℕ) (r : Result Tree ReadRefused) → r ≢ Err Memory → IsAnswer text r → (r ≡ Err NotFormula) ↔ IsNoFormula text
-exactly_none text (Ok t) m a = (λ e. absurd (cc), λ none. absurd (none.1 t a.spelt))
-exactly_none text (Err NotFormula) m a = (λ _. a, λ _. refl)
-exactly_none text (Err TooDeep) m a = (λ e. absurd (cc), λ none. absurd (none.0 a))
-exactly_none text (Err TooManyRefs) m a = (λ e. absurd (cc), λ none. absurd (none.1 a.1 a.2))
-exactly_none text (Err Memory) m a = absurd (m refl)
+pub exactly_deep : (edition : Edition) (text : List ℕ) (r : Result Tree ReadRefused) → r ≢ Err Memory → IsAnswer edition text r → (r ≡ Err TooDeep) ↔ IsTooDeep text
+exactly_deep edition text (Ok t) m a = (λ e. absurd (cc), λ deep. absurd (a.shallow deep))
+exactly_deep edition text (Err NotFormula) m a = (λ e. absurd (cc), λ deep. absurd (a.0 deep))
+exactly_deep edition text (Err TooDeep) m a = (λ _. a, λ _. refl)
+exactly_deep edition text (Err TooManyRefs) m a = (λ e. absurd (cc), λ deep. absurd (a.0 deep))
+exactly_deep edition text (Err Memory) m a = absurd (m refl)
 
-pub exactly_many : (text : List ℕ) (r : Result Tree ReadRefused) → r ≢ Err Memory → IsAnswer text r → (r ≡ Err TooManyRefs) ↔ HasTooManyRefs text
-exactly_many text (Ok t) m a = (λ e. absurd (cc), λ many. absurd (few many.1 many.2 many.3))
+pub exactly_none : (edition : Edition) (text : List ℕ) (r : Result Tree ReadRefused) → r ≢ Err Memory → IsAnswer edition text r → (r ≡ Err NotFormula) ↔ IsNoFormula edition text
+exactly_none edition text (Ok t) m a = (λ e. absurd (cc), λ none. absurd (none.1 t (read_in edition text t a)))
+exactly_none edition text (Err NotFormula) m a = (λ _. a, λ _. refl)
+exactly_none edition text (Err TooDeep) m a = (λ e. absurd (cc), λ none. absurd (none.0 a))
+exactly_none edition text (Err TooManyRefs) m a = (λ e. absurd (cc), λ none. absurd (none.1 a.1 a.2))
+exactly_none edition text (Err Memory) m a = absurd (m refl)
+
+pub exactly_many : (edition : Edition) (text : List ℕ) (r : Result Tree ReadRefused) → r ≢ Err Memory → IsAnswer edition text r → (r ≡ Err TooManyRefs) ↔ HasTooManyRefs edition text
+exactly_many edition text (Ok t) m a = (λ e. absurd (cc), λ many. absurd (few many.1 many.2 many.3))
   where
-    few : (u : Tree) → Spells text u → 255 < length (references_of u) → ⊥
-    few u spells more = omega (arith, more, a.few, ap (λ (v : Tree). length (references_of v)) (spells_unique text u t spells a.spelt))
-exactly_many text (Err NotFormula) m a = (λ e. absurd (cc), λ many. absurd (a.1 many.1 many.2))
-exactly_many text (Err TooDeep) m a = (λ e. absurd (cc), λ many. absurd (many.0 a))
-exactly_many text (Err TooManyRefs) m a = (λ _. a, λ _. refl)
-exactly_many text (Err Memory) m a = absurd (m refl)
+    few : (u : Tree) → SpellsIn edition text u → 255 < length (references_of u) → ⊥
+    few u spells more = omega (arith, more, a.few, ap (λ (v : Tree). length (references_of v)) (spells_unique text u t spells.spelt a.spelt))
+exactly_many edition text (Err NotFormula) m a = (λ e. absurd (cc), λ many. absurd (a.1 many.1 many.2))
+exactly_many edition text (Err TooDeep) m a = (λ e. absurd (cc), λ many. absurd (many.0 a))
+exactly_many edition text (Err TooManyRefs) m a = (λ _. a, λ _. refl)
+exactly_many edition text (Err Memory) m a = absurd (m refl)
 
-pub surely_read : (text : List ℕ) (r : Result Tree ReadRefused) → r ≢ Err Memory → IsAnswer text r → (t : Tree) → IsRead text t → r ≡ Ok t
-surely_read text (Ok u) m a t is = ap Ok (spells_unique text u t a.spelt is.spelt)
-surely_read text (Err NotFormula) m a t is = absurd (a.1 t is.spelt)
-surely_read text (Err TooDeep) m a t is = absurd (is.shallow a)
-surely_read text (Err TooManyRefs) m (shallow, u, spells, many) t is = absurd (omega (arith, many, is.few, ap (λ (v : Tree). length (references_of v)) (spells_unique text u t spells is.spelt)))
-surely_read text (Err Memory) m a t is = absurd (m refl)
+pub surely_read : (edition : Edition) (text : List ℕ) (r : Result Tree ReadRefused) → r ≢ Err Memory → IsAnswer edition text r → (t : Tree) → IsRead edition text t → r ≡ Ok t
+surely_read edition text (Ok u) m a t is = ap Ok (spells_unique text u t a.spelt is.spelt)
+surely_read edition text (Err NotFormula) m a t is = absurd (a.1 t (read_in edition text t is))
+surely_read edition text (Err TooDeep) m a t is = absurd (is.shallow a)
+surely_read edition text (Err TooManyRefs) m (shallow, u, spells, many) t is = absurd (omega (arith, many, is.few, ap (λ (v : Tree). length (references_of v)) (spells_unique text u t spells.spelt is.spelt)))
+surely_read edition text (Err Memory) m a t is = absurd (m refl)
 
 -- counting parentheses byte by byte
 pub count_step : (p : ℕ → Bool) (xs : List ℕ) (i x : ℕ) → i < length xs → x ≡ get_or xs i x → count_by p (take (i + 1) xs) ≡ count_by p (take i xs) + cond (p x) 1 0
@@ -164,18 +170,31 @@ pub err_derives : {A : Type 0} (ts : List Token) (u : Unread) → Answers (λ n.
 err_derives ts unread.NotFormula a e t = fail_derives ts t a
 err_derives ts unread.Memory a e t = absurd (cc)
 
-pub root_refused : {A : Type 0} (text rest : List ℕ) (ts : List Token) (u : Unread) → ¬ IsTooDeep text → IsIntroduced text rest → HasTokens rest ts → (◌≡◌ {A = Result A Unread} (Err u) (Err unread.NotFormula) → (t : Tree) → ¬ Derives 0 ts t) → IsAnswer text (Err (refusal_of u))
-root_refused text rest ts unread.NotFormula shallow intro tokens none = (shallow, not_derived text rest ts intro tokens (none refl))
-root_refused text rest ts unread.Memory shallow intro tokens none = tt
+pub root_refused : {A : Type 0} (edition : Edition) (text rest : List ℕ) (ts : List Token) (u : Unread) → ¬ IsTooDeep text → IsIntroduced text rest → HasTokens rest ts → (◌≡◌ {A = Result A Unread} (Err u) (Err unread.NotFormula) → (t : Tree) → ¬ Derives 0 ts t) → IsAnswer edition text (Err (refusal_of u))
+root_refused edition text rest ts unread.NotFormula shallow intro tokens none = (shallow, λ t spells. not_derived text rest ts intro tokens (none refl) t spells.spelt)
+root_refused edition text rest ts unread.Memory shallow intro tokens none = tt
 
-pub tokens_refused : {A : Type 0} (text rest : List ℕ) (u : Unread) → ¬ IsTooDeep text → IsIntroduced text rest → (◌≡◌ {A = Result A Unread} (Err u) (Err unread.NotFormula) → (ts : List Token) → ¬ HasTokens rest ts) → IsAnswer text (Err (refusal_of u))
-tokens_refused text rest unread.NotFormula shallow intro none = (shallow, not_tokens text rest intro (none refl))
-tokens_refused text rest unread.Memory shallow intro none = tt
+pub tokens_refused : {A : Type 0} (edition : Edition) (text rest : List ℕ) (u : Unread) → ¬ IsTooDeep text → IsIntroduced text rest → (◌≡◌ {A = Result A Unread} (Err u) (Err unread.NotFormula) → (ts : List Token) → ¬ HasTokens rest ts) → IsAnswer edition text (Err (refusal_of u))
+tokens_refused edition text rest unread.NotFormula shallow intro none = (shallow, λ t spells. not_tokens text rest intro (none refl) t spells.spelt)
+tokens_refused edition text rest unread.Memory shallow intro none = tt
 
-pub many_references : (text rest : List ℕ) (ts : List Token) (t : Tree) → ¬ IsTooDeep text → IsIntroduced text rest → HasTokens rest ts → Derives 0 ts t → 255 < count_by is_reference_token ts → HasTooManyRefs text
-many_references text rest ts t shallow intro tokens d more =
-    (shallow, t, spelt text rest ts t intro tokens d, omega (arith, more, references_counted 0 ts t d))
+-- a text without an introduction spells no tree in an edition
+pub plainly_none : (edition : Edition) (text : List ℕ) → ((rest : List ℕ) → ¬ IsIntroduced text rest) → (t : Tree) → ¬ SpellsIn edition text t
+plainly_none edition text none t spells = not_introduced text none t spells.spelt
 
-pub is_read : (text rest : List ℕ) (ts : List Token) (t : Tree) → ¬ IsTooDeep text → IsIntroduced text rest → HasTokens rest ts → Derives 0 ts t → count_by is_reference_token ts ≤ 255 → IsRead text t
-is_read text rest ts t shallow intro tokens d few =
-    record { shallow = shallow; spelt = spelt text rest ts t intro tokens d; few = omega (arith, few, references_counted 0 ts t d) }
+-- nor does one whose tokens name a function that the edition lacks
+pub lacks_function : (edition : Edition) (text rest : List ℕ) (ts : List Token) → ¬ IsTooDeep text → IsIntroduced text rest → HasTokens rest ts → has_tokens edition ts ≡ false → IsNoFormula edition text
+lacks_function edition text rest ts shallow intro tokens lacks =
+    (shallow, λ t spells. absurd (false≢true (sym lacks ∙ (tokens_within edition 0 ts t (spelt_derived text rest ts t intro tokens spells.spelt) ∙ spells.within))))
+
+pub many_references : (edition : Edition) (text rest : List ℕ) (ts : List Token) (t : Tree) → ¬ IsTooDeep text → IsIntroduced text rest → HasTokens rest ts → Derives 0 ts t → has_tokens edition ts ≡ true → 255 < count_by is_reference_token ts → HasTooManyRefs edition text
+many_references edition text rest ts t shallow intro tokens d within more =
+    (shallow, t, record { spelt = spelt text rest ts t intro tokens d; within = sym (tokens_within edition 0 ts t d) ∙ within }, omega (arith, more, references_counted 0 ts t d))
+
+pub is_read : (edition : Edition) (text rest : List ℕ) (ts : List Token) (t : Tree) → ¬ IsTooDeep text → IsIntroduced text rest → HasTokens rest ts → Derives 0 ts t → has_tokens edition ts ≡ true → count_by is_reference_token ts ≤ 255 → IsRead edition text t
+is_read edition text rest ts t shallow intro tokens d within few = record {
+  shallow = shallow;
+  spelt = spelt text rest ts t intro tokens d;
+  within = sym (tokens_within edition 0 ts t d) ∙ within;
+  few = omega (arith, few, references_counted 0 ts t d);
+}

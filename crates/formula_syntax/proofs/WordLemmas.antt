@@ -12,7 +12,7 @@ use Rattle.sheet_refs.specs.Ends.IsReferenceName.{alone, joined}
 use Rattle.sheet_refs.proofs.EndLemmas.{one_reference}
 use Rattle.value_core.specs.Values.{truth_text}
 use Rattle.formula_syntax.specs.declared.functions.Function.{Function}
-use Rattle.formula_syntax.specs.declared.functions.Function.TheVariants.{Sum, Product, Min, Max, Count, Counta, Countblank, If, Iferror, And, Or, Not, Abs, Sign, Mod, Quotient, Iserror, Isnumber, Islogical, Istext, Isblank, Na}
+use Rattle.formula_syntax.specs.declared.functions.Function.TheVariants.{Sum, Product, Min, Max, Count, Counta, Countblank, If, Iferror, And, Or, Not, Abs, Sign, Mod, Quotient, Iserror, Isnumber, Islogical, Istext, Isblank, Na, Countif, Sumif, Match}
 use Rattle.formula_syntax.specs.declared.tokens.Token.{Token}
 use Rattle.formula_syntax.specs.declared.tokens.Token.TheVariants as token
 use Rattle.formula_syntax.specs.Functions.{function_name, all_functions}
@@ -20,7 +20,7 @@ use Rattle.formula_syntax.specs.Lexing.{is_word, IsSpelt, IsWord}
 use Rattle.formula_syntax.specs.Lexing.IsWord.{number, truth, function, reference}
 
 -- what holds of no function of the table holds of none
-pub all_apart : (P : Function → Type 0) → ((k : ℕ) (d : Function) → k < 22 → P (get_or all_functions k d)) → (f : Function) → P f
+pub all_apart : (P : Function → Type 0) → ((k : ℕ) (d : Function) → k < 25 → P (get_or all_functions k d)) → (f : Function) → P f
 all_apart P h Sum = h 0 Sum (omega arith)
 all_apart P h Product = h 1 Sum (omega arith)
 all_apart P h Min = h 2 Sum (omega arith)
@@ -43,6 +43,9 @@ all_apart P h Islogical = h 18 Sum (omega arith)
 all_apart P h Istext = h 19 Sum (omega arith)
 all_apart P h Isblank = h 20 Sum (omega arith)
 all_apart P h Na = h 21 Sum (omega arith)
+all_apart P h Countif = h 22 Sum (omega arith)
+all_apart P h Sumif = h 23 Sum (omega arith)
+all_apart P h Match = h 24 Sum (omega arith)
 
 -- what is neither a number nor a truth nor a function nor a reference stands for nothing
 pub no_word : (text : List ℕ) → ((n : ℕ) → ¬ IsDecimal text 9007199254740991 n) → ¬ IsSpelt text (truth_text true) → ¬ IsSpelt text (truth_text false) → ((f : Function) → ¬ IsSpelt text (function_name f)) → ((r : Reference) → ¬ IsReferenceName false text r) → (t : Token) → ¬ IsWord text t
@@ -215,6 +218,9 @@ find_name Islogical = refl
 find_name Istext = refl
 find_name Isblank = refl
 find_name Na = refl
+find_name Countif = refl
+find_name Sumif = refl
+find_name Match = refl
 
 -- a name has letters alone
 abbrev lettered : List ℕ → Bool
@@ -243,6 +249,9 @@ function_lettered Islogical = refl
 function_lettered Istext = refl
 function_lettered Isblank = refl
 function_lettered Na = refl
+function_lettered Countif = refl
+function_lettered Sumif = refl
+function_lettered Match = refl
 
 truth_lettered : (b : Bool) → lettered (truth_text b) ≡ true
 truth_lettered true = refl

@@ -1,18 +1,24 @@
 -- The table of functions: what each is called, and what parameters it takes.
 use Rattle.std.specs.Prelude.{ℕ, List, ◌∷◌, [], codes, Option, Some, None}
 use Rattle.formula_syntax.specs.declared.functions.Function.{Function}
-use Rattle.formula_syntax.specs.declared.functions.Function.TheVariants.{Sum, Product, Min, Max, Count, Counta, Countblank, If, Iferror, And, Or, Not, Abs, Sign, Mod, Quotient, Iserror, Isnumber, Islogical, Istext, Isblank, Na}
+use Rattle.formula_syntax.specs.declared.functions.Function.TheVariants.{Sum, Product, Min, Max, Count, Counta, Countblank, If, Iferror, And, Or, Not, Abs, Sign, Mod, Quotient, Iserror, Isnumber, Islogical, Istext, Isblank, Na, Countif, Sumif, Match}
 use Rattle.formula_syntax.specs.declared.functions.Place.{Place}
-use Rattle.formula_syntax.specs.declared.functions.Place.TheVariants.{Sequence, Scalar, OnlyReference}
+use Rattle.formula_syntax.specs.declared.functions.Place.TheVariants.{Sequence, Scalar, Ranges}
 
--- what parameters a function takes: at least and at most so many, where there is an upper limit, and how each is read
+-- what parameters a function takes: at least and at most so many, where there is an upper limit, how they are read,
+-- and which of them, from 0, have to be references
 pub record Shape : Type 0 where
   pub least : ℕ
   pub most : Option ℕ
   pub place : Place
+  pub references : List ℕ
 
+-- a function of any parameters, and one of ranges
 abbrev pub shape : ℕ → Option ℕ → Place → Shape
-shape least most place = record { least = least; most = most; place = place }
+shape least most place = record { least = least; most = most; place = place; references = [] }
+
+abbrev pub ranges : ℕ → ℕ → List ℕ → Shape
+ranges least most references = record { least = least; most = Some most; place = Ranges; references = references }
 
 -- the table
 abbrev pub shape_of : Function → Shape
@@ -22,7 +28,7 @@ shape_of Min = shape 1 None Sequence
 shape_of Max = shape 1 None Sequence
 shape_of Count = shape 1 None Sequence
 shape_of Counta = shape 1 None Sequence
-shape_of Countblank = shape 1 (Some 1) OnlyReference
+shape_of Countblank = ranges 1 1 (0 ∷ [])
 shape_of If = shape 2 (Some 3) Scalar
 shape_of Iferror = shape 2 (Some 2) Scalar
 shape_of And = shape 1 None Sequence
@@ -38,6 +44,9 @@ shape_of Islogical = shape 1 (Some 1) Scalar
 shape_of Istext = shape 1 (Some 1) Scalar
 shape_of Isblank = shape 1 (Some 1) Scalar
 shape_of Na = shape 0 (Some 0) Scalar
+shape_of Countif = ranges 2 2 (0 ∷ [])
+shape_of Sumif = ranges 2 3 (0 ∷ 2 ∷ [])
+shape_of Match = ranges 3 3 (1 ∷ [])
 
 -- the name in upper case
 abbrev pub function_name : Function → List ℕ
@@ -63,7 +72,10 @@ function_name Islogical = codes "ISLOGICAL"
 function_name Istext = codes "ISTEXT"
 function_name Isblank = codes "ISBLANK"
 function_name Na = codes "NA"
+function_name Countif = codes "COUNTIF"
+function_name Sumif = codes "SUMIF"
+function_name Match = codes "MATCH"
 
 -- all functions
 abbrev pub all_functions : List Function
-all_functions = Sum ∷ Product ∷ Min ∷ Max ∷ Count ∷ Counta ∷ Countblank ∷ If ∷ Iferror ∷ And ∷ Or ∷ Not ∷ Abs ∷ Sign ∷ Mod ∷ Quotient ∷ Iserror ∷ Isnumber ∷ Islogical ∷ Istext ∷ Isblank ∷ Na ∷ []
+all_functions = Sum ∷ Product ∷ Min ∷ Max ∷ Count ∷ Counta ∷ Countblank ∷ If ∷ Iferror ∷ And ∷ Or ∷ Not ∷ Abs ∷ Sign ∷ Mod ∷ Quotient ∷ Iserror ∷ Isnumber ∷ Islogical ∷ Istext ∷ Isblank ∷ Na ∷ Countif ∷ Sumif ∷ Match ∷ []

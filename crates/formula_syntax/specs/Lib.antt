@@ -1,3 +1,4 @@
+pub mod Editions
 pub mod Fixed
 pub mod Formula
 pub mod Functions
@@ -7,6 +8,8 @@ pub mod Lexing
 pub mod Listing
 pub mod Printing
 pub mod Reading
+pub mod Rebuilding
+pub mod Shifting
 pub mod Spelling
 pub mod Tree
 pub mod TreeCode

@@ -1,5 +1,6 @@
 -- How tokens are read from the left. The reader's own clauses cite it; what is read is what the grammar derives.
-use Rattle.std.specs.Prelude.{◌≡◌, ◌≢◌, ℕ, zero, suc, ◌+◌, ◌*◌, ◌-◌, ◌<◌, ◌≤◌, Bool, true, false, ◌&&◌, List, [], ◌∷◌, ◌++◌, length, Option, Some, None, option_and_then, if◌then◌else◌, nat_lt, nat_le, nat_eq, Result, Ok, Err, Vec, map}
+use Rattle.std.specs.Prelude.{◌≡◌, ◌≢◌, ℕ, zero, suc, ◌+◌, ◌*◌, ◌-◌, ◌<◌, ◌≤◌, Bool, true, false, ◌&&◌, List, [], ◌∷◌, ◌++◌, length, Option, Some, None, option_and_then, if◌then◌else◌, nat_lt, nat_le, nat_eq, Result, Ok, Err, Vec, map, slice_get}
+use Rattle.std.specs.List.{list_all}
 use Rattle.std.specs.Borrow.{Bor}
 use Rattle.std.specs.declared.alloc.Global.{Global}
 use Rattle.formula_syntax.specs.declared.reading.Unread.{Unread}
@@ -10,8 +11,6 @@ use Rattle.value_core.specs.declared.operators.BinaryOp.TheVariants.{Add, Sub}
 use Rattle.value_core.specs.declared.operators.PrefixOp.{PrefixOp}
 use Rattle.value_core.specs.declared.operators.PrefixOp.TheVariants.{Plus, Minus}
 use Rattle.formula_syntax.specs.declared.functions.Function.{Function}
-use Rattle.formula_syntax.specs.declared.functions.Place.{Place}
-use Rattle.formula_syntax.specs.declared.functions.Place.TheVariants.{Sequence, Scalar, OnlyReference}
 use Rattle.formula_syntax.specs.declared.tokens.Token.{Token}
 use Rattle.formula_syntax.specs.declared.tokens.Token.TheVariants as token
 use Rattle.formula_syntax.specs.Functions.{Shape, shape_of}
@@ -51,23 +50,25 @@ is_reference (prefix op operand) = false
 is_reference (binary op left right) = false
 is_reference (call f parameters) = false
 
-abbrev pub only_references : List Tree → Bool
-only_references [] = true
-only_references (t ∷ ts) = is_reference t && only_references ts
+-- whether a parameter, from 0, is a reference or isn't written, and whether this holds at all of some places
+abbrev pub is_reference_if : Option Tree → Bool
+is_reference_if None = true
+is_reference_if (Some t) = is_reference t
+
+abbrev pub is_reference_at : List Tree → ℕ → Bool
+is_reference_at parameters place = is_reference_if (slice_get parameters place)
+
+abbrev pub references_at : List ℕ → List Tree → Bool
+references_at places parameters = list_all (is_reference_at parameters) places
 
 abbrev pub at_most : Option ℕ → ℕ → Bool
 at_most None count = true
 at_most (Some most) count = nat_le count most
 
-abbrev pub in_place : Place → List Tree → Bool
-in_place Sequence parameters = true
-in_place Scalar parameters = true
-in_place OnlyReference parameters = only_references parameters
-
 -- whether parameters are as a line of the table says
 abbrev pub is_fitting : Shape → List Tree → Bool
 is_fitting shape parameters =
-    nat_le shape.least (length parameters) && (at_most shape.most (length parameters) && in_place shape.place parameters)
+    nat_le shape.least (length parameters) && (at_most shape.most (length parameters) && references_at shape.references parameters)
 
 -- a tree with what stands before a closing parenthesis
 abbrev pub closed : Tree → List Token → Read

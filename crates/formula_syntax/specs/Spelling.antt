@@ -1,6 +1,9 @@
 -- The grammar of formulas: which text spells which tree.
 use Rattle.std.specs.Prelude.{◌≡◌, ℕ, ◌+◌, ◌<◌, ◌≤◌, List, ◌∷◌, ◌++◌, codes, count_by, length, take, ◌==◌, Bool, true, false, Result, Ok, Err}
 use Rattle.formula_syntax.specs.declared.tokens.Token.{Token}
+use Rattle.formula_syntax.specs.declared.edition.Edition.{Edition}
+use Rattle.formula_syntax.specs.declared.edition.Edition.TheVariants.{One, Two}
+use Rattle.formula_syntax.specs.Editions.{IsWithin}
 use Rattle.formula_syntax.specs.Lexing.{HasTokens}
 use Rattle.formula_syntax.specs.Grammar.{Derives}
 use Rattle.formula_syntax.specs.Tree.{Tree, references_of}
@@ -32,27 +35,33 @@ pub record Spells (text : List ℕ) (tree : Tree) : Type 0 where
 abbrev pub IsTooDeep : List ℕ → Type 0
 IsTooDeep text = (front : ℕ) × (count_by (λ b. b == 41) (take front text) + 64 < count_by (λ b. b == 40) (take front text))
 
--- a text that isn't too deep and spells no tree
-abbrev pub IsNoFormula : List ℕ → Type 0
-IsNoFormula text = (¬ IsTooDeep text) × ((tree : Tree) → ¬ Spells text tree)
+-- a text spells a tree in an edition where the edition has all functions of the tree
+pub record SpellsIn (edition : Edition) (text : List ℕ) (tree : Tree) : Type 0 where
+  pub spelt : Spells text tree
+  pub within : IsWithin edition tree
+
+-- a text that isn't too deep and spells no tree in an edition
+abbrev pub IsNoFormula : Edition → List ℕ → Type 0
+IsNoFormula edition text = (¬ IsTooDeep text) × ((tree : Tree) → ¬ SpellsIn edition text tree)
 
 -- a text that isn't too deep and spells a tree with more than 255 references
-abbrev pub HasTooManyRefs : List ℕ → Type 0
-HasTooManyRefs text = (¬ IsTooDeep text) × (tree : Tree) × Spells text tree × (255 < length (references_of tree))
+abbrev pub HasTooManyRefs : Edition → List ℕ → Type 0
+HasTooManyRefs edition text = (¬ IsTooDeep text) × (tree : Tree) × SpellsIn edition text tree × (255 < length (references_of tree))
 
--- a tree that a text spells, within the limits
-pub record IsRead (text : List ℕ) (tree : Tree) : Type 0 where
+-- a tree that a text spells in an edition, within the limits
+pub record IsRead (edition : Edition) (text : List ℕ) (tree : Tree) : Type 0 where
   pub shallow : ¬ IsTooDeep text
   pub spelt : Spells text tree
+  pub within : IsWithin edition tree
   pub few : length (references_of tree) ≤ 255
 
 -- what a reader answers, by its cause
-abbrev pub IsAnswer : List ℕ → Result Tree ReadRefused → Type 0
-IsAnswer text (Ok tree) = IsRead text tree
-IsAnswer text (Err NotFormula) = IsNoFormula text
-IsAnswer text (Err TooDeep) = IsTooDeep text
-IsAnswer text (Err TooManyRefs) = HasTooManyRefs text
-IsAnswer text (Err Memory) = Unit {0}
+abbrev pub IsAnswer : Edition → List ℕ → Result Tree ReadRefused → Type 0
+IsAnswer edition text (Ok tree) = IsRead edition text tree
+IsAnswer edition text (Err NotFormula) = IsNoFormula edition text
+IsAnswer edition text (Err TooDeep) = IsTooDeep text
+IsAnswer edition text (Err TooManyRefs) = HasTooManyRefs edition text
+IsAnswer edition text (Err Memory) = Unit {0}
 
 -- a reference among tokens
 abbrev pub is_reference_token : Token → Bool
@@ -79,6 +88,10 @@ PlainIsShortest = (text : List ℕ) (tree : Tree) → Spells text tree → lengt
 abbrev pub PlainIsShallowest : Type 0
 PlainIsShallowest = (text : List ℕ) (tree : Tree) → Spells text tree → IsTooDeep (plain_text tree) → IsTooDeep text
 
--- so it is read where that text is
+-- so it is read where that text is, in the same edition
 abbrev pub PlainIsRead : Type 0
-PlainIsRead = (text : List ℕ) (tree : Tree) → IsRead text tree → IsRead (plain_text tree) tree
+PlainIsRead = (edition : Edition) (text : List ℕ) (tree : Tree) → IsRead edition text tree → IsRead edition (plain_text tree) tree
+
+-- what edition 1 reads, edition 2 reads as the same tree
+abbrev pub EditionsGrow : Type 0
+EditionsGrow = (text : List ℕ) (tree : Tree) → IsRead One text tree → IsRead Two text tree

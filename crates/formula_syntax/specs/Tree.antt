@@ -1,12 +1,11 @@
 -- A formula as a tree.
-use Rattle.std.specs.Prelude.{◌≡◌, ◌≢◌, ℕ, ℤ, pos, ◌+◌, ◌≤◌, Bool, List, [], ◌∷◌, ◌++◌, length, IfSome, All, map}
+use Rattle.std.specs.Prelude.{◌≡◌, ◌≢◌, ℕ, ℤ, pos, ◌+◌, ◌≤◌, Bool, List, [], ◌∷◌, ◌++◌, length, IfSome, All, map, slice_get}
 use Rattle.sheet_refs.specs.Ends.{Reference, IsReference}
 use Rattle.value_core.specs.declared.value.ErrorKind.{ErrorKind}
 use Rattle.value_core.specs.declared.value.ErrorKind.TheVariants.{Circ}
 use Rattle.value_core.specs.declared.operators.BinaryOp.{BinaryOp}
 use Rattle.value_core.specs.declared.operators.PrefixOp.{PrefixOp}
 use Rattle.formula_syntax.specs.declared.functions.Function.{Function}
-use Rattle.formula_syntax.specs.declared.functions.Place.TheVariants.{OnlyReference}
 use Rattle.formula_syntax.specs.Functions.{Shape, shape_of}
 use Rattle.formula_syntax.specs.declared.tree.Node.{Node, fold-Node}
 use Rattle.formula_syntax.specs.declared.tree.Node.TheOpen.{Node-F}
@@ -96,11 +95,15 @@ abbrev mutual
 abbrev pub IsReferenceTree : Tree → Type 0
 IsReferenceTree tree = (r : Reference) × (tree ≡ reference r)
 
+-- a parameter, from 0, is a reference where it is written
+abbrev pub HasReferenceAt : List Tree → ℕ → Type 0
+HasReferenceAt parameters place = IfSome (slice_get parameters place) IsReferenceTree
+
 -- the parameters are as the function's line of the table says
 pub record Fits (shape : Shape) (parameters : List Tree) : Type 0 where
   pub least : shape.least ≤ length parameters
   pub most : IfSome shape.most (λ most. length parameters ≤ most)
-  pub references : shape.place ≡ OnlyReference → All IsReferenceTree parameters
+  pub references : All (HasReferenceAt parameters) shape.references
 
 -- a number that digits write, up to 2^53 - 1
 abbrev pub IsCount : ℤ → Type 0

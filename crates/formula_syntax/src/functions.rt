@@ -1,5 +1,8 @@
 ghost use Rattle.std.specs.Prelude.{◌≡◌};
+ghost use Rattle.formula_syntax.specs.Editions.{since};
 ghost use Rattle.formula_syntax.specs.Functions.{function_name, shape_of};
+
+use crate::edition::Edition;
 
 /// How a function reads its parameters.
 #[derive(Clone, Copy, Debug, PartialEq, Eq)]
@@ -8,8 +11,8 @@ pub enum Place {
     Sequence,
     /// Each parameter is one value.
     Scalar,
-    /// The parameter is a reference.
-    OnlyReference,
+    /// Some parameters are references and give ranges, as the function says; each other one is one value.
+    Ranges,
 }
 
 /// A function of formulas. TRUE and FALSE are no functions here: a call of them is a truth.
@@ -59,11 +62,17 @@ pub enum Function {
     Isblank,
     /// The error `#N/A`.
     Na,
+    /// How many numbers of a range equal a number.
+    Countif,
+    /// The sum of the numbers of a range that equal a number, or of those that stand at their places in another.
+    Sumif,
+    /// The place in a range of the first number that equals a number.
+    Match,
 }
 
 impl Function {
     /// All functions.
-    pub const ALL: [Function; 22] = [
+    pub const ALL: [Function; 25] = [
         Function::Sum,
         Function::Product,
         Function::Min,
@@ -86,6 +95,9 @@ impl Function {
         Function::Istext,
         Function::Isblank,
         Function::Na,
+        Function::Countif,
+        Function::Sumif,
+        Function::Match,
     ];
 
     /// The name in upper case.
@@ -115,6 +127,9 @@ impl Function {
             Function::Istext => "ISTEXT",
             Function::Isblank => "ISBLANK",
             Function::Na => "NA",
+            Function::Countif => "COUNTIF",
+            Function::Sumif => "SUMIF",
+            Function::Match => "MATCH",
         }
     }
 
@@ -141,7 +156,13 @@ impl Function {
             | Function::Islogical
             | Function::Istext
             | Function::Isblank => 1,
-            Function::If | Function::Iferror | Function::Mod | Function::Quotient => 2,
+            Function::If
+            | Function::Iferror
+            | Function::Mod
+            | Function::Quotient
+            | Function::Countif
+            | Function::Sumif => 2,
+            Function::Match => 3,
         }
     }
 
@@ -160,8 +181,8 @@ impl Function {
             | Function::Islogical
             | Function::Istext
             | Function::Isblank => Some(1),
-            Function::Iferror | Function::Mod | Function::Quotient => Some(2),
-            Function::If => Some(3),
+            Function::Iferror | Function::Mod | Function::Quotient | Function::Countif => Some(2),
+            Function::If | Function::Sumif | Function::Match => Some(3),
             Function::Sum
             | Function::Product
             | Function::Min
@@ -186,7 +207,8 @@ impl Function {
             | Function::Counta
             | Function::And
             | Function::Or => Place::Sequence,
-            Function::Countblank => Place::OnlyReference,
+            Function::Countblank | Function::Countif | Function::Sumif | Function::Match =>
+                Place::Ranges,
             Function::If
             | Function::Iferror
             | Function::Not
@@ -200,6 +222,69 @@ impl Function {
             | Function::Istext
             | Function::Isblank
             | Function::Na => Place::Scalar,
+        }
+    }
+
+    /// Which parameters, from 0, have to be references where they are written.
+    pub fn references(self) -> &'static [usize]
+        ensures { result.now ≡ (shape_of self).references }
+    {
+        match self {
+            Function::Countblank | Function::Countif => &[0],
+            Function::Sumif => &[0, 2],
+            Function::Match => &[1],
+            Function::Sum
+            | Function::Product
+            | Function::Min
+            | Function::Max
+            | Function::Count
+            | Function::Counta
+            | Function::If
+            | Function::Iferror
+            | Function::And
+            | Function::Or
+            | Function::Not
+            | Function::Abs
+            | Function::Sign
+            | Function::Mod
+            | Function::Quotient
+            | Function::Iserror
+            | Function::Isnumber
+            | Function::Islogical
+            | Function::Istext
+            | Function::Isblank
+            | Function::Na => &[],
+        }
+    }
+
+    /// The edition with which the function came.
+    pub fn since(self) -> Edition
+        ensures { result ≡ since self }
+    {
+        match self {
+            Function::Countif | Function::Sumif | Function::Match => Edition::Two,
+            Function::Sum
+            | Function::Product
+            | Function::Min
+            | Function::Max
+            | Function::Count
+            | Function::Counta
+            | Function::Countblank
+            | Function::If
+            | Function::Iferror
+            | Function::And
+            | Function::Or
+            | Function::Not
+            | Function::Abs
+            | Function::Sign
+            | Function::Mod
+            | Function::Quotient
+            | Function::Iserror
+            | Function::Isnumber
+            | Function::Islogical
+            | Function::Istext
+            | Function::Isblank
+            | Function::Na => Edition::One,
         }
     }
 }

@@ -27,8 +27,8 @@ fn add(range: Range, ranges: &mut Vec<Range>) -> Result<(), AllocError>
     Ok(())
 }
 
-// A node as a list of one.
-fn alone(node: &Node) -> &[Node]
+/// A node as a list of one.
+pub(crate) fn alone(node: &Node) -> &[Node]
     ensures { result.now ≡ node.now ∷ [] }
 {
     slice::from_ref(node)

@@ -3,11 +3,13 @@ ghost use Rattle.std.specs.Prelude.{count_by, IsTrue, MatchOption, IfOk, cond};
 ghost use Rattle.formula_syntax.specs.Spelling.{IsIntroduced, IsTooDeep, IsNoFormula};
 ghost use Rattle.formula_syntax.specs.Spelling.{HasTooManyRefs, IsRead, IsAnswer};
 ghost use Rattle.formula_syntax.specs.Spelling.{is_reference_token, HasNoIntroduction};
+ghost use Rattle.formula_syntax.specs.Editions.{has_token, has_tokens};
 ghost use Rattle.formula_syntax.specs.Lexing.{BeginsOtherwise};
 ghost use Rattle.formula_syntax.specs.Grammar.{Derives};
 ghost use Rattle.formula_syntax.specs.Tree.{Tree, tree_of};
 ghost use Rattle.formula_syntax.specs.declared.reader.TheConstants.{MAX_TEXT};
 
+use crate::edition::Edition;
 use crate::lexer::tokens;
 use crate::reading::{Unread, expression};
 use crate::tokens::Token;
@@ -104,6 +106,23 @@ fn is_reference(token: &Token) -> bool
     matches!(token, Token::Reference(_))
 }
 
+// Whether an edition has each function among tokens.
+fn all_within(edition: Edition, tokens: &[Token]) -> bool
+    ensures { result ≡ has_tokens edition tokens.now }
+{
+    tokens.iter().all(|token| is_within(edition, token))
+}
+
+fn is_within(edition: Edition, token: &Token) -> bool
+    ensures { result ≡ has_token edition token.now }
+{
+    match token {
+        Token::Function(function) => edition.has(function.since()),
+        Token::Number(_) | Token::Truth(_) | Token::Error(_) | Token::Reference(_) => true,
+        Token::Operator(_) | Token::Open | Token::Close | Token::Separator => true,
+    }
+}
+
 impl From<AllocError> for ReadRefused {
     ghost use Rattle.formula_syntax.specs.declared.reader.ReadRefused.TheVariants.{Memory};
 
@@ -140,9 +159,9 @@ fn read_tree(alloc: Global, tokens: &[Token]) -> Result<Node, Unread>
 }
 
 // Reads a formula, with the cause of each answer.
-fn read(alloc: Global, text: &[u8]) -> Result<Formula, ReadRefused>
+fn read(alloc: Global, text: &[u8], edition: Edition) -> Result<Formula, ReadRefused>
     requires { length text.now ≤ MAX_TEXT }
-    ensures { IsAnswer text.now result }
+    ensures { IsAnswer edition text.now result }
 {
     if too_deep(text) {
         return Err(ReadRefused::TooDeep);
@@ -152,30 +171,35 @@ fn read(alloc: Global, text: &[u8]) -> Result<Formula, ReadRefused>
     };
     let tokens = tokens(alloc, rest)?;
     let root = read_tree(alloc, &tokens)?;
+    if !all_within(edition, &tokens) {
+        return Err(ReadRefused::NotFormula);
+    }
     if reference_count(&tokens) > MAX_REFERENCES {
         return Err(ReadRefused::TooManyRefs);
     }
     Ok(Formula { root })
 }
 
-/// Reads a formula, a text of at most 8,192 bytes. The tree is the only one that the text spells.
+/// Reads a formula, a text of at most 8,192 bytes, with the functions of an edition. The tree is the only one that
+/// the text spells.
 ///
 /// Refuses with TooDeep exactly where some front of the text has more than 64 more `(` than `)`; else with
-/// NotFormula exactly where the text is outside the grammar; else with TooManyRefs exactly where it writes
-/// more than 255 references; and else reads it. Memory may come before any of them. The plain text of a
-/// formula that was read is such a text, and gives the same tree (`formula_laws`). The time is in proportion to
-/// the length of the text, but for the table of functions, which is gone through for each name.
-pub fn read_formula(alloc: Global, text: &[u8]) -> Result<Formula, ReadRefused>
+/// NotFormula exactly where the text is outside the grammar or names a function that the edition lacks; else with
+/// TooManyRefs exactly where it writes more than 255 references; and else reads it. Memory may come before any of
+/// them. The plain text of a formula that was read is such a text, and gives the same tree in the same edition
+/// (`formula_laws`). The time is in proportion to the length of the text, but for the table of functions, which is
+/// gone through for each name.
+pub fn read_formula(alloc: Global, text: &[u8], edition: Edition) -> Result<Formula, ReadRefused>
     requires { length text.now ≤ MAX_TEXT }
-    ensures read { IfOk result (IsRead text.now) }
+    ensures read { IfOk result (IsRead edition text.now) }
     ensures reads { (tree : Tree) → result ≢ Err ReadRefused.Memory
-        → IsRead text.now tree → result ≡ Ok tree }
+        → IsRead edition text.now tree → result ≡ Ok tree }
     ensures too_deep { result ≢ Err ReadRefused.Memory
         → (result ≡ Err ReadRefused.TooDeep ↔ IsTooDeep text.now) }
     ensures not_formula { result ≢ Err ReadRefused.Memory
-        → (result ≡ Err ReadRefused.NotFormula ↔ IsNoFormula text.now) }
+        → (result ≡ Err ReadRefused.NotFormula ↔ IsNoFormula edition text.now) }
     ensures too_many_refs { result ≢ Err ReadRefused.Memory
-        → (result ≡ Err ReadRefused.TooManyRefs ↔ HasTooManyRefs text.now) }
+        → (result ≡ Err ReadRefused.TooManyRefs ↔ HasTooManyRefs edition text.now) }
 {
-    read(alloc, text)
+    read(alloc, text, edition)
 }

@@ -3,7 +3,10 @@ ghost use Rattle.std.specs.Prelude.{MatchOption};
 ghost use Rattle.formula_syntax.specs.Functions.{shape_of};
 ghost use Rattle.formula_syntax.specs.Grammar.{level_of, sign_written};
 ghost use Rattle.formula_syntax.specs.Reading.{sign_of, after_signs, under_all, AreSigns};
-ghost use Rattle.formula_syntax.specs.Reading.{after_truth, is_fitting, only_references, read};
+ghost use Rattle.formula_syntax.specs.Reading.{after_truth, is_fitting, read};
+ghost use Rattle.formula_syntax.specs.Reading.{is_reference_at as is_at};
+ghost use Rattle.formula_syntax.specs.Reading.{references_at as are_at};
+ghost use Rattle.formula_syntax.specs.Reading.{is_reference as is_reference_tree};
 ghost use Rattle.formula_syntax.specs.Reading.{several, primary_at, grouped_at, parameters_at};
 ghost use Rattle.formula_syntax.specs.Reading.{call_at, HasNoneFrom, HasNoSign, HasNoClose};
 ghost use Rattle.formula_syntax.specs.Reading.{HasNoSeparator, Answers, AnswersAll, steps};
@@ -11,7 +14,7 @@ ghost use Rattle.formula_syntax.specs.Tree.{tree_of, trees_from, prefix, binary}
 ghost use Rattle.formula_syntax.specs.Tree as tree;
 ghost use Rattle.formula_syntax.specs.declared.tokens.Token.TheVariants as token;
 
-use crate::functions::{Function, Place};
+use crate::functions::Function;
 use crate::tokens::Token;
 use crate::tree::{Node, Nodes};
 use sheet_refs::Ref;
@@ -131,7 +134,7 @@ fn number_of(number: Whole) -> Node
     Node::Number(number)
 }
 
-fn error_of(kind: ErrorKind) -> Node
+pub(crate) fn error_of(kind: ErrorKind) -> Node
     ensures { tree_of result ≡ tree.error kind }
 {
     Node::Error(kind)
@@ -143,7 +146,12 @@ fn reference_of(reference: Ref) -> Node
     Node::Reference(reference)
 }
 
-fn binary_of(alloc: Global, op: BinaryOp, left: Node, right: Node) -> Result<Node, AllocError>
+pub(crate) fn binary_of(
+    alloc: Global,
+    op: BinaryOp,
+    left: Node,
+    right: Node,
+) -> Result<Node, AllocError>
     ensures { IfOk result (λ node. tree_of node ≡ binary op (tree_of left) (tree_of right)) }
 {
     let left = Box::new(alloc, left)?;
@@ -151,14 +159,14 @@ fn binary_of(alloc: Global, op: BinaryOp, left: Node, right: Node) -> Result<Nod
     Ok(Node::Binary(op, left, right))
 }
 
-fn prefix_of(alloc: Global, op: PrefixOp, operand: Node) -> Result<Node, AllocError>
+pub(crate) fn prefix_of(alloc: Global, op: PrefixOp, operand: Node) -> Result<Node, AllocError>
     ensures { IfOk result (λ node. tree_of node ≡ prefix op (tree_of operand)) }
 {
     let operand = Box::new(alloc, operand)?;
     Ok(Node::Prefix(op, operand))
 }
 
-fn call_of(function: Function, nodes: Vec<Node>) -> Node
+pub(crate) fn call_of(function: Function, nodes: Vec<Node>) -> Node
     ensures { tree_of result ≡ tree.call function (trees_from (map tree_of nodes.items)) }
 {
     Node::Call(function, Nodes { nodes })
@@ -176,18 +184,37 @@ fn fits(function: Function, nodes: &[Node]) -> bool
             return false;
         }
     }
-    function.place() != Place::OnlyReference || only_references(nodes)
+    references_at(function.references(), nodes)
 }
 
-fn only_references(nodes: &[Node]) -> bool
-    ensures { result ≡ only_references (map tree_of nodes.now) }
+/// Whether the parameters at some places, from 0, are references where they are written.
+pub(crate) fn references_at(places: &[usize], nodes: &[Node]) -> bool
+    ensures { result ≡ are_at places.now (map tree_of nodes.now) }
 {
-    for node in nodes {
-        let Node::Reference(_) = node else {
+    for place in places {
+        if !reference_at(nodes, *place) {
             return false;
-        };
+        }
     }
     true
+}
+
+fn reference_at(nodes: &[Node], place: usize) -> bool
+    ensures { result ≡ is_at (map tree_of nodes.now) place }
+{
+    place >= nodes.len() || is_reference(&nodes[place])
+}
+
+fn is_reference(node: &Node) -> bool
+    ensures { result ≡ is_reference_tree (tree_of node.now) }
+{
+    match node {
+        Node::Reference(_) => true,
+        Node::Number(_) | Node::Truth(_) | Node::Error(_) => false,
+        Node::Prefix(_, _) => false,
+        Node::Binary(_, _, _) => false,
+        Node::Call(_, _) => false,
+    }
 }
 
 // The sign at the front, and what is behind it.

@@ -29,7 +29,7 @@ fn answer(alloc: Global, text: &str) -> Option<ReadRefused> {
     if text.len() > MAX_TEXT {
         return None;
     }
-    read_formula(alloc, text.as_bytes()).err()
+    read_formula(alloc, text.as_bytes(), Edition::One).err()
 }
 
 // What is printed of the formula that a text spells; or why it isn't read.
@@ -38,12 +38,25 @@ fn reprinted(alloc: Global, text: &str) -> Result<String, Fail> {
     if text.len() > MAX_TEXT {
         return Ok(shown);
     }
-    match read_formula(alloc, text.as_bytes()) {
+    match read_formula(alloc, text.as_bytes(), Edition::Two) {
         Ok(formula) => {
             let printed = print(alloc, &formula)?;
             shown.push_str(std::str::from_utf8(&printed)?)?;
         }
         Err(refused) => write!(shown, "{refused:?}")?,
+    }
+    Ok(shown)
+}
+
+// What is printed of the formula that a text spells, shifted so far.
+fn shifted(alloc: Global, text: &str, down: i32, right: i32) -> Result<String, Fail> {
+    let mut shown = String::new(alloc);
+    if text.len() > MAX_TEXT {
+        return Ok(shown);
+    }
+    if let Ok(formula) = read_formula(alloc, text.as_bytes(), Edition::Two) {
+        let printed = print(alloc, &shift(alloc, &formula, down, right)?)?;
+        shown.push_str(std::str::from_utf8(&printed)?)?;
     }
     Ok(shown)
 }
@@ -54,7 +67,7 @@ fn ranges_of(alloc: Global, text: &str) -> Result<String, Fail> {
     if text.len() > MAX_TEXT {
         return Ok(shown);
     }
-    if let Ok(formula) = read_formula(alloc, text.as_bytes()) {
+    if let Ok(formula) = read_formula(alloc, text.as_bytes(), Edition::One) {
         let refs = refs(alloc, &formula)?;
         for range in refs.ranges() {
             write!(shown, " {range}")?;
@@ -102,6 +115,16 @@ fn formulas_are_printed(rt: HostRuntime) -> Result<(), Fail> {
         ("=If(1=2;-(3+4);5)", "=IF(1=2;-(3+4);5)"),
         ("= COUNTBLANK ( A1:B2 ) ", "=COUNTBLANK(A1:B2)"),
         ("=IFERROR(1 , - 2)", "=IFERROR(1;-2)"),
+        ("=countif ( a1:B2 ; 3 )", "=COUNTIF(A1:B2;3)"),
+        ("=SumIf(a1,$b$2)", "=SUMIF(A1;$B$2)"),
+        ("=sumif([.A1:.A3];1;C1:C3)", "=SUMIF(A1:A3;1;C1:C3)"),
+        ("=match(1+1;A1:A9;0)", "=MATCH(1+1;A1:A9;0)"),
+        ("=COUNTIF(1;A1)", "NotFormula"),
+        ("=COUNTIF(A1)", "NotFormula"),
+        ("=COUNTIF((A1);1)", "=COUNTIF(A1;1)"),
+        ("=SUMIF(A1;1;2)", "NotFormula"),
+        ("=MATCH(A1;2;A1)", "NotFormula"),
+        ("=MATCH(1;A1)", "NotFormula"),
         ("=SUM(a5:$A$3 ; (1+2)*(-3))", "=SUM(A$3:$A5;(1+2)*-3)"),
     ] {
         assert_eq!(rt; reprinted(rt.alloc(), text)?.as_str(), expected, "{text}");
@@ -127,6 +150,39 @@ fn references_are_printed(rt: HostRuntime) -> Result<(), Fail> {
         ("=[.B2:.A1]", "=A1:B2"),
     ] {
         assert_eq!(rt; reprinted(rt.alloc(), text)?.as_str(), expected, "{text}");
+    }
+    Ok(())
+}
+
+#[test]
+fn references_are_shifted(rt: HostRuntime) -> Result<(), Fail> {
+    for (text, down, right, expected) in [
+        ("=A1+1", 1, 0, "=A2+1"),
+        ("=A1+1", -1, 0, "=#REF!+1"),
+        ("=A1+1", 0, -1, "=#REF!+1"),
+        ("=XFD1", 0, 1, "=#REF!"),
+        ("=A1048576", 1, 0, "=#REF!"),
+        ("=A1048575", 1, 16_383, "=XFD1048576"),
+        ("=SUM($A$1:A1)", 1, 0, "=SUM($A$1:A2)"),
+        ("=$A1+A$1+$A$1", 2, 3, "=$A3+D$1+$A$1"),
+        ("=SUM(A3:B$5)", 4, 0, "=SUM(A$5:B7)"),
+        ("=SUM(C1:$D1)", 0, 2, "=SUM($D1:E1)"),
+        ("=SUM(A1;B2)", -1, 0, "=SUM(#REF!;B1)"),
+        ("=COUNTBLANK(A1)", -1, 0, "=#REF!"),
+        ("=IF(COUNTBLANK(A1:B2)=1;A5;2)", -1, 0, "=IF(#REF!=1;A4;2)"),
+        ("=COUNTIF(A1:A2;B5)", -1, 0, "=#REF!"),
+        ("=COUNTIF(A5:A6;B1)", -1, 0, "=COUNTIF(A4:A5;#REF!)"),
+        ("=SUMIF(A5;1;A1)", -1, 0, "=#REF!"),
+        ("=MATCH(A1;B5:B9;0)", -1, 0, "=MATCH(#REF!;B4:B8;0)"),
+        ("=MATCH(A5;B1:B9;0)", -1, 0, "=#REF!"),
+        ("=-(A1^(B2-3))", 1, 1, "=-(B2^(C3-3))"),
+        ("=TRUE=#N/A", 5, 5, "=TRUE=#N/A"),
+    ] {
+        assert_eq!(rt;
+            shifted(rt.alloc(), text, down, right)?.as_str(),
+            expected,
+            "{text}"
+        );
     }
     Ok(())
 }
@@ -203,6 +259,9 @@ fn other_texts_are_no_formulas(rt: HostRuntime) {
         "=NOT(1;2)",
         "=COUNTBLANK(1)",
         "=COUNTBLANK((1))",
+        "=COUNTIF(A1;1)",
+        "=1+SUMIF(A1;1)",
+        "=NOT(MATCH(1;A1;0))",
         "=FOO(1)",
         "=SUM",
         "=(1",
@@ -255,6 +314,7 @@ fn long_formulas_need_no_deep_stack(rt: HostRuntime) -> Result<(), Fail> {
     let groups = repeated(alloc, 64, "1=-(", "A1+1", ")")?;
     for text in [signs, sum, nested, groups] {
         assert!(rt; reprinted(alloc, text.as_str())?.as_str() == text.as_str());
+        assert!(rt; shifted(alloc, text.as_str(), 0, 0)?.as_str() == text.as_str());
         assert!(rt; ranges_of(alloc, text.as_str())?.len() <= 6);
     }
     Ok(())

@@ -1,6 +1,7 @@
 use Rattle.formula_syntax.proofs.Printed.{spelt_plain}
 use Rattle.formula_syntax.proofs.Shorter.{plain_no_longer, plain_no_deeper, plain_read}
 use Rattle.formula_syntax.proofs.Spells.{spells_unique}
+use Rattle.formula_syntax.proofs.Withins.{editions_grow}
 use Rattle.formula_syntax.proofs.laws.formula_laws.Goals as goal
 
 pub returns : goal.returns
@@ -10,4 +11,5 @@ returns c = record {
   plain_shortest = plain_no_longer;
   plain_shallowest = plain_no_deeper;
   plain_read = plain_read;
+  editions = editions_grow;
 }
