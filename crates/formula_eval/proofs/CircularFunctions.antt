@@ -1,5 +1,5 @@
 -- What operators and functions give of values that aren't #CIRC! is not so either.
-use Rattle.std.proofs.Common.{◌≡◌, ℕ, zero, suc, List, [], ◌∷◌, map, filter, Option, Some, None, Bool, true, false, cond, ◌||◌, Result, Ok, Err, refl, ◌∙◌}
+use Rattle.std.proofs.Common.{◌≡◌, ℕ, zero, suc, ◌+◌, List, [], ◌∷◌, map, filter, Option, Some, None, Bool, true, false, cond, ◌||◌, Result, Ok, Err, refl, ◌∙◌}
 use Rattle.std.specs.Prelude.{ℤ, pos, ◌+ℤ◌, ◌-ℤ◌, ◌*ℤ◌, int_lt, int_div, nat_abs, fold}
 use Rattle.std.specs.Ordering.{int_eq}
 use Rattle.std.specs.List.{list_any}
@@ -16,14 +16,14 @@ use Rattle.value_core.specs.Conversions.{as_number, as_truth, truth_number, in_r
 use Rattle.value_core.specs.Operators.{on_numbers, unordered_value, by_kind, beside, comparison, calculation, is_comparison, binary_of, negation, prefix_of}
 use Rattle.value_core.specs.Powers.{power}
 use Rattle.formula_syntax.specs.declared.functions.Function.{Function}
-use Rattle.formula_syntax.specs.declared.functions.Function.TheVariants.{Sum, Product, Min, Max, Count, Counta, Countblank, If, Iferror, And, Or, Not, Abs, Sign, Mod, Quotient, Iserror, Isnumber, Islogical, Istext, Isblank, Na}
+use Rattle.formula_syntax.specs.declared.functions.Function.TheVariants.{Sum, Product, Min, Max, Count, Counta, Countblank, If, Iferror, And, Or, Not, Abs, Sign, Mod, Quotient, Iserror, Isnumber, Islogical, Istext, Isblank, Na, Countif, Sumif, Match}
 use Rattle.formula_syntax.specs.declared.functions.Place.{Place}
-use Rattle.formula_syntax.specs.declared.functions.Place.TheVariants.{Sequence, Scalar, OnlyReference}
+use Rattle.formula_syntax.specs.declared.functions.Place.TheVariants.{Sequence, Scalar, Ranges}
 use Rattle.formula_syntax.specs.Functions.{shape_of}
 use Rattle.formula_eval.specs.declared.items.Item.{Item}
 use Rattle.formula_eval.specs.declared.items.Item.TheVariants.{Cell, Alone}
-use Rattle.formula_eval.specs.Functions.{Contribution, some_of, number_in, truth_in, count_in, if_number, contribution, add_contribution, contributions, truth_of_some, total_of, or_error, sequence_value, empty_cells, blank_count, on_both, choice, unless_error, division_value, floor_remainder, scalar_value, scalar_at, by_place, function_value}
-use Rattle.formula_eval.specs.Items.{Parameter, is_filled, items_of_cells, items_among, items_of_parameter, items_of}
+use Rattle.formula_eval.specs.Functions.{Contribution, some_of, number_in, truth_in, count_in, if_number, contribution, add_contribution, contributions, truth_of_some, total_of, or_error, sequence_value, empty_cells, blank_count, on_both, choice, unless_error, division_value, floor_remainder, scalar_value, scalar_at, equals, count_of, selected, sum_of, summed, have_same_sizes, sum_where, place_from, place_in, match_of, ranged_value, by_place, function_value}
+use Rattle.formula_eval.specs.Items.{Parameter, is_filled, items_of_cells, items_among, items_of_parameter, items_of, cells_at}
 use Rattle.formula_eval.specs.Meaning.{is_circular}
 
 -- whether an error is #CIRC!
@@ -222,6 +222,9 @@ contribution_plain Islogical item h = number_in_plain item h
 contribution_plain Istext item h = number_in_plain item h
 contribution_plain Isblank item h = number_in_plain item h
 contribution_plain Na item h = number_in_plain item h
+contribution_plain Countif item h = number_in_plain item h
+contribution_plain Sumif item h = number_in_plain item h
+contribution_plain Match item h = number_in_plain item h
 
 added_plain : (first : Contribution) (rest : Result (List ℤ) ErrorKind) → circular_error first ≡ false → circular_error rest ≡ false → circular_error (add_contribution first rest) ≡ false
 added_plain (Err kind) rest h k = h
@@ -261,6 +264,9 @@ total_plain Islogical numbers = refl
 total_plain Istext numbers = refl
 total_plain Isblank numbers = refl
 total_plain Na numbers = refl
+total_plain Countif numbers = refl
+total_plain Sumif numbers = refl
+total_plain Match numbers = refl
 
 or_error_plain : {A : Type 0} (r : Result A ErrorKind) (f : A → Value) → circular_error r ≡ false → ((a : A) → is_circular (f a) ≡ false) → is_circular (or_error r f) ≡ false
 or_error_plain (Err kind) f h k = h
@@ -354,10 +360,81 @@ scalar_plain Islogical a b c h k l = refl
 scalar_plain Istext a b c h k l = refl
 scalar_plain Isblank a b c h k l = refl
 scalar_plain Na a b c h k l = refl
+scalar_plain Countif a b c h k l = refl
+scalar_plain Sumif a b c h k l = refl
+scalar_plain Match a b c h k l = refl
+
+-- functions of ranges
+cells_at_plain : (parameters : List Parameter) (i : ℕ) → list_any circular_parameter parameters ≡ false → circular_cells (cells_at parameters i) ≡ false
+cells_at_plain [] i h = refl
+cells_at_plain (p ∷ rest) zero h = second_plain (is_circular p.scalar) (circular_cells p.cells) (first_plain (circular_parameter p) (list_any circular_parameter rest) h)
+cells_at_plain (p ∷ rest) (suc i) h = cells_at_plain rest i (second_plain (circular_parameter p) (list_any circular_parameter rest) h)
+
+count_plain : (n : ℤ) (cells : Option (List Value)) → is_circular (count_of n cells) ≡ false
+count_plain n None = refl
+count_plain n (Some cells) = refl
+
+taken_plain : (b : Bool) (v : Value) (rest : List Value) → is_circular v ≡ false → list_any is_circular rest ≡ false → list_any is_circular (cond b (v ∷ rest) rest) ≡ false
+taken_plain true v rest h k = either_plain (is_circular v) (list_any is_circular rest) h k
+taken_plain false v rest h k = k
+
+selected_plain : (n : ℤ) (from to : List Value) → list_any is_circular to ≡ false → list_any is_circular (selected n from to) ≡ false
+selected_plain n [] to h = refl
+selected_plain n (v ∷ vs) [] h = refl
+selected_plain n (v ∷ vs) (w ∷ ws) h =
+    taken_plain (equals n v) w (selected n vs ws) (first_plain (is_circular w) (list_any is_circular ws) h) (selected_plain n vs ws (second_plain (is_circular w) (list_any is_circular ws) h))
+
+sum_plain : (n : ℤ) (same : Bool) (from to : Option (List Value)) → circular_cells to ≡ false → is_circular (sum_of n same from to) ≡ false
+sum_plain n same None to h = refl
+sum_plain n same (Some from) None h = refl
+sum_plain n false (Some from) (Some to) h = refl
+sum_plain n true (Some from) (Some to) h = sequence_plain Sum (items_of_cells (selected n from to)) (cells_plain (selected n from to) (selected_plain n from to h))
+
+place_from_plain : (place : ℕ) (n : ℤ) (cells : List Value) → is_circular (place_from place n cells) ≡ false
+place_from_plain place n [] = refl
+place_from_plain place n (v ∷ rest) = cond_plain (equals n v) (Number (pos place)) (place_from (place + 1) n rest) refl (place_from_plain (place + 1) n rest)
+
+place_in_plain : (n : ℤ) (cells : Option (List Value)) → is_circular (place_in n cells) ≡ false
+place_in_plain n None = refl
+place_in_plain n (Some cells) = place_from_plain 1 n cells
+
+match_plain : (parameters : List Parameter) (n kind : ℤ) → is_circular (match_of parameters n kind) ≡ false
+match_plain parameters n kind =
+    cond_plain (int_eq kind (pos 0)) _ (Error error.Value) (cond_plain _ (Error error.Na) (place_in n (cells_at parameters 1)) refl (place_in_plain n (cells_at parameters 1))) refl
+
+ranged_plain : (f : Function) (a b c : Value) (parameters : List Parameter) → is_circular a ≡ false → is_circular b ≡ false → is_circular c ≡ false → list_any circular_parameter parameters ≡ false → is_circular (ranged_value f a b c parameters) ≡ false
+ranged_plain Countblank a b c parameters h k l all = blank_plain parameters
+ranged_plain Countif a b c parameters h k l all = or_error_plain (as_number b) _ (as_number_plain b k) (λ n. count_plain n (cells_at parameters 0))
+ranged_plain Sumif a b c parameters h k l all =
+    or_error_plain (as_number b) (sum_where parameters) (as_number_plain b k)
+    (λ n. sum_plain n (have_same_sizes parameters 0 (summed parameters)) (cells_at parameters 0) (cells_at parameters (summed parameters)) (cells_at_plain parameters (summed parameters) all))
+ranged_plain Match a b c parameters h k l all = on_both_plain (as_number a) (as_number c) (match_of parameters) (as_number_plain a h) (as_number_plain c l) (match_plain parameters)
+ranged_plain Sum a b c parameters h k l all = refl
+ranged_plain Product a b c parameters h k l all = refl
+ranged_plain Min a b c parameters h k l all = refl
+ranged_plain Max a b c parameters h k l all = refl
+ranged_plain Count a b c parameters h k l all = refl
+ranged_plain Counta a b c parameters h k l all = refl
+ranged_plain If a b c parameters h k l all = refl
+ranged_plain Iferror a b c parameters h k l all = refl
+ranged_plain And a b c parameters h k l all = refl
+ranged_plain Or a b c parameters h k l all = refl
+ranged_plain Not a b c parameters h k l all = refl
+ranged_plain Abs a b c parameters h k l all = refl
+ranged_plain Sign a b c parameters h k l all = refl
+ranged_plain Mod a b c parameters h k l all = refl
+ranged_plain Quotient a b c parameters h k l all = refl
+ranged_plain Iserror a b c parameters h k l all = refl
+ranged_plain Isnumber a b c parameters h k l all = refl
+ranged_plain Islogical a b c parameters h k l all = refl
+ranged_plain Istext a b c parameters h k l all = refl
+ranged_plain Isblank a b c parameters h k l all = refl
+ranged_plain Na a b c parameters h k l all = refl
 
 place_plain : (place : Place) (f : Function) (parameters : List Parameter) → list_any circular_parameter parameters ≡ false → is_circular (by_place place f parameters) ≡ false
 place_plain Sequence f parameters h = sequence_plain f (items_of parameters) (items_plain parameters h)
-place_plain OnlyReference f parameters h = blank_plain parameters
+place_plain Ranges f parameters h =
+    ranged_plain f (scalar_at parameters 0) (scalar_at parameters 1) (scalar_at parameters 2) parameters (scalar_at_plain parameters 0 h) (scalar_at_plain parameters 1 h) (scalar_at_plain parameters 2 h) h
 place_plain Scalar f parameters h = scalar_plain f _ _ _ (scalar_at_plain parameters 0 h) (scalar_at_plain parameters 1 h) (scalar_at_plain parameters 2 h)
 
 pub function_plain : (f : Function) (parameters : List Parameter) → list_any circular_parameter parameters ≡ false → is_circular (function_value f parameters) ≡ false

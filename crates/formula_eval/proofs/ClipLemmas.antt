@@ -13,17 +13,17 @@ use Rattle.formula_eval.specs.declared.items.Item.TheVariants.{Cell}
 use Rattle.formula_eval.specs.Inputs.{seen_values}
 use Rattle.formula_eval.specs.Items.{is_empty, is_filled, items_of_cells}
 
-abbrev at : ℕ → ℕ → Position
+abbrev pub at : ℕ → ℕ → Position
 at row col = record { row = row; col = col }
 
 -- the values of cells that aren't empty
 abbrev pub shown : (Position → Value) → List Position → List Value
 shown h cells = filter is_filled (map h cells)
 
-abbrev cols : ℕ → ℕ → ℕ → List Position
+abbrev pub cols : ℕ → ℕ → ℕ → List Position
 cols row first count = map (at row) (range_with_len first count)
 
-abbrev block : ℕ → ℕ → ℕ → ℕ → List Position
+abbrev pub block : ℕ → ℕ → ℕ → ℕ → List Position
 block left wide top high = flat_map (λ row. cols row left wide) (range_with_len top high)
 
 kept-append : (b : Bool) (v : Value) (all xs ys : List Value) → all ≡ xs ++ ys → cond b (v ∷ all) all ≡ cond b (v ∷ xs) xs ++ ys
@@ -74,31 +74,38 @@ module _ (h : Position → Value) where
 seen_outside : (sizes : Sizes) (codes : Position → Option ℕ) (cell : Position) → (is_inside sizes cell ≡ false) → seen_values sizes codes cell ≡ Empty
 seen_outside sizes codes cell outside = rw outside refl
 
-past_cols : (sizes : Sizes) (row col : ℕ) → sizes.cols < col → is_inside sizes (at row col) ≡ false
+pub past_cols : (sizes : Sizes) (row col : ℕ) → sizes.cols < col → is_inside sizes (at row col) ≡ false
 past_cols sizes row col past = grind (arith, nat_tests)
 
-past_rows : (sizes : Sizes) (row col : ℕ) → sizes.rows < row → is_inside sizes (at row col) ≡ false
+pub past_rows : (sizes : Sizes) (row col : ℕ) → sizes.rows < row → is_inside sizes (at row col) ≡ false
 past_rows sizes row col past = grind (arith, nat_tests)
 
+-- nothing is shown of cells outside the rectangle
+abbrev pub IsEmptyOutside : Sizes → (Position → Value) → Type 0
+IsEmptyOutside sizes h = (cell : Position) → is_inside sizes cell ≡ false → h cell ≡ Empty
+
+pub seen_empty : (sizes : Sizes) (codes : Position → Option ℕ) → IsEmptyOutside sizes (seen_values sizes codes)
+seen_empty sizes codes cell outside = seen_outside sizes codes cell outside
+
 -- a range that begins in the rectangle shows no more than its part there
-pub part_shows : (sizes : Sizes) (codes : Position → Option ℕ) (range : Corners) → IsTrue (is_inside sizes range.head) → shown (seen_values sizes codes) (cells_of range) ≡ shown (seen_values sizes codes) (cells_of (part_inside sizes range))
-part_shows sizes codes range inside =
+pub part_shows : (sizes : Sizes) (h : Position → Value) (range : Corners) → IsEmptyOutside sizes h → IsTrue (is_inside sizes range.head) → shown h (cells_of range) ≡ shown h (cells_of (part_inside sizes range))
+part_shows sizes h range out inside =
     let bounds = inside_bounds sizes range.head inside in
     let part = part_inside sizes range in
     let wide : width range ≡ width part + (width range - width part) = omega (arith, bounds.col_to) in
     let high : height range ≡ height part + (height range - height part) = omega (arith, bounds.row_to) in
-    let cut = cut_block (seen_values sizes codes) range.head.col (width part) (width range - width part) range.head.row (height part) (height range - height part)
-    (λ row col less most. seen_outside sizes codes (at row col) (past_cols sizes row col (omega (arith, bounds.col_to))))
-    (λ row col less most. seen_outside sizes codes (at row col) (past_rows sizes row col (omega (arith, bounds.row_to)))) in
-    ap₂ (λ w n. shown (seen_values sizes codes) (block range.head.col w range.head.row n)) wide high ∙ cut
+    let cut = cut_block h range.head.col (width part) (width range - width part) range.head.row (height part) (height range - height part)
+    (λ row col less most. out (at row col) (past_cols sizes row col (omega (arith, bounds.col_to))))
+    (λ row col less most. out (at row col) (past_rows sizes row col (omega (arith, bounds.row_to)))) in
+    ap₂ (λ w n. shown h (block range.head.col w range.head.row n)) wide high ∙ cut
 
 -- a range none of whose cells lies in the rectangle shows nothing
-pub past_shows : (sizes : Sizes) (codes : Position → Option ℕ) (range : Corners) → ((cell : Position) → IsIn cell range → is_inside sizes cell ≡ false) → shown (seen_values sizes codes) (cells_of range) ≡ []
-past_shows sizes codes range outside =
-    outside_block (seen_values sizes codes) range.head.col (width range) range.head.row (height range)
-    (λ row col from to left right. seen_outside sizes codes (at row col) (outside (at row col) (record { row_from = from; row_to = omega arith; col_from = left; col_to = omega arith })))
+pub past_shows : (sizes : Sizes) (h : Position → Value) (range : Corners) → IsEmptyOutside sizes h → ((cell : Position) → IsIn cell range → is_inside sizes cell ≡ false) → shown h (cells_of range) ≡ []
+past_shows sizes h range out outside =
+    outside_block h range.head.col (width range) range.head.row (height range)
+    (λ row col from to left right. out (at row col) (outside (at row col) (record { row_from = from; row_to = omega arith; col_from = left; col_to = omega arith })))
 
-map-joined : {A B : Type 0} (f : A → B) (xs ys : List A) → map f (xs ++ ys) ≡ map f xs ++ map f ys
+pub map-joined : {A B : Type 0} (f : A → B) (xs ys : List A) → map f (xs ++ ys) ≡ map f xs ++ map f ys
 map-joined f [] ys = refl
 map-joined f (x ∷ xs) ys = ap (λ rest. f x ∷ rest) (map-joined f xs ys)
 

@@ -27,7 +27,7 @@ use Rattle.formula_eval.specs.Functions.{function_value}
 use Rattle.formula_eval.specs.Inputs.{within}
 use Rattle.formula_eval.specs.Items.{is_empty, is_filled, items_of_cells, items_of_parameter, items_of}
 use Rattle.formula_eval.specs.Meaning.{meaning, parameter_value, parameter_values, cells_of_tree, scalar_of_range, is_one_cell, has_circular, formula_value, IsReferenced}
-use Rattle.formula_eval.proofs.InRange.{AreValues, AreValueItems, CellsAreFew, FirstIsFew, scalars_of, call_value, filled_test}
+use Rattle.formula_eval.proofs.InRange.{AreValues, AreValueItems, CellsAreFew, AllAreFew, scalars_of, call_value, filled_test}
 use Rattle.formula_eval.proofs.MeaningLemmas.{cells_all, head_in}
 use Rattle.formula_eval.proofs.NodeLemmas.{all_left, all_right}
 
@@ -129,9 +129,9 @@ module _ (values : Position → Value) where
   cells_few (binary op l r) fits = tt
   cells_few (call f ps) fits = tt
 
-  first_few : (ps : Trees) → AreFitting ps → FirstIsFew (parameter_values values ps)
-  first_few no_trees fits = tt
-  first_few (and_trees t rest) fits = cells_few t fits.0
+  all_few : (ps : Trees) → AreFitting ps → AllAreFew (parameter_values values ps)
+  all_few no_trees fits = tt
+  all_few (and_trees t rest) fits = (cells_few t fits.0, all_few rest fits.1)
 
   -- what a tree means is a value
   mutual
@@ -147,7 +147,7 @@ module _ (values : Position → Value) where
         let scalars = scalars_value ps fits.1 have (record { small = omega (arith, few.small) }) in
         let items = all_items ps fits.1 have scalars in
         let parameters = parameter_values values ps in
-        never_empty_value (function_value f parameters) (call_value f parameters scalars items.in_range (omega (arith, items.few, few.small)) (first_few ps fits.1))
+        never_empty_value (function_value f parameters) (call_value f parameters scalars items.in_range (omega (arith, items.few, few.small)) (all_few ps fits.1))
 
     scalars_value : (ps : Trees) → AreFitting ps → AllHave (all_references ps) → IsCountable (all_references ps) (all_nodes ps) → AreValues (scalars_of (parameter_values values ps))
     scalars_value no_trees fits have few = tt

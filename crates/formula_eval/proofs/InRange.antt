@@ -1,5 +1,5 @@
 -- A function of values has a value, where it has no more items than can be counted.
-use Rattle.std.proofs.Common.{◌≡◌, ℕ, zero, suc, ◌≤◌, ℤ, pos, nat_abs, ◌+ℤ◌, ◌*ℤ◌, Bool, true, false, List, [], ◌∷◌, map, length, Option, Some, None, Result, Ok, Err, refl, arith, cond}
+use Rattle.std.proofs.Common.{◌≡◌, ℕ, zero, suc, ◌+◌, ◌≤◌, ℤ, pos, nat_abs, ◌+ℤ◌, ◌*ℤ◌, Bool, true, false, List, [], ◌∷◌, map, length, Option, Some, None, Result, Ok, Err, refl, arith, cond}
 use Rattle.std.specs.Prelude.{int_lt, int_div, neg_ℤ, not, filter, fold, slice_index_or}
 use Rattle.std.specs.Int.{int_min, int_max}
 use Rattle.std.specs.Ordering.{int_eq}
@@ -16,14 +16,14 @@ use Rattle.value_core.specs.Wholes.{IsWhole}
 use Rattle.value_core.proofs.ArithmeticLemmas.{whole_by_size, size_of_whole}
 use Rattle.value_core.proofs.InRange.{value_result, in_range_result, IsWholeOrNone, as_number_whole, whole_truth}
 use Rattle.formula_syntax.specs.declared.functions.Function.{Function}
-use Rattle.formula_syntax.specs.declared.functions.Function.TheVariants.{Sum, Product, Min, Max, Count, Counta, If, Iferror, And, Or, Not, Abs, Sign, Mod, Quotient}
+use Rattle.formula_syntax.specs.declared.functions.Function.TheVariants.{Sum, Product, Min, Max, Count, Counta, Countblank, If, Iferror, And, Or, Not, Abs, Sign, Mod, Quotient, Iserror, Isnumber, Islogical, Istext, Isblank, Na, Countif, Sumif, Match}
 use Rattle.formula_syntax.specs.declared.functions.Place.{Place}
-use Rattle.formula_syntax.specs.declared.functions.Place.TheVariants.{Sequence, Scalar, OnlyReference}
+use Rattle.formula_syntax.specs.declared.functions.Place.TheVariants.{Sequence, Scalar, Ranges}
 use Rattle.formula_syntax.specs.Functions.{shape_of}
 use Rattle.formula_eval.specs.declared.items.Item.{Item}
 use Rattle.formula_eval.specs.declared.items.Item.TheVariants.{Cell, Alone}
-use Rattle.formula_eval.specs.Functions.{Contribution, some_of, number_in, truth_in, if_number, count_in, contribution, add_contribution, contributions, least, greatest, truth_of_some, total_of, or_error, empty_cells, blank_count, on_both, choice, unless_error, sign_number, floor_remainder, division_value, scalar_value, scalar_at, by_place, function_value}
-use Rattle.formula_eval.specs.Items.{Parameter, is_empty, is_filled, items_of}
+use Rattle.formula_eval.specs.Functions.{Contribution, some_of, number_in, truth_in, if_number, count_in, contribution, add_contribution, contributions, least, greatest, truth_of_some, total_of, or_error, empty_cells, blank_count, on_both, choice, unless_error, sign_number, floor_remainder, division_value, scalar_value, scalar_at, equals, equal_count, count_of, selected, sum_of, summed, have_same_sizes, sum_where, place_from, place_in, match_of, ranged_value, by_place, function_value}
+use Rattle.formula_eval.specs.Items.{Parameter, is_empty, is_filled, items_of, items_of_cells, cells_at}
 
 range_value : (z : ℤ) → IsValue (in_range z)
 range_value z = value_result (in_range z) (in_range_result z)
@@ -200,9 +200,9 @@ abbrev pub CellsAreFew : Option (List Value) → Type 0
 CellsAreFew None = Unit {0}
 CellsAreFew (Some cells) = length cells ≤ 9007199254740991
 
-abbrev pub FirstIsFew : List Parameter → Type 0
-FirstIsFew [] = Unit {0}
-FirstIsFew (parameter ∷ _) = CellsAreFew parameter.cells
+abbrev pub AllAreFew : List Parameter → Type 0
+AllAreFew [] = Unit {0}
+AllAreFew (parameter ∷ rest) = CellsAreFew parameter.cells × AllAreFew rest
 
 abbrev pub AreValues : List Value → Type 0
 AreValues [] = Unit {0}
@@ -225,17 +225,82 @@ empty_value : (cells : Option (List Value)) → CellsAreFew cells → IsValue (e
 empty_value None few = zero_whole
 empty_value (Some cells) few = count_value (length (filter is_empty cells)) (omega (arith, length-filter_both is_empty is_filled filled_test cells, few))
 
-blank_value : (parameters : List Parameter) → FirstIsFew parameters → IsValue (blank_count parameters)
+blank_value : (parameters : List Parameter) → AllAreFew parameters → IsValue (blank_count parameters)
 blank_value [] few = zero_whole
-blank_value (parameter ∷ _) few = empty_value parameter.cells few
+blank_value (parameter ∷ _) few = empty_value parameter.cells few.0
+
+-- functions of ranges
+cells_few : (parameters : List Parameter) (i : ℕ) → AllAreFew parameters → CellsAreFew (cells_at parameters i)
+cells_few [] i few = tt
+cells_few (parameter ∷ rest) zero few = few.0
+cells_few (parameter ∷ rest) (suc i) few = cells_few rest i few.1
+
+counted_value : (n : ℤ) (cells : Option (List Value)) → CellsAreFew cells → IsValue (count_of n cells)
+counted_value n None few = zero_whole
+counted_value n (Some cells) few = count_value (equal_count n cells) (omega (arith, length-filter_both (equals n) (λ v. not (equals n v)) (λ v. refl) cells, few))
+
+sum_in_range : (r : Result (List ℤ) ErrorKind) → IsValue (or_error r (total_of Sum))
+sum_in_range (Err kind) = tt
+sum_in_range (Ok numbers) = range_value (fold ◌+ℤ◌ (pos 0) numbers)
+
+summed_value : (n : ℤ) (same : Bool) (from to : Option (List Value)) → IsValue (sum_of n same from to)
+summed_value n same None to = zero_whole
+summed_value n same (Some from) None = zero_whole
+summed_value n false (Some from) (Some to) = tt
+summed_value n true (Some from) (Some to) = sum_in_range (contributions Sum (items_of_cells (selected n from to)))
+
+place_value : (place : ℕ) (n : ℤ) (cells : List Value) → place + length cells ≤ 9007199254740992 → IsValue (place_from place n cells)
+place_value place n [] few = tt
+place_value place n (v ∷ rest) few =
+    either (equals n v) (Number (pos place)) (place_from (place + 1) n rest) (count_value place (omega (arith, few))) (place_value (place + 1) n rest (omega (arith, few)))
+
+found_value : (n : ℤ) (cells : Option (List Value)) → CellsAreFew cells → IsValue (place_in n cells)
+found_value n None few = tt
+found_value n (Some cells) few = place_value 1 n cells (omega (arith, few))
+
+match_value : (parameters : List Parameter) (n kind : ℤ) → AllAreFew parameters → IsValue (match_of parameters n kind)
+match_value parameters n kind few =
+    either (int_eq kind (pos 0)) _ (Error error.Value) (either _ (Error error.Na) (place_in n (cells_at parameters 1)) tt (found_value n (cells_at parameters 1) (cells_few parameters 1 few))) tt
+
+any_or_error : (r : Result ℤ ErrorKind) (value : ℤ → Value) → ((n : ℤ) → IsValue (value n)) → IsValue (or_error r value)
+any_or_error (Ok n) value h = h n
+any_or_error (Err kind) value h = tt
+
+ranged_in_range : (f : Function) (a b c : Value) (parameters : List Parameter) → AllAreFew parameters → IsValue (ranged_value f a b c parameters)
+ranged_in_range Countblank a b c parameters few = blank_value parameters few
+ranged_in_range Countif a b c parameters few = any_or_error (as_number b) _ (λ n. counted_value n (cells_at parameters 0) (cells_few parameters 0 few))
+ranged_in_range Sumif a b c parameters few =
+    any_or_error (as_number b) (sum_where parameters) (λ n. summed_value n (have_same_sizes parameters 0 (summed parameters)) (cells_at parameters 0) (cells_at parameters (summed parameters)))
+ranged_in_range Match a b c parameters few = both_or_error (as_number a) (as_number c) (match_of parameters) (λ n kind. match_value parameters n kind few)
+ranged_in_range Sum a b c parameters few = zero_whole
+ranged_in_range Product a b c parameters few = zero_whole
+ranged_in_range Min a b c parameters few = zero_whole
+ranged_in_range Max a b c parameters few = zero_whole
+ranged_in_range Count a b c parameters few = zero_whole
+ranged_in_range Counta a b c parameters few = zero_whole
+ranged_in_range If a b c parameters few = zero_whole
+ranged_in_range Iferror a b c parameters few = zero_whole
+ranged_in_range And a b c parameters few = zero_whole
+ranged_in_range Or a b c parameters few = zero_whole
+ranged_in_range Not a b c parameters few = zero_whole
+ranged_in_range Abs a b c parameters few = zero_whole
+ranged_in_range Sign a b c parameters few = zero_whole
+ranged_in_range Mod a b c parameters few = zero_whole
+ranged_in_range Quotient a b c parameters few = zero_whole
+ranged_in_range Iserror a b c parameters few = zero_whole
+ranged_in_range Isnumber a b c parameters few = zero_whole
+ranged_in_range Islogical a b c parameters few = zero_whole
+ranged_in_range Istext a b c parameters few = zero_whole
+ranged_in_range Isblank a b c parameters few = zero_whole
+ranged_in_range Na a b c parameters few = zero_whole
 
 abbrev pub scalars_of : List Parameter → List Value
 scalars_of parameters = map (λ (p : Parameter). p.scalar) parameters
 
-module _ (f : Function) (parameters : List Parameter) (scalars : AreValues (scalars_of parameters)) (items : AreValueItems (items_of parameters)) (few : length (items_of parameters) ≤ 9007199254740991) (first : FirstIsFew parameters) where
+module _ (f : Function) (parameters : List Parameter) (scalars : AreValues (scalars_of parameters)) (items : AreValueItems (items_of parameters)) (few : length (items_of parameters) ≤ 9007199254740991) (cells : AllAreFew parameters) where
   by_place_value : (place : Place) → IsValue (by_place place f parameters)
   by_place_value Sequence = sequence_total f (items_of parameters) (contributions f (items_of parameters)) (contributions_whole f (items_of parameters) items) few
-  by_place_value OnlyReference = blank_value parameters first
+  by_place_value Ranges = ranged_in_range f (scalar_at parameters 0) (scalar_at parameters 1) (scalar_at parameters 2) parameters cells
   by_place_value Scalar =
       scalar_in_range f (scalar_at parameters 0) (scalar_at parameters 1) (scalar_at parameters 2)
       (value_at_place (scalars_of parameters) 0 scalars) (value_at_place (scalars_of parameters) 1 scalars) (value_at_place (scalars_of parameters) 2 scalars)

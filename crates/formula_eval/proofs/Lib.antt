@@ -11,3 +11,5 @@ pub mod NodeLemmas
 pub mod PendingLemmas
 pub mod ScanLemmas
 pub mod TallyLemmas
+pub mod ViewLemmas
+pub mod RangeLemmas

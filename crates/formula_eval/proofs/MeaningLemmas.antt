@@ -22,7 +22,7 @@ use Rattle.formula_syntax.specs.Tree.{Tree, Trees, number, truth, error, referen
 use Rattle.formula_eval.specs.Functions.{function_value}
 use Rattle.formula_eval.specs.Inputs.{within, seen_values, IsPlain, ArePlain}
 use Rattle.formula_eval.specs.Items.{Parameter}
-use Rattle.formula_eval.specs.Meaning.{meaning, parameter_values, cells_of_tree, scalar_of_range, is_one_cell, is_circular, has_circular, formula_value, Agrees, IsReferenced}
+use Rattle.formula_eval.specs.Meaning.{meaning, parameter_values, cells_of_tree, rows_of_tree, cols_of_tree, scalar_of_range, is_one_cell, is_circular, has_circular, formula_value, Agrees, IsReferenced}
 use Rattle.formula_eval.specs.Stops.{StopsAt, stop_cell, stop_code}
 use Rattle.formula_eval.specs.declared.scan.Stop.{Stop}
 use Rattle.formula_eval.specs.declared.scan.Stop.TheVariants.{Missing, Circular}
@@ -79,8 +79,8 @@ pub record AreSame (h k : Position → Value) (range : Corners) : Type 0 where
 abbrev AllSame : (Position → Value) → (Position → Value) → List Reference → Type 0
 AllSame h k rs = All (λ (r : Reference). AreSame h k (corners_of r)) rs
 
-abbrev made : Value → Option (List Value) → Parameter
-made scalar cells = record { scalar = scalar; cells = cells }
+abbrev made : ℕ → ℕ → Value → Option (List Value) → Parameter
+made rows cols scalar cells = record { scalar = scalar; cells = cells; rows = rows; cols = cols }
 
 module _ (h k : Position → Value) where
   map_same : (cells : List Position) → All (λ cell. h cell ≡ k cell) cells → map h cells ≡ map k cells
@@ -122,7 +122,7 @@ module _ (h k : Position → Value) where
     parameters_same no_trees same = refl
     parameters_same (and_trees tree rest) same =
         let here = same_left (references_of tree) (all_references rest) same in
-        ap₂ ◌∷◌ (ap₂ made (meaning_same tree here) (cells_same tree here)) (parameters_same rest (same_right (references_of tree) (all_references rest) same))
+        ap₂ ◌∷◌ (ap₂ (made (rows_of_tree tree) (cols_of_tree tree)) (meaning_same tree here) (cells_same tree here)) (parameters_same rest (same_right (references_of tree) (all_references rest) same))
 
   -- whether a cell of the references is circular turns on them too
   any_same : (cells : List Position) → All (λ cell. h cell ≡ k cell) cells → list_any (λ cell. is_circular (h cell)) cells ≡ list_any (λ cell. is_circular (k cell)) cells

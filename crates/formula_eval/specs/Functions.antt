@@ -1,20 +1,20 @@
 -- What the functions mean, over the values of their parameters. The names are those of OpenFormula; where the meanings differ from it, these hold.
-use Rattle.std.specs.Prelude.{ℕ, ℤ, pos, neg_ℤ, ◌+ℤ◌, ◌*ℤ◌, int_lt, int_div, nat_abs, Bool, true, false, not, if◌then◌else◌, List, [], ◌∷◌, map, filter, fold, length, slice_index_or, Option, Some, None, Result, Ok, Err}
+use Rattle.std.specs.Prelude.{ℕ, ◌+◌, ◌==◌, ◌&&◌, nat_lt, ℤ, pos, neg_ℤ, ◌+ℤ◌, ◌*ℤ◌, int_lt, int_div, nat_abs, Bool, true, false, not, if◌then◌else◌, List, [], ◌∷◌, map, filter, fold, length, slice_index_or, Option, Some, None, Result, Ok, Err}
 use Rattle.std.specs.Int.{int_min, int_max, int_rem_euclid}
 use Rattle.std.specs.Ordering.{int_eq}
 use Rattle.value_core.specs.declared.value.ErrorKind.{ErrorKind}
 use Rattle.value_core.specs.declared.value.ErrorKind.TheVariants as error
 use Rattle.value_core.specs.declared.value.Value.{Value}
-use Rattle.value_core.specs.declared.value.Value.TheVariants.{Number, Truth, Error, Label}
+use Rattle.value_core.specs.declared.value.Value.TheVariants.{Empty, Number, Truth, Error, Label}
 use Rattle.value_core.specs.Conversions.{as_number, as_truth, truth_number, in_range}
 use Rattle.formula_syntax.specs.declared.functions.Function.{Function}
-use Rattle.formula_syntax.specs.declared.functions.Function.TheVariants.{Sum, Product, Min, Max, Count, Counta, Countblank, If, Iferror, And, Or, Not, Abs, Sign, Mod, Quotient, Iserror, Isnumber, Islogical, Istext, Isblank, Na}
+use Rattle.formula_syntax.specs.declared.functions.Function.TheVariants.{Sum, Product, Min, Max, Count, Counta, Countblank, If, Iferror, And, Or, Not, Abs, Sign, Mod, Quotient, Iserror, Isnumber, Islogical, Istext, Isblank, Na, Countif, Sumif, Match}
 use Rattle.formula_syntax.specs.declared.functions.Place.{Place}
-use Rattle.formula_syntax.specs.declared.functions.Place.TheVariants.{Sequence, Scalar, OnlyReference}
+use Rattle.formula_syntax.specs.declared.functions.Place.TheVariants.{Sequence, Scalar, Ranges}
 use Rattle.formula_syntax.specs.Functions.{shape_of}
 use Rattle.formula_eval.specs.declared.items.Item.{Item}
 use Rattle.formula_eval.specs.declared.items.Item.TheVariants.{Cell, Alone}
-use Rattle.formula_eval.specs.Items.{Parameter, is_empty, items_of}
+use Rattle.formula_eval.specs.Items.{Parameter, is_empty, items_of, items_of_cells, cells_at, rows_at, cols_at}
 
 -- what one value of a sequence adds to it: a number, nothing or an error
 abbrev pub Contribution : Type 0
@@ -72,6 +72,9 @@ contribution Islogical item = number_in item
 contribution Istext item = number_in item
 contribution Isblank item = number_in item
 contribution Na item = number_in item
+contribution Countif item = number_in item
+contribution Sumif item = number_in item
+contribution Match item = number_in item
 
 -- all that items add, or the first error
 abbrev pub add_contribution : Contribution → Result (List ℤ) ErrorKind → Result (List ℤ) ErrorKind
@@ -122,6 +125,9 @@ total_of Islogical numbers = Number (pos (length numbers))
 total_of Istext numbers = Number (pos (length numbers))
 total_of Isblank numbers = Number (pos (length numbers))
 total_of Na numbers = Number (pos (length numbers))
+total_of Countif numbers = Number (pos (length numbers))
+total_of Sumif numbers = Number (pos (length numbers))
+total_of Match numbers = Number (pos (length numbers))
 
 abbrev pub or_error : {A : Type 0} → Result A ErrorKind → (A → Value) → Value
 or_error (Err kind) value = Error kind
@@ -203,13 +209,97 @@ scalar_value Counta a b c = Error error.Na
 scalar_value And a b c = Error error.Na
 scalar_value Or a b c = Error error.Na
 scalar_value Countblank a b c = Error error.Na
+scalar_value Countif a b c = Error error.Na
+scalar_value Sumif a b c = Error error.Na
+scalar_value Match a b c = Error error.Na
 
 abbrev pub scalar_at : List Parameter → ℕ → Value
 scalar_at parameters i = slice_index_or (map (λ (p : Parameter). p.scalar) parameters) i (Truth false)
 
+-- whether a value is a number and equals one
+abbrev pub equals : ℤ → Value → Bool
+equals n Empty = false
+equals n (Number m) = int_eq m n
+equals n (Truth truth) = false
+equals n (Error kind) = false
+equals n (Label place) = false
+
+-- how many values equal a number; each other value is passed by, errors too
+abbrev pub equal_count : ℤ → List Value → ℕ
+equal_count n values = length (filter (equals n) values)
+
+abbrev pub count_of : ℤ → Option (List Value) → Value
+count_of n None = Number (pos 0)
+count_of n (Some cells) = Number (pos (equal_count n cells))
+
+-- of two lists the values of the second one at the places at which those of the first one equal a number
+abbrev pub selected : ℤ → List Value → List Value → List Value
+selected n [] others = []
+selected n (value ∷ values) [] = []
+selected n (value ∷ values) (other ∷ others) = if equals n value then other ∷ selected n values others else selected n values others
+
+-- the sum of the numbers so selected, or the first error among what is selected, where the two ranges have equal sizes
+abbrev pub sum_of : ℤ → Bool → Option (List Value) → Option (List Value) → Value
+sum_of n same None to = Number (pos 0)
+sum_of n same (Some from) None = Number (pos 0)
+sum_of n false (Some from) (Some to) = Error error.Value
+sum_of n true (Some from) (Some to) = sequence_value Sum (items_of_cells (selected n from to))
+
+-- the third parameter of SUMIF, or its first where no third one is written
+abbrev pub summed : List Parameter → ℕ
+summed parameters = if nat_lt 2 (length parameters) then 2 else 0
+
+abbrev pub have_same_sizes : List Parameter → ℕ → ℕ → Bool
+have_same_sizes parameters i j = (rows_at parameters i == rows_at parameters j) && (cols_at parameters i == cols_at parameters j)
+
+abbrev pub sum_where : List Parameter → ℤ → Value
+sum_where parameters n = sum_of n (have_same_sizes parameters 0 (summed parameters)) (cells_at parameters 0) (cells_at parameters (summed parameters))
+
+-- the place of the first value that equals a number, counted on from one; `#N/A` where there is none
+abbrev pub place_from : ℕ → ℤ → List Value → Value
+place_from place n [] = Error error.Na
+place_from place n (value ∷ rest) = if equals n value then Number (pos place) else place_from (place + 1) n rest
+
+abbrev pub place_in : ℤ → Option (List Value) → Value
+place_in n None = Error error.Na
+place_in n (Some cells) = place_from 1 n cells
+
+-- MATCH: its third parameter has to be 0, and its range one row or one column
+abbrev pub match_of : List Parameter → ℤ → ℤ → Value
+match_of parameters n kind =
+    if int_eq kind (pos 0) then (if nat_lt 1 (rows_at parameters 1) && nat_lt 1 (cols_at parameters 1) then Error error.Na else place_in n (cells_at parameters 1)) else Error error.Value
+
+-- the result of a function of ranges, by what its parameters are as scalars and as ranges; the last lines are of functions that take none
+abbrev pub ranged_value : Function → Value → Value → Value → List Parameter → Value
+ranged_value Countblank a b c parameters = blank_count parameters
+ranged_value Countif a b c parameters = or_error (as_number b) (λ n. count_of n (cells_at parameters 0))
+ranged_value Sumif a b c parameters = or_error (as_number b) (sum_where parameters)
+ranged_value Match a b c parameters = on_both (as_number a) (as_number c) (match_of parameters)
+ranged_value Sum a b c parameters = Number (pos 0)
+ranged_value Product a b c parameters = Number (pos 0)
+ranged_value Min a b c parameters = Number (pos 0)
+ranged_value Max a b c parameters = Number (pos 0)
+ranged_value Count a b c parameters = Number (pos 0)
+ranged_value Counta a b c parameters = Number (pos 0)
+ranged_value If a b c parameters = Number (pos 0)
+ranged_value Iferror a b c parameters = Number (pos 0)
+ranged_value And a b c parameters = Number (pos 0)
+ranged_value Or a b c parameters = Number (pos 0)
+ranged_value Not a b c parameters = Number (pos 0)
+ranged_value Abs a b c parameters = Number (pos 0)
+ranged_value Sign a b c parameters = Number (pos 0)
+ranged_value Mod a b c parameters = Number (pos 0)
+ranged_value Quotient a b c parameters = Number (pos 0)
+ranged_value Iserror a b c parameters = Number (pos 0)
+ranged_value Isnumber a b c parameters = Number (pos 0)
+ranged_value Islogical a b c parameters = Number (pos 0)
+ranged_value Istext a b c parameters = Number (pos 0)
+ranged_value Isblank a b c parameters = Number (pos 0)
+ranged_value Na a b c parameters = Number (pos 0)
+
 abbrev pub by_place : Place → Function → List Parameter → Value
 by_place Sequence f parameters = sequence_value f (items_of parameters)
-by_place OnlyReference f parameters = blank_count parameters
+by_place Ranges f parameters = ranged_value f (scalar_at parameters 0) (scalar_at parameters 1) (scalar_at parameters 2) parameters
 by_place Scalar f parameters = scalar_value f (scalar_at parameters 0) (scalar_at parameters 1) (scalar_at parameters 2)
 
 -- the value of a call

@@ -1,14 +1,33 @@
 -- The parameters of a call, by their values.
-use Rattle.std.specs.Prelude.{Bool, true, false, List, [], ◌∷◌, map, filter, flat_map, Option, Some, None}
+use Rattle.std.specs.Prelude.{ℕ, zero, suc, Bool, true, false, List, [], ◌∷◌, map, filter, flat_map, Option, Some, None}
 use Rattle.value_core.specs.declared.value.Value.{Value}
 use Rattle.formula_eval.specs.declared.items.Item.{Item}
 use Rattle.formula_eval.specs.declared.items.Item.TheVariants.{Cell, Alone}
 use Rattle.value_core.specs.declared.value.Value.TheVariants.{Empty, Number, Truth, Error, Label}
 
--- a parameter: its value as a scalar, and the values of all cells of its range where it is written as a reference
+-- a parameter: its value as a scalar, and the values of all cells of its range where it is written as a reference,
+-- row by row, with how many rows and columns these are
 pub record Parameter : Type 0 where
   pub scalar : Value
   pub cells : Option (List Value)
+  pub rows : ℕ
+  pub cols : ℕ
+
+-- the range of one of some parameters, from 0: its values, and how many rows and columns they are
+abbrev pub cells_at : List Parameter → ℕ → Option (List Value)
+cells_at [] i = None
+cells_at (parameter ∷ rest) zero = parameter.cells
+cells_at (parameter ∷ rest) (suc i) = cells_at rest i
+
+abbrev pub rows_at : List Parameter → ℕ → ℕ
+rows_at [] i = 0
+rows_at (parameter ∷ rest) zero = parameter.rows
+rows_at (parameter ∷ rest) (suc i) = rows_at rest i
+
+abbrev pub cols_at : List Parameter → ℕ → ℕ
+cols_at [] i = 0
+cols_at (parameter ∷ rest) zero = parameter.cols
+cols_at (parameter ∷ rest) (suc i) = cols_at rest i
 
 abbrev pub is_empty : Value → Bool
 is_empty Empty = true

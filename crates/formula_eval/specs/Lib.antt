@@ -7,3 +7,4 @@ pub mod Pending
 pub mod Seen
 pub mod Stops
 pub mod Tallies
+pub mod Views

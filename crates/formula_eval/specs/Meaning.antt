@@ -1,7 +1,7 @@
 -- What a formula means over the values of cells, and its value.
 use Rattle.std.specs.Prelude.{◌≡◌, ℕ, ◌==◌, Bool, true, false, ◌&&◌, if◌then◌else◌, IsTrue, List, [], ◌∷◌, map, Option, Some, None, IsSome, slice_get}
 use Rattle.std.specs.List.{list_any}
-use Rattle.sheet_refs.specs.Cells.{Position, Corners, IsIn, cells_of}
+use Rattle.sheet_refs.specs.Cells.{Position, Corners, IsIn, cells_of, height, width}
 use Rattle.sheet_refs.specs.declared.sizes.Sizes.{Sizes}
 use Rattle.sheet_refs.specs.Ends.{Reference, corners_of}
 use Rattle.sheet_refs.specs.Sizes.{is_inside}
@@ -29,6 +29,15 @@ abbrev pub cells_of_tree : (Position → Value) → Tree → Option (List Value)
 cells_of_tree values (reference r) = Some (map values (cells_of (corners_of r)))
 cells_of_tree values _ = None
 
+-- how many rows and columns the range has, of a tree that is a reference
+abbrev pub rows_of_tree : Tree → ℕ
+rows_of_tree (reference r) = height (corners_of r)
+rows_of_tree _ = 0
+
+abbrev pub cols_of_tree : Tree → ℕ
+cols_of_tree (reference r) = width (corners_of r)
+cols_of_tree _ = 0
+
 -- what a tree means where one value is wanted, and what the parameters of a call are
 abbrev mutual
   pub meaning : (Position → Value) → Tree → Value
@@ -42,11 +51,11 @@ abbrev mutual
 
   pub parameter_values : (Position → Value) → Trees → List Parameter
   parameter_values values no_trees = []
-  parameter_values values (and_trees tree rest) = record { scalar = meaning values tree; cells = cells_of_tree values tree } ∷ parameter_values values rest
+  parameter_values values (and_trees tree rest) = record { scalar = meaning values tree; cells = cells_of_tree values tree; rows = rows_of_tree tree; cols = cols_of_tree tree } ∷ parameter_values values rest
 
 -- one parameter of a call
 abbrev pub parameter_value : (Position → Value) → Tree → Parameter
-parameter_value values tree = record { scalar = meaning values tree; cells = cells_of_tree values tree }
+parameter_value values tree = record { scalar = meaning values tree; cells = cells_of_tree values tree; rows = rows_of_tree tree; cols = cols_of_tree tree }
 
 -- a tree that is no reference
 abbrev pub IsNoReference : Tree → Type 0

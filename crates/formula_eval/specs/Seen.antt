@@ -1,12 +1,11 @@
 -- What an evaluation sees of trees: whether it can read past all cells that they name, and what they mean.
-use Rattle.std.specs.Prelude.{ℕ, List, Option, map}
-use Rattle.sheet_refs.specs.Cells.{Position, Corners, cells_of}
+use Rattle.std.specs.Prelude.{ℕ, List, Option}
+use Rattle.sheet_refs.specs.Cells.{Position}
 use Rattle.sheet_refs.specs.declared.sizes.Sizes.{Sizes}
 use Rattle.value_core.specs.declared.value.Value.{Value}
 use Rattle.formula_syntax.specs.Tree.{Tree, Trees, references_of, all_references}
 use Rattle.formula_eval.specs.Inputs.{ArePlain, seen_values}
-use Rattle.formula_eval.specs.declared.items.Item.{Item}
-use Rattle.formula_eval.specs.Items.{Parameter, items_of_cells}
+use Rattle.formula_eval.specs.Items.{Parameter}
 use Rattle.formula_eval.specs.Meaning.{meaning, parameter_value, parameter_values}
 use Rattle.formula_eval.specs.Stops.{StopsAt}
 use Rattle.formula_eval.specs.declared.scan.Stop.{Stop}
@@ -35,7 +34,3 @@ seen_parameter sizes codes tree = parameter_value (seen_values sizes codes) tree
 
 abbrev pub seen_parameters : Sizes → (Position → Option ℕ) → Trees → List Parameter
 seen_parameters sizes codes trees = parameter_values (seen_values sizes codes) trees
-
--- the items of a range's cells
-abbrev pub seen_items : Sizes → (Position → Option ℕ) → Corners → List Item
-seen_items sizes codes range = items_of_cells (map (seen_values sizes codes) (cells_of range))

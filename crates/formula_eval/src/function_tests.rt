@@ -346,3 +346,55 @@ fn references_and_operators(rt: HostRuntime) -> Result<(), Fail> {
     assert_eq!(rt; others.as_str(), "");
     Ok(())
 }
+
+#[test]
+fn numbers_are_counted_summed_and_found(rt: HostRuntime) -> Result<(), Fail> {
+    let others = unlike_on_sheet(
+        rt.alloc(),
+        &[
+            ("=COUNTIF(A1:D4;7)", "1"),
+            ("=COUNTIF(A1:D4;0)", "1"),
+            ("=COUNTIF(A1:D4;TRUE)", "0"),
+            ("=COUNTIF(A1:D4;A3)", "1"),
+            ("=COUNTIF(A3;0)", "0"),
+            ("=COUNTIF(A1:XFD1048576;0)", "1"),
+            ("=COUNTIF(F1:G9;0)", "0"),
+            ("=COUNTIF(D3:D4;2)", "1"),
+            ("=COUNTIF(A1;C2)", "#VALUE!"),
+            ("=COUNTIF(A1;C3)", "#N/A"),
+            ("=SUMIF(A1:D1;7)", "7"),
+            ("=SUMIF(A1:D4;-7)", "-7"),
+            ("=SUMIF(A1:D1;7;A4:D4)", "5"),
+            ("=SUMIF(A1:D1;-7;A4:D4)", "#DIV/0!"),
+            ("=SUMIF(A1:D1;0;A4:D4)", "0"),
+            ("=SUMIF(A1:D1;3;A4:D4)", "2"),
+            ("=SUMIF(A1:D1;3;A4:C4)", "#VALUE!"),
+            ("=SUMIF(A1:D1;3;A1:A4)", "#VALUE!"),
+            ("=SUMIF(A1:B2;7;B1:C2)", "-7"),
+            ("=SUMIF(A1:D1;7;D1:G1)", "3"),
+            ("=SUMIF(A1:D1;3;D1:G1)", "0"),
+            ("=SUMIF(A1:D1;-7;D4:G4)", "0"),
+            ("=SUMIF(A1:F1;3;A4:F4)", "2"),
+            ("=SUMIF(A1:F4;5;B1:G4)", "#DIV/0!"),
+            ("=SUMIF(B1:G4;2;A1:F4)", "0"),
+            ("=SUMIF(A1:B2;7;XFC1048575:XFD1048576)", "0"),
+            ("=SUMIF(A1:A2;C3;B1)", "#N/A"),
+            ("=MATCH(7;A1:D1;0)", "1"),
+            ("=MATCH(3;A1:D1;0)", "4"),
+            ("=MATCH(5;A1:A4;0)", "4"),
+            ("=MATCH(2;D1:D4;FALSE)", "4"),
+            ("=MATCH(A3;C1:D1;0)", "1"),
+            ("=MATCH(0;A3:B3;0)", "#N/A"),
+            ("=MATCH(0;A2:D2;0)", "#N/A"),
+            ("=MATCH(9;A1:A1048576;0)", "#N/A"),
+            ("=MATCH(7;E1:E9;0)", "#N/A"),
+            ("=MATCH(7;A1:D4;0)", "#N/A"),
+            ("=MATCH(7;A1:D4;1)", "#VALUE!"),
+            ("=MATCH(7;A1:D4;D3)", "#REF!"),
+            ("=MATCH(C3;A1:D4;D3)", "#N/A"),
+            ("=MATCH(C2;A1:D1;0)", "#VALUE!"),
+        ],
+    )?;
+    assert_eq!(rt; others.as_str(), "");
+    Ok(())
+}

@@ -40,7 +40,10 @@ pub(crate) fn contribution(function: Function, item: Item) -> Result<Option<Whol
         | Function::Islogical
         | Function::Istext
         | Function::Isblank
-        | Function::Na => number_in(item),
+        | Function::Na
+        | Function::Countif
+        | Function::Sumif
+        | Function::Match => number_in(item),
     }
 }
 

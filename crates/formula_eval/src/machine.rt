@@ -1,29 +1,29 @@
 ghost use Rattle.std.specs.Prelude.{◌≡◌, ◌≤◌, ◌<◌, ◌+◌, ◌^◌, ◌++◌, length, vec_capacity};
-ghost use Rattle.std.specs.Prelude.{List, IfErr, OnOk, Err, MatchOption};
+ghost use Rattle.std.specs.Prelude.{List, IfErr, OnOk, Err};
 ghost use Rattle.formula_syntax.specs.Tree.{tree_of, trees_of};
-ghost use Rattle.formula_syntax.specs.Tree.{node_count, all_nodes, reference};
+ghost use Rattle.formula_syntax.specs.Tree.{node_count, all_nodes};
 ghost use Rattle.formula_syntax.specs.Functions.{shape_of};
 ghost use Rattle.formula_syntax.specs.declared.functions.Place.TheVariants.{Sequence as SequencePlace};
 ghost use Rattle.formula_eval.specs.Functions.{function_value, sequence_value, contributions};
-ghost use Rattle.formula_eval.specs.Functions.{scalar_at, blank_count};
+ghost use Rattle.formula_eval.specs.Functions.{scalar_at};
 ghost use Rattle.formula_eval.specs.Inputs.{IsPlainRange, seen_values};
 ghost use Rattle.formula_eval.specs.Items.{items_of, items_of_parameter};
-ghost use Rattle.formula_eval.specs.Meaning.{IsNoReference, scalar_of_range};
+ghost use Rattle.formula_eval.specs.Meaning.{scalar_of_range};
 ghost use Rattle.formula_eval.specs.Pending.{value_of_all, value_of_one, HasRoomFor};
 ghost use Rattle.formula_eval.specs.Seen.{IsPlainTree, AllPlain, seen_value};
 ghost use Rattle.formula_eval.specs.Seen.{seen_parameter, seen_parameters};
 ghost use Rattle.formula_eval.specs.Tallies.{AddsItems, IsBounded};
 ghost use Rattle.formula_eval.specs.declared.machine.Pending.{Pending as PendingOperator};
 
-use crate::cells::{add_cells, value_at};
+use crate::cells::{View, add_cells, value_or_empty};
 use crate::inputs::Inputs;
 use crate::items::Item;
+use crate::ranges::{as_reference, ranged_value};
 use crate::scalars::scalar_value;
-use crate::scan::sizes;
 use crate::tally::{Tally, add};
 use formula_syntax::{Function, Node, Place};
-use sheet_refs::{Range, Ref};
-use value_core::{BinaryOp, ErrorKind, PrefixOp, Value, binary, in_range, never_empty, prefix};
+use sheet_refs::Range;
+use value_core::{BinaryOp, ErrorKind, PrefixOp, Value, binary, never_empty, prefix};
 
 /// An operator that waits for the value of the operand at its right or of its left operand.
 #[derive(Clone, Copy)]
@@ -71,26 +71,7 @@ fn scalar_of<I: Inputs>(inputs: &I, range: Range) -> Value
     if head != range.tail() {
         return Value::Error(ErrorKind::Value);
     }
-    if sizes(inputs).holds(head) {
-        value_at(inputs, head)
-    } else {
-        Value::Empty
-    }
-}
-
-// The reference that a tree is, if it is one.
-fn as_reference(node: &Node) -> Option<Ref>
-    ensures { MatchOption result
-        (IsNoReference (tree_of node.now))
-        (λ r. tree_of node.now ≡ reference r) }
-{
-    match node {
-        Node::Reference(r) => Some(*r),
-        Node::Number(_) | Node::Truth(_) | Node::Error(_) => None,
-        Node::Prefix(_, _) => None,
-        Node::Binary(_, _, _) => None,
-        Node::Call(_, _) => None,
-    }
+    value_or_empty(inputs, head)
 }
 
 /// The value of a tree, over values that are all held. It goes down left operands by a loop, and looks at
@@ -151,7 +132,12 @@ fn call<I: Inputs>(
 {
     match function.place() {
         Place::Sequence => sequence(inputs, function, parameters, pending),
-        Place::OnlyReference => count_blank(inputs, parameters),
+        Place::Ranges => {
+            let first = scalar(inputs, parameters, 0, pending);
+            let second = scalar(inputs, parameters, 1, pending);
+            let third = scalar(inputs, parameters, 2, pending);
+            ranged_value(inputs, function, parameters, first, second, third)
+        }
         Place::Scalar => {
             let first = scalar(inputs, parameters, 0, pending);
             let second = scalar(inputs, parameters, 1, pending);
@@ -213,7 +199,7 @@ fn sequence<I: Inputs>(
     tally.finish()
 }
 
-// AddsItems a parameter to the sequence of a function.
+// Adds a parameter to the sequence of a function.
 #[cycle(machine)]
 fn add_parameter<I: Inputs>(
     inputs: &I,
@@ -237,27 +223,10 @@ fn add_parameter<I: Inputs>(
     ensures capacity { vec_capacity pending.new ≡ vec_capacity pending.old }
 {
     match as_reference(parameter) {
-        Some(r) => add_cells(inputs, function, r.range(), tally),
+        Some(r) => add_cells(inputs, function, &View::All, r.range(), tally),
         None => {
             let value = value(inputs, parameter, pending);
             add(function, Item::Alone(value), tally)
         }
     }
-}
-
-// How many cells of a range are empty, those past the rectangle too.
-fn count_blank<I: Inputs>(inputs: &I, parameters: &[Node]) -> Value
-    requires plain { AllPlain (I.sizes inputs.now) (I.codes inputs.now) (trees_of parameters.now) }
-    ensures { result ≡ blank_count
-        (seen_parameters (I.sizes inputs.now) (I.codes inputs.now) (trees_of parameters.now)) }
-{
-    if parameters.is_empty() {
-        return in_range(0);
-    }
-    let Some(r) = as_reference(&parameters[0]) else {
-        return in_range(0);
-    };
-    let mut tally = Tally::new(Function::Counta);
-    let _ = add_cells(inputs, Function::Counta, r.range(), &mut tally);
-    in_range((r.range().cells() - tally.count) as i64)
 }

@@ -36,7 +36,10 @@ pub(crate) fn scalar_value(function: Function, first: Value, second: Value, thir
         | Function::Counta
         | Function::And
         | Function::Or
-        | Function::Countblank => Value::Error(ErrorKind::Na),
+        | Function::Countblank
+        | Function::Countif
+        | Function::Sumif
+        | Function::Match => Value::Error(ErrorKind::Na),
     }
 }
 

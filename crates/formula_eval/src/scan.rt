@@ -17,8 +17,8 @@ pub(crate) enum Stop {
     Circular(Cell),
 }
 
-// The code of `#CIRC!`.
-const CIRCULAR: u64 = 59;
+/// The code of `#CIRC!`.
+pub const CIRCULAR: u64 = 59;
 
 pub(crate) fn sizes<I: Inputs>(inputs: &I) -> Sizes
     ensures { result ≡ I.sizes inputs.now }

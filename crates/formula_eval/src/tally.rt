@@ -64,7 +64,10 @@ impl Tally {
             | Function::Islogical
             | Function::Istext
             | Function::Isblank
-            | Function::Na => Running::Count,
+            | Function::Na
+            | Function::Countif
+            | Function::Sumif
+            | Function::Match => Running::Count,
         };
         Tally { count: 0, running }
     }
@@ -100,7 +103,7 @@ impl Tally {
     }
 }
 
-/// AddsItems an item to the sequence of a function; answers the item's error, where it hands one on.
+/// Adds an item to the sequence of a function; answers the item's error, where it hands one on.
 ///
 /// It is a part of the loop over the cells of a range, whose time is mostly spent here.
 #[inline(always)]

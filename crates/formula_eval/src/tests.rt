@@ -5,7 +5,7 @@ ghost use Rattle.value_core.specs.Values.{code_of};
 ghost use Rattle.formula_eval.specs.Inputs.{IsCode};
 
 use crate::*;
-use formula_syntax::{Formula, MAX_TEXT, read_formula};
+use formula_syntax::{Edition, Formula, MAX_TEXT, read_formula};
 use sheet_refs::{Cell, Sizes};
 use std::alloc::Global;
 use std::fmt::Write;
@@ -66,7 +66,7 @@ fn formula(alloc: Global, text: &str) -> Result<Formula, Fail> {
         return Err(Fail::from("a long text"));
     }
     Ok(
-        read_formula(alloc, text.as_bytes())
+        read_formula(alloc, text.as_bytes(), Edition::Two)
             .ok()
             .ok_or("no formula")?,
     )

@@ -10,7 +10,7 @@ use Rattle.formula_eval.specs.Items.{is_empty, items_of_cells}
 use Rattle.formula_eval.proofs.ClipLemmas.{items_and_empty, mapped_length}
 use Rattle.formula_eval.proofs.MachineLemmas.{blank_here, plain_among, plain_one_range}
 use Rattle.formula_eval.proofs.TallyLemmas.{counta_here}
-use Rattle.formula_eval.proofs.machine.count_blank.Goals as goal
+use Rattle.formula_eval.proofs.ranges.count_blank.Goals as goal
 
 pub add_cells-requires-clause-plain : goal.add_cells-requires-clause-plain
 add_cells-requires-clause-plain g c =
