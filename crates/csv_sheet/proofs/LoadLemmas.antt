@@ -1,32 +1,88 @@
 -- From the extent of a text's records to what the text gives.
-use Rattle.std.proofs.Common.{◌≡◌, ◌↔◌, ℕ, ◌+◌, ◌*◌, ◌<◌, ◌≤◌, List, [], length, inl, ◌∷◌, inr, ◌⊎◌, refl, sym, ◌∙◌, ap, subst, arith, Result, None, Some, Bool, false, true≢false, IsTrue}
+use Rattle.std.proofs.Common.{◌≡◌, ◌↔◌, ℕ, ◌+◌, ◌*◌, ◌<◌, ◌≤◌, List, [], length, inl, ◌∷◌, inr, ◌⊎◌, refl, sym, ◌∙◌, ap, subst, arith, Result, Err, Option, None, Some, Bool, true, false, true≢false, IsTrue, IfSome, drop, ◌==◌, ◌&&◌, if◌then◌else◌}
+use Rattle.std.specs.Prelude.{codes, nat_eq}
+use Rattle.std.specs.List.{starts_with}
+use Rattle.std.proofs.lemmas.List.{length-drop}
 use Rattle.csv.specs.Reading.{AreRecords, default_config}
 use Rattle.csv.specs.declared.parser.State.TheVariants.{StartRecord}
 use Rattle.sheet_refs.specs.Cells.{Position, IsNamed}
+use Rattle.formula_syntax.specs.declared.edition.Edition.{Edition}
+use Rattle.formula_syntax.specs.declared.edition.Edition.TheVariants.{One, Two}
 use Rattle.sheet_model.specs.Sheets.{SheetValue, IsSheetSize}
 use Rattle.csv_sheet.specs.Reading.{Measures}
 use Rattle.csv_sheet.specs.Records.{Rows, cell_there, longest, without_marks}
-use Rattle.csv_sheet.specs.Results.{AreText, IsTooLarge, IsFirstField, IsLong, IsGivenByRecords, IsSheetResult}
+use Rattle.csv_sheet.specs.Results.{AreText, IsTooLarge, IsFirstField, IsLong, IsGivenByRecords, IsRecordsResult, IsHeadedResult, IsSheetResult}
+use Rattle.csv_sheet.specs.Headings.{HeadedText, behind_end, behind_first, if_named, unnamed, heading_of}
 use Rattle.csv_sheet.specs.declared.extent.Extent.{Extent}
 use Rattle.csv_sheet.specs.declared.refused.SheetRefused.{SheetRefused}
+use Rattle.csv_sheet.specs.declared.refused.SheetRefused.TheVariants.{UnknownEdition}
 use Rattle.csv_sheet.proofs.FieldLemmas.{few_rows}
 use Rattle.csv_sheet.proofs.MarkLemmas.{length-without_marks, without_marks_twice}
 use Rattle.csv_sheet.proofs.RecordLemmas.{has_columns}
 use Rattle.csv_sheet.proofs.ResultLemmas.{one_result, field_inside}
 
-pub result_from : (text records : List ℕ) (rows : Rows) (result : Result SheetValue SheetRefused) → records ≡ without_marks text
-    → AreRecords default_config StartRecord records rows → IsGivenByRecords rows result → IsSheetResult text result
-result_from text records rows result same has answer = record { rows = rows; has = subst (λ t. AreRecords default_config StartRecord t rows) same has; answer = answer }
+pub result_from : (edition : Edition) (records : List ℕ) (rows : Rows) (result : Result SheetValue SheetRefused) → AreRecords default_config StartRecord records rows → IsGivenByRecords edition rows result → IsRecordsResult edition records result
+result_from edition records rows result has answer = record { rows = rows; has = has; answer = answer }
+
+-- what the records behind a heading give, a text gives
+pub headed_from : (text : List ℕ) (heading : HeadedText) (result : Result SheetValue SheetRefused) → heading_of (without_marks text) ≡ Some heading → IsRecordsResult heading.edition heading.records result → IsSheetResult text result
+headed_from text heading result is answer = subst (λ (o : Option HeadedText). IsHeadedResult o result) (sym is) answer
+
+pub unheaded_from : (text : List ℕ) (result : Result SheetValue SheetRefused) → heading_of (without_marks text) ≡ None → result ≡ Err UnknownEdition → IsSheetResult text result
+unheaded_from text result is answer = subst (λ (o : Option HeadedText). IsHeadedResult o result) (sym is) answer
 
 -- a result that a text gives is the only one
 pub exact_from : (text : List ℕ) (result : Result SheetValue SheetRefused) → IsSheetResult text result → (answer : Result SheetValue SheetRefused) → (result ≡ answer) ↔ IsSheetResult text answer
 exact_from text result is answer = (λ same. subst (IsSheetResult text) same is, λ other. one_result text result answer is other)
 
-pub records_without_marks : (text records : List ℕ) → records ≡ without_marks text → without_marks records ≡ records
-records_without_marks text records same = subst (λ t. without_marks t ≡ t) (sym same) (without_marks_twice text)
+-- the records behind a heading have no mark at their front, and are no longer than the text
+abbrev IsPlainIn : ℕ → Option HeadedText → Type 0
+IsPlainIn most None = Unit {0}
+IsPlainIn most (Some heading) = (without_marks heading.records ≡ heading.records) × (length heading.records ≤ most)
 
-pub records_short : (text records : List ℕ) → records ≡ without_marks text → length text ≤ 16777216 → length records ≤ 16777216
-records_short text records same short = let less = length-without_marks text in subst (λ t. length t ≤ 16777216) (sym same) (omega (arith, less, short))
+plain_named : (most : ℕ) (edition : Edition) (rest : Option (List ℕ)) (other : Option HeadedText) → IfSome rest (λ r. length r ≤ most) → IsPlainIn most other → IsPlainIn most (if_named edition rest other)
+plain_named most edition None other short plain = plain
+plain_named most edition (Some rest) other short plain = (without_marks_twice rest, (let less = length-without_marks rest in omega (arith, less, short)))
+
+end_short : (text : List ℕ) → IfSome (behind_end text) (λ r. length r ≤ length text)
+end_short [] = omega arith
+end_short (a ∷ []) = by (a == 10)
+  where
+    by : (t : Bool) → IfSome (if t then Some [] else None) (λ (r : List ℕ). length r ≤ length (a ∷ []))
+    by true = omega arith
+    by false = tt
+end_short (a ∷ b ∷ rest) = by (a == 10) (a == 13 && b == 10)
+  where
+    by : (t u : Bool) → IfSome (if t then Some (b ∷ rest) else (if u then Some rest else None)) (λ (r : List ℕ). length r ≤ length (a ∷ b ∷ rest))
+    by true u = omega arith
+    by false true = omega arith
+    by false false = tt
+
+shorter : (most less : ℕ) (o : Option (List ℕ)) → less ≤ most → IfSome o (λ r. length r ≤ less) → IfSome o (λ r. length r ≤ most)
+shorter most less None fewer h = tt
+shorter most less (Some r) fewer h = omega (arith, fewer, h)
+
+first_short : (line text : List ℕ) → IfSome (behind_first line text) (λ r. length r ≤ length text)
+first_short line text = by (starts_with nat_eq text line)
+  where
+    by : (t : Bool) → IfSome (if t then behind_end (drop (length line) text) else None) (λ (r : List ℕ). length r ≤ length text)
+    by true = shorter (length text) (length (drop (length line) text)) (behind_end (drop (length line) text)) (omega (arith, length-drop (length line) text)) (end_short (drop (length line) text))
+    by false = tt
+
+heading_plain : (text : List ℕ) → without_marks text ≡ text → IsPlainIn (length text) (heading_of text)
+heading_plain text same =
+    plain_named (length text) One (behind_first (codes "#edition 1") text) _ (first_short (codes "#edition 1") text)
+    (plain_named (length text) Two (behind_first (codes "#edition 2") text) (unnamed text) (first_short (codes "#edition 2") text) (by (starts_with nat_eq text (codes "#edition "))))
+  where
+    by : (t : Bool) → IsPlainIn (length text) (if t then None else Some (record { edition = One; records = text }))
+    by true = tt
+    by false = (same, omega arith)
+
+pub records_plain : (text : List ℕ) (heading : HeadedText) → heading_of (without_marks text) ≡ Some heading → (without_marks heading.records ≡ heading.records) × (length heading.records ≤ length text)
+records_plain text heading is =
+    let plain : IsPlainIn (length (without_marks text)) (Some heading) = subst (IsPlainIn (length (without_marks text))) is (heading_plain (without_marks text) (without_marks_twice text)) in
+    let less = length-without_marks text in
+    (plain.0, omega (arith, plain.1, less))
 
 module _ (rows : Rows) (extent : Extent) (is : Measures rows extent) where
   pub large : (1048576 < extent.rows * extent.cols) ⊎ (16384 < extent.cols) → IsTooLarge rows

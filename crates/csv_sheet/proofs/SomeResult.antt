@@ -19,18 +19,20 @@ use Rattle.sheet_refs.specs.Cells.{Position}
 use Rattle.sheet_refs.specs.declared.sizes.Sizes.{Sizes}
 use Rattle.value_core.specs.declared.value.ErrorKind.TheVariants.{Name}
 use Rattle.value_core.specs.declared.value.Value.TheVariants.{Empty, Number, Truth, Error, Label}
-use Rattle.formula_syntax.specs.Spelling.{Spells, IsTooDeep, HasTooManyRefs}
+use Rattle.formula_syntax.specs.declared.edition.Edition.{Edition}
+use Rattle.formula_syntax.specs.Spelling.{SpellsIn, IsTooDeep, HasTooManyRefs}
 use Rattle.formula_syntax.specs.Tree.{Tree, references_of}
 use Rattle.sheet_model.specs.Fields.{IsContent, IsTableAfter, IsLabelField, BeginsFormula, IsDeepFormula}
 use Rattle.sheet_model.specs.Fields.IsTableAfter.{label, other}
 use Rattle.sheet_model.specs.Labels.{with_label}
-use Rattle.sheet_model.specs.Sheets.{SheetValue, ContentValue, Constant, Computed, IsSheetSize, blank_sheet, with_content, with_labels}
+use Rattle.sheet_model.specs.Sheets.{SheetValue, ContentValue, content_of, Constant, Computed, IsSheetSize, blank_sheet, with_content, with_labels}
 use Rattle.sheet_model.proofs.ListLemmas.{slice_get-push}
 use Rattle.csv_sheet.specs.Filling.{HoldsRecords, IsPartFilled, IsRecordFor}
 use Rattle.csv_sheet.specs.Records.{Rows, fields_at, field_at, cell_there, longest, sizes_of, without_marks}
-use Rattle.csv_sheet.specs.Results.{AreText, IsFirstNotText, IsTooLarge, IsPlaceBefore, NoField, IsFirstField, IsLong, IsRefusedFormula, AreReadable, IsSheetOf, IsFirstRefused, IsGivenByRecords, IsSheetResult}
+use Rattle.csv_sheet.specs.Results.{AreText, IsFirstNotText, IsTooLarge, IsPlaceBefore, NoField, IsFirstField, IsLong, IsRefusedFormula, AreReadable, IsSheetOf, IsFirstRefused, IsGivenByRecords, IsRecordsResult, IsHeadedResult, IsSheetResult}
+use Rattle.csv_sheet.specs.Headings.{HeadedText, heading_of}
 use Rattle.csv_sheet.specs.declared.refused.SheetRefused.{SheetRefused}
-use Rattle.csv_sheet.specs.declared.refused.SheetRefused.TheVariants.{NotUtf8, TooManyCells, FieldTooLong, FormulaTooDeep, TooManyRefs}
+use Rattle.csv_sheet.specs.declared.refused.SheetRefused.TheVariants.{NotUtf8, TooManyCells, FieldTooLong, FormulaTooDeep, TooManyRefs, UnknownEdition}
 use Rattle.csv_sheet.proofs.FillLemmas.{holds_nothing, part_none, part_step}
 use Rattle.csv_sheet.proofs.RecordLemmas.{told_some, has_columns}
 use Rattle.csv_sheet.proofs.WayLemmas.{record_fits}
@@ -156,10 +158,10 @@ label_there labels text = by (list_any (bytes_eq text) labels) refl
     by true is = label_place labels text is
     by false is = (length labels, slice_get-push labels text)
 
-module _ (labels : List (List ℕ)) (field : List ℕ) (fine : ¬ IsRefusedFormula field)
-    (denied : (new : List (List ℕ)) (content : ContentValue) → IsTableAfter field labels new → IsContent new field content → ⊥) where
+module _ (edition : Edition) (labels : List (List ℕ)) (field : List ℕ) (fine : ¬ IsRefusedFormula edition field)
+    (denied : (new : List (List ℕ)) (content : ContentValue) → IsTableAfter field labels new → IsContent edition new field content → ⊥) where
   -- a content that is no label would do
-  not_other : (content : ContentValue) → IsContent labels field content → (IsLabelField field → ⊥) → ⊥
+  not_other : (content : ContentValue) → IsContent edition labels field content → (IsLabelField field → ⊥) → ⊥
   not_other content is not_label = denied labels content (other field labels labels not_label refl) is
 
   not_empty : field ≢ []
@@ -172,10 +174,10 @@ module _ (labels : List (List ℕ)) (field : List ℕ) (fine : ¬ IsRefusedFormu
       shallow : ¬ IsTooDeep field
       shallow deep = fine (inl (record { begins = begins; deep = deep }))
 
-      no_tree : (tree : Tree) → ¬ Spells field tree
+      no_tree : (tree : Tree) → ¬ SpellsIn edition field tree
       no_tree tree spelt = elim (cases_lt 255 (length (references_of tree))) [
         | inl many ↦ fine (inr (shallow, tree, spelt, many))
-        | inr few ↦ not_other (Computed tree) (record { shallow = shallow; spelt = spelt; few = few }) (λ as_label. as_label.no_formula begins)
+        | inr few ↦ not_other (Computed tree) (record { shallow = shallow; spelt = spelt.spelt; within = spelt.within; few = few }) (λ as_label. as_label.no_formula begins)
       ]
 
   is_label : IsLabelField field
@@ -194,11 +196,11 @@ module _ (labels : List (List ℕ)) (field : List ℕ) (fine : ¬ IsRefusedFormu
 
 -- ---- records none of which is refused have a sheet
 
-next_part : (row : ℕ) (fields : List (List ℕ)) (old : SheetValue) → IsRecordFor old row fields → ((c : ℕ) → c < length fields → ¬ IsRefusedFormula (get_or fields c []))
+next_part : (row : ℕ) (fields : List (List ℕ)) (old : SheetValue) → IsRecordFor old row fields → ((c : ℕ) → c < length fields → ¬ IsRefusedFormula old.edition (get_or fields c []))
     → (col : ℕ) → col ≤ length fields → ((new : SheetValue) → IsPartFilled row fields col old new → ⊥) → ⊥
 next_part row fields old record_for fine zero within denied = denied old (part_none row fields old record_for.few)
 next_part row fields old record_for fine (suc col) within denied = next_part row fields old record_for fine col (omega (arith, within)) (λ between part.
-    no_content between.labels (get_or fields col []) (fine col (omega (arith, within))) (λ labels content table writes.
+    no_content between.edition between.labels (get_or fields col []) (subst (λ (e : Edition). ¬ IsRefusedFormula e (get_or fields col [])) (sym part.edition) (fine col (omega (arith, within)))) (λ labels content table writes.
     let new = with_content (with_labels between labels) (cell_there row col) content in
     let more : IsPartFilled row fields (col + 1) old new = part_step row fields col old between new (cell_there row col) (get_or fields col []) record_for (omega (arith, within)) part refl refl
     (record { short = record_for.short col (omega (arith, within)); table = table; content = content; writes = writes; placed = refl }) in
@@ -209,10 +211,11 @@ next_part row fields old record_for fine (suc col) within denied = next_part row
 one_row : (n cols width most : ℕ) → most ≤ n * cols + width → width ≤ cols → most ≤ suc n * cols
 one_row n cols width most few narrow = grind (arith, row_places)
 
-module _ (all : Rows) (readable : AreReadable all) (clean : NoField IsRefusedFormula all) (size : IsSheetSize (sizes_of all)) where
+module _ (edition : Edition) (all : Rows) (readable : AreReadable all) (clean : NoField (IsRefusedFormula edition) all) (size : IsSheetSize (sizes_of all)) where
   -- a sheet that holds the first records
   record HoldsFirst (n : ℕ) (sheet : SheetValue) : Type 0 where
     holds : HoldsRecords (take n all) sheet
+    edition_is : sheet.edition ≡ edition
     sizes : sheet.sizes ≡ sizes_of all
     few : length sheet.labels ≤ n * sheet.sizes.cols
 
@@ -220,7 +223,7 @@ module _ (all : Rows) (readable : AreReadable all) (clean : NoField IsRefusedFor
   parts_of n within = sym (take-append-drop (suc n) all) ∙ ap (λ front. front ++ drop (suc n) all) (take-suc all n [] within)
 
   next_sheet : (n : ℕ) → n ≤ length all → ((sheet : SheetValue) → HoldsFirst n sheet → ⊥) → ⊥
-  next_sheet zero within denied = denied (blank_sheet (sizes_of all)) (record { holds = holds_nothing (sizes_of all) size; sizes = refl; few = omega arith })
+  next_sheet zero within denied = denied (blank_sheet edition (sizes_of all)) (record { holds = holds_nothing edition (sizes_of all) size; edition_is = refl; sizes = refl; few = omega arith })
   next_sheet (suc n) within denied = next_sheet n (omega (arith, within)) with_row
     where
       inside : n < length all
@@ -233,22 +236,26 @@ module _ (all : Rows) (readable : AreReadable all) (clean : NoField IsRefusedFor
       with_row sheet first =
           let few : length sheet.labels ≤ length (take n all) * sheet.sizes.cols = subst (λ k. length sheet.labels ≤ k * sheet.sizes.cols) (sym count) first.few in
           let fits = record_fits all (take n all) (drop (suc n) all) (get_or all n []) (parts_of n inside) readable sheet first.holds first.sizes few in
-          next_part n (get_or all n []) sheet (subst (λ k. IsRecordFor sheet k (get_or all n [])) count fits) (λ c within. clean n c within) (length (get_or all n [])) (omega arith) (λ new part. denied new (record {
+          next_part n (get_or all n []) sheet (subst (λ k. IsRecordFor sheet k (get_or all n [])) count fits) (λ c within refused. clean n c within (subst (λ (e : Edition). IsRefusedFormula e (get_or (get_or all n []) c [])) first.edition_is refused)) (length (get_or all n [])) (omega arith) (λ new part. denied new (record {
             holds = subst (λ rows. HoldsRecords rows new) (ap (λ fs. take n all ++ fs ∷ []) (take-length (get_or all n [])) ∙ sym (take-suc all n [] inside)) (part.filled (take n all) count first.holds);
+            edition_is = part.edition ∙ first.edition_is;
             sizes = part.sizes ∙ first.sizes;
             few = subst (λ (s : Sizes). length new.labels ≤ suc n * s.cols) (sym part.sizes) (one_row n sheet.sizes.cols (length (get_or all n [])) (length new.labels) part.few fits.narrow);
           }))
 
   -- there is the sheet
-  no_sheet : ((sheet : SheetValue) → IsSheetOf all sheet → ⊥) → ⊥
+  no_sheet : ((sheet : SheetValue) → IsSheetOf edition all sheet → ⊥) → ⊥
   no_sheet denied = next_sheet (length all) (omega arith) (λ sheet first.
       let holds : HoldsRecords all sheet = subst (λ rows. HoldsRecords rows sheet) (take-length all) first.holds in
       denied sheet (record {
         readable = readable;
         kept = holds.kept;
+        edition_is = first.edition_is;
         sizes = first.sizes;
         labels = holds.labels;
-        cells = λ row col r c. holds.cells row col (subst (λ (s : Sizes). row < s.rows) (sym first.sizes) r) (subst (λ (s : Sizes). col < s.cols) (sym first.sizes) c);
+        cells = λ row col r c.
+            subst (λ (e : Edition). IsContent e sheet.labels (field_at all row col) (content_of sheet (cell_there row col))) first.edition_is
+            (holds.cells row col (subst (λ (s : Sizes). row < s.rows) (sym first.sizes) r) (subst (λ (s : Sizes). col < s.cols) (sym first.sizes) c));
       }))
 
 -- ---- each text gives something
@@ -266,10 +273,10 @@ size_of records rows has fits = record {
     no_columns [] e = refl
     no_columns (fields ∷ rest) e = absurd (omega (arith, e))
 
-module _ (rows : Rows) (records : List ℕ) (has : AreRecords default_config StartRecord records rows)
-    (denied : (result : Result SheetValue SheetRefused) → ¬ IsGivenByRecords rows result) where
+module _ (edition : Edition) (rows : Rows) (records : List ℕ) (has : AreRecords default_config StartRecord records rows)
+    (denied : (result : Result SheetValue SheetRefused) → ¬ IsGivenByRecords edition rows result) where
   with_text : AreText rows → ⊥
-  with_text text = no_sheet rows readable clean (size_of records rows has fits) (λ sheet is. denied (Ok sheet) is)
+  with_text text = no_sheet edition rows readable clean (size_of records rows has fits) (λ sheet is. denied (Ok sheet) is)
     where
       fits : ¬ IsTooLarge rows
       fits large = denied (Err (TooManyCells (length rows) (longest rows))) (text, large, refl, refl)
@@ -277,22 +284,29 @@ module _ (rows : Rows) (records : List ℕ) (has : AreRecords default_config Sta
       readable : AreReadable rows
       readable = record { text = text; fits = fits; short = no_field IsLong rows (λ cell first. denied (Err (FieldTooLong cell)) (text, fits, first)) }
 
-      why_at : (Why : List ℕ → Type 0) (cell : Position) (first : IsFirstField IsRefusedFormula rows cell) → Why (field_at rows first.row first.col) → IsFirstRefused Why rows cell
+      why_at : (Why : List ℕ → Type 0) (cell : Position) (first : IsFirstField (IsRefusedFormula edition) rows cell) → Why (field_at rows first.row first.col) → IsFirstRefused edition Why rows cell
       why_at Why cell first why =
           let row_is : cell.row - 1 ≡ first.row = ap (λ (p : Position). p.row - 1) first.cell_is ∙ (omega arith) in
           let col_is : cell.col - 1 ≡ first.col = ap (λ (p : Position). p.col - 1) first.cell_is ∙ (omega arith) in
           record { readable = readable; first = first; why = subst (λ r. Why (field_at rows r (cell.col - 1))) (sym row_is) (subst (λ c. Why (field_at rows first.row c)) (sym col_is) why) }
 
-      clean : NoField IsRefusedFormula rows
-      clean = no_field IsRefusedFormula rows (λ cell first. elim first.is [
+      clean : NoField (IsRefusedFormula edition) rows
+      clean = no_field (IsRefusedFormula edition) rows (λ cell first. elim first.is [
         | inl deep ↦ denied (Err (FormulaTooDeep cell)) (why_at IsDeepFormula cell first deep)
-        | inr many ↦ denied (Err (TooManyRefs cell)) (why_at HasTooManyRefs cell first many)
+        | inr many ↦ denied (Err (TooManyRefs cell)) (why_at (HasTooManyRefs edition) cell first many)
       ])
 
   no_answer : ⊥
   no_answer = all_are_text rows (λ number first. denied (Err (NotUtf8 number)) first) with_text
 
+some_records : (edition : Edition) (records : List ℕ) → ((result : Result SheetValue SheetRefused) → ¬ IsRecordsResult edition records result) → ⊥
+some_records edition records denied =
+    let found = rows_within default_config (length records + 1) StartRecord records (omega arith) in
+    no_answer edition found.0 records found.1 (λ result is. denied result (record { rows = found.0; has = found.1; answer = is }))
+
+some_headed : (heading : Option HeadedText) → ((result : Result SheetValue SheetRefused) → ¬ IsHeadedResult heading result) → ⊥
+some_headed None denied = denied (Err UnknownEdition) refl
+some_headed (Some heading) denied = some_records heading.edition heading.records denied
+
 pub some_result : (text : List ℕ) → ((result : Result SheetValue SheetRefused) → ¬ IsSheetResult text result) → ⊥
-some_result text denied =
-    let found = rows_within default_config (length (without_marks text) + 1) StartRecord (without_marks text) (omega arith) in
-    no_answer found.0 (without_marks text) found.1 (λ result is. denied result (record { rows = found.0; has = found.1; answer = is }))
+some_result text denied = some_headed (heading_of (without_marks text)) denied

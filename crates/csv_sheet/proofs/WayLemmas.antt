@@ -9,6 +9,7 @@ use Rattle.csv.specs.Records.{AllText}
 use Rattle.csv.specs.declared.reader.Reader.{Reader}
 use Rattle.csv.specs.declared.parser.State.TheVariants.{StartRecord}
 use Rattle.sheet_refs.specs.declared.sizes.Sizes.{Sizes}
+use Rattle.formula_syntax.specs.declared.edition.Edition.{Edition}
 use Rattle.formula_syntax.specs.Spelling.{HasTooManyRefs}
 use Rattle.sheet_model.specs.Fields.{IsContent, IsDeepFormula}
 use Rattle.sheet_model.specs.Sheets.{SheetValue, IsSheetSize, content_of, blank_sheet}
@@ -19,7 +20,7 @@ use Rattle.csv_sheet.specs.Reading.{HasReadRecords}
 use Rattle.csv_sheet.specs.Records.{Rows, fields_at, field_at, all_fields, cell_there, longest, sizes_of}
 use Rattle.csv_sheet.specs.Results.{AreReadable, IsSheetOf, IsGivenByRecords, IsPlaceBefore, IsFirstField, IsFirstRefused, IsRefusedFormula, IsLong}
 use Rattle.csv_sheet.specs.declared.refused.SheetRefused.{SheetRefused}
-use Rattle.csv_sheet.specs.declared.refused.SheetRefused.TheVariants.{NotUtf8, TooManyCells, FieldTooLong, FormulaTooDeep, TooManyRefs, Memory}
+use Rattle.csv_sheet.specs.declared.refused.SheetRefused.TheVariants.{NotUtf8, TooManyCells, FieldTooLong, FormulaTooDeep, TooManyRefs, UnknownEdition, Memory}
 use Rattle.csv_sheet.proofs.FieldLemmas.{longest_at, longest_of}
 use Rattle.csv_sheet.proofs.FillLemmas.{holds_nothing}
 use Rattle.csv_sheet.proofs.RecordLemmas.{rows_in_front, one_rows}
@@ -56,29 +57,29 @@ module _ (all before rest : Rows) (fields : List (List ℕ)) (whole : all ≡ (b
       ap (λ rows. field_at rows r c) front ∙ ap (λ fs. get_or fs c []) (get_or-append before (fields ∷ rest) [] r less)
 
   -- no formula in the records before it is refused
-  earlier_kept : (sheet : SheetValue) → HoldsRecords before sheet → sheet.sizes ≡ sizes_of all → (r c : ℕ) → r < length before → c < length (fields_at all r) → ¬ IsRefusedFormula (field_at all r c)
+  earlier_kept : (sheet : SheetValue) → HoldsRecords before sheet → sheet.sizes ≡ sizes_of all → (r c : ℕ) → r < length before → c < length (fields_at all r) → ¬ IsRefusedFormula sheet.edition (field_at all r c)
   earlier_kept sheet holds sizes r c less within refused =
       let row_below : r < length all = (let b = below in omega (arith, less, b)) in
       let beside : c < longest all = longest_of all r c row_below within in
       let same : field_at all r c ≡ field_at before r c = old_field r c less in
-      refused_none sheet.labels (field_at before r c) (content_of sheet (cell_there r c)) (subst IsRefusedFormula same refused)
+      refused_none sheet.edition sheet.labels (field_at before r c) (content_of sheet (cell_there r c)) (subst (IsRefusedFormula sheet.edition) same refused)
       (holds.cells r c (subst (λ (s : Sizes). r < s.rows) (sym sizes) row_below) (subst (λ (s : Sizes). c < s.cols) (sym sizes) beside))
 
-  first_here : (sheet : SheetValue) → HoldsRecords before sheet → sheet.sizes ≡ sizes_of all → (col : ℕ) → col < length fields → IsRefusedFormula (get_or fields col [])
-      → ((c : ℕ) → c < col → ¬ IsRefusedFormula (get_or fields c [])) → IsFirstField IsRefusedFormula all (cell_there (length before) col)
+  first_here : (sheet : SheetValue) → HoldsRecords before sheet → sheet.sizes ≡ sizes_of all → (col : ℕ) → col < length fields → IsRefusedFormula sheet.edition (get_or fields col [])
+      → ((c : ℕ) → c < col → ¬ IsRefusedFormula sheet.edition (get_or fields c [])) → IsFirstField (IsRefusedFormula sheet.edition) all (cell_there (length before) col)
   first_here sheet holds sizes col within refused clean = record {
     row = length before;
     col = col;
     cell_is = refl;
     there = subst (λ fs. col < length fs) (sym here) within;
-    is = subst (λ fs. IsRefusedFormula (get_or fs col [])) (sym here) refused;
+    is = subst (λ fs. IsRefusedFormula sheet.edition (get_or fs col [])) (sym here) refused;
     before = λ r c earlier inside. by r c earlier inside;
   }
     where
-      by : (r c : ℕ) → IsPlaceBefore r c (length before) col → c < length (fields_at all r) → ¬ IsRefusedFormula (field_at all r c)
+      by : (r c : ℕ) → IsPlaceBefore r c (length before) col → c < length (fields_at all r) → ¬ IsRefusedFormula sheet.edition (field_at all r c)
       by r c (inl less) inside = earlier_kept sheet holds sizes r c less inside
       by r c (inr same) inside = λ refused_there.
-          clean c same.1 (subst (λ fs. IsRefusedFormula (get_or fs c [])) (ap (fields_at all) same.0 ∙ here) refused_there)
+          clean c same.1 (subst (λ fs. IsRefusedFormula sheet.edition (get_or fs c [])) (ap (fields_at all) same.0 ∙ here) refused_there)
 
   why_here : (Why : List ℕ → Type 0) (col : ℕ) → Why (get_or fields col []) → Why (field_at all (length before + 1 - 1) (col + 1 - 1))
   why_here Why col why =
@@ -87,20 +88,21 @@ module _ (all before rest : Rows) (fields : List (List ℕ)) (whole : all ≡ (b
       subst (λ k. Why (field_at all k (col + 1 - 1))) (sym row_is) (subst (λ k. Why (field_at all (length before) k)) (sym col_is) (subst (λ fs. Why (get_or fs col [])) (sym here) why))
 
   -- a record that is refused tells what the text gives
-  pub row_refused : (sheet : SheetValue) → HoldsRecords before sheet → sheet.sizes ≡ sizes_of all → (refused : SheetRefused) → refused ≢ Memory → IsRowRefusal (length before) fields refused → IsGivenByRecords all (Err refused)
+  pub row_refused : (sheet : SheetValue) → HoldsRecords before sheet → sheet.sizes ≡ sizes_of all → (refused : SheetRefused) → refused ≢ Memory → IsRowRefusal sheet.edition (length before) fields refused → IsGivenByRecords sheet.edition all (Err refused)
   row_refused sheet holds sizes (NotUtf8 number) other is = absurd is.why
   row_refused sheet holds sizes (TooManyCells height width) other is = absurd is.why
   row_refused sheet holds sizes (FieldTooLong at) other is = absurd is.why
   row_refused sheet holds sizes (FormulaTooDeep at) other is =
-      subst (λ k. IsFirstRefused IsDeepFormula all k) (sym is.why.0)
+      subst (λ k. IsFirstRefused sheet.edition IsDeepFormula all k) (sym is.why.0)
       (record { readable = readable; first = first_here sheet holds sizes is.col is.within (inl is.why.1) is.before; why = why_here IsDeepFormula is.col is.why.1 })
   row_refused sheet holds sizes (TooManyRefs at) other is =
-      subst (λ k. IsFirstRefused HasTooManyRefs all k) (sym is.why.0)
-      (record { readable = readable; first = first_here sheet holds sizes is.col is.within (inr is.why.1) is.before; why = why_here HasTooManyRefs is.col is.why.1 })
+      subst (λ k. IsFirstRefused sheet.edition (HasTooManyRefs sheet.edition) all k) (sym is.why.0)
+      (record { readable = readable; first = first_here sheet holds sizes is.col is.within (inr is.why.1) is.before; why = why_here (HasTooManyRefs sheet.edition) is.col is.why.1 })
+  row_refused sheet holds sizes UnknownEdition other is = absurd is.why
   row_refused sheet holds sizes Memory other is = absurd (other refl)
 
 module _ {R : Type 0} (left : R → Option (List ℕ)) (text : List ℕ) (all : Rows) (has : AreRecords default_config StartRecord text all) (readable : AreReadable all)
-    (old : SheetValue) (blank : old ≡ blank_sheet (sizes_of all)) where
+    (old : SheetValue) (blank : old ≡ blank_sheet old.edition (sizes_of all)) where
   old_sizes : old.sizes ≡ sizes_of all
   old_sizes = ap (λ (s : SheetValue). s.sizes) blank
 
@@ -110,7 +112,8 @@ module _ {R : Type 0} (left : R → Option (List ℕ)) (text : List ℕ) (all : 
     rows = [];
     count = refl;
     read = read;
-    holds = subst (HoldsRecords []) (sym blank) (holds_nothing (sizes_of all) (subst IsSheetSize old_sizes size));
+    holds = subst (HoldsRecords []) (sym blank) (holds_nothing old.edition (sizes_of all) (subst IsSheetSize old_sizes size));
+    edition = refl;
     sizes = refl;
     few = (let none : length old.labels ≡ 0 = ap (λ (s : SheetValue). length s.labels) blank in omega (arith, none));
   }
@@ -124,7 +127,7 @@ module _ {R : Type 0} (left : R → Option (List ℕ)) (text : List ℕ) (all : 
       omega (arith, less_all, count)
 
   -- behind the last row
-  pub way_ends : (new : SheetValue) (reader : Reader R) → HasFilled left text old.sizes.rows old new reader → IsSheetOf all new
+  pub way_ends : (new : SheetValue) (reader : Reader R) → HasFilled left text old.sizes.rows old new reader → IsSheetOf old.edition all new
   way_ends new reader way =
       let front = rows_in_front default_config StartRecord text way.rows all reader.state way.read.rest way.read.reached has in
       let count : length way.rows ≡ length all = way.count ∙ ap (λ (s : Sizes). s.rows) old_sizes in
@@ -134,11 +137,13 @@ module _ {R : Type 0} (left : R → Option (List ℕ)) (text : List ℕ) (all : 
       record {
         readable = readable;
         kept = way.holds.kept;
+        edition_is = way.edition;
         sizes = sizes;
         labels = subst (λ rows. AddsLabels (all_fields rows) [] new.labels) same way.holds.labels;
         cells = λ row col r c.
-            subst (λ rows. IsContent new.labels (field_at rows row col) (content_of new (cell_there row col))) same
-            (way.holds.cells row col (subst (λ (s : Sizes). row < s.rows) (sym sizes) r) (subst (λ (s : Sizes). col < s.cols) (sym sizes) c));
+            subst (λ rows. IsContent old.edition new.labels (field_at rows row col) (content_of new (cell_there row col))) same
+            (subst (λ (e : Edition). IsContent e new.labels (field_at way.rows row col) (content_of new (cell_there row col))) way.edition
+            (way.holds.cells row col (subst (λ (s : Sizes). row < s.rows) (sym sizes) r) (subst (λ (s : Sizes). col < s.cols) (sym sizes) c)));
       }
     where
       no_rest : (rows rest : Rows) → length (rows ++ rest) ≡ length rows → rest ≡ []
@@ -148,13 +153,14 @@ module _ {R : Type 0} (left : R → Option (List ℕ)) (text : List ℕ) (all : 
   -- one record more
   pub way_goes : (row : ℕ) (fields : List (List ℕ)) (between new : SheetValue) (reader later : Reader R) → (way : HasFilled left text row old between reader)
       → HasReadRecords left text (way.rows ++ fields ∷ []) later
-      → ((rows : Rows) → length rows ≡ row → HoldsRecords rows between → HoldsRecords (rows ++ fields ∷ []) new) → new.sizes ≡ between.sizes → length new.labels ≤ (row + 1) * between.sizes.cols
+      → ((rows : Rows) → length rows ≡ row → HoldsRecords rows between → HoldsRecords (rows ++ fields ∷ []) new) → new.edition ≡ between.edition → new.sizes ≡ between.sizes → length new.labels ≤ (row + 1) * between.sizes.cols
       → HasFilled left text (row + 1) old new later
-  way_goes row fields between new reader later way read filled sizes few = record {
+  way_goes row fields between new reader later way read filled edition sizes few = record {
     rows = way.rows ++ fields ∷ [];
     count = length-append way.rows (fields ∷ []) ∙ ap (λ n. n + 1) way.count;
     read = read;
     holds = filled way.rows way.count way.holds;
+    edition = edition ∙ way.edition;
     sizes = sizes ∙ way.sizes;
     few = subst (λ (s : Sizes). length new.labels ≤ (row + 1) * s.cols) way.sizes few;
   }
@@ -171,9 +177,10 @@ module _ {R : Type 0} (left : R → Option (List ℕ)) (text : List ℕ) (all : 
 
   -- where it is refused, that is what the text gives
   pub way_refused : (row : ℕ) (fields : List (List ℕ)) (between : SheetValue) (reader later : Reader R) → (way : HasFilled left text row old between reader)
-      → HasReadRecords left text (way.rows ++ fields ∷ []) later → (refused : SheetRefused) → refused ≢ Memory → IsRowRefusal row fields refused → IsGivenByRecords all (Err refused)
+      → HasReadRecords left text (way.rows ++ fields ∷ []) later → (refused : SheetRefused) → refused ≢ Memory → IsRowRefusal between.edition row fields refused → IsGivenByRecords old.edition all (Err refused)
   way_refused row fields between reader later way read refused other is =
       let front = rows_in_front default_config StartRecord text (way.rows ++ fields ∷ []) all later.state read.rest read.reached has in
       let sizes : between.sizes ≡ sizes_of all = way.sizes ∙ old_sizes in
-      row_refused all way.rows front.0 fields front.1 readable between way.holds sizes refused other
-      (subst (λ k. IsRowRefusal k fields refused) (sym way.count) is)
+      subst (λ (e : Edition). IsGivenByRecords e all (Err refused)) way.edition
+      (row_refused all way.rows front.0 fields front.1 readable between way.holds sizes refused other
+      (subst (λ k. IsRowRefusal between.edition k fields refused) (sym way.count) is))

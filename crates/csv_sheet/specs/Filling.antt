@@ -7,35 +7,37 @@ use Rattle.sheet_refs.specs.Cells.{Position}
 use Rattle.sheet_model.specs.Fields.{IsContent, IsDeepFormula, IsTableAfter}
 use Rattle.sheet_model.specs.Sheets.{SheetValue, ContentValue, IsSheet, content_of, with_content, with_labels}
 use Rattle.sheet_model.specs.Tables.{AddsLabels}
+use Rattle.formula_syntax.specs.declared.edition.Edition.{Edition}
 use Rattle.formula_syntax.specs.Spelling.{HasTooManyRefs}
 use Rattle.csv_sheet.specs.Records.{Rows, all_fields, field_at, cell_there}
 use Rattle.csv_sheet.specs.Results.{IsLong, IsRefusedFormula}
 use Rattle.csv_sheet.specs.declared.refused.SheetRefused.{SheetRefused}
-use Rattle.csv_sheet.specs.declared.refused.SheetRefused.TheVariants.{NotUtf8, TooManyCells, FieldTooLong, FormulaTooDeep, TooManyRefs, Memory}
+use Rattle.csv_sheet.specs.declared.refused.SheetRefused.TheVariants.{NotUtf8, TooManyCells, FieldTooLong, FormulaTooDeep, TooManyRefs, UnknownEdition, Memory}
 
 -- the sheet holds these records, and nothing where they have no field
 pub record HoldsRecords (rows : Rows) (sheet : SheetValue) : Type 0 where
   pub kept : IsSheet sheet
   pub labels : AddsLabels (all_fields rows) [] sheet.labels
   pub cells : (row col : ℕ) → row < sheet.sizes.rows → col < sheet.sizes.cols
-      → IsContent sheet.labels (field_at rows row col) (content_of sheet (cell_there row col))
+      → IsContent sheet.edition sheet.labels (field_at rows row col) (content_of sheet (cell_there row col))
 
 -- a field, which isn't too long, was put into a cell
 pub record PutsField (field : List ℕ) (cell : Position) (old new : SheetValue) : Type 0 where
   pub short : ¬ IsLong field
   pub table : IsTableAfter field old.labels new.labels
   pub content : ContentValue
-  pub writes : IsContent new.labels field content
+  pub writes : IsContent old.edition new.labels field content
   pub placed : new ≡ with_content (with_labels old new.labels) cell content
 
 -- why a field wasn't put into a cell; want of memory needs no cause
-abbrev pub IsFieldRefusal : List ℕ → Position → SheetRefused → Type 0
-IsFieldRefusal field cell (NotUtf8 number) = ⊥
-IsFieldRefusal field cell (TooManyCells height width) = ⊥
-IsFieldRefusal field cell (FieldTooLong at) = ⊥
-IsFieldRefusal field cell (FormulaTooDeep at) = (at ≡ cell) × IsDeepFormula field
-IsFieldRefusal field cell (TooManyRefs at) = (at ≡ cell) × HasTooManyRefs field
-IsFieldRefusal field cell Memory = Unit {0}
+abbrev pub IsFieldRefusal : Edition → List ℕ → Position → SheetRefused → Type 0
+IsFieldRefusal edition field cell (NotUtf8 number) = ⊥
+IsFieldRefusal edition field cell (TooManyCells height width) = ⊥
+IsFieldRefusal edition field cell (FieldTooLong at) = ⊥
+IsFieldRefusal edition field cell (FormulaTooDeep at) = (at ≡ cell) × IsDeepFormula field
+IsFieldRefusal edition field cell (TooManyRefs at) = (at ≡ cell) × HasTooManyRefs edition field
+IsFieldRefusal edition field cell UnknownEdition = ⊥
+IsFieldRefusal edition field cell Memory = Unit {0}
 
 -- a record that fits a sheet, each of whose fields may be read
 pub record IsRecordFor (sheet : SheetValue) (row : ℕ) (fields : List (List ℕ)) : Type 0 where
@@ -47,18 +49,19 @@ pub record IsRecordFor (sheet : SheetValue) (row : ℕ) (fields : List (List ℕ
   pub few : length sheet.labels ≤ row * sheet.sizes.cols
 
 -- why a record wasn't put into a row: the first of its fields that is refused
-pub record IsRowRefusal (row : ℕ) (fields : List (List ℕ)) (refused : SheetRefused) : Type 0 where
+pub record IsRowRefusal (edition : Edition) (row : ℕ) (fields : List (List ℕ)) (refused : SheetRefused) : Type 0 where
   pub col : ℕ
   pub within : col < length fields
-  pub why : IsFieldRefusal (slice_index_or fields col []) (cell_there row col) refused
-  pub before : (c : ℕ) → c < col → ¬ IsRefusedFormula (slice_index_or fields c [])
+  pub why : IsFieldRefusal edition (slice_index_or fields col []) (cell_there row col) refused
+  pub before : (c : ℕ) → c < col → ¬ IsRefusedFormula edition (slice_index_or fields c [])
 
 -- so many fields of a record were put into a row
 pub record IsPartFilled (row : ℕ) (fields : List (List ℕ)) (col : ℕ) (old new : SheetValue) : Type 0 where
   pub filled : (rows : Rows) → length rows ≡ row → HoldsRecords rows old → HoldsRecords (rows ++ take col fields ∷ []) new
+  pub edition : new.edition ≡ old.edition
   pub sizes : new.sizes ≡ old.sizes
   pub few : length new.labels ≤ row * old.sizes.cols + col
-  pub clean : (k : ℕ) → k < col → ¬ IsRefusedFormula (slice_index_or fields k [])
+  pub clean : (k : ℕ) → k < col → ¬ IsRefusedFormula old.edition (slice_index_or fields k [])
 
 -- so many records of a text were read and put into a sheet
 pub record HasFilled {R : Type 0} (left : R → Option (List ℕ)) (text : List ℕ) (row : ℕ) (old new : SheetValue) (reader : Reader R) : Type 0 where
@@ -66,5 +69,6 @@ pub record HasFilled {R : Type 0} (left : R → Option (List ℕ)) (text : List 
   pub count : length rows ≡ row
   pub read : HasReadRecords left text rows reader
   pub holds : HoldsRecords rows new
+  pub edition : new.edition ≡ old.edition
   pub sizes : new.sizes ≡ old.sizes
   pub few : length new.labels ≤ row * old.sizes.cols

@@ -1,4 +1,5 @@
 pub mod Filling
+pub mod Headings
 pub mod Reading
 pub mod Records
 pub mod Results

@@ -16,9 +16,9 @@ without_marks (a ∷ []) = a ∷ []
 without_marks (a ∷ b ∷ []) = a ∷ b ∷ []
 without_marks (a ∷ b ∷ c ∷ rest) = if is_bom a b c then without_marks rest else a ∷ b ∷ c ∷ rest
 
--- the records of a text as `csv` reads them, with no header row
+-- the records of a text without such marks as `csv` reads them, with no header row
 abbrev pub HasRows : List ℕ → Rows → Type 0
-HasRows text rows = AreRecords default_config StartRecord (without_marks text) rows
+HasRows text rows = AreRecords default_config StartRecord text rows
 
 -- the fields of a record, counted from 0
 abbrev pub fields_at : Rows → ℕ → List (List ℕ)

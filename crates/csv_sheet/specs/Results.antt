@@ -1,16 +1,18 @@
 -- What the text of a sheet gives: a sheet, or the first cause why there is none.
-use Rattle.std.specs.Prelude.{◌≡◌, ◌⊎◌, ℕ, ◌+◌, ◌-◌, ◌*◌, ◌<◌, List, [], ◌++◌, length, All, Result, Ok, Err, codes}
+use Rattle.std.specs.Prelude.{◌≡◌, ◌⊎◌, ℕ, Option, Some, None, ◌+◌, ◌-◌, ◌*◌, ◌<◌, List, [], ◌++◌, length, All, Result, Ok, Err, codes}
 use Rattle.std.specs.Fmt.{decimal}
 use Rattle.csv.specs.Records.{AllText}
 use Rattle.sheet_refs.specs.Cells.{Position}
 use Rattle.sheet_refs.specs.Names.{cell_text}
+use Rattle.formula_syntax.specs.declared.edition.Edition.{Edition}
 use Rattle.formula_syntax.specs.Spelling.{HasTooManyRefs}
 use Rattle.sheet_model.specs.Fields.{IsContent, IsDeepFormula}
 use Rattle.sheet_model.specs.Sheets.{SheetValue, IsSheet, content_of}
 use Rattle.sheet_model.specs.Tables.{AddsLabels}
-use Rattle.csv_sheet.specs.Records.{Rows, all_fields, HasRows, fields_at, field_at, cell_there, longest, sizes_of}
+use Rattle.csv_sheet.specs.Records.{Rows, all_fields, HasRows, fields_at, field_at, cell_there, longest, sizes_of, without_marks}
+use Rattle.csv_sheet.specs.Headings.{HeadedText, heading_of}
 use Rattle.csv_sheet.specs.declared.refused.SheetRefused.{SheetRefused}
-use Rattle.csv_sheet.specs.declared.refused.SheetRefused.TheVariants.{NotUtf8, TooManyCells, FieldTooLong, FormulaTooDeep, TooManyRefs, Memory}
+use Rattle.csv_sheet.specs.declared.refused.SheetRefused.TheVariants.{NotUtf8, TooManyCells, FieldTooLong, FormulaTooDeep, TooManyRefs, UnknownEdition, Memory}
 
 -- each field of each record is UTF-8
 abbrev pub AreText : Rows → Type 0
@@ -50,8 +52,8 @@ abbrev pub IsLong : List ℕ → Type 0
 IsLong field = 8192 < length field
 
 -- a formula that is refused
-abbrev pub IsRefusedFormula : List ℕ → Type 0
-IsRefusedFormula field = IsDeepFormula field ⊎ HasTooManyRefs field
+abbrev pub IsRefusedFormula : Edition → List ℕ → Type 0
+IsRefusedFormula edition field = IsDeepFormula field ⊎ HasTooManyRefs edition field
 
 -- records that are text, fit a sheet, and have no field that is too long
 pub record AreReadable (rows : Rows) : Type 0 where
@@ -59,38 +61,49 @@ pub record AreReadable (rows : Rows) : Type 0 where
   pub fits : ¬ IsTooLarge rows
   pub short : NoField IsLong rows
 
--- the sheet of records: in each cell stands what its field writes, and each label's text stands once in the
+-- the sheet of records in an edition: in each cell stands what its field writes, and each label's text stands once in the
 -- table, in the order in which they first stand
-pub record IsSheetOf (rows : Rows) (sheet : SheetValue) : Type 0 where
+pub record IsSheetOf (edition : Edition) (rows : Rows) (sheet : SheetValue) : Type 0 where
   pub readable : AreReadable rows
   pub kept : IsSheet sheet
+  pub edition_is : sheet.edition ≡ edition
   pub sizes : sheet.sizes ≡ sizes_of rows
   pub labels : AddsLabels (all_fields rows) [] sheet.labels
   pub cells : (row col : ℕ) → row < length rows → col < longest rows
-      → IsContent sheet.labels (field_at rows row col) (content_of sheet (cell_there row col))
+      → IsContent edition sheet.labels (field_at rows row col) (content_of sheet (cell_there row col))
 
 -- the cell of the first formula that is refused, and why
-pub record IsFirstRefused (Why : List ℕ → Type 0) (rows : Rows) (cell : Position) : Type 0 where
+pub record IsFirstRefused (edition : Edition) (Why : List ℕ → Type 0) (rows : Rows) (cell : Position) : Type 0 where
   pub readable : AreReadable rows
-  pub first : IsFirstField IsRefusedFormula rows cell
+  pub first : IsFirstField (IsRefusedFormula edition) rows cell
   pub why : Why (field_at rows (cell.row - 1) (cell.col - 1))
 
--- what records give; want of memory is none of it
-abbrev pub IsGivenByRecords : Rows → Result SheetValue SheetRefused → Type 0
-IsGivenByRecords rows (Ok sheet) = IsSheetOf rows sheet
-IsGivenByRecords rows (Err (NotUtf8 number)) = IsFirstNotText rows number
-IsGivenByRecords rows (Err (TooManyCells height width)) =
+-- what records give in an edition; want of memory is none of it
+abbrev pub IsGivenByRecords : Edition → Rows → Result SheetValue SheetRefused → Type 0
+IsGivenByRecords edition rows (Ok sheet) = IsSheetOf edition rows sheet
+IsGivenByRecords edition rows (Err (NotUtf8 number)) = IsFirstNotText rows number
+IsGivenByRecords edition rows (Err (TooManyCells height width)) =
     AreText rows × IsTooLarge rows × (height ≡ length rows) × (width ≡ longest rows)
-IsGivenByRecords rows (Err (FieldTooLong cell)) = AreText rows × (¬ IsTooLarge rows) × IsFirstField IsLong rows cell
-IsGivenByRecords rows (Err (FormulaTooDeep cell)) = IsFirstRefused IsDeepFormula rows cell
-IsGivenByRecords rows (Err (TooManyRefs cell)) = IsFirstRefused HasTooManyRefs rows cell
-IsGivenByRecords rows (Err Memory) = ⊥
+IsGivenByRecords edition rows (Err (FieldTooLong cell)) = AreText rows × (¬ IsTooLarge rows) × IsFirstField IsLong rows cell
+IsGivenByRecords edition rows (Err (FormulaTooDeep cell)) = IsFirstRefused edition IsDeepFormula rows cell
+IsGivenByRecords edition rows (Err (TooManyRefs cell)) = IsFirstRefused edition (HasTooManyRefs edition) rows cell
+IsGivenByRecords edition rows (Err UnknownEdition) = ⊥
+IsGivenByRecords edition rows (Err Memory) = ⊥
 
--- what a text gives
-pub record IsSheetResult (text : List ℕ) (result : Result SheetValue SheetRefused) : Type 0 where
+-- what the text of records gives in an edition
+pub record IsRecordsResult (edition : Edition) (records : List ℕ) (result : Result SheetValue SheetRefused) : Type 0 where
   pub rows : Rows
-  pub has : HasRows text rows
-  pub answer : IsGivenByRecords rows result
+  pub has : HasRows records rows
+  pub answer : IsGivenByRecords edition rows result
+
+-- what a text gives, given what its first line names
+abbrev pub IsHeadedResult : Option HeadedText → Result SheetValue SheetRefused → Type 0
+IsHeadedResult None result = result ≡ Err UnknownEdition
+IsHeadedResult (Some heading) result = IsRecordsResult heading.edition heading.records result
+
+-- what a text gives, the byte order marks at its front taken off
+abbrev pub IsSheetResult : List ℕ → Result SheetValue SheetRefused → Type 0
+IsSheetResult text result = IsHeadedResult (heading_of (without_marks text)) result
 
 -- a text gives one thing
 abbrev pub OneSheetResult : Type 0
@@ -107,4 +120,5 @@ sheet_refusal_text (TooManyCells height width) = codes "sheet: too many cells"
 sheet_refusal_text (FieldTooLong cell) = codes "sheet: field too long at " ++ cell_text cell
 sheet_refusal_text (FormulaTooDeep cell) = codes "sheet: formula too deep at " ++ cell_text cell
 sheet_refusal_text (TooManyRefs cell) = codes "sheet: too many references at " ++ cell_text cell
+sheet_refusal_text UnknownEdition = codes "sheet: unknown edition"
 sheet_refusal_text Memory = codes "out of memory"

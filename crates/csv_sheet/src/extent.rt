@@ -9,11 +9,9 @@ ghost use Rattle.csv_sheet.specs.Results.{AreText, IsFirstNotText, IsFirstField,
 
 use crate::records::{field, read_next, reader_of};
 use csv::ByteRecord;
+use formula_syntax::MAX_TEXT;
 use sheet_refs::Memory;
 use std::alloc::Global;
-
-/// The longest field that is read, in bytes.
-const MAX_FIELD: usize = 8_192;
 
 /// The most columns and the most cells of a sheet.
 const MAX_COLS: usize = 16_384;
@@ -51,7 +49,7 @@ fn first_long(fields: &ByteRecord) -> Option<usize>
         (IsFirstLong (fields_of fields.now)) }
 {
     for col in 0..fields.len() {
-        if field(fields, col).len() > MAX_FIELD {
+        if field(fields, col).len() > MAX_TEXT {
             return Some(col);
         }
     }

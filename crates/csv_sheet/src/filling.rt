@@ -25,7 +25,7 @@ fn fill_cell(sheet: &mut Sheet, cell: Cell, field: &[u8]) -> Result<(), SheetRef
     requires short { length field.now ≤ 8192 }
     requires room { length sheet.old.labels < 2 ^ 32 - 1 }
     ensures put { OnOk result (PutsField field.now cell sheet.old sheet.new) }
-    ensures why { IfErr result (IsFieldRefusal field.now cell) }
+    ensures why { IfErr result (IsFieldRefusal sheet.old.edition field.now cell) }
 {
     let Ok(text) = str::from_utf8(field) else {
         unreachable!();
@@ -46,9 +46,10 @@ fn fill_row(sheet: &mut Sheet, row: u32, fields: &ByteRecord) -> Result<(), Shee
     requires { IsRecordFor sheet.old row (fields_of fields.now) }
     ensures filled { OnOk result ((rows : Rows) → length rows ≡ row
         → HoldsRecords rows sheet.old → HoldsRecords (rows ++ fields_of fields.now ∷ []) sheet.new) }
+    ensures edition { OnOk result (sheet.new.edition ≡ sheet.old.edition) }
     ensures sizes { OnOk result (sheet.new.sizes ≡ sheet.old.sizes) }
     ensures few { OnOk result (length sheet.new.labels ≤ (row + 1) * sheet.old.sizes.cols) }
-    ensures why { IfErr result (IsRowRefusal row (fields_of fields.now)) }
+    ensures why { IfErr result (IsRowRefusal sheet.old.edition row (fields_of fields.now)) }
 {
     for col in 0..fields.len() {
         let cell = Cell::new(row + 1, col as u32 + 1).unwrap();
@@ -61,11 +62,11 @@ fn fill_row(sheet: &mut Sheet, row: u32, fields: &ByteRecord) -> Result<(), Shee
 pub(crate) fn fill(alloc: Global, text: &[u8], sheet: &mut Sheet) -> Result<(), SheetRefused>
     requires no_marks { without_marks text.now ≡ text.now }
     requires blank { (rows : Rows) × AreRecords default_config StartRecord text.now rows
-        × AreReadable rows × (sheet.old ≡ blank_sheet (sizes_of rows)) }
+        × AreReadable rows × (sheet.old ≡ blank_sheet sheet.old.edition (sizes_of rows)) }
     ensures filled { OnOk result ((rows : Rows)
-        × AreRecords default_config StartRecord text.now rows × IsSheetOf rows sheet.new) }
+        × AreRecords default_config StartRecord text.now rows × IsSheetOf sheet.old.edition rows sheet.new) }
     ensures why { IfErr result (λ e. e ≢ refused.Memory → (rows : Rows)
-        × AreRecords default_config StartRecord text.now rows × IsGivenByRecords rows (Err e)) }
+        × AreRecords default_config StartRecord text.now rows × IsGivenByRecords sheet.old.edition rows (Err e)) }
 {
     let mut reader = reader_of(alloc, text);
     let mut fields = ByteRecord::new(alloc);

@@ -1,16 +1,18 @@
 //! The sheet of a text: records of fields as CSV has them, a row for each record.
 //!
-//! What the records of a text are is what the kit's `csv` reads, with no header row and its other settings
-//! as they are by default, once the byte order marks at the front are taken off; nothing of quoting is said
-//! here again. A text has one answer, a sheet or the first cause why it has none (`specs/Results.antt`), and
-//! `load` gives it. What a field holds, and which texts of labels a sheet has, `sheet_model` says.
+//! What the records of a text are is what the kit's `csv` reads, with no header row and its other settings as they
+//! are by default, once the byte order marks at the front and a line that names the edition of the functions
+//! (`specs/Headings.antt`) are taken off; nothing of quoting is said here again. A text has one answer, a sheet or
+//! the first cause why it has none (`specs/Results.antt`), and `load` gives it. What a field holds, and which texts
+//! of labels a sheet has, `sheet_model` says.
 //!
-//! Below stand `sheet_refs`, `sheet_model`, the kit's `csv`, and, in definitions and proofs alone,
-//! `value_core` and `formula_syntax`; above stands `sheet_cli`.
+//! Below stand `sheet_refs`, `formula_syntax`, `sheet_model`, the kit's `csv`, and, in definitions and proofs alone,
+//! `value_core`; above stands `sheet_cli`.
 #![tactic(auto)]
 
 mod extent;
 mod filling;
+mod heading;
 mod laws;
 mod loading;
 mod records;

@@ -1,13 +1,16 @@
 ghost use Rattle.std.specs.Prelude.{◌≡◌, ◌≢◌, ◌≤◌, ◌↔◌, length, Result, Err};
 ghost use Rattle.sheet_model.specs.Sheets.{SheetValue};
-ghost use Rattle.csv_sheet.specs.Results.{IsSheetResult};
+ghost use Rattle.csv_sheet.specs.Results.{IsRecordsResult, IsSheetResult};
+ghost use Rattle.csv_sheet.specs.Records.{without_marks};
 ghost use Rattle.csv_sheet.specs.declared.refused.SheetRefused.{SheetRefused as Refusal};
 ghost use Rattle.csv_sheet.specs.declared.refused.SheetRefused.TheVariants as refused;
 
 use crate::extent::measure;
 use crate::filling::fill;
+use crate::heading::read_heading;
 use crate::records::behind_marks;
 use crate::refused::SheetRefused;
+use formula_syntax::Edition;
 use sheet_model::Sheet;
 use sheet_refs::Cell;
 use std::alloc::Global;
@@ -17,7 +20,18 @@ fn load_text(alloc: Global, text: &[u8]) -> Result<Sheet, SheetRefused>
     requires { length text.now ≤ 16777216 }
     ensures { result ≢ Err refused.Memory → IsSheetResult text.now result }
 {
-    let records = behind_marks(text);
+    let Some(heading) = read_heading(behind_marks(text)) else {
+        return Err(SheetRefused::UnknownEdition);
+    };
+    load_records(alloc, heading.edition, heading.records)
+}
+
+// The sheet of the text of records in an edition, or the first cause why it has none.
+fn load_records(alloc: Global, edition: Edition, records: &[u8]) -> Result<Sheet, SheetRefused>
+    requires short { length records.now ≤ 16777216 }
+    requires no_marks { without_marks records.now ≡ records.now }
+    ensures { result ≢ Err refused.Memory → IsRecordsResult edition records.now result }
+{
     let extent = measure(alloc, records)?;
     if let Some(row) = extent.not_text {
         return Err(SheetRefused::NotUtf8 { number: row + 1 });
@@ -33,7 +47,7 @@ fn load_text(alloc: Global, text: &[u8]) -> Result<Sheet, SheetRefused>
             cell: Cell::new(row + 1, col as u32 + 1).unwrap(),
         });
     }
-    let mut sheet = Sheet::blank(alloc, extent.rows, extent.cols as u32)?;
+    let mut sheet = Sheet::blank(alloc, extent.rows, extent.cols as u32, edition)?;
     match fill(alloc, records, &mut sheet) {
         Ok(()) => Ok(sheet),
         Err(refused) => Err(refused),
@@ -41,13 +55,15 @@ fn load_text(alloc: Global, text: &[u8]) -> Result<Sheet, SheetRefused>
 }
 
 /// Reads a sheet of a text of at most 16,777,216 bytes: CSV with no header row, records of any lengths and
-/// the other settings of the kit's `csv`, once the byte order marks at its front are taken off. A record
-/// gives a row; a shorter one is filled with empty cells; a wholly empty line is none.
+/// the other settings of the kit's `csv`, once the byte order marks at its front are taken off. A first line
+/// `#edition 1` or `#edition 2`, ended by LF, CR LF or the end of the text, names the edition of the functions
+/// of its formulas and is taken off, with the byte order marks behind it; a text without one has edition 1. A
+/// record gives a row; a shorter one is filled with empty cells; a wholly empty line is none.
 ///
-/// Refuses, by the first of these causes: a field that isn't UTF-8; more than 1,048,576 cells or 16,384
-/// columns; a field of more than 8,192 bytes; a formula that `read_content` refuses. Memory may come before
-/// any. It reads the text twice, first for the sizes, in time proportional to its length and to the number
-/// of cells.
+/// Refuses, by the first of these causes: another first line where the text begins with `#edition `; a field
+/// that isn't UTF-8; more than 1,048,576 cells or 16,384 columns; a field of more than 8,192 bytes; a formula
+/// that `read_content` refuses. Memory may come before any. It reads the text twice, first for
+/// the sizes, in time proportional to its length and to the number of cells.
 pub fn load(alloc: Global, text: &[u8]) -> Result<Sheet, SheetRefused>
     requires { length text.now ≤ 16777216 }
     ensures result { result ≢ Err refused.Memory → IsSheetResult text.now result }

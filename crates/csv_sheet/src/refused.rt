@@ -4,7 +4,8 @@ use sheet_refs::{Cell, Memory};
 use std::alloc::AllocError;
 use std::fmt;
 
-/// Why a text is no sheet. The first cause in this order is told; want of memory may come before any.
+/// Why a text is no sheet. An unknown edition is told before all others, and else the first cause in this order; want
+/// of memory may come before any.
 #[derive(Clone, Copy, Debug, PartialEq, Eq, Drop)]
 pub enum SheetRefused {
     /// The first record, counted from 1, with a field that isn't UTF-8.
@@ -17,6 +18,8 @@ pub enum SheetRefused {
     FormulaTooDeep { cell: Cell },
     /// The first formula, row by row, that is refused: it has more than 255 references.
     TooManyRefs { cell: Cell },
+    /// The text begins with `#edition `, and its first line names no edition that there is.
+    UnknownEdition,
     /// There was no memory for the sheet.
     Memory,
 }
@@ -35,6 +38,7 @@ impl fmt::Display for SheetRefused {
             SheetRefused::FieldTooLong { cell } => write!(f, "sheet: field too long at {cell}"),
             SheetRefused::FormulaTooDeep { cell } => write!(f, "sheet: formula too deep at {cell}"),
             SheetRefused::TooManyRefs { cell } => write!(f, "sheet: too many references at {cell}"),
+            SheetRefused::UnknownEdition => f.write_str("sheet: unknown edition"),
             SheetRefused::Memory => f.write_str("out of memory"),
         }
     }

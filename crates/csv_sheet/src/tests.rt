@@ -54,7 +54,7 @@ fn told(alloc: Global, text: &[u8]) -> Result<String, Fail> {
 
 #[test]
 fn texts_have_their_sheets(rt: HostRuntime) -> Result<(), Fail> {
-    let rows: [(&[u8], &str); 12] = [
+    let rows: [(&[u8], &str); 22] = [
         (b"", "0x0:"),
         (b"\n\r\n", "0x0:"),
         (b"1,=A1+1\n2,=A2+B1", "2x2:1 f 2 f "),
@@ -70,6 +70,16 @@ fn texts_have_their_sheets(rt: HostRuntime) -> Result<(), Fail> {
         (b"\xEF\xBB\xBF\xEF\xBB\xBF1,TRUE", "1x2:1 true "),
         (b"1,\xEF\xBB\xBF2", "1x2:1 0<\u{FEFF}2> "),
         (b",", "1x2:_ _ "),
+        (b"#edition 1\n1,=MATCH(1;A1;0)", "1x2:1 #NAME? "),
+        (b"#edition 2\r\n1,=MATCH(1;A1;0)", "1x2:1 f "),
+        (b"#edition 2", "0x0:"),
+        (b"\xEF\xBB\xBF#edition 2\n\xEF\xBB\xBF7", "1x1:7 "),
+        (b"#edition 2\n#edition 2\n1", "2x1:0<#edition 2> 1 "),
+        (b"1\n#edition 2", "2x1:1 0<#edition 2> "),
+        (b"#edition", "1x1:0<#edition> "),
+        (b"#Edition 2\n1", "2x1:0<#Edition 2> 1 "),
+        (b"\"#edition 2\"\n1", "2x1:0<#edition 2> 1 "),
+        (b"=COUNTIF(A1;1)", "1x1:#NAME? "),
     ];
     for (text, sheet) in rows {
         let answer = told(rt.alloc(), text)?;
@@ -97,7 +107,7 @@ fn long_text(
 
 #[test]
 fn the_first_cause_is_told(rt: HostRuntime) -> Result<(), Fail> {
-    let rows: [(&[u8], &[u8], usize, &[u8], &str); 9] = [
+    let rows: [(&[u8], &[u8], usize, &[u8], &str); 14] = [
         (b"1\n", b"\xFF", 1, b"", "sheet: record 2 is not UTF-8"),
         (b"", b"x", 8193, b"", "sheet: field too long at A1"),
         (
@@ -125,6 +135,17 @@ fn the_first_cause_is_told(rt: HostRuntime) -> Result<(), Fail> {
             "sheet: too many references at A1",
         ),
         (b"=", b"(", 65, b",\xFF", "sheet: record 1 is not UTF-8"),
+        (b"#edition 3", b"\n\xFF", 1, b"", "sheet: unknown edition"),
+        (b"#edition ", b"2", 2, b"\n1", "sheet: unknown edition"),
+        (b"#edition 2", b" ", 1, b"\n1", "sheet: unknown edition"),
+        (b"#edition 2", b"\r", 1, b"", "sheet: unknown edition"),
+        (
+            b"#edition 2\n",
+            b"\xFF",
+            1,
+            b"",
+            "sheet: record 1 is not UTF-8",
+        ),
     ];
     for (front, many, times, back, line) in rows {
         let text = long_text(rt.alloc(), front, many, times, back)?;

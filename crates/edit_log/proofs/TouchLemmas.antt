@@ -153,7 +153,7 @@ applied_book opening sheet new_sheet log new_log pairs new_pairs entry edit is s
       few = omega (arith, count, room);
     }
 
--- what the parts of a book tell of the new_sheets sizes and labels
+-- what the parts of a book tell of the sizes and labels of the new sheet
 pub book_sizes : (opening sheet : SheetValue) (log : List Entry) (pairs : List Pair) → IsBookOf opening sheet log pairs → sheet.sizes ≡ opening.sizes
 book_sizes opening sheet log pairs is = ap (λ (s : SheetValue). s.sizes) is.replayed ∙ after-sizes opening log
 

@@ -5,6 +5,7 @@ ghost use Rattle.sheet_model.specs.Edits.{HaveLabels};
 
 use crate::tests::put;
 use crate::{Book, PrepareRefused};
+use formula_syntax::Edition;
 use graph_walk::Graph;
 use plain_graph::PlainGraph;
 use sheet_model::{Change, Content, Edit, Sheet};
@@ -19,7 +20,7 @@ fn cell(name: &str) -> Result<Cell, Fail> {
 
 // A book of a sheet of three rows and columns with these fields in its cells.
 fn book(alloc: Global, fields: &[(&str, &str)]) -> Result<Book<PlainGraph>, Fail> {
-    let mut sheet = Sheet::blank(alloc, 3, 3)?;
+    let mut sheet = Sheet::blank(alloc, 3, 3, Edition::One)?;
     for (name, field) in fields {
         put(&mut sheet, name, field)?;
     }
@@ -113,7 +114,7 @@ pub(crate) fn clears<G: Graph>(
 #[test]
 fn a_log_takes_a_million_entries(rt: HostRuntime) -> Result<(), Fail> {
     let alloc = rt.alloc();
-    let sheet = Sheet::blank(alloc, 1, 1)?;
+    let sheet = Sheet::blank(alloc, 1, 1, Edition::One)?;
     let mut book = Book::open(alloc, sheet, PlainGraph::new(alloc))?;
     let first = cell("A1")?;
     for _ in 0..1_048_576 {

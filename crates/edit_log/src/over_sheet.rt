@@ -1,12 +1,14 @@
 use mark_core::Subject;
 use sheet_model::{Entry, Sheet, SheetSubject};
 use std::marker::Model;
+use std::snapshot::Snapshot;
 
 /// What the marks of a sheet are about: the sheet with which its log begins. Its places are the cells, row by row from
 /// 0. An entry touches its cell and all cells that depend on it in the sheet after the entries before.
 #[derive(Drop)]
 pub struct OverSheet {
-    opening: Sheet,
+    held: Option<Sheet>,
+    opening: Snapshot<Sheet>,
 }
 
 impl Model for OverSheet {
@@ -18,7 +20,7 @@ impl Model for OverSheet {
 
     ghost coded = { Prim.hlevel (codes, tree_code (Prim.hlevel codes)) };
 
-    ghost view = { λ s. s.opening };
+    ghost view = { λ s. s.opening.value };
 }
 
 impl OverSheet {
@@ -28,14 +30,21 @@ impl OverSheet {
     pub fn new(opening: Sheet) -> OverSheet
         ensures { result ≡ opening }
     {
-        OverSheet { opening }
+        let seen = Snapshot::of(&opening);
+        OverSheet {
+            held: Some(opening),
+            opening: seen,
+        }
     }
 
-    /// The opening sheet.
-    pub fn opening(&self) -> &Sheet
-        ensures { result.now ≡ self.now }
+    /// The subject of a sheet as it stands. It holds nothing of the sheet, which may change then.
+    pub fn of(opening: &Sheet) -> OverSheet
+        ensures { result ≡ opening.now }
     {
-        &self.opening
+        OverSheet {
+            held: None,
+            opening: Snapshot::of(opening),
+        }
     }
 }
 

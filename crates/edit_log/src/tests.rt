@@ -1,6 +1,7 @@
 // What no clause says: that the pairs of a sheet are those that a person expects. The expected values
 // were worked out by hand.
 use crate::graph_of;
+use formula_syntax::Edition;
 use graph_walk::{dependents, on_cycle, precedents};
 use plain_graph::PlainGraph;
 use sheet_model::{Change, Sheet};
@@ -32,7 +33,7 @@ pub(crate) fn put(sheet: &mut Sheet, name: &str, field: &str) -> Result<(), Fail
 
 // The graph of a sheet of four rows and columns with these fields in its cells.
 fn graph(alloc: Global, fields: &[(&str, &str)]) -> Result<PlainGraph, Fail> {
-    let mut sheet = Sheet::blank(alloc, 4, 4)?;
+    let mut sheet = Sheet::blank(alloc, 4, 4, Edition::One)?;
     for (name, field) in fields {
         put(&mut sheet, name, field)?;
     }

@@ -1,6 +1,7 @@
 // What no clause says: that threads share a book under a lock.
 use crate::book_tests::clears;
 use crate::{Book, PrepareRefused, book_crosses};
+use formula_syntax::Edition;
 use graph_walk::Graph;
 use plain_graph::PlainGraph;
 use sheet_model::Sheet;
@@ -39,7 +40,7 @@ fn clears_both<R: Threads + Wait + Sync, G: Graph + Send>(
 #[test]
 fn threads_share_a_book(rt: HostRuntime) -> Result<(), Fail> {
     let alloc = rt.alloc();
-    let sheet = Sheet::blank(alloc, 1, 1)?;
+    let sheet = Sheet::blank(alloc, 1, 1, Edition::One)?;
     let cell = cell_of(b"A1").ok_or("no cell")?;
     let book = Mutex::new(Book::open(alloc, sheet, PlainGraph::new(alloc))?);
     let (Ok(one), Ok(other)) = clears_both(&rt, alloc, &book, cell) else {

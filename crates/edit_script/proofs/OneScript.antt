@@ -6,7 +6,6 @@ use Rattle.std.proofs.lemmas.List.Elements.{Contains-append_left, Contains-appen
 use Rattle.std.proofs.lemmas.Option.{none-some, same_Some, slice_get_within, get_or_from_slice_get}
 use Rattle.sheet_refs.specs.Cells.{Position}
 use Rattle.value_core.specs.declared.value.Value.TheVariants.{Empty}
-use Rattle.sheet_refs.specs.declared.sizes.Sizes.{Sizes}
 use Rattle.sheet_model.specs.Labels.{IsTable}
 use Rattle.sheet_model.specs.Changes.{ChangeValue}
 use Rattle.sheet_model.specs.Edits.{EditValue}
@@ -14,8 +13,9 @@ use Rattle.sheet_model.specs.Sheets.{Constant}
 use Rattle.sheet_model.proofs.ContentLemmas.{one_content}
 use Rattle.sheet_model.proofs.LabelLemmas.{distinct-with_label}
 use Rattle.sheet_model.proofs.ListMembers.{first_member}
+use Rattle.formula_syntax.specs.declared.edition.Edition.{Edition}
 use Rattle.edit_script.specs.Lines.{LineValue, Skip, Client, Set, Clear, Look, Firm, Work, Batch, End, Says}
-use Rattle.edit_script.specs.Scripts.{AddsCommand, AreLines, AreSteps, Brought, GoesOn, IsAllowed, IsBegun, IsFault, MakesChange, brought_by, change_of, nothing_yet, with_change, with_line}
+use Rattle.edit_script.specs.Scripts.{Ground, AddsCommand, AreLines, AreSteps, Brought, GoesOn, IsAllowed, IsBegun, IsFault, MakesChange, brought_by, change_of, nothing_yet, with_change, with_line}
 use Rattle.edit_script.specs.Scripts.AreLines.{none as no_lines, more}
 use Rattle.edit_script.specs.Scripts.AreSteps.{none as no_steps, more as step_more}
 use Rattle.edit_script.specs.declared.refused.ScriptRefused.{ScriptRefused}
@@ -73,27 +73,27 @@ module _ {A : Type 0} where
         ]
       ]
 
-module _ (mode : Mode) (sizes : Sizes) where
+module _ (mode : Mode) (ground : Ground) where
   -- texts say one list of lines
-  pub one_lines : (texts : List (List ℕ)) (a b : List LineValue) → AreLines mode sizes texts a → AreLines mode sizes texts b → a ≡ b
+  pub one_lines : (texts : List (List ℕ)) (a b : List LineValue) → AreLines mode ground texts a → AreLines mode ground texts b → a ≡ b
   one_lines _ _ _ no_lines no_lines = refl
   one_lines _ _ _ no_lines (more texts _ text lines _ line are says allowed split is) = absurd (none_last texts text (sym split))
   one_lines _ _ _ (more texts _ text lines _ line are says allowed split is) no_lines = absurd (none_last texts text (sym split))
   one_lines _ a b (more texts _ text lines _ line are says allowed split is) (more texts' _ text' lines' _ line' are' says' allowed' split' is') =
       let ends = one_last texts' texts text' text (sym split' ∙ split) in
-      let before : lines ≡ lines' = one_lines texts lines lines' are (subst (λ t. AreLines mode sizes t lines') ends.0 are') in
+      let before : lines ≡ lines' = one_lines texts lines lines' are (subst (λ t. AreLines mode ground t lines') ends.0 are') in
       let last : line ≡ line' = one_saying mode text line line' says (subst (λ t. Says mode t line') ends.1 says') in
       is ∙ (λ i. before i ++ last i ∷ []) ∙ sym is'
 
   -- no line is refused among those that are taken
   pub none_refused : (all before rest : List (List ℕ)) (text : List ℕ) (some known : List LineValue) (why : ScriptRefused)
-      → AreLines mode sizes all known → AreLines mode sizes before some → IsFault mode sizes (brought_by some) text why → all ≢ before ++ text ∷ rest
+      → AreLines mode ground all known → AreLines mode ground before some → IsFault mode ground (brought_by some) text why → all ≢ before ++ text ∷ rest
   none_refused _ before rest text some _ why no_lines front fault split = (let end = length-append before (text ∷ rest) in let long : 0 ≡ length (before ++ text ∷ rest) = ap length split in omega (arith, end, long))
   none_refused _ before rest text some _ why (more texts _ last lines _ line are says allowed split is) front fault place = elim (by_last rest) [
     | inl none ↦ (
         let ends = one_last texts before last text (sym split ∙ place ∙ ap (λ r. before ++ text ∷ r) none) in
-        let same : lines ≡ some = one_lines before lines some (subst (λ t. AreLines mode sizes t lines) ends.0 are) front in
-        none_wrong mode sizes (brought_by some) text line why (subst (λ t. Says mode t line) ends.1 says) (subst (λ l. IsAllowed sizes (brought_by l) line) same allowed) fault)
+        let same : lines ≡ some = one_lines before lines some (subst (λ t. AreLines mode ground t lines) ends.0 are) front in
+        none_wrong mode ground (brought_by some) text line why (subst (λ t. Says mode t line) ends.1 says) (subst (λ l. IsAllowed ground (brought_by l) line) same allowed) fault)
     | inr behind ↦ (
         let longer : before ++ text ∷ (behind.0 ++ behind.1 ∷ []) ≡ (before ++ text ∷ behind.0) ++ behind.1 ∷ [] = sym (append_assoc before (text ∷ behind.0) (behind.1 ∷ [])) in
         let ends = one_last texts (before ++ text ∷ behind.0) last behind.1 (sym split ∙ place ∙ ap (λ r. before ++ text ∷ r) behind.2 ∙ longer) in
@@ -140,13 +140,13 @@ one_made now change other None a b old x y apart same (a_is, adds) (b_is, adds')
 one_made now change other (Some changes) a b old x y apart same (a_is, x_is) (b_is, y_is) =
     (a_is ∙ ap (λ c. Some (changes ++ c ∷ [])) same ∙ sym b_is, x_is ∙ sym y_is)
 
-module _ (labels : List (List ℕ)) (table : IsTable labels) where
+module _ (edition : Edition) (labels : List (List ℕ)) (table : IsTable labels) where
   -- what a line does is one thing
-  one_going : (now : Brought) (line : LineValue) (before a b : Option EditValue) (old x y : List Step) → AllPairs (λ x y. x ≢ y) now.names → GoesOn labels now line before a old x → GoesOn labels now line before b old y → (a ≡ b) × (x ≡ y)
+  one_going : (now : Brought) (line : LineValue) (before a b : Option EditValue) (old x y : List Step) → AllPairs (λ x y. x ≢ y) now.names → GoesOn edition labels now line before a old x → GoesOn edition labels now line before b old y → (a ≡ b) × (x ≡ y)
   one_going now Skip before a b old x y apart (a_is, x_is) (b_is, y_is) = (a_is ∙ sym b_is, x_is ∙ sym y_is)
   one_going now (Client name) before a b old x y apart (a_is, x_is) (b_is, y_is) = (a_is ∙ sym b_is, x_is ∙ sym y_is)
   one_going now (Set cell text) before a b old x y apart (content, writes, makes) (other, writes', makes') =
-      one_made now (change_of cell content) (change_of cell other) before a b old x y apart (ap (change_of cell) (one_content labels text content other table writes writes')) makes makes'
+      one_made now (change_of cell content) (change_of cell other) before a b old x y apart (ap (change_of cell) (one_content edition labels text content other table writes writes')) makes makes'
   one_going now (Clear cell) before a b old x y apart makes makes' = one_made now (change_of cell (Constant Empty)) (change_of cell (Constant Empty)) before a b old x y apart refl makes makes'
   one_going now (Look range) before a b old x y apart (a_is, adds) (b_is, adds') = (a_is ∙ sym b_is, one_added now (asks.Look range) old x y apart adds adds')
   one_going now (Firm range) before a b old x y apart (a_is, adds) (b_is, adds') = (a_is ∙ sym b_is, one_added now (asks.Firm range) old x y apart adds adds')
@@ -158,16 +158,16 @@ module _ (labels : List (List ℕ)) (table : IsTable labels) where
       (a_is ∙ sym b_is, one_added now (asks.Put changes) old x y apart adds (subst (λ c. AddsCommand (asks.Put c) now old y) (sym same) adds'))
 
   -- and lines give one list of steps
-  pub one_steps : (lines : List LineValue) (p q : Option EditValue) (a b : List Step) → AreSteps labels lines p a → AreSteps labels lines q b → (p ≡ q) × (a ≡ b)
+  pub one_steps : (lines : List LineValue) (p q : Option EditValue) (a b : List Step) → AreSteps edition labels lines p a → AreSteps edition labels lines q b → (p ≡ q) × (a ≡ b)
   one_steps _ _ _ _ _ no_steps no_steps = (refl, refl)
   one_steps _ _ _ _ _ no_steps (step_more lines _ line before after some all are goes split) = absurd (none_last lines line (sym split))
   one_steps _ _ _ _ _ (step_more lines _ line before after some all are goes split) no_steps = absurd (none_last lines line (sym split))
   one_steps known _ _ _ _ (step_more lines _ line before after some all are goes split) (step_more lines' _ line' before' after' some' all' are' goes' split') =
       let ends = one_last lines' lines line' line (sym split' ∙ split) in
-      let first = one_steps lines before before' some some' are (subst (λ l. AreSteps labels l before' some') ends.0 are') in
-      let again : GoesOn labels (brought_by known) line before after' some all' =
-      subst (λ b. GoesOn labels (brought_by known) line b after' some all') (sym first.0)
-      (subst (λ s. GoesOn labels (brought_by known) line before' after' s all') (sym first.1) (subst (λ l. GoesOn labels (brought_by known) l before' after' some' all') ends.1 goes')) in
+      let first = one_steps lines before before' some some' are (subst (λ l. AreSteps edition labels l before' some') ends.0 are') in
+      let again : GoesOn edition labels (brought_by known) line before after' some all' =
+      subst (λ b. GoesOn edition labels (brought_by known) line b after' some all') (sym first.0)
+      (subst (λ s. GoesOn edition labels (brought_by known) line before' after' s all') (sym first.1) (subst (λ l. GoesOn edition labels (brought_by known) l before' after' some' all') ends.1 goes')) in
       one_going (brought_by known) line before after after' some all all' (names_apart nothing_yet known (λ i j d less within same. omega (arith, within, less))) goes again
 
 -- a line closes no batch but by its end
@@ -175,35 +175,35 @@ closes_change : (now : Brought) (change : ChangeValue) (before after : Option Ed
 closes_change now change None after some all makes closed = refl
 closes_change now change (Some changes) after some all (is, same) closed = absurd (none-some (changes ++ change ∷ []) (sym closed ∙ is))
 
-closes : (labels : List (List ℕ)) (now : Brought) (line : LineValue) (before after : Option EditValue) (some all : List Step) → GoesOn labels now line before after some all → after ≡ None → line ≢ End → before ≡ None
-closes labels now Skip before after some all goes closed other = sym goes.0 ∙ closed
-closes labels now (Client name) before after some all goes closed other = sym goes.0 ∙ closed
-closes labels now (Set cell text) before after some all (content, writes, makes) closed other = closes_change now (change_of cell content) before after some all makes closed
-closes labels now (Clear cell) before after some all makes closed other = closes_change now (change_of cell (Constant Empty)) before after some all makes closed
-closes labels now (Look range) before after some all goes closed other = sym goes.0 ∙ closed
-closes labels now (Firm range) before after some all goes closed other = sym goes.0 ∙ closed
-closes labels now (Work turns) before after some all goes closed other = sym goes.0 ∙ closed
-closes labels now Batch before after some all goes closed other = absurd (none-some [] (sym closed ∙ goes.0))
-closes labels now End before after some all goes closed other = absurd (other refl)
+closes : (edition : Edition) (labels : List (List ℕ)) (now : Brought) (line : LineValue) (before after : Option EditValue) (some all : List Step) → GoesOn edition labels now line before after some all → after ≡ None → line ≢ End → before ≡ None
+closes edition labels now Skip before after some all goes closed other = sym goes.0 ∙ closed
+closes edition labels now (Client name) before after some all goes closed other = sym goes.0 ∙ closed
+closes edition labels now (Set cell text) before after some all (content, writes, makes) closed other = closes_change now (change_of cell content) before after some all makes closed
+closes edition labels now (Clear cell) before after some all makes closed other = closes_change now (change_of cell (Constant Empty)) before after some all makes closed
+closes edition labels now (Look range) before after some all goes closed other = sym goes.0 ∙ closed
+closes edition labels now (Firm range) before after some all goes closed other = sym goes.0 ∙ closed
+closes edition labels now (Work turns) before after some all goes closed other = sym goes.0 ∙ closed
+closes edition labels now Batch before after some all goes closed other = absurd (none-some [] (sym closed ∙ goes.0))
+closes edition labels now End before after some all goes closed other = absurd (other refl)
 
 -- so where none is open, none has begun that isn't ended
-none_open : (labels : List (List ℕ)) (lines : List LineValue) (after : Option EditValue) (all : List Step) (before behind : List LineValue) → AreSteps labels lines after all → lines ≡ before ++ Batch ∷ behind → ¬ Contains behind End → after ≡ None → ⊥
-none_open labels _ _ _ before behind no_steps split no_end closed = (let end = length-append before (Batch ∷ behind) in let long : 0 ≡ length (before ++ Batch ∷ behind) = ap length split in omega (arith, end, long))
-none_open labels _ after all before behind (step_more lines known line was _ some _ are goes is) split no_end closed = elim (by_last behind) [
+none_open : (edition : Edition) (labels : List (List ℕ)) (lines : List LineValue) (after : Option EditValue) (all : List Step) (before behind : List LineValue) → AreSteps edition labels lines after all → lines ≡ before ++ Batch ∷ behind → ¬ Contains behind End → after ≡ None → ⊥
+none_open edition labels _ _ _ before behind no_steps split no_end closed = (let end = length-append before (Batch ∷ behind) in let long : 0 ≡ length (before ++ Batch ∷ behind) = ap length split in omega (arith, end, long))
+none_open edition labels _ after all before behind (step_more lines known line was _ some _ are goes is) split no_end closed = elim (by_last behind) [
   | inl none ↦ (
       let ends = one_last lines before line Batch (sym is ∙ split ∙ ap (λ b. before ++ Batch ∷ b) none) in
-      let begins : GoesOn labels (brought_by known) Batch was after some all = subst (λ l. GoesOn labels (brought_by known) l was after some all) ends.1 goes in
+      let begins : GoesOn edition labels (brought_by known) Batch was after some all = subst (λ l. GoesOn edition labels (brought_by known) l was after some all) ends.1 goes in
       none-some [] (sym closed ∙ begins.0))
   | inr last ↦ (
       let longer : before ++ Batch ∷ (last.0 ++ last.1 ∷ []) ≡ (before ++ Batch ∷ last.0) ++ last.1 ∷ [] = sym (append_assoc before (Batch ∷ last.0) (last.1 ∷ [])) in
       let ends = one_last lines (before ++ Batch ∷ last.0) line last.1 (sym is ∙ split ∙ ap (λ b. before ++ Batch ∷ b) last.2 ∙ longer) in
       let other : line ≢ End = λ same. no_end (subst (λ b. Contains b End) (sym last.2) (Contains-append_right last.0 (last.1 ∷ []) End (subst (λ l. Contains (last.1 ∷ []) l) (sym ends.1 ∙ same) (first_member last.1 [])))) in
       let earlier : ¬ Contains last.0 End = λ there. no_end (subst (λ b. Contains b End) (sym last.2) (Contains-append_left last.0 (last.1 ∷ []) End there)) in
-      none_open labels lines was some before last.0 are ends.0 earlier (closes labels (brought_by known) line was after some all goes closed other))
+      none_open edition labels lines was some before last.0 are ends.0 earlier (closes edition labels (brought_by known) line was after some all goes closed other))
 ]
 
-pub none_begun : (labels : List (List ℕ)) (lines : List LineValue) (all : List Step) (number : ℕ) → AreSteps labels lines None all → ¬ IsBegun lines number
-none_begun labels lines all number are begun = none_open labels lines None all begun.before begun.behind are begun.split begun.no_end refl
+pub none_begun : (edition : Edition) (labels : List (List ℕ)) (lines : List LineValue) (all : List Step) (number : ℕ) → AreSteps edition labels lines None all → ¬ IsBegun lines number
+none_begun edition labels lines all number are begun = none_open edition labels lines None all begun.before begun.behind are begun.split begun.no_end refl
 
 -- a batch begins at one line
 pub one_begun : (lines : List LineValue) (a b : ℕ) → IsBegun lines a → IsBegun lines b → a ≡ b

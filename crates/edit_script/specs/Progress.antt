@@ -3,13 +3,14 @@ use Rattle.std.specs.Prelude.{◌≡◌, ◌≢◌, ◌⊎◌, ℕ, ◌+◌, ◌
 use Rattle.sheet_refs.specs.Cells.{Position, Corners}
 use Rattle.sheet_refs.specs.Sizes.{is_inside}
 use Rattle.sheet_refs.specs.declared.sizes.Sizes.{Sizes}
+use Rattle.formula_syntax.specs.declared.edition.Edition.{Edition}
 use Rattle.formula_syntax.specs.Spelling.{HasTooManyRefs}
 use Rattle.sheet_model.specs.Fields.{IsDeepFormula}
 use Rattle.sheet_model.specs.Tables.{AddsLabels}
 use Rattle.sheet_model.specs.Edits.{EditValue}
 use Rattle.edit_script.specs.Batches.{changed_cells}
 use Rattle.edit_script.specs.Lines.{LineValue, Set, Batch, script_lines}
-use Rattle.edit_script.specs.Scripts.{AreLines, AreSteps, Brought, GoesOn, HasCause, IsAllowed, IsBatchFull, IsBegun, IsChangeEditTooMany, IsInBatch, IsLargeWindow, IsPartOutside, brought_by, place_in_order, set_text, set_texts, with_line}
+use Rattle.edit_script.specs.Scripts.{AreLines, AreSteps, Brought, GoesOn, Ground, HasCause, IsAllowed, IsBatchFull, IsBegun, IsChangeEditTooMany, IsInBatch, IsLargeWindow, IsPartOutside, brought_by, place_in_order, set_text, set_texts, with_line}
 use Rattle.edit_script.specs.declared.refused.ScriptRefused.{ScriptRefused}
 use Rattle.edit_script.specs.declared.refused.ScriptRefused.TheVariants.{OutOfSheet, CellTwice, BatchTooLarge, WindowTooLarge, TooManyEdits, FormulaTooDeep, TooManyRefs}
 use Rattle.edit_script.specs.declared.progress.Progress.{Progress}
@@ -57,8 +58,8 @@ abbrev pub Extends : List (List ℕ) → List (List ℕ) → Type 0
 Extends old new = (more : List (List ℕ)) × (new ≡ old ++ more)
 
 -- nothing is wrong with the line, whatever a cell is to hold
-abbrev pub IsPlainlyAllowed : Sizes → Brought → LineValue → Type 0
-IsPlainlyAllowed sizes now line = (why : ScriptRefused) → place_in_order why ≤ 6 → ¬ HasCause sizes now line why
+abbrev pub IsPlainlyAllowed : Ground → Brought → LineValue → Type 0
+IsPlainlyAllowed ground now line = (why : ScriptRefused) → place_in_order why ≤ 6 → ¬ HasCause ground now line why
 
 -- a change may be made of the cell
 pub record MayChange (now : Brought) (cell : Position) : Type 0 where
@@ -86,9 +87,9 @@ IsWindowFault sizes now range number why =
     ⊎ ((why ≡ WindowTooLarge number) × (¬ IsPartOutside sizes range) × IsLargeWindow now range)
 
 -- a formula that is refused
-abbrev pub IsTextFault : List ℕ → ℕ → ScriptRefused → Type 0
-IsTextFault text number why =
-    ((why ≡ FormulaTooDeep number) × IsDeepFormula text) ⊎ ((why ≡ TooManyRefs number) × HasTooManyRefs text)
+abbrev pub IsTextFault : Edition → List ℕ → ℕ → ScriptRefused → Type 0
+IsTextFault edition text number why =
+    ((why ≡ FormulaTooDeep number) × IsDeepFormula text) ⊎ ((why ≡ TooManyRefs number) × HasTooManyRefs edition text)
 
 -- the line at which the last batch begins
 abbrev pub BeginsAt : LineValue → ℕ → ℕ → ℕ → Type 0
@@ -96,29 +97,29 @@ BeginsAt Batch number old new = new ≡ number
 BeginsAt _ number old new = new ≡ old
 
 -- the line was taken
-pub record Takes (sizes : Sizes) (line : LineValue) (number : ℕ) (old_labels : List (List ℕ)) (old : Progress) (new_labels : List (List ℕ)) (new : Progress) : Type 0 where
-  pub allowed : IsAllowed sizes (brought old) line
+pub record Takes (ground : Ground) (line : LineValue) (number : ℕ) (old_labels : List (List ℕ)) (old : Progress) (new_labels : List (List ℕ)) (new : Progress) : Type 0 where
+  pub allowed : IsAllowed ground (brought old) line
   pub brought_is : brought new ≡ with_line (brought old) line
   pub sound : IsWithinLimits new
-  pub goes : GoesOn new_labels (brought new) line old.batch new.batch old.steps.items new.steps.items
+  pub goes : GoesOn ground.edition new_labels (brought new) line old.batch new.batch old.steps.items new.steps.items
   pub begun : BeginsAt line number old.begun new.begun
   pub labels : AddsLabels (set_text line) old_labels new_labels
 
 -- some lines were taken, over a table before them, and left another
-pub record HasTakenLines (mode : Mode) (sizes : Sizes) (old new : List (List ℕ)) (texts : List (List ℕ)) (progress : Progress) : Type 0 where
+pub record HasTakenLines (mode : Mode) (ground : Ground) (old new : List (List ℕ)) (texts : List (List ℕ)) (progress : Progress) : Type 0 where
   pub lines : List LineValue
-  pub said : AreLines mode sizes texts lines
+  pub said : AreLines mode ground texts lines
   pub brought_is : brought progress ≡ brought_by lines
-  pub steps : AreSteps new lines progress.batch progress.steps.items
+  pub steps : AreSteps ground.edition new lines progress.batch progress.steps.items
   pub begun : MatchOption progress.batch (Unit {0}) (λ changes. IsBegun lines progress.begun)
   pub count : length lines ≡ length texts
   pub labels : AddsLabels (set_texts lines) old new
   pub sound : IsWithinLimits progress
 
 -- so many lines of a text were taken, and these are left; each may have added a label
-pub record IsReading (mode : Mode) (sizes : Sizes) (old new : List (List ℕ)) (text : List ℕ) (number : ℕ) (left : List (List ℕ)) (progress : Progress) : Type 0 where
+pub record IsReading (mode : Mode) (ground : Ground) (old new : List (List ℕ)) (text : List ℕ) (number : ℕ) (left : List (List ℕ)) (progress : Progress) : Type 0 where
   pub taken : List (List ℕ)
   pub all : script_lines text ≡ taken ++ left
   pub count : number ≡ length taken
-  pub way : HasTakenLines mode sizes old new taken progress
+  pub way : HasTakenLines mode ground old new taken progress
   pub few : length new ≤ length old + number

@@ -5,12 +5,13 @@ use Rattle.sheet_refs.specs.Cells.{Position, Corners, IsIn, height, width}
 use Rattle.sheet_refs.specs.declared.sizes.Sizes.{Sizes}
 use Rattle.sheet_refs.specs.Sizes.{is_inside}
 use Rattle.value_core.specs.declared.value.Value.TheVariants.{Empty}
+use Rattle.formula_syntax.specs.declared.edition.Edition.{Edition}
 use Rattle.formula_syntax.specs.Spelling.{HasTooManyRefs}
 use Rattle.sheet_model.specs.Changes.{ChangeValue}
 use Rattle.sheet_model.specs.Edits.{EditValue}
 use Rattle.sheet_model.specs.Fields.{IsContent, IsDeepFormula}
 use Rattle.sheet_model.specs.Labels.{IsTable, with_label}
-use Rattle.sheet_model.specs.Sheets.{ContentValue, Constant}
+use Rattle.sheet_model.specs.Sheets.{ContentValue, Constant, SheetValue}
 use Rattle.sheet_model.specs.Tables.{AddsLabels}
 use Rattle.edit_script.specs.Lines.{LineValue, Skip, Client, Set, Clear, Look, Firm, Work, Batch, End, Says, script_lines}
 use Rattle.edit_script.specs.declared.script.Mode.{Mode}
@@ -19,6 +20,14 @@ use Rattle.edit_script.specs.declared.script.Command.{Command}
 use Rattle.edit_script.specs.declared.script.Command.TheVariants as asks
 use Rattle.edit_script.specs.declared.refused.ScriptRefused.{ScriptRefused}
 use Rattle.edit_script.specs.declared.refused.ScriptRefused.TheVariants.{BadLine, OutOfSheet, CellTwice, BatchTooLarge, TooManyClients, WindowTooLarge, TooManyEdits, FormulaTooDeep, TooManyRefs, Memory}
+
+-- of a sheet what the meaning of a script depends on beside its labels: its sizes, and the edition of its functions
+pub record Ground : Type 0 where
+  pub sizes : Sizes
+  pub edition : Edition
+
+abbrev pub ground_of : SheetValue → Ground
+ground_of sheet = record { sizes = sheet.sizes; edition = sheet.edition }
 
 -- the clients by name, in the order of their first places, and the steps, in that of the file
 pub record ScriptValue : Type 0 where
@@ -155,22 +164,22 @@ abbrev pub IsDeepEdit : LineValue → Type 0
 IsDeepEdit (Set cell content) = IsDeepFormula content
 IsDeepEdit _ = ⊥
 
-abbrev pub HasManyRefs : LineValue → Type 0
-HasManyRefs (Set cell content) = HasTooManyRefs content
-HasManyRefs _ = ⊥
+abbrev pub HasManyRefs : Edition → LineValue → Type 0
+HasManyRefs edition (Set cell content) = HasTooManyRefs edition content
+HasManyRefs edition _ = ⊥
 
 -- the cause of each refusal of a line behind those that brought so much
-abbrev pub HasCause : Sizes → Brought → LineValue → ScriptRefused → Type 0
-HasCause sizes now line (BadLine number) = IsMisplaced now line
-HasCause sizes now line (OutOfSheet number) = LeavesSheet sizes line
-HasCause sizes now line (CellTwice number) = IsCellTwice now line
-HasCause sizes now line (BatchTooLarge number) = IsChangeTooMany now line
-HasCause sizes now line (TooManyClients number) = IsClientTooMany now line
-HasCause sizes now line (WindowTooLarge number) = IsWindowTooLarge now line
-HasCause sizes now line (TooManyEdits number) = IsEditTooMany now line
-HasCause sizes now line (FormulaTooDeep number) = IsDeepEdit line
-HasCause sizes now line (TooManyRefs number) = HasManyRefs line
-HasCause sizes now line Memory = ⊥
+abbrev pub HasCause : Ground → Brought → LineValue → ScriptRefused → Type 0
+HasCause ground now line (BadLine number) = IsMisplaced now line
+HasCause ground now line (OutOfSheet number) = LeavesSheet ground.sizes line
+HasCause ground now line (CellTwice number) = IsCellTwice now line
+HasCause ground now line (BatchTooLarge number) = IsChangeTooMany now line
+HasCause ground now line (TooManyClients number) = IsClientTooMany now line
+HasCause ground now line (WindowTooLarge number) = IsWindowTooLarge now line
+HasCause ground now line (TooManyEdits number) = IsEditTooMany now line
+HasCause ground now line (FormulaTooDeep number) = IsDeepEdit line
+HasCause ground now line (TooManyRefs number) = HasManyRefs ground.edition line
+HasCause ground now line Memory = ⊥
 
 -- the place of a refusal in the order in which causes are looked for
 abbrev pub place_in_order : ScriptRefused → ℕ
@@ -186,24 +195,24 @@ place_in_order (TooManyRefs number) = 8
 place_in_order Memory = 9
 
 -- nothing is wrong with the line behind those that brought so much
-abbrev pub IsAllowed : Sizes → Brought → LineValue → Type 0
-IsAllowed sizes now line = (why : ScriptRefused) → ¬ HasCause sizes now line why
+abbrev pub IsAllowed : Ground → Brought → LineValue → Type 0
+IsAllowed ground now line = (why : ScriptRefused) → ¬ HasCause ground now line why
 
 -- why a line is refused behind those that brought so much, by the first of its causes
-pub record IsLineFault (sizes : Sizes) (now : Brought) (line : LineValue) (why : ScriptRefused) : Type 0 where
-  pub cause : HasCause sizes now line why
-  pub first : (earlier : ScriptRefused) → place_in_order earlier < place_in_order why → ¬ HasCause sizes now line earlier
+pub record IsLineFault (ground : Ground) (now : Brought) (line : LineValue) (why : ScriptRefused) : Type 0 where
+  pub cause : HasCause ground now line why
+  pub first : (earlier : ScriptRefused) → place_in_order earlier < place_in_order why → ¬ HasCause ground now line earlier
 
 -- what a line says is refused so
-pub record IsFaultyLine (mode : Mode) (sizes : Sizes) (now : Brought) (text : List ℕ) (why : ScriptRefused) : Type 0 where
+pub record IsFaultyLine (mode : Mode) (ground : Ground) (now : Brought) (text : List ℕ) (why : ScriptRefused) : Type 0 where
   pub line : LineValue
   pub says : Says mode text line
-  pub fault : IsLineFault sizes now line why
+  pub fault : IsLineFault ground now line why
 
 -- why a text is refused as the next line: it says none, or one that is refused
-abbrev pub IsFault : Mode → Sizes → Brought → List ℕ → ScriptRefused → Type 0
-IsFault mode sizes now text (BadLine number) = ((line : LineValue) → ¬ Says mode text line) ⊎ IsFaultyLine mode sizes now text (BadLine number)
-IsFault mode sizes now text why = IsFaultyLine mode sizes now text why
+abbrev pub IsFault : Mode → Ground → Brought → List ℕ → ScriptRefused → Type 0
+IsFault mode ground now text (BadLine number) = ((line : LineValue) → ¬ Says mode text line) ⊎ IsFaultyLine mode ground now text (BadLine number)
+IsFault mode ground now text why = IsFaultyLine mode ground now text why
 
 -- the line at which a script is refused, from 1
 abbrev pub line_number : ScriptRefused → ℕ
@@ -219,11 +228,11 @@ line_number (TooManyRefs number) = number
 line_number Memory = 0
 
 -- the texts say these lines, and nothing is wrong with any of them
-pub data AreLines (mode : Mode) (sizes : Sizes) : List (List ℕ) → List LineValue → Type 0 where
-  none : AreLines mode sizes [] []
+pub data AreLines (mode : Mode) (ground : Ground) : List (List ℕ) → List LineValue → Type 0 where
+  none : AreLines mode ground [] []
   more : (texts all : List (List ℕ)) (text : List ℕ) (lines known : List LineValue) (line : LineValue)
-      → AreLines mode sizes texts lines → Says mode text line → IsAllowed sizes (brought_by lines) line
-      → all ≡ texts ++ text ∷ [] → known ≡ lines ++ line ∷ [] → AreLines mode sizes all known
+      → AreLines mode ground texts lines → Says mode text line → IsAllowed ground (brought_by lines) line
+      → all ≡ texts ++ text ∷ [] → known ≡ lines ++ line ∷ [] → AreLines mode ground all known
 
 -- the command is the last step now, and belongs to the client whose commands follow
 pub record AddsCommand (command : Command) (now : Brought) (old new : List Step) : Type 0 where
@@ -242,23 +251,23 @@ MakesChange now change (Some changes) after old new = (after ≡ Some (changes +
 
 -- what a line does to the changes of the open batch and to the steps, beside a table of labels; the changes of a batch are
 -- one edit at its end, in their order
-abbrev pub GoesOn : List (List ℕ) → Brought → LineValue → Option EditValue → Option EditValue → List Step → List Step → Type 0
-GoesOn labels now Skip before after old new = (after ≡ before) × (new ≡ old)
-GoesOn labels now (Client name) before after old new = (after ≡ before) × (new ≡ old)
-GoesOn labels now (Set cell text) before after old new = (content : ContentValue) × IsContent labels text content × MakesChange now (change_of cell content) before after old new
-GoesOn labels now (Clear cell) before after old new = MakesChange now (change_of cell (Constant Empty)) before after old new
-GoesOn labels now (Look range) before after old new = (after ≡ before) × AddsCommand (asks.Look range) now old new
-GoesOn labels now (Firm range) before after old new = (after ≡ before) × AddsCommand (asks.Firm range) now old new
-GoesOn labels now (Work turns) before after old new = (after ≡ before) × AddsCommand (asks.Work turns) now old new
-GoesOn labels now Batch before after old new = (after ≡ Some []) × (new ≡ old)
-GoesOn labels now End before after old new = (changes : EditValue) × (before ≡ Some changes) × (after ≡ None) × AddsCommand (asks.Put changes) now old new
+abbrev pub GoesOn : Edition → List (List ℕ) → Brought → LineValue → Option EditValue → Option EditValue → List Step → List Step → Type 0
+GoesOn edition labels now Skip before after old new = (after ≡ before) × (new ≡ old)
+GoesOn edition labels now (Client name) before after old new = (after ≡ before) × (new ≡ old)
+GoesOn edition labels now (Set cell text) before after old new = (content : ContentValue) × IsContent edition labels text content × MakesChange now (change_of cell content) before after old new
+GoesOn edition labels now (Clear cell) before after old new = MakesChange now (change_of cell (Constant Empty)) before after old new
+GoesOn edition labels now (Look range) before after old new = (after ≡ before) × AddsCommand (asks.Look range) now old new
+GoesOn edition labels now (Firm range) before after old new = (after ≡ before) × AddsCommand (asks.Firm range) now old new
+GoesOn edition labels now (Work turns) before after old new = (after ≡ before) × AddsCommand (asks.Work turns) now old new
+GoesOn edition labels now Batch before after old new = (after ≡ Some []) × (new ≡ old)
+GoesOn edition labels now End before after old new = (changes : EditValue) × (before ≡ Some changes) × (after ≡ None) × AddsCommand (asks.Put changes) now old new
 
 -- the steps of lines, in order, and the changes of the batch that is open behind them
-pub data AreSteps (labels : List (List ℕ)) : List LineValue → Option EditValue → List Step → Type 0 where
-  none : AreSteps labels [] None []
+pub data AreSteps (edition : Edition) (labels : List (List ℕ)) : List LineValue → Option EditValue → List Step → Type 0 where
+  none : AreSteps edition labels [] None []
   more : (lines known : List LineValue) (line : LineValue) (before after : Option EditValue) (steps all : List Step)
-      → AreSteps labels lines before steps → GoesOn labels (brought_by known) line before after steps all
-      → known ≡ lines ++ line ∷ [] → AreSteps labels known after all
+      → AreSteps edition labels lines before steps → GoesOn edition labels (brought_by known) line before after steps all
+      → known ≡ lines ++ line ∷ [] → AreSteps edition labels known after all
 
 -- what the cells that are set are to hold, as texts
 abbrev pub set_text : LineValue → List (List ℕ)
@@ -277,49 +286,49 @@ pub record IsBegun (lines : List LineValue) (number : ℕ) : Type 0 where
   pub no_end : ¬ Contains behind End
   pub no_batch : ¬ Contains behind Batch
 
--- the script of a text, over the sizes of a sheet and its labels before and after
-pub record IsScript (mode : Mode) (sizes : Sizes) (old new : List (List ℕ)) (text : List ℕ) (script : ScriptValue) : Type 0 where
+-- the script of a text, over what a sheet gives, and its labels before and after
+pub record IsScript (mode : Mode) (ground : Ground) (old new : List (List ℕ)) (text : List ℕ) (script : ScriptValue) : Type 0 where
   pub lines : List LineValue
-  pub said : AreLines mode sizes (script_lines text) lines
+  pub said : AreLines mode ground (script_lines text) lines
   pub names : script.names ≡ (brought_by lines).names
   pub ended : (number : ℕ) → ¬ IsBegun lines number
-  pub steps : AreSteps new lines None script.steps
+  pub steps : AreSteps ground.edition new lines None script.steps
   pub labels : AddsLabels (set_texts lines) old new
 
 -- the first line that is refused, and why; the labels after it are those of the lines before it
-pub record IsFirstFault (mode : Mode) (sizes : Sizes) (old new : List (List ℕ)) (text : List ℕ) (why : ScriptRefused) : Type 0 where
+pub record IsFirstFault (mode : Mode) (ground : Ground) (old new : List (List ℕ)) (text : List ℕ) (why : ScriptRefused) : Type 0 where
   pub before : List (List ℕ)
   pub line : List ℕ
   pub behind : List (List ℕ)
   pub lines : List LineValue
   pub all : script_lines text ≡ before ++ line ∷ behind
-  pub said : AreLines mode sizes before lines
+  pub said : AreLines mode ground before lines
   pub number : line_number why ≡ length before + 1
-  pub fault : IsFault mode sizes (brought_by lines) line why
+  pub fault : IsFault mode ground (brought_by lines) line why
   pub labels : AddsLabels (set_texts lines) old new
 
 -- no line is refused, and the script ends within the batch that begins at a line
-pub record IsUnended (mode : Mode) (sizes : Sizes) (old new : List (List ℕ)) (text : List ℕ) (number : ℕ) : Type 0 where
+pub record IsUnended (mode : Mode) (ground : Ground) (old new : List (List ℕ)) (text : List ℕ) (number : ℕ) : Type 0 where
   pub lines : List LineValue
-  pub said : AreLines mode sizes (script_lines text) lines
+  pub said : AreLines mode ground (script_lines text) lines
   pub begun : IsBegun lines number
   pub labels : AddsLabels (set_texts lines) old new
 
 -- why a text is no script: the first line with a fault; or, where no line has one, the batch in which it ends
-pub data IsRefused (mode : Mode) (sizes : Sizes) (old new : List (List ℕ)) (text : List ℕ) (why : ScriptRefused) : Type 0 where
-  at_line : IsFirstFault mode sizes old new text why → IsRefused mode sizes old new text why
-  unended : (number : ℕ) → why ≡ BadLine number → IsUnended mode sizes old new text number → IsRefused mode sizes old new text why
+pub data IsRefused (mode : Mode) (ground : Ground) (old new : List (List ℕ)) (text : List ℕ) (why : ScriptRefused) : Type 0 where
+  at_line : IsFirstFault mode ground old new text why → IsRefused mode ground old new text why
+  unended : (number : ℕ) → why ≡ BadLine number → IsUnended mode ground old new text number → IsRefused mode ground old new text why
 
 -- what a text gives: a script and the labels after it, or the first refusal
-abbrev pub IsScriptResult : Mode → Sizes → List (List ℕ) → List (List ℕ) → List ℕ → Result ScriptValue ScriptRefused → Type 0
-IsScriptResult mode sizes old new text (Ok script) = IsScript mode sizes old new text script
-IsScriptResult mode sizes old new text (Err why) = IsRefused mode sizes old new text why
+abbrev pub IsScriptResult : Mode → Ground → List (List ℕ) → List (List ℕ) → List ℕ → Result ScriptValue ScriptRefused → Type 0
+IsScriptResult mode ground old new text (Ok script) = IsScript mode ground old new text script
+IsScriptResult mode ground old new text (Err why) = IsRefused mode ground old new text why
 
 -- over a table of labels a text gives one thing, and leaves one table
 abbrev pub OneScriptResult : Type 0
 OneScriptResult =
-    (mode : Mode) (sizes : Sizes) (old new other : List (List ℕ)) (text : List ℕ) (a b : Result ScriptValue ScriptRefused)
-    → IsTable new → IsScriptResult mode sizes old new text a → IsScriptResult mode sizes old other text b → (a ≡ b) × (new ≡ other)
+    (mode : Mode) (ground : Ground) (old new other : List (List ℕ)) (text : List ℕ) (a b : Result ScriptValue ScriptRefused)
+    → IsTable new → IsScriptResult mode ground old new text a → IsScriptResult mode ground old other text b → (a ≡ b) × (new ≡ other)
 
 -- the names of a script are distinct, and each of its steps belongs to one of them
 pub record IsWholeScript (script : ScriptValue) : Type 0 where

@@ -5,7 +5,7 @@ ghost use Rattle.edit_script.specs.Progress.{brought, names_of, IsWithinLimits, 
 ghost use Rattle.edit_script.specs.Progress.{IsBatchFault, IsChangeFault, IsWindowFault};
 ghost use Rattle.edit_script.specs.Saying.{line_value};
 ghost use Rattle.edit_script.specs.Scripts.{IsLineFault, IsMisplaced, IsMisplacedIn, IsPartOutside};
-ghost use Rattle.edit_script.specs.Scripts.{IsLargeWindow, line_number};
+ghost use Rattle.edit_script.specs.Scripts.{IsLargeWindow, ground_of, line_number};
 ghost use Rattle.edit_script.specs.declared.refused.ScriptRefused.TheVariants as refused;
 
 use crate::batch::Batch;
@@ -13,7 +13,7 @@ use crate::clients::client_place;
 use crate::line::Line;
 use crate::progress::Progress;
 use crate::refused::ScriptRefused;
-use sheet_model::MOST_CHANGES;
+use sheet_model::{MOST_CHANGES, Sheet};
 use sheet_refs::{Cell, Range, Sizes};
 
 /// The most clients and the most edits of a script.
@@ -28,34 +28,34 @@ const MAX_WINDOWS: u64 = 4_194_304;
 
 impl Progress {
     /// The first cause for which a line is refused, whatever a cell is to hold.
-    pub(crate) fn fault(&self, line: &Line<'_>, number: u32, sizes: Sizes) -> Option<ScriptRefused>
+    pub(crate) fn fault(&self, line: &Line<'_>, number: u32, sheet: &Sheet) -> Option<ScriptRefused>
         requires { IsWithinLimits self.now }
         ensures { MatchOption result
-            (IsPlainlyAllowed sizes (brought self.now) (line_value line.now))
+            (IsPlainlyAllowed (ground_of sheet.now) (brought self.now) (line_value line.now))
             (λ why. (line_number why ≡ number)
-            × IsLineFault sizes (brought self.now) (line_value line.now) why) }
+            × IsLineFault (ground_of sheet.now) (brought self.now) (line_value line.now) why) }
     {
         if self.is_misplaced(line) {
             return Some(ScriptRefused::BadLine(number));
         }
-        self.line_fault(line, number, sizes)
+        self.line_fault(line, number, sheet)
     }
 
     // The first cause for which a line in its place is refused, whatever a cell is to hold.
-    fn line_fault(&self, line: &Line<'_>, number: u32, sizes: Sizes) -> Option<ScriptRefused>
+    fn line_fault(&self, line: &Line<'_>, number: u32, sheet: &Sheet) -> Option<ScriptRefused>
         requires sound { IsWithinLimits self.now }
         requires placed { ¬ IsMisplaced (brought self.now) (line_value line.now) }
         ensures { MatchOption result
-            (IsPlainlyAllowed sizes (brought self.now) (line_value line.now))
+            (IsPlainlyAllowed (ground_of sheet.now) (brought self.now) (line_value line.now))
             (λ why. (line_number why ≡ number)
-            × IsLineFault sizes (brought self.now) (line_value line.now) why) }
+            × IsLineFault (ground_of sheet.now) (brought self.now) (line_value line.now) why) }
     {
         match line {
             Line::Client(name) => self.client_fault(name, number),
-            Line::Set(cell, _) => self.change_fault(*cell, number, sizes),
-            Line::Clear(cell) => self.change_fault(*cell, number, sizes),
-            Line::Look(range) => self.window_fault(*range, number, sizes),
-            Line::Firm(range) => self.window_fault(*range, number, sizes),
+            Line::Set(cell, _) => self.change_fault(*cell, number, sheet.sizes()),
+            Line::Clear(cell) => self.change_fault(*cell, number, sheet.sizes()),
+            Line::Look(range) => self.window_fault(*range, number, sheet.sizes()),
+            Line::Firm(range) => self.window_fault(*range, number, sheet.sizes()),
             Line::Batch => self.edits_fault(number),
             Line::Skip | Line::Work(_) | Line::End => None,
         }

@@ -6,10 +6,8 @@ ghost use Rattle.edit_script.specs.Lines.{Client, Set, Work};
 ghost use Rattle.edit_script.specs.Saying.{line_value, FindsLine, Orders};
 
 use crate::script::Mode;
+use formula_syntax::MAX_TEXT;
 use sheet_refs::{Cell, Range, cell_of, decimal_of, range_of};
-
-/// The longest text that a cell is set to, in bytes.
-const MAX_CONTENT: usize = 8_192;
 
 /// The most letters of a client's name.
 const MAX_NAME: usize = 32;
@@ -131,7 +129,7 @@ fn read_setting(text: &str) -> Option<Line<'_>>
 {
     let (name, content) = text.split_once(' ')?;
     let cell = cell_of(name.as_bytes())?;
-    if content.len() > MAX_CONTENT {
+    if content.len() > MAX_TEXT {
         return None;
     }
     Some(Line::Set(cell, content))

@@ -7,7 +7,7 @@ ghost use Rattle.edit_script.specs.Progress.{Extends, IsPlainlyAllowed, IsTextFa
 ghost use Rattle.edit_script.specs.Saying.{line_value};
 ghost use Rattle.edit_script.specs.Scripts.{AddsCommand, IsLineFault, MakesChange, change_of};
 ghost use Rattle.edit_script.specs.Scripts.{line_number, nothing_yet, window_cells, with_batch, with_change};
-ghost use Rattle.edit_script.specs.Scripts.{with_client, with_edit, with_window};
+ghost use Rattle.edit_script.specs.Scripts.{ground_of, with_client, with_edit, with_window};
 ghost use Rattle.edit_script.specs.declared.refused.ScriptRefused.TheVariants as refused;
 ghost use Rattle.edit_script.specs.declared.script.Command.TheVariants as asks;
 
@@ -89,15 +89,15 @@ impl Progress {
         requires sound { IsWithinLimits self.old }
         requires fits { HoldsShortText (line_value line.now) }
         requires room { length sheet.old.labels < 2 ^ 32 - 1 }
-        ensures taken { OnOk result (Takes sheet.old.sizes (line_value line.now) number
+        ensures taken { OnOk result (Takes (ground_of sheet.old) (line_value line.now) number
             sheet.old.labels self.old sheet.new.labels self.new) }
         ensures fault { IfErr result (λ why. why ≢ refused.Memory → (line_number why ≡ number)
-            × IsLineFault sheet.old.sizes (brought self.old) (line_value line.now) why) }
+            × IsLineFault (ground_of sheet.old) (brought self.old) (line_value line.now) why) }
         ensures same { IfErr result (λ why. why ≢ refused.Memory → sheet.new ≡ sheet.old) }
         ensures kept { sheet.new ≡ with_labels sheet.old sheet.new.labels }
         ensures grown { Extends sheet.old.labels sheet.new.labels }
     {
-        match self.fault(line, number, sheet.sizes()) {
+        match self.fault(line, number, sheet) {
             Some(fault) => Err(fault),
             None => self.take_allowed(alloc, line, number, sheet),
         }
@@ -114,12 +114,12 @@ impl Progress {
         requires sound { IsWithinLimits self.old }
         requires fits { HoldsShortText (line_value line.now) }
         requires room { length sheet.old.labels < 2 ^ 32 - 1 }
-        requires allowed { IsPlainlyAllowed sheet.old.sizes
+        requires allowed { IsPlainlyAllowed (ground_of sheet.old)
             (brought self.old) (line_value line.now) }
-        ensures taken { OnOk result (Takes sheet.old.sizes (line_value line.now) number
+        ensures taken { OnOk result (Takes (ground_of sheet.old) (line_value line.now) number
             sheet.old.labels self.old sheet.new.labels self.new) }
         ensures fault { IfErr result (λ why. why ≢ refused.Memory → (line_number why ≡ number)
-            × IsLineFault sheet.old.sizes (brought self.old) (line_value line.now) why) }
+            × IsLineFault (ground_of sheet.old) (brought self.old) (line_value line.now) why) }
         ensures same { IfErr result (λ why. why ≢ refused.Memory → sheet.new ≡ sheet.old) }
         ensures kept { sheet.new ≡ with_labels sheet.old sheet.new.labels }
         ensures grown { Extends sheet.old.labels sheet.new.labels }
@@ -278,13 +278,13 @@ impl Progress {
         requires short { length text.now ≤ 8192 }
         requires room { length sheet.old.labels < 2 ^ 32 - 1 }
         ensures refused { IfErr result
-            (λ why. why ≢ refused.Memory → IsTextFault text.now number why) }
+            (λ why. why ≢ refused.Memory → IsTextFault sheet.old.edition text.now number why) }
         ensures same { IfErr result (λ why. why ≢ refused.Memory → sheet.new ≡ sheet.old) }
         ensures sound { OnOk result (IsWithinLimits self.new) }
         ensures brought { OnOk result (brought self.new
             ≡ with_change (brought self.old).batch (brought self.old) cell) }
         ensures makes { OnOk result ((content : ContentValue)
-            × IsContent sheet.new.labels text.now content
+            × IsContent sheet.old.edition sheet.new.labels text.now content
             × MakesChange (brought self.new) (change_of cell content) self.old.batch self.new.batch
             self.old.steps.items self.new.steps.items) }
         ensures begun { self.new.begun ≡ self.old.begun }
@@ -319,12 +319,13 @@ fn content_of(text: &str, number: u32, sheet: &mut Sheet) -> Result<Content, Scr
     requires short { length text.now ≤ 8192 }
     requires room { length sheet.old.labels < 2 ^ 32 - 1 }
     ensures read { IfOk result
-        (λ content. IsContent sheet.new.labels text.now (content_value content)) }
+        (λ content. IsContent sheet.old.edition sheet.new.labels text.now (content_value content)) }
     ensures written { IfOk result (λ content. IsWritten (content_value content)) }
     ensures table { OnOk result (IsTableAfter text.now sheet.old.labels sheet.new.labels) }
     ensures kept { sheet.new ≡ with_labels sheet.old sheet.new.labels }
     ensures refused { OnErr result (sheet.new ≡ sheet.old) }
-    ensures why { IfErr result (λ why. why ≢ refused.Memory → IsTextFault text.now number why) }
+    ensures why { IfErr result
+        (λ why. why ≢ refused.Memory → IsTextFault sheet.old.edition text.now number why) }
 {
     match sheet.read(text) {
         Ok(content) => Ok(content),

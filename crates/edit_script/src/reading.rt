@@ -2,7 +2,7 @@ ghost use Rattle.std.specs.Prelude.{◌≡◌, ◌≢◌, ◌<◌, ◌≤◌, �
 ghost use Rattle.sheet_model.specs.Sheets.{with_labels};
 ghost use Rattle.edit_script.specs.Lines.{LineValue, Says};
 ghost use Rattle.edit_script.specs.Progress.{Extends, IsWithinLimits, Takes, brought};
-ghost use Rattle.edit_script.specs.Scripts.{IsFault, IsScriptResult, line_number};
+ghost use Rattle.edit_script.specs.Scripts.{IsFault, IsScriptResult, ground_of, line_number};
 ghost use Rattle.edit_script.specs.declared.refused.ScriptRefused.TheVariants as refused;
 
 use crate::line::read_line;
@@ -30,7 +30,7 @@ pub fn read_script(
     requires short { length text.now ≤ 16777216 }
     requires room { length sheet.old.labels ≤ 3000000000 }
     ensures result { result ≢ Err refused.Memory
-        → IsScriptResult mode sheet.old.sizes sheet.old.labels sheet.new.labels text.now result }
+        → IsScriptResult mode (ground_of sheet.old) sheet.old.labels sheet.new.labels text.now result }
     ensures kept { sheet.new ≡ with_labels sheet.old sheet.new.labels }
     ensures grown { Extends sheet.old.labels sheet.new.labels }
 {
@@ -60,10 +60,10 @@ fn take_line(
     requires sound { IsWithinLimits progress.old }
     requires room { length sheet.old.labels < 2 ^ 32 - 1 }
     ensures taken { IsNone result → (line : LineValue) × Says mode text.now line
-        × Takes sheet.old.sizes line number sheet.old.labels progress.old
+        × Takes (ground_of sheet.old) line number sheet.old.labels progress.old
         sheet.new.labels progress.new }
     ensures fault { IfSome result (λ why. why ≢ refused.Memory → (line_number why ≡ number)
-        × IsFault mode sheet.old.sizes (brought progress.old) text.now why) }
+        × IsFault mode (ground_of sheet.old) (brought progress.old) text.now why) }
     ensures same { IfSome result (λ why. why ≢ refused.Memory → sheet.new ≡ sheet.old) }
     ensures kept { sheet.new ≡ with_labels sheet.old sheet.new.labels }
     ensures grown { Extends sheet.old.labels sheet.new.labels }

@@ -1,5 +1,6 @@
 // What no clause says: that scripts are read as a person expects. The expected values were worked out by hand.
 use crate::{Command, Mode, Script, ScriptRefused, read_script};
+use formula_syntax::Edition;
 use sheet_model::Sheet;
 use std::alloc::Global;
 use std::fmt::Write;
@@ -52,7 +53,7 @@ fn scripts_have_clients_and_steps(rt: HostRuntime) -> Result<(), Fail> {
             "main [0 put A1][0 put A1]",
         ),
     ] {
-        let mut sheet = Sheet::blank(alloc, 2, 2)?;
+        let mut sheet = Sheet::blank(alloc, 2, 2, Edition::One)?;
         let Ok(script) = read_script(alloc, text.as_bytes(), Mode::Play, &mut sheet) else {
             return Err(Fail::from("refused"));
         };
@@ -106,7 +107,7 @@ fn the_first_fault_decides(rt: HostRuntime) -> Result<(), Fail> {
             ScriptRefused::OutOfSheet(3),
         ),
     ] {
-        let mut sheet = Sheet::blank(alloc, 2, 2)?;
+        let mut sheet = Sheet::blank(alloc, 2, 2, Edition::One)?;
         assert_eq!(rt;
             read_script(alloc, text, mode, &mut sheet).err(),
             Some(wanted)
@@ -118,7 +119,7 @@ fn the_first_fault_decides(rt: HostRuntime) -> Result<(), Fail> {
 #[test]
 fn a_refused_line_leaves_the_labels_of_the_lines_before_it(rt: HostRuntime) -> Result<(), Fail> {
     let alloc = rt.alloc();
-    let mut sheet = Sheet::blank(alloc, 2, 2)?;
+    let mut sheet = Sheet::blank(alloc, 2, 2, Edition::One)?;
     let first = read_script(alloc, b"set A1 old", Mode::Live, &mut sheet);
     assert_eq!(rt; first.is_ok(), true);
     if sheet.labels().length() > 3_000_000_000 {
@@ -147,7 +148,7 @@ fn naming(alloc: Global, clients: u32) -> Result<String, Fail> {
 #[test]
 fn limits_are_told_at_their_lines(rt: HostRuntime) -> Result<(), Fail> {
     let alloc = rt.alloc();
-    let mut sheet = Sheet::blank(alloc, 100_000, 1)?;
+    let mut sheet = Sheet::blank(alloc, 100_000, 1, Edition::One)?;
     let window = read_script(alloc, b"look A1:A65537", Mode::Live, &mut sheet);
     assert_eq!(rt; window.err(), Some(ScriptRefused::WindowTooLarge(1)));
     let named = naming(alloc, 33)?;

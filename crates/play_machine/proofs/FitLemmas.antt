@@ -16,7 +16,7 @@ use Rattle.sheet_model.proofs.ListMembers.{all_from, no_member}
 use Rattle.sheet_model.proofs.SheetLemmas.{label_content, held_empty}
 use Rattle.edit_script.specs.Batches.{changed_cells}
 use Rattle.edit_script.specs.Lines.{LineValue, Skip, Client, Set, Clear, Look, Firm, Work, Batch, End}
-use Rattle.edit_script.specs.Scripts.{AddsCommand, AreLines, AreSteps, Brought, GoesOn, IsAllowed, IsChangeEditTooMany, IsMisplacedAlone, IsMisplacedIn, IsScript, MakesChange, ScriptValue, brought_by, change_of, nothing_yet, with_batch, with_change, with_client, with_edit, with_line}
+use Rattle.edit_script.specs.Scripts.{AddsCommand, AreLines, AreSteps, Brought, GoesOn, IsAllowed, IsChangeEditTooMany, IsMisplacedAlone, IsMisplacedIn, IsScript, MakesChange, ScriptValue, brought_by, change_of, ground_of, nothing_yet, with_batch, with_change, with_client, with_edit, with_line}
 use Rattle.edit_script.specs.Scripts.AreLines.{none as no_lines, more as more_lines}
 use Rattle.edit_script.specs.Scripts.AreSteps.{none as no_steps, more as step_more}
 use Rattle.edit_script.specs.declared.refused.ScriptRefused.TheVariants.{BadLine, OutOfSheet, TooManyEdits, WindowTooLarge}
@@ -135,7 +135,7 @@ module _ (sheet : SheetValue) where
       })))
 
   -- the first line of a batch
-  batch_fits : (opened after : Option EditValue) (steps all : List Step) (now : Brought) → Fits now opened steps → IsAllowed sheet.sizes now Batch → after ≡ Some [] → all ≡ steps → Fits (with_line now Batch) after all
+  batch_fits : (opened after : Option EditValue) (steps all : List Step) (now : Brought) → Fits now opened steps → IsAllowed (ground_of sheet) now Batch → after ≡ Some [] → all ≡ steps → Fits (with_line now Batch) after all
   batch_fits None after steps all now fits fine after_is all_is =
       let room : 1048576 ≤ now.edits → ⊥ = fine (TooManyEdits 0) in
       subst (λ o. Fits (with_line now Batch) o all) (sym after_is) (subst (λ s. Fits (with_line now Batch) (Some []) s) (sym all_is) (record {
@@ -162,12 +162,12 @@ module _ (sheet : SheetValue) where
       })
 
   -- each line
-  line_fits : (now there : Brought) (line : LineValue) (opened after : Option EditValue) (steps all : List Step) → Fits now opened steps → IsAllowed sheet.sizes now line → GoesOn sheet.labels there line opened after steps all → Fits (with_line now line) after all
+  line_fits : (now there : Brought) (line : LineValue) (opened after : Option EditValue) (steps all : List Step) → Fits now opened steps → IsAllowed (ground_of sheet) now line → GoesOn sheet.edition sheet.labels there line opened after steps all → Fits (with_line now line) after all
   line_fits now there Skip opened after steps all fits fine (after_is, all_is) = same_fits now now opened after steps all fits refl refl after_is all_is
   line_fits now there (Client name) opened after steps all fits fine (after_is, all_is) = same_fits now (with_client now name) opened after steps all fits refl refl after_is all_is
   line_fits now there (Set cell text) opened after steps all fits fine (content, writes, makes) =
       change_fits opened after steps all now there (change_of cell content) fits
-      (record { inside = stable (is_inside sheet.sizes cell) (fine (OutOfSheet 0)); label = label_content sheet.labels text content writes }) (fine (TooManyEdits 0)) makes
+      (record { inside = stable (is_inside sheet.sizes cell) (fine (OutOfSheet 0)); label = label_content sheet.edition sheet.labels text content writes }) (fine (TooManyEdits 0)) makes
   line_fits now there (Clear cell) opened after steps all fits fine makes =
       change_fits opened after steps all now there (change_of cell (Constant Empty)) fits
       (record { inside = stable (is_inside sheet.sizes cell) (fine (OutOfSheet 0)); label = (held_empty (length sheet.labels)).label }) (fine (TooManyEdits 0)) makes
@@ -182,7 +182,7 @@ module _ (sheet : SheetValue) where
   line_fits now there Batch opened after steps all fits fine (after_is, all_is) = batch_fits opened after steps all now fits fine after_is all_is
   line_fits now there End opened after steps all fits fine (changes, opened_is, after_is, adds) = end_fits opened after steps all now there changes fits opened_is after_is adds
 
-  lines_fit : (mode : Mode) (texts : List (List ℕ)) (lines known : List LineValue) (opened : Option EditValue) (steps : List Step) → AreLines mode sheet.sizes texts lines → AreSteps sheet.labels known opened steps → lines ≡ known → Fits (brought_by lines) opened steps
+  lines_fit : (mode : Mode) (texts : List (List ℕ)) (lines known : List LineValue) (opened : Option EditValue) (steps : List Step) → AreLines mode (ground_of sheet) texts lines → AreSteps sheet.edition sheet.labels known opened steps → lines ≡ known → Fits (brought_by lines) opened steps
   lines_fit mode _ _ _ _ _ no_lines no_steps same = record { each = λ k d below. absurd (omega (arith, below)); changes = tt; edits = refl; few = omega arith; batch = refl }
   lines_fit mode _ _ _ _ _ no_lines (step_more lines all line before after some whole so_far goes are) same = absurd (none_last lines line (sym are ∙ sym same))
   lines_fit mode texts lines _ _ _ (more_lines front all text before known line said says allowed all_is known_is) no_steps same = absurd (none_last before line (sym known_is ∙ same))
@@ -190,11 +190,11 @@ module _ (sheet : SheetValue) where
       let both = one_last before earlier line other (sym known_is ∙ same ∙ are) in
       let rest = lines_fit mode front before earlier was some said so_far both.0 in
       let brought : brought_by known ≡ with_line (brought_by before) line = ap brought_by known_is ∙ fold_last nothing_yet before line in
-      let fits = line_fits (brought_by before) (brought_by whole) line was after some steps rest allowed (subst (λ l. GoesOn sheet.labels (brought_by whole) l was after some steps) (sym both.1) goes) in
+      let fits = line_fits (brought_by before) (brought_by whole) line was after some steps rest allowed (subst (λ l. GoesOn sheet.edition sheet.labels (brought_by whole) l was after some steps) (sym both.1) goes) in
       subst (λ b. Fits b after steps) (sym brought) fits
 
 -- the steps of a script fit the sheet with the labels that it brings
-pub script_fits : (mode : Mode) (sheet : SheetValue) (labels : List (List ℕ)) (text : List ℕ) (script : ScriptValue) → IsScript mode sheet.sizes sheet.labels labels text script → AreFit (with_labels sheet labels) script.steps
+pub script_fits : (mode : Mode) (sheet : SheetValue) (labels : List (List ℕ)) (text : List ℕ) (script : ScriptValue) → IsScript mode (ground_of sheet) sheet.labels labels text script → AreFit (with_labels sheet labels) script.steps
 script_fits mode sheet labels text script is =
     let fits = lines_fit (with_labels sheet labels) mode _ is.lines is.lines None script.steps is.said is.steps refl in
     record { each = fits.each; few = (let e = fits.edits in let f = fits.few in omega (arith, e, f)) }

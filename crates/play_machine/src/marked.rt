@@ -55,7 +55,7 @@ impl MarkedCells {
         })
     }
 
-    /// SetsMarks cells with a number, in a sheet that is edited.
+    /// Marks cells with a number, in a sheet that is edited.
     pub(crate) fn mark(&mut self, sizes: Sizes, cells: &[Cell], number: u64)
         requires count { length self.old.marks.items ≡ cell_count sizes }
         requires left { self.old.left ≡ marked_count self.old.marks.items }

@@ -29,7 +29,7 @@ pub(crate) fn mark_at(sizes: Sizes, marks: &[u64], cell: Cell) -> u64
     }
 }
 
-// SetsMarks a cell with a number, where it is in the rectangle; answers 1 where it had no mark, and else 0.
+// Marks a cell with a number, where it is in the rectangle; answers 1 where it had no mark, and else 0.
 fn mark_cell(sizes: Sizes, cell: Cell, number: u64, marks: &mut Vec<u64>) -> usize
     requires count { length marks.old.items ≡ cell_count sizes }
     requires number { 1 ≤ number }
@@ -46,7 +46,7 @@ fn mark_cell(sizes: Sizes, cell: Cell, number: u64, marks: &mut Vec<u64>) -> usi
     if old == 0 { 1 } else { 0 }
 }
 
-/// SetsMarks cells with a number; answers how many had no mark.
+/// Marks cells with a number; answers how many had no mark.
 pub(crate) fn mark_all(sizes: Sizes, cells: &[Cell], number: u64, marks: &mut Vec<u64>) -> usize
     requires count { length marks.old.items ≡ cell_count sizes }
     requires number { 1 ≤ number }

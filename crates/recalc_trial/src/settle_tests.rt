@@ -11,6 +11,7 @@ ghost use Rattle.recalc_trial.specs.Settles.{StandAlone, StandsAlone};
 
 use crate::crossing::{entries_cross, subject_crosses};
 use edit_log::OverSheet;
+use formula_syntax::Edition;
 use mark_words::{Marks, Seat};
 use recalc_workers::{Desk, Hand, Jobs, OpenGate, settle_level};
 use sheet_model::{Change, Content, Sheet};
@@ -39,7 +40,7 @@ fn column(alloc: Global, rows: u32) -> Result<Sheet, Fail> {
     if rows == 0 || rows > 1_000 {
         return Err(Fail::from("a sheet of no such size"));
     }
-    let mut sheet = Sheet::blank(alloc, rows, 1)?;
+    let mut sheet = Sheet::blank(alloc, rows, 1, Edition::One)?;
     for row in 1..=rows {
         let cell = Cell::new(row, 1).ok_or("no cell")?;
         if !sheet.holds(cell) {
@@ -96,7 +97,7 @@ fn opened(alloc: Global, sheet: &Sheet) -> Result<(Marks<OverSheet>, Seat<OverSh
     let sizes = sheet.sizes();
     let count = sizes.rows as usize * sizes.cols as usize;
     let opening = codeless(alloc, count)?;
-    let subject = OverSheet::new(sheet.copy()?);
+    let subject = OverSheet::of(sheet);
     Ok(Marks::open(alloc, subject, &opening)?)
 }
 

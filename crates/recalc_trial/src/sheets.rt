@@ -1,4 +1,5 @@
 // Small sheets for the tests.
+use formula_syntax::Edition;
 use sheet_model::{Change, Sheet};
 use sheet_refs::{Cell, cell_of};
 use std::alloc::Global;
@@ -11,7 +12,7 @@ pub(crate) fn cell(name: &str) -> Result<Cell, Fail> {
 
 /// A sheet of two rows and four columns, with these fields in these cells.
 pub(crate) fn sheet_of(alloc: Global, fields: &[(&str, &str)]) -> Result<Sheet, Fail> {
-    let mut sheet = Sheet::blank(alloc, 2, 4)?;
+    let mut sheet = Sheet::blank(alloc, 2, 4, Edition::One)?;
     for (name, field) in fields {
         put(&mut sheet, name, field)?;
     }

@@ -84,7 +84,9 @@ fn opened(alloc: Global, sheet: &Sheet) -> Result<(Marks<OverSheet>, Seat<OverSh
     ensures { IfOk result (IsOpenedOver sheet.now) }
 {
     let codes = opening_codes(alloc, sheet)?;
-    let subject = OverSheet::new(sheet.copy()?);
+    // Says that its cells are few enough.
+    let _sizes = sheet.sizes();
+    let subject = OverSheet::of(sheet);
     Ok(Marks::open(alloc, subject, &codes)?)
 }
 

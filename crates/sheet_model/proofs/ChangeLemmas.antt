@@ -7,6 +7,13 @@ use Rattle.sheet_model.specs.Sheets.{SheetValue, IsSheet, IsHeld, content_of, wi
 use Rattle.sheet_model.proofs.SheetLemmas.{content_of-filled, content_of-other, sheet_with_content}
 
 -- a change keeps the sizes and the labels
+pub change-edition : (sheet : SheetValue) (change : ChangeValue) → (after_change sheet change).edition ≡ sheet.edition
+change-edition sheet change = go (is_inside sheet.sizes change.cell)
+  where
+    go : (b : Bool) → (cond b (with_content sheet change.cell change.content) sheet).edition ≡ sheet.edition
+    go true = refl
+    go false = refl
+
 pub change-sizes : (sheet : SheetValue) (change : ChangeValue) → (after_change sheet change).sizes ≡ sheet.sizes
 change-sizes sheet change = go (is_inside sheet.sizes change.cell)
   where

@@ -9,6 +9,7 @@ use Rattle.value_core.specs.declared.value.ErrorKind.{ErrorKind}
 use Rattle.value_core.specs.declared.value.ErrorKind.TheVariants as error
 use Rattle.value_core.specs.declared.value.Value.TheVariants as value
 use Rattle.value_core.specs.Values.{error_text, truth_text}
+use Rattle.formula_syntax.specs.declared.edition.Edition.{Edition}
 use Rattle.formula_syntax.specs.declared.tokens.Token.{Token}
 use Rattle.formula_syntax.specs.declared.tokens.Token.TheVariants as token
 use Rattle.formula_syntax.specs.Lexing.{IsWord, IsSpelt, is_word}
@@ -81,15 +82,15 @@ HasClass (Constant (value.Error kind)) n = (4 ≤ n) × (n ≤ 5)
 HasClass (Constant (value.Label place)) n = Unit {0}
 HasClass (Computed tree) n = n ≡ 5
 
-class_of : (labels : List (List ℕ)) (text : List ℕ) (content : ContentValue) → IsContent labels text content → HasClass content (class text)
+class_of : (edition : Edition) (labels : List (List ℕ)) (text : List ℕ) (content : ContentValue) → IsContent edition labels text content → HasClass content (class text)
 unfolding class
-class_of labels text (Constant value.Empty) is = rw is refl
-class_of labels text (Constant (value.Number n)) is = class_number text n is
-class_of labels text (Constant (value.Truth b)) is = class_word text (token.Truth b) (truth text b is)
-class_of labels text (Constant (value.Error kind)) (inl named) = let c = class_error text kind named.name in (omega arith, omega arith)
-class_of labels text (Constant (value.Error kind)) (inr faulty) = let c = class_formula text faulty.1.begins in (omega arith, omega arith)
-class_of labels text (Constant (value.Label place)) is = tt
-class_of labels text (Computed tree) is = class_formula text (is.spelt.rest, is.spelt.introduced)
+class_of edition labels text (Constant value.Empty) is = rw is refl
+class_of edition labels text (Constant (value.Number n)) is = class_number text n is
+class_of edition labels text (Constant (value.Truth b)) is = class_word text (token.Truth b) (truth text b is)
+class_of edition labels text (Constant (value.Error kind)) (inl named) = let c = class_error text kind named.name in (omega arith, omega arith)
+class_of edition labels text (Constant (value.Error kind)) (inr faulty) = let c = class_formula text faulty.1.begins in (omega arith, omega arith)
+class_of edition labels text (Constant (value.Label place)) is = tt
+class_of edition labels text (Computed tree) is = class_formula text (is.spelt.rest, is.spelt.introduced)
 
 one_decimal : (text : List ℕ) (most m n : ℕ) → IsDecimal text most m → IsDecimal text most n → m ≡ n
 one_decimal text most m n a b = a.value ∙ sym b.value
@@ -136,29 +137,29 @@ kind_back error.Num = refl
 kind_back error.Na = refl
 kind_back error.Circ = refl
 
-one_error : (text : List ℕ) (a b : ErrorKind) → (labels : List (List ℕ)) → IsContent labels text (Constant (value.Error a)) → IsContent labels text (Constant (value.Error b)) → a ≡ b
-one_error text a b labels (inl x) (inl y) = sym (kind_back a) ∙ ap (λ t. kind_of (key t)) (sym x.name ∙ y.name) ∙ kind_back b
-one_error text a b labels (inl x) (inr y) = let p = class_error text a x.name in let q = class_formula text y.1.begins in absurd (omega (arith, p, q))
-one_error text a b labels (inr x) (inl y) = let p = class_error text b y.name in let q = class_formula text x.1.begins in absurd (omega (arith, p, q))
-one_error text a b labels (inr x) (inr y) = x.0 ∙ sym y.0
+one_error : (edition : Edition) (text : List ℕ) (a b : ErrorKind) → (labels : List (List ℕ)) → IsContent edition labels text (Constant (value.Error a)) → IsContent edition labels text (Constant (value.Error b)) → a ≡ b
+one_error edition text a b labels (inl x) (inl y) = sym (kind_back a) ∙ ap (λ t. kind_of (key t)) (sym x.name ∙ y.name) ∙ kind_back b
+one_error edition text a b labels (inl x) (inr y) = let p = class_error text a x.name in let q = class_formula text y.1.begins in absurd (omega (arith, p, q))
+one_error edition text a b labels (inr x) (inl y) = let p = class_error text b y.name in let q = class_formula text x.1.begins in absurd (omega (arith, p, q))
+one_error edition text a b labels (inr x) (inr y) = x.0 ∙ sym y.0
 
-error_no_formula : (text : List ℕ) (kind : ErrorKind) (tree : Tree) (labels : List (List ℕ)) → IsContent labels text (Constant (value.Error kind)) → IsRead text tree → ⊥
-error_no_formula text kind tree labels (inl x) y = let p = class_error text kind x.name in let q = class_formula text (y.spelt.rest, y.spelt.introduced) in omega (arith, p, q)
-error_no_formula text kind tree labels (inr x) y = x.1.none.1 tree y.spelt
+error_no_formula : (edition : Edition) (text : List ℕ) (kind : ErrorKind) (tree : Tree) (labels : List (List ℕ)) → IsContent edition labels text (Constant (value.Error kind)) → IsRead edition text tree → ⊥
+error_no_formula edition text kind tree labels (inl x) y = let p = class_error text kind x.name in let q = class_formula text (y.spelt.rest, y.spelt.introduced) in omega (arith, p, q)
+error_no_formula edition text kind tree labels (inr x) y = x.1.none.1 tree (record { spelt = y.spelt; within = y.within })
 
 -- a label is no content of another kind
 abbrev IsLabel : ContentValue → Type 0
 IsLabel (Constant (value.Label place)) = Unit {0}
 IsLabel _ = ⊥
 
-label_alone : (labels : List (List ℕ)) (text : List ℕ) (content : ContentValue) → IsLabelField text → IsContent labels text content → IsLabel content
-label_alone labels text (Constant value.Empty) field is = field.some is
-label_alone labels text (Constant (value.Number n)) field is = field.no_number n is
-label_alone labels text (Constant (value.Truth b)) field is = field.no_truth b is
-label_alone labels text (Constant (value.Error kind)) field (inl named) = field.no_error kind named
-label_alone labels text (Constant (value.Error kind)) field (inr faulty) = field.no_formula faulty.1.begins
-label_alone labels text (Constant (value.Label place)) field is = tt
-label_alone labels text (Computed tree) field is = field.no_formula (is.spelt.rest, is.spelt.introduced)
+label_alone : (edition : Edition) (labels : List (List ℕ)) (text : List ℕ) (content : ContentValue) → IsLabelField text → IsContent edition labels text content → IsLabel content
+label_alone edition labels text (Constant value.Empty) field is = field.some is
+label_alone edition labels text (Constant (value.Number n)) field is = field.no_number n is
+label_alone edition labels text (Constant (value.Truth b)) field is = field.no_truth b is
+label_alone edition labels text (Constant (value.Error kind)) field (inl named) = field.no_error kind named
+label_alone edition labels text (Constant (value.Error kind)) field (inr faulty) = field.no_formula faulty.1.begins
+label_alone edition labels text (Constant (value.Label place)) field is = tt
+label_alone edition labels text (Computed tree) field is = field.no_formula (is.spelt.rest, is.spelt.introduced)
 
 -- a text has one place in a table
 one_place : (labels : List (List ℕ)) (text : List ℕ) (a b : ℕ) → IsTable labels → slice_get labels a ≡ Some text → slice_get labels b ≡ Some text → a ≡ b
@@ -170,69 +171,69 @@ one_place labels text a b table x y = elim (cases_order a b) [
   ]
 ]
 
-pub one_content : (labels : List (List ℕ)) (text : List ℕ) (a b : ContentValue) → IsTable labels → IsContent labels text a → IsContent labels text b → a ≡ b
-one_content labels text (Constant value.Empty) (Constant value.Empty) table x y = refl
-one_content labels text (Constant value.Empty) (Constant (value.Number b)) table x y = let p = class_of labels text (Constant value.Empty) x in let q = class_of labels text (Constant (value.Number b)) y in absurd (omega (arith, p, q))
-one_content labels text (Constant value.Empty) (Constant (value.Truth b)) table x y = let p = class_of labels text (Constant value.Empty) x in let q = class_of labels text (Constant (value.Truth b)) y in absurd (omega (arith, p, q))
-one_content labels text (Constant value.Empty) (Constant (value.Error b)) table x y = let p = class_of labels text (Constant value.Empty) x in let q = class_of labels text (Constant (value.Error b)) y in absurd (omega (arith, p, q))
-one_content labels text (Constant value.Empty) (Constant (value.Label b)) table x y = absurd (label_alone labels text (Constant value.Empty) y.0 x)
-one_content labels text (Constant value.Empty) (Computed b) table x y = let p = class_of labels text (Constant value.Empty) x in let q = class_of labels text (Computed b) y in absurd (omega (arith, p, q))
-one_content labels text (Constant (value.Number a)) (Constant value.Empty) table x y = let p = class_of labels text (Constant (value.Number a)) x in let q = class_of labels text (Constant value.Empty) y in absurd (omega (arith, p, q))
-one_content labels text (Constant (value.Number a)) (Constant (value.Number b)) table x y = ap (λ n. Constant (value.Number n)) (one_number text a b x y)
-one_content labels text (Constant (value.Number a)) (Constant (value.Truth b)) table x y = absurd (number_no_truth text a b x y)
-one_content labels text (Constant (value.Number a)) (Constant (value.Error b)) table x y = let p = class_of labels text (Constant (value.Number a)) x in let q = class_of labels text (Constant (value.Error b)) y in absurd (omega (arith, p, q))
-one_content labels text (Constant (value.Number a)) (Constant (value.Label b)) table x y = absurd (label_alone labels text (Constant (value.Number a)) y.0 x)
-one_content labels text (Constant (value.Number a)) (Computed b) table x y = let p = class_of labels text (Constant (value.Number a)) x in let q = class_of labels text (Computed b) y in absurd (omega (arith, p, q))
-one_content labels text (Constant (value.Truth a)) (Constant value.Empty) table x y = let p = class_of labels text (Constant (value.Truth a)) x in let q = class_of labels text (Constant value.Empty) y in absurd (omega (arith, p, q))
-one_content labels text (Constant (value.Truth a)) (Constant (value.Number b)) table x y = absurd (number_no_truth text b a y x)
-one_content labels text (Constant (value.Truth a)) (Constant (value.Truth b)) table x y = ap (λ t. Constant (value.Truth t)) (one_truth text a b x y)
-one_content labels text (Constant (value.Truth a)) (Constant (value.Error b)) table x y = let p = class_of labels text (Constant (value.Truth a)) x in let q = class_of labels text (Constant (value.Error b)) y in absurd (omega (arith, p, q))
-one_content labels text (Constant (value.Truth a)) (Constant (value.Label b)) table x y = absurd (label_alone labels text (Constant (value.Truth a)) y.0 x)
-one_content labels text (Constant (value.Truth a)) (Computed b) table x y = let p = class_of labels text (Constant (value.Truth a)) x in let q = class_of labels text (Computed b) y in absurd (omega (arith, p, q))
-one_content labels text (Constant (value.Error a)) (Constant value.Empty) table x y = let p = class_of labels text (Constant (value.Error a)) x in let q = class_of labels text (Constant value.Empty) y in absurd (omega (arith, p, q))
-one_content labels text (Constant (value.Error a)) (Constant (value.Number b)) table x y = let p = class_of labels text (Constant (value.Error a)) x in let q = class_of labels text (Constant (value.Number b)) y in absurd (omega (arith, p, q))
-one_content labels text (Constant (value.Error a)) (Constant (value.Truth b)) table x y = let p = class_of labels text (Constant (value.Error a)) x in let q = class_of labels text (Constant (value.Truth b)) y in absurd (omega (arith, p, q))
-one_content labels text (Constant (value.Error a)) (Constant (value.Error b)) table x y = ap (λ k. Constant (value.Error k)) (one_error text a b labels x y)
-one_content labels text (Constant (value.Error a)) (Constant (value.Label b)) table x y = absurd (label_alone labels text (Constant (value.Error a)) y.0 x)
-one_content labels text (Constant (value.Error a)) (Computed b) table x y = absurd (error_no_formula text a b labels x y)
-one_content labels text (Constant (value.Label a)) (Constant value.Empty) table x y = absurd (label_alone labels text (Constant value.Empty) x.0 y)
-one_content labels text (Constant (value.Label a)) (Constant (value.Number b)) table x y = absurd (label_alone labels text (Constant (value.Number b)) x.0 y)
-one_content labels text (Constant (value.Label a)) (Constant (value.Truth b)) table x y = absurd (label_alone labels text (Constant (value.Truth b)) x.0 y)
-one_content labels text (Constant (value.Label a)) (Constant (value.Error b)) table x y = absurd (label_alone labels text (Constant (value.Error b)) x.0 y)
-one_content labels text (Constant (value.Label a)) (Constant (value.Label b)) table x y = ap (λ p. Constant (value.Label p)) (one_place labels text a b table x.1 y.1)
-one_content labels text (Constant (value.Label a)) (Computed b) table x y = absurd (label_alone labels text (Computed b) x.0 y)
-one_content labels text (Computed a) (Constant value.Empty) table x y = let p = class_of labels text (Computed a) x in let q = class_of labels text (Constant value.Empty) y in absurd (omega (arith, p, q))
-one_content labels text (Computed a) (Constant (value.Number b)) table x y = let p = class_of labels text (Computed a) x in let q = class_of labels text (Constant (value.Number b)) y in absurd (omega (arith, p, q))
-one_content labels text (Computed a) (Constant (value.Truth b)) table x y = let p = class_of labels text (Computed a) x in let q = class_of labels text (Constant (value.Truth b)) y in absurd (omega (arith, p, q))
-one_content labels text (Computed a) (Constant (value.Error b)) table x y = absurd (error_no_formula text b a labels y x)
-one_content labels text (Computed a) (Constant (value.Label b)) table x y = absurd (label_alone labels text (Computed a) y.0 x)
-one_content labels text (Computed a) (Computed b) table x y = ap Computed (spells_unique text a b x.spelt y.spelt)
+pub one_content : (edition : Edition) (labels : List (List ℕ)) (text : List ℕ) (a b : ContentValue) → IsTable labels → IsContent edition labels text a → IsContent edition labels text b → a ≡ b
+one_content edition labels text (Constant value.Empty) (Constant value.Empty) table x y = refl
+one_content edition labels text (Constant value.Empty) (Constant (value.Number b)) table x y = let p = class_of edition labels text (Constant value.Empty) x in let q = class_of edition labels text (Constant (value.Number b)) y in absurd (omega (arith, p, q))
+one_content edition labels text (Constant value.Empty) (Constant (value.Truth b)) table x y = let p = class_of edition labels text (Constant value.Empty) x in let q = class_of edition labels text (Constant (value.Truth b)) y in absurd (omega (arith, p, q))
+one_content edition labels text (Constant value.Empty) (Constant (value.Error b)) table x y = let p = class_of edition labels text (Constant value.Empty) x in let q = class_of edition labels text (Constant (value.Error b)) y in absurd (omega (arith, p, q))
+one_content edition labels text (Constant value.Empty) (Constant (value.Label b)) table x y = absurd (label_alone edition labels text (Constant value.Empty) y.0 x)
+one_content edition labels text (Constant value.Empty) (Computed b) table x y = let p = class_of edition labels text (Constant value.Empty) x in let q = class_of edition labels text (Computed b) y in absurd (omega (arith, p, q))
+one_content edition labels text (Constant (value.Number a)) (Constant value.Empty) table x y = let p = class_of edition labels text (Constant (value.Number a)) x in let q = class_of edition labels text (Constant value.Empty) y in absurd (omega (arith, p, q))
+one_content edition labels text (Constant (value.Number a)) (Constant (value.Number b)) table x y = ap (λ n. Constant (value.Number n)) (one_number text a b x y)
+one_content edition labels text (Constant (value.Number a)) (Constant (value.Truth b)) table x y = absurd (number_no_truth text a b x y)
+one_content edition labels text (Constant (value.Number a)) (Constant (value.Error b)) table x y = let p = class_of edition labels text (Constant (value.Number a)) x in let q = class_of edition labels text (Constant (value.Error b)) y in absurd (omega (arith, p, q))
+one_content edition labels text (Constant (value.Number a)) (Constant (value.Label b)) table x y = absurd (label_alone edition labels text (Constant (value.Number a)) y.0 x)
+one_content edition labels text (Constant (value.Number a)) (Computed b) table x y = let p = class_of edition labels text (Constant (value.Number a)) x in let q = class_of edition labels text (Computed b) y in absurd (omega (arith, p, q))
+one_content edition labels text (Constant (value.Truth a)) (Constant value.Empty) table x y = let p = class_of edition labels text (Constant (value.Truth a)) x in let q = class_of edition labels text (Constant value.Empty) y in absurd (omega (arith, p, q))
+one_content edition labels text (Constant (value.Truth a)) (Constant (value.Number b)) table x y = absurd (number_no_truth text b a y x)
+one_content edition labels text (Constant (value.Truth a)) (Constant (value.Truth b)) table x y = ap (λ t. Constant (value.Truth t)) (one_truth text a b x y)
+one_content edition labels text (Constant (value.Truth a)) (Constant (value.Error b)) table x y = let p = class_of edition labels text (Constant (value.Truth a)) x in let q = class_of edition labels text (Constant (value.Error b)) y in absurd (omega (arith, p, q))
+one_content edition labels text (Constant (value.Truth a)) (Constant (value.Label b)) table x y = absurd (label_alone edition labels text (Constant (value.Truth a)) y.0 x)
+one_content edition labels text (Constant (value.Truth a)) (Computed b) table x y = let p = class_of edition labels text (Constant (value.Truth a)) x in let q = class_of edition labels text (Computed b) y in absurd (omega (arith, p, q))
+one_content edition labels text (Constant (value.Error a)) (Constant value.Empty) table x y = let p = class_of edition labels text (Constant (value.Error a)) x in let q = class_of edition labels text (Constant value.Empty) y in absurd (omega (arith, p, q))
+one_content edition labels text (Constant (value.Error a)) (Constant (value.Number b)) table x y = let p = class_of edition labels text (Constant (value.Error a)) x in let q = class_of edition labels text (Constant (value.Number b)) y in absurd (omega (arith, p, q))
+one_content edition labels text (Constant (value.Error a)) (Constant (value.Truth b)) table x y = let p = class_of edition labels text (Constant (value.Error a)) x in let q = class_of edition labels text (Constant (value.Truth b)) y in absurd (omega (arith, p, q))
+one_content edition labels text (Constant (value.Error a)) (Constant (value.Error b)) table x y = ap (λ k. Constant (value.Error k)) (one_error edition text a b labels x y)
+one_content edition labels text (Constant (value.Error a)) (Constant (value.Label b)) table x y = absurd (label_alone edition labels text (Constant (value.Error a)) y.0 x)
+one_content edition labels text (Constant (value.Error a)) (Computed b) table x y = absurd (error_no_formula edition text a b labels x y)
+one_content edition labels text (Constant (value.Label a)) (Constant value.Empty) table x y = absurd (label_alone edition labels text (Constant value.Empty) x.0 y)
+one_content edition labels text (Constant (value.Label a)) (Constant (value.Number b)) table x y = absurd (label_alone edition labels text (Constant (value.Number b)) x.0 y)
+one_content edition labels text (Constant (value.Label a)) (Constant (value.Truth b)) table x y = absurd (label_alone edition labels text (Constant (value.Truth b)) x.0 y)
+one_content edition labels text (Constant (value.Label a)) (Constant (value.Error b)) table x y = absurd (label_alone edition labels text (Constant (value.Error b)) x.0 y)
+one_content edition labels text (Constant (value.Label a)) (Constant (value.Label b)) table x y = ap (λ p. Constant (value.Label p)) (one_place labels text a b table x.1 y.1)
+one_content edition labels text (Constant (value.Label a)) (Computed b) table x y = absurd (label_alone edition labels text (Computed b) x.0 y)
+one_content edition labels text (Computed a) (Constant value.Empty) table x y = let p = class_of edition labels text (Computed a) x in let q = class_of edition labels text (Constant value.Empty) y in absurd (omega (arith, p, q))
+one_content edition labels text (Computed a) (Constant (value.Number b)) table x y = let p = class_of edition labels text (Computed a) x in let q = class_of edition labels text (Constant (value.Number b)) y in absurd (omega (arith, p, q))
+one_content edition labels text (Computed a) (Constant (value.Truth b)) table x y = let p = class_of edition labels text (Computed a) x in let q = class_of edition labels text (Constant (value.Truth b)) y in absurd (omega (arith, p, q))
+one_content edition labels text (Computed a) (Constant (value.Error b)) table x y = absurd (error_no_formula edition text b a labels y x)
+one_content edition labels text (Computed a) (Constant (value.Label b)) table x y = absurd (label_alone edition labels text (Computed a) y.0 x)
+one_content edition labels text (Computed a) (Computed b) table x y = ap Computed (spells_unique text a b x.spelt y.spelt)
 
 -- a text that begins as a formula is no content but a formula or #NAME?
-deep_none : (labels : List (List ℕ)) (text : List ℕ) (content : ContentValue) → IsDeepFormula text → ¬ IsContent labels text content
-deep_none labels text (Constant value.Empty) deep is = let p = class_of labels text (Constant value.Empty) is in let q = class_formula text deep.begins in omega (arith, p, q)
-deep_none labels text (Constant (value.Number n)) deep is = let p = class_number text n is in let q = class_formula text deep.begins in omega (arith, p, q)
-deep_none labels text (Constant (value.Truth b)) deep is = let p = class_word text (token.Truth b) (truth text b is) in let q = class_formula text deep.begins in omega (arith, p, q)
-deep_none labels text (Constant (value.Error kind)) deep (inl named) = let p = class_error text kind named.name in let q = class_formula text deep.begins in omega (arith, p, q)
-deep_none labels text (Constant (value.Error kind)) deep (inr faulty) = faulty.1.none.0 deep.deep
-deep_none labels text (Constant (value.Label place)) deep is = is.0.no_formula deep.begins
-deep_none labels text (Computed tree) deep is = is.shallow deep.deep
+deep_none : (edition : Edition) (labels : List (List ℕ)) (text : List ℕ) (content : ContentValue) → IsDeepFormula text → ¬ IsContent edition labels text content
+deep_none edition labels text (Constant value.Empty) deep is = let p = class_of edition labels text (Constant value.Empty) is in let q = class_formula text deep.begins in omega (arith, p, q)
+deep_none edition labels text (Constant (value.Number n)) deep is = let p = class_number text n is in let q = class_formula text deep.begins in omega (arith, p, q)
+deep_none edition labels text (Constant (value.Truth b)) deep is = let p = class_word text (token.Truth b) (truth text b is) in let q = class_formula text deep.begins in omega (arith, p, q)
+deep_none edition labels text (Constant (value.Error kind)) deep (inl named) = let p = class_error text kind named.name in let q = class_formula text deep.begins in omega (arith, p, q)
+deep_none edition labels text (Constant (value.Error kind)) deep (inr faulty) = faulty.1.none.0 deep.deep
+deep_none edition labels text (Constant (value.Label place)) deep is = is.0.no_formula deep.begins
+deep_none edition labels text (Computed tree) deep is = is.shallow deep.deep
 
-many_none : (labels : List (List ℕ)) (text : List ℕ) (content : ContentValue) → HasTooManyRefs text → ¬ IsContent labels text content
-many_none labels text (Constant value.Empty) many is = let p = class_of labels text (Constant value.Empty) is in let q = class_formula text (many.2.rest, many.2.introduced) in omega (arith, p, q)
-many_none labels text (Constant (value.Number n)) many is = let p = class_number text n is in let q = class_formula text (many.2.rest, many.2.introduced) in omega (arith, p, q)
-many_none labels text (Constant (value.Truth b)) many is = let p = class_word text (token.Truth b) (truth text b is) in let q = class_formula text (many.2.rest, many.2.introduced) in omega (arith, p, q)
-many_none labels text (Constant (value.Error kind)) many (inl named) = let p = class_error text kind named.name in let q = class_formula text (many.2.rest, many.2.introduced) in omega (arith, p, q)
-many_none labels text (Constant (value.Error kind)) many (inr faulty) = faulty.1.none.1 many.1 many.2
-many_none labels text (Constant (value.Label place)) many is = is.0.no_formula (many.2.rest, many.2.introduced)
-many_none labels text (Computed tree) many is =
+many_none : (edition : Edition) (labels : List (List ℕ)) (text : List ℕ) (content : ContentValue) → HasTooManyRefs edition text → ¬ IsContent edition labels text content
+many_none edition labels text (Constant value.Empty) many is = let p = class_of edition labels text (Constant value.Empty) is in let q = class_formula text (many.2.spelt.rest, many.2.spelt.introduced) in omega (arith, p, q)
+many_none edition labels text (Constant (value.Number n)) many is = let p = class_number text n is in let q = class_formula text (many.2.spelt.rest, many.2.spelt.introduced) in omega (arith, p, q)
+many_none edition labels text (Constant (value.Truth b)) many is = let p = class_word text (token.Truth b) (truth text b is) in let q = class_formula text (many.2.spelt.rest, many.2.spelt.introduced) in omega (arith, p, q)
+many_none edition labels text (Constant (value.Error kind)) many (inl named) = let p = class_error text kind named.name in let q = class_formula text (many.2.spelt.rest, many.2.spelt.introduced) in omega (arith, p, q)
+many_none edition labels text (Constant (value.Error kind)) many (inr faulty) = faulty.1.none.1 many.1 many.2
+many_none edition labels text (Constant (value.Label place)) many is = is.0.no_formula (many.2.spelt.rest, many.2.spelt.introduced)
+many_none edition labels text (Computed tree) many is =
     let few = is.few in
     let more = many.3 in
-    let same = spells_unique text tree many.1 is.spelt many.2 in
+    let same = spells_unique text tree many.1 is.spelt many.2.spelt in
     let few_too : length (references_of many.1) ≤ 255 = subst (λ t. length (references_of t) ≤ 255) same few in
     omega (arith, few_too, more)
 
 -- a text that is refused writes nothing
-pub refused_none : (labels : List (List ℕ)) (text : List ℕ) (content : ContentValue) → IsDeepFormula text ⊎ HasTooManyRefs text → ¬ IsContent labels text content
-refused_none labels text content (inl deep) is = deep_none labels text content deep is
-refused_none labels text content (inr many) is = many_none labels text content many is
+pub refused_none : (edition : Edition) (labels : List (List ℕ)) (text : List ℕ) (content : ContentValue) → IsDeepFormula text ⊎ HasTooManyRefs edition text → ¬ IsContent edition labels text content
+refused_none edition labels text content (inl deep) is = deep_none edition labels text content deep is
+refused_none edition labels text content (inr many) is = many_none edition labels text content many is

@@ -8,7 +8,7 @@ use Rattle.sheet_refs.specs.declared.sizes.Sizes.{Sizes}
 use Rattle.sheet_model.specs.Changes.{ChangeValue, after_change}
 use Rattle.sheet_model.specs.Edits.{EditValue, AreOfDistinctCells, AreHeldBeside, after_edit, held_in, replaced_by}
 use Rattle.sheet_model.specs.Sheets.{SheetValue, IsSheet, IsHeld, content_of}
-use Rattle.sheet_model.proofs.ChangeLemmas.{change-sizes, change-labels, change-filled, change-fills, change-others, change-sheet}
+use Rattle.sheet_model.proofs.ChangeLemmas.{change-sizes, change-edition, change-labels, change-filled, change-fills, change-others, change-sheet}
 use Rattle.sheet_model.proofs.DistinctLemmas.{pairs_mapped}
 use Rattle.sheet_model.proofs.ListMembers.{no_member, first_member, later_member, mapped_from, mapped_to, all_from}
 use Rattle.sheet_model.proofs.SameSheets.{same_sheet}
@@ -27,6 +27,10 @@ one_or_two a b = by_row (eqb a.row b.row) refl (eqb a.col b.col) refl
     by_row true row false col = inr (λ same. let cols : a.col ≡ b.col = ap (λ (p : Position). p.col) same in absurd (grind (arith, nat_tests, col, cols)))
 
 -- an edit keeps the sizes and the labels, and something stands in each cell
+pub edit-edition : (sheet : SheetValue) (edit : EditValue) → (after_edit sheet edit).edition ≡ sheet.edition
+edit-edition sheet [] = refl
+edit-edition sheet (change ∷ changes) = edit-edition (after_change sheet change) changes ∙ change-edition sheet change
+
 pub edit-sizes : (sheet : SheetValue) (edit : EditValue) → (after_edit sheet edit).sizes ≡ sheet.sizes
 edit-sizes sheet [] = refl
 edit-sizes sheet (change ∷ changes) = edit-sizes (after_change sheet change) changes ∙ change-sizes sheet change
@@ -109,7 +113,7 @@ edit-order sheet a b is held a_distinct b_distinct same =
     let b_held : AreHeldBeside (length sheet.labels) b = all_from (λ (c : ChangeValue). IsHeld (length sheet.labels) c.content) b
     (λ c there. of_each (λ (x : ChangeValue). IsHeld (length sheet.labels) x.content) a c held ((same c).1 there)) in
     same_sheet (after_edit sheet a) (after_edit sheet b) (edit-sheet sheet a is held) (edit-sheet sheet b is b_held)
-    (edit-sizes sheet a ∙ sym (edit-sizes sheet b)) (edit-labels sheet a ∙ sym (edit-labels sheet b))
+    (edit-edition sheet a ∙ sym (edit-edition sheet b)) (edit-sizes sheet a ∙ sym (edit-sizes sheet b)) (edit-labels sheet a ∙ sym (edit-labels sheet b))
     (λ cell inside. at cell (subst (λ (s : Sizes). IsTrue (is_inside s cell)) (edit-sizes sheet a) inside) (changed_or_not a cell))
   where
     at : (cell : Position) → IsTrue (is_inside sheet.sizes cell) → ((change : ChangeValue) × Contains a change × (cell ≡ change.cell)) ⊎ ((change : ChangeValue) → Contains a change → cell ≢ change.cell)
@@ -156,5 +160,5 @@ module _ (sheet : SheetValue) (edit : EditValue) (is : IsSheet sheet) (distinct 
   pub edit-undone : after_edit (after_edit sheet edit) (replaced_by sheet edit) ≡ sheet
   edit-undone =
       let sizes : (after_edit middle back).sizes ≡ sheet.sizes = edit-sizes middle back ∙ edit-sizes sheet edit in
-      same_sheet (after_edit middle back) sheet (edit-sheet middle back middle_is back_held) is sizes (edit-labels middle back ∙ edit-labels sheet edit)
+      same_sheet (after_edit middle back) sheet (edit-sheet middle back middle_is back_held) is (edit-edition middle back ∙ edit-edition sheet edit) sizes (edit-labels middle back ∙ edit-labels sheet edit)
       (λ cell inside. put_back cell (subst (λ (s : Sizes). IsTrue (is_inside s cell)) sizes inside) (changed_or_not back cell))

@@ -5,7 +5,7 @@ use Rattle.sheet_model.specs.Edits.{after_edit, AreHeldBeside}
 use Rattle.sheet_model.specs.Logs.{after, AreHeld}
 use Rattle.sheet_model.specs.Sheets.{SheetValue, IsSheet}
 use Rattle.sheet_model.specs.declared.entry.Entry.{Entry}
-use Rattle.sheet_model.proofs.EditLemmas.{edit-sizes, edit-labels, edit-sheet}
+use Rattle.sheet_model.proofs.EditLemmas.{edit-edition, edit-sizes, edit-labels, edit-sheet}
 
 -- one more entry makes one more edit
 pub after-more : (sheet : SheetValue) (log : List Entry) (entry : Entry) → after sheet (log ++ entry ∷ []) ≡ after_edit (after sheet log) entry.edit
@@ -13,6 +13,10 @@ after-more sheet [] entry = refl
 after-more sheet (first ∷ log) entry = after-more (after_edit sheet first.edit) log entry
 
 -- a log keeps the sizes and the labels
+pub after-edition : (sheet : SheetValue) (log : List Entry) → (after sheet log).edition ≡ sheet.edition
+after-edition sheet [] = refl
+after-edition sheet (entry ∷ log) = after-edition (after_edit sheet entry.edit) log ∙ edit-edition sheet entry.edit
+
 pub after-sizes : (sheet : SheetValue) (log : List Entry) → (after sheet log).sizes ≡ sheet.sizes
 after-sizes sheet [] = refl
 after-sizes sheet (entry ∷ log) = after-sizes (after_edit sheet entry.edit) log ∙ edit-sizes sheet entry.edit

@@ -31,12 +31,12 @@ content_there sheet place below =
     let at = parts.2 in
     rw (inside, row_at, col_at, at) refl
 
-pub same_sheet : (a b : SheetValue) → IsSheet a → IsSheet b → a.sizes ≡ b.sizes → a.labels ≡ b.labels → ((cell : Position) → IsTrue (is_inside a.sizes cell) → content_of a cell ≡ content_of b cell) → a ≡ b
-same_sheet a b a_is b_is sizes labels same =
+pub same_sheet : (a b : SheetValue) → IsSheet a → IsSheet b → a.edition ≡ b.edition → a.sizes ≡ b.sizes → a.labels ≡ b.labels → ((cell : Position) → IsTrue (is_inside a.sizes cell) → content_of a cell ≡ content_of b cell) → a ≡ b
+same_sheet a b a_is b_is edition sizes labels same =
     let count : cell_count a.sizes ≡ cell_count b.sizes = ap cell_count sizes in
     let lengths : length a.contents ≡ length b.contents = a_is.filled ∙ count ∙ sym b_is.filled in
     let contents = ext_get_or (Constant Empty) a.contents b.contents lengths (λ place within. at_place place (let filled = a_is.filled in omega (arith, within, filled))) in
-    λ i. record { sizes = sizes i; contents = contents i; labels = labels i }
+    λ i. record { edition = edition i; sizes = sizes i; contents = contents i; labels = labels i }
   where
     at_place : (place : ℕ) → place < cell_count a.sizes → get_or a.contents place (Constant Empty) ≡ get_or b.contents place (Constant Empty)
     at_place place below =

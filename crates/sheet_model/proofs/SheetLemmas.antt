@@ -13,6 +13,7 @@ use Rattle.value_core.specs.declared.value.ErrorKind.TheVariants.{Circ}
 use Rattle.value_core.specs.declared.value.Value.{Value}
 use Rattle.value_core.specs.declared.value.Value.TheVariants as value
 use Rattle.value_core.specs.Values.{IsValue}
+use Rattle.formula_syntax.specs.declared.edition.Edition.{Edition}
 use Rattle.formula_syntax.specs.Formula.{IsFormula}
 use Rattle.formula_syntax.specs.Tree.{Tree}
 use Rattle.sheet_model.specs.Fields.{IsContent, IsTableAfter}
@@ -51,26 +52,26 @@ pub IsHeld-more : (fewer more : ℕ) (content : ContentValue) → fewer ≤ more
 IsHeld-more fewer more content grown held = record { label = HasLabel-more fewer more content grown held.label; written = held.written }
 
 -- what a text writes may be written, and its label is in the table
-pub label_content : (labels : List (List ℕ)) (text : List ℕ) (content : ContentValue) → IsContent labels text content → HasLabel (length labels) content
-label_content labels text (Constant value.Empty) is = tt
-label_content labels text (Constant (value.Number n)) is = tt
-label_content labels text (Constant (value.Truth b)) is = tt
-label_content labels text (Constant (value.Error kind)) is = tt
-label_content labels text (Constant (value.Label place)) is = slice_get_within labels place text is.1
-label_content labels text (Computed tree) is = tt
+pub label_content : (edition : Edition) (labels : List (List ℕ)) (text : List ℕ) (content : ContentValue) → IsContent edition labels text content → HasLabel (length labels) content
+label_content edition labels text (Constant value.Empty) is = tt
+label_content edition labels text (Constant (value.Number n)) is = tt
+label_content edition labels text (Constant (value.Truth b)) is = tt
+label_content edition labels text (Constant (value.Error kind)) is = tt
+label_content edition labels text (Constant (value.Label place)) is = slice_get_within labels place text is.1
+label_content edition labels text (Computed tree) is = tt
 
-written_content : (labels : List (List ℕ)) (text : List ℕ) (content : ContentValue) → length labels < 2 ^ 32 → length text ≤ 8192 → IsContent labels text content → IsWritten content
-written_content labels text (Constant value.Empty) few short is = record { in_range = tt; not_circular = λ e. cc }
-written_content labels text (Constant (value.Number n)) few short is = record { in_range = whole_field text n is; not_circular = λ e. cc }
-written_content labels text (Constant (value.Truth b)) few short is = record { in_range = tt; not_circular = λ e. cc }
-written_content labels text (Constant (value.Error kind)) few short is =
+written_content : (edition : Edition) (labels : List (List ℕ)) (text : List ℕ) (content : ContentValue) → length labels < 2 ^ 32 → length text ≤ 8192 → IsContent edition labels text content → IsWritten content
+written_content edition labels text (Constant value.Empty) few short is = record { in_range = tt; not_circular = λ e. cc }
+written_content edition labels text (Constant (value.Number n)) few short is = record { in_range = whole_field text n is; not_circular = λ e. cc }
+written_content edition labels text (Constant (value.Truth b)) few short is = record { in_range = tt; not_circular = λ e. cc }
+written_content edition labels text (Constant (value.Error kind)) few short is =
     record { in_range = tt; not_circular = λ e. elim is [ inl named ↦ named.written cc | inr faulty ↦ let k = faulty.0 in cc ] }
-written_content labels text (Constant (value.Label place)) few short is =
+written_content edition labels text (Constant (value.Label place)) few short is =
     record { in_range = (let within = slice_get_within labels place text is.1 in omega (arith, within, few)); not_circular = λ e. cc }
-written_content labels text (Computed tree) few short is = read_is_formula text tree short is
+written_content edition labels text (Computed tree) few short is = read_is_formula edition text tree short is
 
-pub held_content : (labels : List (List ℕ)) (text : List ℕ) (content : ContentValue) → IsTable labels → length text ≤ 8192 → IsContent labels text content → IsHeld (length labels) content
-held_content labels text content table short is = record { label = label_content labels text content is; written = written_content labels text content table.few short is }
+pub held_content : (edition : Edition) (labels : List (List ℕ)) (text : List ℕ) (content : ContentValue) → IsTable labels → length text ≤ 8192 → IsContent edition labels text content → IsHeld (length labels) content
+held_content edition labels text content table short is = record { label = label_content edition labels text content is; written = written_content edition labels text content table.few short is }
 
 -- a table after a field has been read
 pub grown_table : (text : List ℕ) (old new : List (List ℕ)) → IsTableAfter text old new → length old ≤ length new
@@ -103,8 +104,8 @@ sheet_with_content sheet cell content is held = record {
 }
 
 -- a blank sheet
-pub sheet_blank : (sizes : Sizes) → IsSheetSize sizes → IsSheet (blank_sheet sizes)
-sheet_blank sizes size = record {
+pub sheet_blank : (edition : Edition) (sizes : Sizes) → IsSheetSize sizes → IsSheet (blank_sheet edition sizes)
+sheet_blank edition sizes size = record {
   size = size;
   filled = length-replicate (cell_count sizes) (Constant value.Empty);
   table = record { distinct = λ i j d before within. absurd (omega (arith, within)); few = omega arith };
@@ -166,22 +167,22 @@ module _ (sheet : SheetValue) (cell : Position) (content : ContentValue) (inside
           rw (is, get_or-set_other sheet.contents (place_of sheet.sizes cell) (place_of sheet.sizes another) content (Constant value.Empty) apart) refl
       go false is = rw is refl
 
-pub content_of-blank : (sizes : Sizes) (cell : Position) → content_of (blank_sheet sizes) cell ≡ Constant value.Empty
-content_of-blank sizes cell = go (is_inside sizes cell)
+pub content_of-blank : (edition : Edition) (sizes : Sizes) (cell : Position) → content_of (blank_sheet edition sizes) cell ≡ Constant value.Empty
+content_of-blank edition sizes cell = go (is_inside sizes cell)
   where
     go : (b : Bool) → cond b (get_or (replicate (cell_count sizes) (Constant value.Empty)) (place_of sizes cell) (Constant value.Empty)) (Constant value.Empty) ≡ Constant value.Empty
     go true = get_or-replicate_default (cell_count sizes) (place_of sizes cell) (Constant value.Empty)
     go false = refl
 
 -- what a text writes over a table, it writes over the table with a text more
-pub IsContent-with_label : (labels : List (List ℕ)) (more text : List ℕ) (content : ContentValue) → IsContent labels text content → IsContent (with_label labels more) text content
-IsContent-with_label labels more text (Constant value.Empty) is = is
-IsContent-with_label labels more text (Constant (value.Number n)) is = is
-IsContent-with_label labels more text (Constant (value.Truth b)) is = is
-IsContent-with_label labels more text (Constant (value.Error kind)) is = is
-IsContent-with_label labels more text (Constant (value.Label place)) is = (is.0, get-with_label labels more place text is.1)
-IsContent-with_label labels more text (Computed tree) is = is
+pub IsContent-with_label : (edition : Edition) (labels : List (List ℕ)) (more text : List ℕ) (content : ContentValue) → IsContent edition labels text content → IsContent edition (with_label labels more) text content
+IsContent-with_label edition labels more text (Constant value.Empty) is = is
+IsContent-with_label edition labels more text (Constant (value.Number n)) is = is
+IsContent-with_label edition labels more text (Constant (value.Truth b)) is = is
+IsContent-with_label edition labels more text (Constant (value.Error kind)) is = is
+IsContent-with_label edition labels more text (Constant (value.Label place)) is = (is.0, get-with_label labels more place text is.1)
+IsContent-with_label edition labels more text (Computed tree) is = is
 
-pub IsContent-after : (read : List ℕ) (old new : List (List ℕ)) (text : List ℕ) (content : ContentValue) → IsTableAfter read old new → IsContent old text content → IsContent new text content
-IsContent-after read _ _ text content (label _ old new field e) is = rw e (IsContent-with_label old read text content is)
-IsContent-after read _ _ text content (other _ old new field e) is = rw e is
+pub IsContent-after : (edition : Edition) (read : List ℕ) (old new : List (List ℕ)) (text : List ℕ) (content : ContentValue) → IsTableAfter read old new → IsContent edition old text content → IsContent edition new text content
+IsContent-after edition read _ _ text content (label _ old new field e) is = rw e (IsContent-with_label edition old read text content is)
+IsContent-after edition read _ _ text content (other _ old new field e) is = rw e is

@@ -6,6 +6,7 @@ use Rattle.value_core.specs.declared.operators.BinaryOp.TheVariants.{Add}
 use Rattle.value_core.specs.declared.value.ErrorKind.TheVariants.{Circ, Num}
 use Rattle.value_core.specs.declared.value.Value.{Value}
 use Rattle.value_core.specs.declared.value.Value.TheVariants.{Empty, Number, Truth, Error}
+use Rattle.formula_syntax.specs.declared.edition.Edition.TheVariants.{One}
 use Rattle.formula_syntax.specs.declared.functions.Function.TheVariants.{Sum, If, Iserror}
 use Rattle.formula_syntax.specs.Tree.{Tree, number, truth, reference, binary, call, no_trees, and_trees}
 use Rattle.sheet_model.specs.Budget.{ev}
@@ -14,7 +15,7 @@ use Rattle.sheet_model.specs.Values.{value_of}
 
 -- a sheet of one row of four cells, and the values of its cells
 abbrev row_of : List ContentValue → SheetValue
-row_of contents = record { sizes = record { rows = 1; cols = 4 }; contents = contents; labels = [] }
+row_of contents = record { edition = One; sizes = record { rows = 1; cols = 4 }; contents = contents; labels = [] }
 
 abbrev at : ℕ → Position
 at col = record { row = 1; col = col }

@@ -3,6 +3,7 @@ use Rattle.std.proofs.Common.{ℕ, ℤ, pos, zero, suc, ◌≤◌, List, length,
 use Rattle.std.specs.Prelude.{neg_ℤ, negsuc}
 use Rattle.value_core.specs.Wholes.{IsWhole}
 use Rattle.value_core.proofs.ArithmeticLemmas.{whole_by_size}
+use Rattle.formula_syntax.specs.declared.edition.Edition.{Edition}
 use Rattle.formula_syntax.specs.declared.tokens.Token.{Token}
 use Rattle.formula_syntax.specs.Formula.{IsFormula}
 use Rattle.formula_syntax.specs.Lexing.{HasTokens}
@@ -31,8 +32,8 @@ tokens_within text ts (blank _ b rest _ split is more) = omega (arith, tokens_wi
 tokens_within text _ (next _ piece rest t ts split is more) =
     omega (arith, tokens_within rest ts more, token_some piece rest t is, ap length split, length-append piece rest)
 
-pub read_is_formula : (text : List ℕ) (tree : Tree) → length text ≤ 8192 → IsRead text tree → IsFormula tree
-read_is_formula text tree short is = record {
+pub read_is_formula : (edition : Edition) (text : List ℕ) (tree : Tree) → length text ≤ 8192 → IsRead edition text tree → IsFormula tree
+read_is_formula edition text tree short is = record {
   few_nodes =
       let nodes = nodes_within 0 is.spelt.tokens tree is.spelt.derived in
       let tokens = tokens_within is.spelt.rest is.spelt.tokens is.spelt.has_tokens in

@@ -5,6 +5,7 @@ use Rattle.value_core.specs.declared.value.ErrorKind.{ErrorKind}
 use Rattle.value_core.specs.declared.value.ErrorKind.TheVariants.{Name, Circ}
 use Rattle.value_core.specs.declared.value.Value.TheVariants.{Empty, Number, Truth, Error, Label}
 use Rattle.value_core.specs.Values.{truth_text, error_text}
+use Rattle.formula_syntax.specs.declared.edition.Edition.{Edition}
 use Rattle.formula_syntax.specs.Lexing.{IsSpelt}
 use Rattle.formula_syntax.specs.Spelling.{IsIntroduced, IsTooDeep, IsNoFormula, HasTooManyRefs, IsRead}
 use Rattle.sheet_model.specs.Labels.{IsTable, with_label}
@@ -36,10 +37,10 @@ IsErrorOf text result = MatchOption result ((kind : ErrorKind) → ¬ IsErrorFie
 abbrev pub BeginsFormula : List ℕ → Type 0
 BeginsFormula text = (rest : List ℕ) × IsIntroduced text rest
 
--- a text that begins as a formula and is outside the grammar
-pub record IsFaultyFormula (text : List ℕ) : Type 0 where
+-- a text that begins as a formula and is outside the grammar, or names a function that the edition lacks
+pub record IsFaultyFormula (edition : Edition) (text : List ℕ) : Type 0 where
   pub begins : BeginsFormula text
-  pub none : IsNoFormula text
+  pub none : IsNoFormula edition text
 
 -- any other text
 pub record IsLabelField (text : List ℕ) : Type 0 where
@@ -49,14 +50,14 @@ pub record IsLabelField (text : List ℕ) : Type 0 where
   pub no_error : (kind : ErrorKind) → ¬ IsErrorField text kind
   pub no_formula : ¬ BeginsFormula text
 
--- the text writes the content, where labels stand in this table
-abbrev pub IsContent : List (List ℕ) → List ℕ → ContentValue → Type 0
-IsContent labels text (Constant Empty) = text ≡ []
-IsContent labels text (Constant (Number number)) = IsNumberField text number
-IsContent labels text (Constant (Truth truth)) = IsSpelt text (truth_text truth)
-IsContent labels text (Constant (Error kind)) = IsErrorField text kind ⊎ ((kind ≡ Name) × IsFaultyFormula text)
-IsContent labels text (Constant (Label place)) = IsLabelField text × (slice_get labels place ≡ Some text)
-IsContent labels text (Computed tree) = IsRead text tree
+-- the text writes the content in an edition, where labels stand in this table
+abbrev pub IsContent : Edition → List (List ℕ) → List ℕ → ContentValue → Type 0
+IsContent edition labels text (Constant Empty) = text ≡ []
+IsContent edition labels text (Constant (Number number)) = IsNumberField text number
+IsContent edition labels text (Constant (Truth truth)) = IsSpelt text (truth_text truth)
+IsContent edition labels text (Constant (Error kind)) = IsErrorField text kind ⊎ ((kind ≡ Name) × IsFaultyFormula edition text)
+IsContent edition labels text (Constant (Label place)) = IsLabelField text × (slice_get labels place ≡ Some text)
+IsContent edition labels text (Computed tree) = IsRead edition text tree
 
 -- a formula that opens too many parentheses at some place
 pub record IsDeepFormula (text : List ℕ) : Type 0 where
@@ -71,11 +72,11 @@ pub data IsTableAfter : List ℕ → List (List ℕ) → List (List ℕ) → Typ
 -- over a table a text writes at most one content
 abbrev pub WritesOneContent : Type 0
 WritesOneContent =
-    (labels : List (List ℕ)) (text : List ℕ) (a b : ContentValue) → IsTable labels
-    → IsContent labels text a → IsContent labels text b → a ≡ b
+    (edition : Edition) (labels : List (List ℕ)) (text : List ℕ) (a b : ContentValue) → IsTable labels
+    → IsContent edition labels text a → IsContent edition labels text b → a ≡ b
 
 -- a text that is refused writes none
 abbrev pub RefusedWritesNone : Type 0
 RefusedWritesNone =
-    (labels : List (List ℕ)) (text : List ℕ) (content : ContentValue)
-    → IsDeepFormula text ⊎ HasTooManyRefs text → ¬ IsContent labels text content
+    (edition : Edition) (labels : List (List ℕ)) (text : List ℕ) (content : ContentValue)
+    → IsDeepFormula text ⊎ HasTooManyRefs edition text → ¬ IsContent edition labels text content

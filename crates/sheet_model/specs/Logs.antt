@@ -18,7 +18,10 @@ abbrev pub OneMoreEntryIsOneMoreEdit : Type 0
 OneMoreEntryIsOneMoreEdit =
     (sheet : SheetValue) (log : List Entry) (entry : Entry) → after sheet (log ++ entry ∷ []) ≡ after_edit (after sheet log) entry.edit
 
--- a log changes neither the sizes nor the labels
+-- a log changes neither the edition nor the sizes nor the labels
+abbrev pub LogsKeepEdition : Type 0
+LogsKeepEdition = (sheet : SheetValue) (log : List Entry) → (after sheet log).edition ≡ sheet.edition
+
 abbrev pub LogsKeepSizes : Type 0
 LogsKeepSizes = (sheet : SheetValue) (log : List Entry) → (after sheet log).sizes ≡ sheet.sizes
 

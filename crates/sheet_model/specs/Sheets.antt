@@ -3,6 +3,7 @@ use Rattle.std.specs.Prelude.{◌≡◌, ◌≢◌, ℕ, ◌*◌, ◌<◌, ◌�
 use Rattle.sheet_refs.specs.Cells.{Position}
 use Rattle.sheet_refs.specs.declared.sizes.Sizes.{Sizes}
 use Rattle.sheet_refs.specs.Sizes.{is_inside, cell_count, place_of}
+use Rattle.formula_syntax.specs.declared.edition.Edition.{Edition}
 use Rattle.formula_syntax.specs.Formula.{IsFormula}
 use Rattle.formula_syntax.specs.Tree.{Tree}
 use Rattle.value_core.specs.declared.value.ErrorKind.TheVariants.{Circ}
@@ -27,8 +28,9 @@ content_value (Error kind) = Constant (value.Error kind)
 content_value (Label place) = Constant (value.Label place)
 content_value (Formula tree) = Computed tree.value
 
--- the sizes, what stands in the cells, row by row, and the texts of labels
+-- the edition of the functions, the sizes, what stands in the cells, row by row, and the texts of labels
 pub record SheetValue : Type 0 where
+  pub edition : Edition
   pub sizes : Sizes
   pub contents : List ContentValue
   pub labels : List (List ℕ)
@@ -69,12 +71,12 @@ pub record IsSheet (sheet : SheetValue) : Type 0 where
   pub held : All (IsHeld (length sheet.labels)) sheet.contents
 
 -- a sheet as contracts see it
-abbrev pub sheet_value : Sizes → List Content → List (List ℕ) → SheetValue
-sheet_value sizes contents labels = record { sizes = sizes; contents = map content_value contents; labels = labels }
+abbrev pub sheet_value : Edition → Sizes → List Content → List (List ℕ) → SheetValue
+sheet_value edition sizes contents labels = record { edition = edition; sizes = sizes; contents = map content_value contents; labels = labels }
 
 -- the same of a sheet in memory; what it lends for a cell past the rectangle is empty
-pub record IsStored (sizes : Sizes) (contents : List Content) (labels : List (List ℕ)) (outside : Content) : Type 0 where
-  pub sheet : IsSheet (sheet_value sizes contents labels)
+pub record IsStored (edition : Edition) (sizes : Sizes) (contents : List Content) (labels : List (List ℕ)) (outside : Content) : Type 0 where
+  pub sheet : IsSheet (sheet_value edition sizes contents labels)
   pub nothing : outside ≡ Empty
 
 -- what stands in a cell; a cell past the rectangle is empty
@@ -82,25 +84,26 @@ abbrev pub content_of : SheetValue → Position → ContentValue
 content_of sheet cell = if is_inside sheet.sizes cell then slice_index_or sheet.contents (place_of sheet.sizes cell) (Constant value.Empty) else Constant value.Empty
 
 -- a sheet with nothing in its cells and no labels
-abbrev pub blank_sheet : Sizes → SheetValue
-blank_sheet sizes = record { sizes = sizes; contents = replicate (cell_count sizes) (Constant value.Empty); labels = [] }
+abbrev pub blank_sheet : Edition → Sizes → SheetValue
+blank_sheet edition sizes = record { edition = edition; sizes = sizes; contents = replicate (cell_count sizes) (Constant value.Empty); labels = [] }
 
 -- the sheet with another table of labels
 abbrev pub with_labels : SheetValue → List (List ℕ) → SheetValue
-with_labels sheet labels = record { sizes = sheet.sizes; contents = sheet.contents; labels = labels }
+with_labels sheet labels = record { edition = sheet.edition; sizes = sheet.sizes; contents = sheet.contents; labels = labels }
 
 -- the sheet with another content in one of its cells
 abbrev pub with_content : SheetValue → Position → ContentValue → SheetValue
 with_content sheet cell content = record {
+  edition = sheet.edition;
   sizes = sheet.sizes;
   contents = slice_set sheet.contents (place_of sheet.sizes cell) content;
   labels = sheet.labels;
 }
 
--- sheets with the same sizes, the same labels and the same content in each cell are the same
+-- sheets with the same edition, the same sizes, the same labels and the same content in each cell are the same
 abbrev pub SheetsAreTheirCells : Type 0
 SheetsAreTheirCells =
-    (a b : SheetValue) → IsSheet a → IsSheet b → a.sizes ≡ b.sizes → a.labels ≡ b.labels
+    (a b : SheetValue) → IsSheet a → IsSheet b → a.edition ≡ b.edition → a.sizes ≡ b.sizes → a.labels ≡ b.labels
     → ((cell : Position) → IsTrue (is_inside a.sizes cell) → content_of a cell ≡ content_of b cell) → a ≡ b
 
 -- a label that stands in a cell of a sheet is in its table

@@ -1,5 +1,6 @@
 // What no clause says: that boards and copies are made where there is memory.
 use crate::{Board, Change, Content, Edit, Entry, Sheet, Shown};
+use formula_syntax::Edition;
 use sheet_refs::{Cell, cell_of, range_of};
 use std::alloc::Global;
 use std::test::Fail;
@@ -37,7 +38,7 @@ fn cell(name: &str) -> Result<Cell, Fail> {
 
 // A sheet of one row with a label, a formula and nothing.
 fn small(alloc: Global) -> Result<Sheet, Fail> {
-    let mut sheet = Sheet::blank(alloc, 1, 3)?;
+    let mut sheet = Sheet::blank(alloc, 1, 3, Edition::One)?;
     for (name, field) in [("A1", "Rent"), ("B1", "=A1+1")] {
         let cell = cell(name)?;
         if field.len() > 8_192 || !sheet.holds(cell) || sheet.labels().length() == u32::MAX {

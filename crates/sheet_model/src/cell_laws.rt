@@ -3,22 +3,22 @@ ghost use Rattle.sheet_model.specs.Edits.{EditsFillTheirCells, EditsLeaveOtherCe
 ghost use Rattle.sheet_model.specs.Edits.{OrderOfChangesIsFree, ReplacedContentsUndoEdits};
 ghost use Rattle.sheet_model.specs.Fields.{WritesOneContent, RefusedWritesNone};
 ghost use Rattle.sheet_model.specs.Logs.{OneMoreEntryIsOneMoreEdit, LogsKeepSizes, LogsKeepLabels};
-ghost use Rattle.sheet_model.specs.Logs.{LogsKeepSheets};
+ghost use Rattle.sheet_model.specs.Logs.{LogsKeepEdition, LogsKeepSheets};
 ghost use Rattle.sheet_model.specs.Seen.{CodesShowTheirValues, WorthsShowTheirValues};
 ghost use Rattle.sheet_model.specs.Seen.{NewerMarksAreShown, StaleMarksAreShown};
 ghost use Rattle.sheet_model.specs.Sheets.{SheetsAreTheirCells, LabelsAreInTheirTable};
 ghost use Rattle.sheet_model.specs.Sheets.{ConstantsAreInRange, FormulasCanBeRead};
 
-/// What holds of fields: over a table of labels a text writes at most one content, and a text that is
+/// What holds of fields: in an edition, over a table of labels, a text writes at most one content, and a text that is
 /// refused writes none.
 pub fn field_laws()
     ensures one { WritesOneContent }
     ensures refused { RefusedWritesNone }
 {}
 
-/// What holds of sheets as contracts see them: one is told by its sizes, its labels and what stands in its
-/// cells. A label that stands in a cell is in the table, a constant is a value in range other than `#CIRC!`,
-/// and a formula can be read.
+/// What holds of sheets as contracts see them: one is told by its edition, its sizes, its labels and what stands in
+/// its cells. A label that stands in a cell is in the table, a constant is a value in range other than `#CIRC!`, and
+/// a formula can be read.
 pub fn sheet_laws()
     ensures told { SheetsAreTheirCells }
     ensures labels { LabelsAreInTheirTable }
@@ -39,10 +39,11 @@ pub fn edit_laws()
 {}
 
 /// What holds of sheets after logs of edits: a log with one more entry makes one more edit, and no log changes the
-/// sizes or the labels of a sheet. Where what each entry puts into its cells may stand beside the labels, the sheet
-/// after the log is one.
+/// edition, the sizes or the labels of a sheet. Where what each entry puts into its cells may stand beside the
+/// labels, the sheet after the log is one.
 pub fn log_laws()
     ensures more { OneMoreEntryIsOneMoreEdit }
+    ensures edition { LogsKeepEdition }
     ensures sizes { LogsKeepSizes }
     ensures labels { LogsKeepLabels }
     ensures sheets { LogsKeepSheets }

@@ -2,6 +2,7 @@ use crate::change::Change;
 use crate::content::Content;
 use crate::labels::Labels;
 use crate::sheet::Sheet;
+use formula_syntax::Edition;
 use sheet_refs::Cell;
 use std::alloc::Global;
 use std::fmt::Write;
@@ -29,7 +30,7 @@ fn push_content(text: &mut String, sheet: &Sheet, content: &Content) -> Result<(
 
 /// What fields hold, read one after the other into one table.
 fn contents_of(alloc: Global, fields: &[&str]) -> Result<String, Fail> {
-    let mut sheet = Sheet::blank(alloc, 1, 1)?;
+    let mut sheet = Sheet::blank(alloc, 1, 1, Edition::One)?;
     let mut text = String::new(alloc);
     for field in fields {
         if field.len() > 8192 || sheet.labels().length() > 1000 {
@@ -88,7 +89,7 @@ fn words_are_truths_errors_formulas_or_labels(rt: HostRuntime) -> Result<(), Fai
 
 #[test]
 fn a_change_gives_back_what_the_cell_held(rt: HostRuntime) -> Result<(), Fail> {
-    let mut sheet = Sheet::blank(rt.alloc(), 2, 2)?;
+    let mut sheet = Sheet::blank(rt.alloc(), 2, 2, Edition::One)?;
     let cell = Cell::new(2, 1).ok_or("no such cell")?;
     let mut text = String::new(rt.alloc());
     for field in ["7", "x"] {

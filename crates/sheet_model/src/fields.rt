@@ -8,7 +8,7 @@ ghost use Rattle.formula_syntax.specs.declared.reader.TheConstants.{MAX_TEXT};
 
 use crate::content::Content;
 use crate::labels::Labels;
-use formula_syntax::{ReadRefused, read_formula};
+use formula_syntax::{Edition, ReadRefused, read_formula};
 use sheet_refs::{Memory, decimal_of};
 use std::alloc::{AllocError, Global};
 use std::sync::Arc;
@@ -92,16 +92,16 @@ fn begins_formula(field: &[u8]) -> bool
 }
 
 // What a field that begins as a formula holds.
-fn formula_content(alloc: Global, field: &[u8]) -> Result<Content, ContentRefused>
+fn formula_content(alloc: Global, field: &[u8], edition: Edition) -> Result<Content, ContentRefused>
     requires short { length field.now ≤ MAX_TEXT }
     requires begins { BeginsFormula field.now }
-    ensures read { IfOk result (λ content. IsContent [] field.now (content_value content)) }
+    ensures read { IfOk result (λ content. IsContent edition [] field.now (content_value content)) }
     ensures too_deep { result ≢ Err ContentRefused.Memory
         → (result ≡ Err ContentRefused.TooDeep ↔ IsDeepFormula field.now) }
     ensures too_many_refs { result ≢ Err ContentRefused.Memory
-        → (result ≡ Err ContentRefused.TooManyRefs ↔ HasTooManyRefs field.now) }
+        → (result ≡ Err ContentRefused.TooManyRefs ↔ HasTooManyRefs edition field.now) }
 {
-    match read_formula(alloc, field) {
+    match read_formula(alloc, field, edition) {
         Ok(formula) => match Arc::new(alloc, formula) {
             Ok(formula) => Ok(Content::Formula(formula)),
             Err(_) => Err(ContentRefused::Memory),
@@ -116,7 +116,7 @@ fn formula_content(alloc: Global, field: &[u8]) -> Result<Content, ContentRefuse
 /// Reads a field, a text of at most 8,192 bytes: no bytes are Empty; digits, with or without a sign, that
 /// write a whole number in range, a number; TRUE or FALSE in letters of either case, a truth; the name of
 /// an error other than `#CIRC!`, that error; a text that begins with `=` or `of:=`, the formula that it
-/// spells, and `#NAME?` where it spells none; any other text, a label.
+/// spells with the functions of an edition, and `#NAME?` where it spells none; any other text, a label.
 ///
 /// The text of a label is in the table afterwards, and nothing else changes the table. Refuses a text that
 /// begins as a formula with TooDeep exactly where more than 64 parentheses are open somewhere, and with
@@ -125,17 +125,18 @@ fn formula_content(alloc: Global, field: &[u8]) -> Result<Content, ContentRefuse
 pub fn read_content(
     alloc: Global,
     text: &str,
+    edition: Edition,
     labels: &mut Labels,
 ) -> Result<Content, ContentRefused>
     requires short { length text.now ≤ 8192 }
     requires room { length labels.old < 2 ^ 32 - 1 }
-    ensures read { IfOk result (λ content. IsContent labels.new text.now (content_value content)) }
+    ensures read { IfOk result (λ content. IsContent edition labels.new text.now (content_value content)) }
     ensures table { OnOk result (IsTableAfter text.now labels.old labels.new) }
     ensures refused { OnErr result (labels.new ≡ labels.old) }
     ensures too_deep { result ≢ Err ContentRefused.Memory
         → (result ≡ Err ContentRefused.TooDeep ↔ IsDeepFormula text.now) }
     ensures too_many_refs { result ≢ Err ContentRefused.Memory
-        → (result ≡ Err ContentRefused.TooManyRefs ↔ HasTooManyRefs text.now) }
+        → (result ≡ Err ContentRefused.TooManyRefs ↔ HasTooManyRefs edition text.now) }
 {
     let field = text.as_bytes();
     if field.is_empty() {
@@ -151,7 +152,7 @@ pub fn read_content(
         return Ok(Content::Error(kind));
     }
     if begins_formula(field) {
-        return formula_content(alloc, field);
+        return formula_content(alloc, field, edition);
     }
     let place = labels.intern(text)?;
     Ok(Content::Label(place))

@@ -14,6 +14,7 @@ use crate::content::{Content, copy_all};
 use crate::edit::Edit;
 use crate::fields::{ContentRefused, read_content};
 use crate::labels::Labels;
+use formula_syntax::Edition;
 use sheet_refs::{Cell, Memory, Sizes};
 use std::alloc::Global;
 use std::marker::Model;
@@ -26,6 +27,7 @@ use std::mem;
 /// writes `#CIRC!`.
 #[derive(Drop)]
 pub struct Sheet {
+    edition: Edition,
     sizes: Sizes,
     contents: Vec<Content>,
     labels: Labels,
@@ -43,16 +45,18 @@ impl Model for Sheet {
 
     ghost coded = { Prim.hlevel (codes, tree_code (Prim.hlevel codes)) };
 
-    ghost view = { λ s. sheet_value s.sizes s.contents.items s.labels };
+    ghost view = { λ s. sheet_value s.edition s.sizes s.contents.items s.labels };
 
-    ghost invariant = { λ s. IsStored s.sizes s.contents.items s.labels s.outside };
+    ghost invariant = { λ s. IsStored s.edition s.sizes s.contents.items s.labels s.outside };
 }
 
 impl Sheet {
-    /// A sheet of empty cells. It takes time and memory in proportion to the number of cells.
-    pub fn blank(alloc: Global, rows: u32, cols: u32) -> Result<Sheet, Memory>
+    /// A sheet of empty cells, whose formulas have the functions of an edition. It takes time and memory in
+    /// proportion to the number of cells.
+    pub fn blank(alloc: Global, rows: u32, cols: u32, edition: Edition) -> Result<Sheet, Memory>
         requires { IsSheetSize (record { rows = rows; cols = cols }) }
-        ensures { IfOk result (λ sheet. sheet ≡ blank_sheet (record { rows = rows; cols = cols })) }
+        ensures { IfOk result
+            (λ sheet. sheet ≡ blank_sheet edition (record { rows = rows; cols = cols })) }
     {
         let cells = rows as usize * cols as usize;
         let mut contents = Vec::with_capacity(alloc, cells)?;
@@ -60,6 +64,7 @@ impl Sheet {
             contents.push(Content::Empty)?;
         }
         Ok(Sheet {
+            edition,
             sizes: Sizes { rows, cols },
             contents,
             labels: Labels::new(alloc),
@@ -76,12 +81,21 @@ impl Sheet {
         let contents = copy_all(self.alloc, &self.contents)?;
         let labels = self.labels.copy()?;
         Ok(Sheet {
+            edition: self.edition,
             sizes: self.sizes,
             contents,
             labels,
             outside: Content::Empty,
             alloc: self.alloc,
         })
+    }
+
+    /// The edition of the functions of its formulas.
+    pub fn edition(&self) -> Edition
+        ensures edition { result ≡ self.now.edition }
+        ensures sheet { IsSheet self.now }
+    {
+        self.edition
     }
 
     /// The number of rows and of columns.
@@ -161,13 +175,13 @@ impl Sheet {
         }
     }
 
-    /// Reads a field as `read_content` does, into the sheet's own table, and changes nothing else. The
-    /// content may then be put into a cell of the sheet.
+    /// Reads a field as `read_content` does, in the sheet's edition and into its own table, and changes nothing else.
+    /// The content may then be put into a cell of the sheet.
     pub fn read(&mut self, text: &str) -> Result<Content, ContentRefused>
         requires short { length text.now ≤ 8192 }
         requires room { length self.old.labels < 2 ^ 32 - 1 }
         ensures read { IfOk result
-            (λ content. IsContent self.new.labels text.now (content_value content)) }
+            (λ content. IsContent self.old.edition self.new.labels text.now (content_value content)) }
         ensures held { IfOk result
             (λ content. IsHeld (length self.new.labels) (content_value content)) }
         ensures table { OnOk result (IsTableAfter text.now self.old.labels self.new.labels) }
@@ -176,9 +190,9 @@ impl Sheet {
         ensures too_deep { result ≢ Err refused.Memory
             → (result ≡ Err refused.TooDeep ↔ IsDeepFormula text.now) }
         ensures too_many_refs { result ≢ Err refused.Memory
-            → (result ≡ Err refused.TooManyRefs ↔ HasTooManyRefs text.now) }
+            → (result ≡ Err refused.TooManyRefs ↔ HasTooManyRefs self.old.edition text.now) }
     {
-        read_content(self.alloc, text, &mut self.labels)
+        read_content(self.alloc, text, self.edition, &mut self.labels)
     }
 
     /// Puts a content into a cell, and gives back what the cell held. It takes no memory.

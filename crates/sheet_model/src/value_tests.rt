@@ -4,6 +4,7 @@ ghost use Rattle.std.specs.Prelude.{◌≡◌};
 ghost use Rattle.sheet_model.specs.Sheets.{IsSheetSize};
 
 use crate::{Change, Sheet, all_values};
+use formula_syntax::Edition;
 use sheet_refs::Cell;
 use std::alloc::Global;
 use std::fmt::Write;
@@ -43,7 +44,7 @@ fn shown(alloc: Global, sheet: &Sheet, count: usize) -> Result<String, Fail> {
 
 // The values of a sheet of three columns and three rows with these fields, row by row.
 fn values_of(alloc: Global, fields: &[&str]) -> Result<String, Fail> {
-    let mut sheet = Sheet::blank(alloc, 3, 3)?;
+    let mut sheet = Sheet::blank(alloc, 3, 3, Edition::One)?;
     for (place, field) in fields.iter().enumerate() {
         if place >= 9 {
             return Err(Fail::from("more fields than cells"));
@@ -148,7 +149,7 @@ fn circular_references(rt: HostRuntime) -> Result<(), Fail> {
 #[test]
 fn sums_of_columns_that_wait(rt: HostRuntime) -> Result<(), Fail> {
     let alloc = rt.alloc();
-    let mut sheet = Sheet::blank(alloc, 50, 1)?;
+    let mut sheet = Sheet::blank(alloc, 50, 1, Edition::One)?;
     put(&mut sheet, 50, 1, "1")?;
     for row in 1..50 {
         let below = row + 1;

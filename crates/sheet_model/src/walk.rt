@@ -10,8 +10,8 @@ ghost use Rattle.sheet_model.specs.Words.{AreWords, Open, Unseen};
 use crate::eval::{add_content, evaluate, first_words};
 use crate::parts::Part;
 use crate::sheet::Sheet;
-use crate::words::{CIRCULAR, OPEN, UNSEEN, look};
-use formula_eval::Stack;
+use crate::words::{OPEN, UNSEEN, look};
+use formula_eval::{CIRCULAR, Stack};
 use sheet_refs::{Cell, Memory};
 use std::alloc::{AllocError, Global};
 

@@ -7,6 +7,7 @@ ghost use Rattle.sheet_model.specs.Words.{AreWords, IsCodeWord, is_plain as plai
 ghost use Rattle.sheet_model.specs.Words.{cell_state, states_of};
 
 use crate::parts::Part;
+use formula_eval::CIRCULAR;
 use sheet_refs::{Cell, Sizes};
 
 /// The word of a cell that wasn't looked at. No value has it as its code.
@@ -14,9 +15,6 @@ pub(crate) const UNSEEN: u64 = 5;
 
 /// The word of a cell that waits for the value of another one. No value has it as its code.
 pub(crate) const OPEN: u64 = 6;
-
-/// The code of `#CIRC!`.
-pub(crate) const CIRCULAR: u64 = 59;
 
 fn is_plain_word(word: u64) -> bool
     requires { IsCodeWord word }

@@ -31,7 +31,7 @@ loop-row-preserved c =
     let way = c.loop-row.invariant in
     let read = rw c.if-not-branch.false at (c.in_ok-read_next.ensures c.args.text.now way.rows way.read) in
     let put = c.in_ok-fill_row.ensures in
-    way_goes (λ s. Some s.now) c.args.text.now all.0 all.1 all.2 c.args.sheet.now all.3 c.loop-row.row (fields_of c.read_next.new.fields) c.loop-row.sheet c.fill_row.new.sheet c.loop-row.reader c.read_next.new.reader way read put.filled put.sizes put.few
+    way_goes (λ s. Some s.now) c.args.text.now all.0 all.1 all.2 c.args.sheet.now all.3 c.loop-row.row (fields_of c.read_next.new.fields) c.loop-row.sheet c.fill_row.new.sheet c.loop-row.reader c.read_next.new.reader way read put.filled put.edition put.sizes put.few
 
 pub returns-clause-filled : goal.returns-clause-filled
 returns-clause-filled c =
@@ -49,6 +49,6 @@ returns-in_err-fill_row-clause-why c =
       all.0,
       all.1,
       way_refused (λ s. Some s.now) c.args.text.now all.0 all.1 all.2 c.args.sheet.now all.3 c.loop-row.row (fields_of c.read_next.new.fields) c.loop-row.sheet c.loop-row.reader c.read_next.new.reader way read
-          e other (subst (λ k. IsRowRefusal c.loop-row.row (fields_of c.read_next.new.fields) k) (sym same) c.in_err-fill_row.ensures.why),
+          e other (subst (λ k. IsRowRefusal c.loop-row.sheet.edition c.loop-row.row (fields_of c.read_next.new.fields) k) (sym same) c.in_err-fill_row.ensures.why),
     ))
     c.from_residual-in_err-fill_row.ensures.1

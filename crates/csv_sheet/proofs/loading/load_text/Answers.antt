@@ -1,79 +1,22 @@
-use Rattle.std.proofs.Common.{◌∙◌, sym, ap, subst, arith, Ok, Err}
-use Rattle.csv_sheet.specs.Results.{IsFirstField, IsLong}
-use Rattle.csv_sheet.specs.declared.refused.SheetRefused.TheVariants as refused
-use Rattle.csv_sheet.proofs.LoadLemmas.{result_from, records_without_marks, records_short, large, not_large, not_too_large, all_text, long_first, sheet_size, long_named}
-use Rattle.csv_sheet.proofs.FillLemmas.{made_there}
+use Rattle.std.proofs.Common.{◌∙◌, ap, arith, refl, sym}
+use Rattle.csv_sheet.specs.Headings.{heading_of}
+use Rattle.csv_sheet.proofs.LoadLemmas.{headed_from, unheaded_from, records_plain}
 use Rattle.csv_sheet.proofs.loading.load_text.Goals as goal
 
-pub measure-requires-clause-no_marks : goal.measure-requires-clause-no_marks
-measure-requires-clause-no_marks c = records_without_marks c.args.text.now c.behind_marks-records.result.now c.behind_marks-records.ensures
+pub returns-in_default : goal.returns-in_default
+returns-in_default c = λ other. unheaded_from c.args.text.now _ (ap heading_of (sym c.behind_marks.ensures) ∙ c.in_default.ensures) refl
 
-pub measure-requires-clause-short : goal.measure-requires-clause-short
-measure-requires-clause-short c = records_short c.args.text.now c.behind_marks-records.result.now c.behind_marks-records.ensures c.requires
+pub load_records-requires-clause-no_marks : goal.load_records-requires-clause-no_marks
+load_records-requires-clause-no_marks c =
+    let is = ap heading_of (sym c.behind_marks.ensures) ∙ c.in-Some.ensures in
+    (records_plain c.args.text.now _ is).0
 
-pub fill-requires-clause-no_marks : goal.fill-requires-clause-no_marks
-fill-requires-clause-no_marks c = records_without_marks c.args.text.now c.behind_marks-records.result.now c.behind_marks-records.ensures
+pub load_records-requires-clause-short : goal.load_records-requires-clause-short
+load_records-requires-clause-short c =
+    let is = ap heading_of (sym c.behind_marks.ensures) ∙ c.in-Some.ensures in
+    omega (arith, (records_plain c.args.text.now _ is).1, c.requires)
 
-pub returns-then-is_too_large : goal.returns-then-is_too_large
-returns-then-is_too_large c = λ other.
-    let m = c.in_ok-extent.ensures in
-    let extent = c.in_ok-extent.extent in
-    result_from c.args.text.now c.behind_marks-records.result.now m.0 (Err (refused.TooManyCells c.from.result extent.cols)) c.behind_marks-records.ensures m.1 (
-      all_text m.0 extent m.2 c.in_default.is,
-      large m.0 extent m.2 (c.is_too_large.ensures.0 c.if-is_too_large.true),
-      c.from.ensures ∙ m.2.count,
-      m.2.cols,
-    )
-
-pub overflow_cast-col : goal.overflow_cast-col
-overflow_cast-col c =
-    let m = c.in_ok-extent.ensures in
-    let extent = c.in_ok-extent.extent in
-    let first = long_first m.0 extent m.2 c.in-Some-long.row c.in-Some-long.col c.in-Some-long.is in
-    let named = long_named m.0 extent m.2 c.in-Some-long.row c.in-Some-long.col first (not_large m.0 extent m.2 c.is_too_large.result c.is_too_large.ensures.1 c.if-is_too_large.false) in
-    let col_to = named.col_to in
-    omega (arith, col_to)
-
-pub overflow_add-col : goal.overflow_add-col
-overflow_add-col c =
-    let m = c.in_ok-extent.ensures in
-    let extent = c.in_ok-extent.extent in
-    let first = long_first m.0 extent m.2 c.in-Some-long.row c.in-Some-long.col c.in-Some-long.is in
-    let named = long_named m.0 extent m.2 c.in-Some-long.row c.in-Some-long.col first (not_large m.0 extent m.2 c.is_too_large.result c.is_too_large.ensures.1 c.if-is_too_large.false) in
-    let col_to = named.col_to in
-    omega (arith, col_to)
-
-pub unwrap-requires : goal.unwrap-requires
-unwrap-requires c =
-    let m = c.in_ok-extent.ensures in
-    let extent = c.in_ok-extent.extent in
-    let first = long_first m.0 extent m.2 c.in-Some-long.row c.in-Some-long.col c.in-Some-long.is in
-    c.new.ensures.named.1 (long_named m.0 extent m.2 c.in-Some-long.row c.in-Some-long.col first (not_large m.0 extent m.2 c.is_too_large.result c.is_too_large.ensures.1 c.if-is_too_large.false))
-
-pub returns-in-Some-long : goal.returns-in-Some-long
-returns-in-Some-long c = λ other.
-    let m = c.in_ok-extent.ensures in
-    let extent = c.in_ok-extent.extent in
-    let first = long_first m.0 extent m.2 c.in-Some-long.row c.in-Some-long.col c.in-Some-long.is in
-    let cell = made_there c.new.result c.unwrap.result c.in-Some-long.row c.in-Some-long.col c.new.ensures.position c.unwrap.ensures in
-    result_from c.args.text.now c.behind_marks-records.result.now m.0 (Err (refused.FieldTooLong c.unwrap.result)) c.behind_marks-records.ensures m.1 (
-      all_text m.0 extent m.2 c.in_default.is,
-      not_too_large m.0 extent m.2 (not_large m.0 extent m.2 c.is_too_large.result c.is_too_large.ensures.1 c.if-is_too_large.false),
-      subst (IsFirstField IsLong m.0) (sym cell) first,
-    )
-
-pub blank-requires : goal.blank-requires
-blank-requires c =
-    let m = c.in_ok-extent.ensures in
-    let extent = c.in_ok-extent.extent in
-    sheet_size m.0 extent m.2 c.behind_marks-records.result.now m.1 (not_large m.0 extent m.2 c.is_too_large.result c.is_too_large.ensures.1 c.if-is_too_large.false)
-
-pub returns-in-Ok : goal.returns-in-Ok
-returns-in-Ok c = λ other.
-    let r = c.in-Ok.ensures.filled in
-    result_from c.args.text.now c.behind_marks-records.result.now r.0 (Ok c.fill.new.sheet) c.behind_marks-records.ensures r.1 r.2
-
-pub returns-in-Err : goal.returns-in-Err
-returns-in-Err c = λ other.
-    let r = c.in-Err.ensures.why (λ same. other (ap (λ e. Err e) same)) in
-    result_from c.args.text.now c.behind_marks-records.result.now r.0 (Err c.in-Err.refused) c.behind_marks-records.ensures r.1 r.2
+pub returns : goal.returns
+returns c = λ other.
+    let is = ap heading_of (sym c.behind_marks.ensures) ∙ c.in-Some.ensures in
+    headed_from c.args.text.now _ c.load_records.result is (c.load_records.ensures other)

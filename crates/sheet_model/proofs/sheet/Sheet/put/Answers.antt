@@ -11,7 +11,7 @@ invariant_of-self c =
     let has : HasLabel (length c.args.self.now.labels) (content_value c.change.inside.content) = subst (HasLabel (length c.args.self.now.labels)) (sym content) c.requires.label in
     let held : IsHeld (length c.self.inside.labels) (content_value c.change.inside.content) =
     record { label = subst (λ ls. HasLabel (length ls) (content_value c.change.inside.content)) labels has; written = c.change.invariant } in
-    let changed = sheet_with_content (sheet_value c.self.inside.sizes c.self.inside.contents.items c.self.inside.labels) c.change.inside.cell (content_value c.change.inside.content) c.self.invariant.sheet held in
+    let changed = sheet_with_content (sheet_value c.self.inside.edition c.self.inside.sizes c.self.inside.contents.items c.self.inside.labels) c.change.inside.cell (content_value c.change.inside.content) c.self.invariant.sheet held in
     record {
       sheet = rw (c.replace.ensures.after, c.place-place.ensures.place, map-set) changed;
       nothing = c.self.invariant.nothing;

@@ -1,0 +1,74 @@
+use Rattle.std.proofs.Common.{◌≡◌, ◌∙◌, sym, ap, subst, arith, Ok, Err}
+use Rattle.formula_syntax.specs.declared.edition.Edition.{Edition}
+use Rattle.sheet_model.specs.Sheets.{SheetValue}
+use Rattle.csv_sheet.specs.Results.{IsFirstField, IsGivenByRecords, IsLong, IsSheetOf}
+use Rattle.csv_sheet.specs.declared.refused.SheetRefused.TheVariants as refused
+use Rattle.csv_sheet.proofs.LoadLemmas.{result_from, large, not_large, not_too_large, all_text, long_first, sheet_size, long_named}
+use Rattle.csv_sheet.proofs.FillLemmas.{made_there}
+use Rattle.csv_sheet.proofs.loading.load_records.Goals as goal
+
+pub returns-then-is_too_large : goal.returns-then-is_too_large
+returns-then-is_too_large c = λ other.
+    let m = c.in_ok-extent.ensures in
+    let extent = c.in_ok-extent.extent in
+    result_from c.args.edition c.args.records.now m.0 (Err (refused.TooManyCells c.from.result extent.cols)) m.1 (
+      all_text m.0 extent m.2 c.in_default.is,
+      large m.0 extent m.2 (c.is_too_large.ensures.0 c.if-is_too_large.true),
+      c.from.ensures ∙ m.2.count,
+      m.2.cols,
+    )
+
+pub overflow_cast-col : goal.overflow_cast-col
+overflow_cast-col c =
+    let m = c.in_ok-extent.ensures in
+    let extent = c.in_ok-extent.extent in
+    let first = long_first m.0 extent m.2 c.in-Some-long.row c.in-Some-long.col c.in-Some-long.is in
+    let named = long_named m.0 extent m.2 c.in-Some-long.row c.in-Some-long.col first (not_large m.0 extent m.2 c.is_too_large.result c.is_too_large.ensures.1 c.if-is_too_large.false) in
+    let col_to = named.col_to in
+    omega (arith, col_to)
+
+pub overflow_add-col : goal.overflow_add-col
+overflow_add-col c =
+    let m = c.in_ok-extent.ensures in
+    let extent = c.in_ok-extent.extent in
+    let first = long_first m.0 extent m.2 c.in-Some-long.row c.in-Some-long.col c.in-Some-long.is in
+    let named = long_named m.0 extent m.2 c.in-Some-long.row c.in-Some-long.col first (not_large m.0 extent m.2 c.is_too_large.result c.is_too_large.ensures.1 c.if-is_too_large.false) in
+    let col_to = named.col_to in
+    omega (arith, col_to)
+
+pub unwrap-requires : goal.unwrap-requires
+unwrap-requires c =
+    let m = c.in_ok-extent.ensures in
+    let extent = c.in_ok-extent.extent in
+    let first = long_first m.0 extent m.2 c.in-Some-long.row c.in-Some-long.col c.in-Some-long.is in
+    c.new.ensures.named.1 (long_named m.0 extent m.2 c.in-Some-long.row c.in-Some-long.col first (not_large m.0 extent m.2 c.is_too_large.result c.is_too_large.ensures.1 c.if-is_too_large.false))
+
+pub returns-in-Some-long : goal.returns-in-Some-long
+returns-in-Some-long c = λ other.
+    let m = c.in_ok-extent.ensures in
+    let extent = c.in_ok-extent.extent in
+    let first = long_first m.0 extent m.2 c.in-Some-long.row c.in-Some-long.col c.in-Some-long.is in
+    let cell = made_there c.new.result c.unwrap.result c.in-Some-long.row c.in-Some-long.col c.new.ensures.position c.unwrap.ensures in
+    result_from c.args.edition c.args.records.now m.0 (Err (refused.FieldTooLong c.unwrap.result)) m.1 (
+      all_text m.0 extent m.2 c.in_default.is,
+      not_too_large m.0 extent m.2 (not_large m.0 extent m.2 c.is_too_large.result c.is_too_large.ensures.1 c.if-is_too_large.false),
+      subst (IsFirstField IsLong m.0) (sym cell) first,
+    )
+
+pub blank-requires : goal.blank-requires
+blank-requires c =
+    let m = c.in_ok-extent.ensures in
+    let extent = c.in_ok-extent.extent in
+    sheet_size m.0 extent m.2 c.args.records.now m.1 (not_large m.0 extent m.2 c.is_too_large.result c.is_too_large.ensures.1 c.if-is_too_large.false)
+
+pub returns-in-Ok : goal.returns-in-Ok
+returns-in-Ok c = λ other.
+    let r = c.in-Ok.ensures.filled in
+    let edition : c.in_ok-sheet.sheet.edition ≡ c.args.edition = ap (λ (s : SheetValue). s.edition) c.in_ok-sheet.ensures in
+    result_from c.args.edition c.args.records.now r.0 (Ok c.fill.new.sheet) r.1 (subst (λ (e : Edition). IsSheetOf e r.0 c.fill.new.sheet) edition r.2)
+
+pub returns-in-Err : goal.returns-in-Err
+returns-in-Err c = λ other.
+    let r = c.in-Err.ensures.why (λ same. other (ap (λ e. Err e) same)) in
+    let edition : c.in_ok-sheet.sheet.edition ≡ c.args.edition = ap (λ (s : SheetValue). s.edition) c.in_ok-sheet.ensures in
+    result_from c.args.edition c.args.records.now r.0 (Err c.in-Err.refused) r.1 (subst (λ (e : Edition). IsGivenByRecords e r.0 (Err c.in-Err.refused)) edition r.2)
