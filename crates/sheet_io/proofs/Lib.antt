@@ -1,3 +1,4 @@
 pub mod Prefixes
 pub mod Streams
 pub mod Readings
+pub mod CutLemmas

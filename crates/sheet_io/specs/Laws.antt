@@ -1,10 +1,12 @@
 -- What the words of the contracts on shelves and sinks say, in plain numbers and lists.
-use Rattle.std.specs.Prelude.{◌≡◌, ◌↔◌, ℕ, ◌<◌, ◌≤◌, ◌-◌, ◌^◌, List, ◌++◌, length, take, Some, Result, Ok, Err, IsSome}
+use Rattle.std.specs.Prelude.{◌≡◌, ◌↔◌, ℕ, ◌<◌, ◌≤◌, ◌-◌, ◌^◌, List, ◌++◌, length, take, Some, ◌∷◌, None, ◌≢◌, All, Result, Ok, Err, IsSome}
 use Rattle.std.specs.declared.option.Option.{Option}
 use Rattle.sheet_io.specs.Faults.{Rose}
-use Rattle.sheet_io.specs.Schedule.{next_fault}
+use Rattle.sheet_io.specs.Counts.{next_fault}
+use Rattle.sheet_io.specs.Cuts.{cut_at, limit_of}
 use Rattle.sheet_io.specs.Shelf.{Fetches}
 use Rattle.sheet_io.specs.Sink.{AppendsPrefix, Puts}
+use Rattle.sheet_io.specs.declared.cuts.Cut.{Cut}
 use Rattle.sheet_io.specs.declared.refusals.Failed.{Failed}
 use Rattle.sheet_io.specs.declared.refusals.Fetch.{Fetch}
 use Rattle.sheet_io.specs.declared.refusals.Fetch.TheVariants.{TooLong}
@@ -36,6 +38,20 @@ abbrev pub PutAppendsTheWhole : Type 0
 PutAppendsTheWhole =
     (old new piece : List ℕ) (result : Result (Unit {0}) Failed)
     → result ≡ Ok tt → Puts (Some old) (Some new) piece result → new ≡ old ++ piece
+
+-- a put whose number no cut has is not cut
+abbrev pub UncutIsWhole : Type 0
+UncutIsWhole = (cuts : List Cut) (call : ℕ) → All (λ cut. cut.call ≢ call) cuts → cut_at cuts call ≡ None
+
+-- of several cuts with one number the first counts
+abbrev pub FirstCutCounts : Type 0
+FirstCutCounts =
+    (cuts others : List Cut) (cut : Cut)
+    → All (λ other. other.call ≢ cut.call) cuts → cut_at (cuts ++ cut ∷ others) cut.call ≡ Some cut.taken
+
+-- what a cut put takes at most is what its cut says, or what there is room for, whichever is less
+abbrev pub CutIsALimit : Type 0
+CutIsALimit = (taken room : ℕ) → (taken ≤ room → limit_of (Some taken) room ≡ taken) × (room ≤ taken → limit_of (Some taken) room ≡ room)
 
 -- what a vector held stands before whatever a fetch has appended
 abbrev pub FetchKeepsTheFront : Type 0

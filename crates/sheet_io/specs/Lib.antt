@@ -5,7 +5,8 @@ pub mod Texts
 pub mod Sure
 pub mod MemoryShelf
 pub mod MemorySink
-pub mod Schedule
+pub mod Counts
+pub mod Cuts
 pub mod FileShelf
 pub mod StreamSink
 pub mod Laws

@@ -1,7 +1,7 @@
 -- What a shelf in memory keeps.
 use Rattle.std.specs.Prelude.{ℕ, ◌<◌, List, length, ◌⊎◌, Contains, IsNone, IsSomeAnd}
 use Rattle.std.specs.declared.option.Option.{Option}
-use Rattle.sheet_io.specs.Schedule.{next_call}
+use Rattle.sheet_io.specs.Counts.{next_call}
 use Rattle.sheet_io.specs.Texts.{text_under}
 use Rattle.sheet_io.specs.declared.memory_shelf.MemoryShelf.{MemoryShelf}
 
@@ -11,15 +11,15 @@ memory_holds shelf = text_under shelf.texts.items
 
 -- the numbers, from 1, of the fetches that are to fail
 abbrev pub fetches_to_fail : MemoryShelf → List ℕ
-fetches_to_fail shelf = shelf.schedule.fail.items
+fetches_to_fail shelf = shelf.fail.items
 
 -- how many fetches there were
 abbrev pub fetch_calls : MemoryShelf → ℕ
-fetch_calls shelf = shelf.schedule.calls
+fetch_calls shelf = shelf.counts.calls
 
 -- how many of them failed
 abbrev pub fetch_faults : MemoryShelf → ℕ
-fetch_faults shelf = shelf.schedule.faults
+fetch_faults shelf = shelf.counts.faults
 
 -- the next fetch is listed, or its name stands nowhere
 abbrev pub FetchFails : MemoryShelf → List ℕ → Type 0

@@ -1,7 +1,7 @@
 // A shelf whose names are paths of files.
 ghost use Rattle.std.specs.Prelude.{◌≡◌, ◌≤◌, ◌+◌, None, IsErrOf, vec_len};
 ghost use Rattle.sheet_io.specs.Faults.{Rose};
-ghost use Rattle.sheet_io.specs.Schedule.{next_fault};
+ghost use Rattle.sheet_io.specs.Counts.{next_fault};
 ghost use Rattle.sheet_io.specs.Shelf.{Fetches, TakesAtMost};
 ghost use Rattle.sheet_io.specs.FileShelf.{file_faults};
 ghost use Rattle.sheet_io.specs.declared.refusals.Fetch.TheVariants.{Failed};

@@ -1,5 +1,6 @@
 // Laws of the definitions that the contracts of shelves and sinks cite.
 ghost use Rattle.sheet_io.specs.Laws.{FaultIsARise, RoseIsGreater, StillIsNotRisen};
+ghost use Rattle.sheet_io.specs.Laws.{CutIsALimit, FirstCutCounts, UncutIsWhole};
 ghost use Rattle.sheet_io.specs.Laws.{PrefixIsFirstBytes, PutAppendsTheWhole, TellingGoesOn};
 ghost use Rattle.sheet_io.specs.Laws.{FetchGivesTheText, FetchKeepsTheFront, TooLongIsPastTheLimit};
 
@@ -16,6 +17,13 @@ pub fn put_laws()
     ensures prefix { PrefixIsFirstBytes }
     ensures telling { TellingGoesOn }
     ensures whole { PutAppendsTheWhole }
+{}
+
+/// Which puts a list of cuts cuts, and how many bytes these take at most.
+pub fn cut_laws()
+    ensures uncut { UncutIsWhole }
+    ensures first { FirstCutCounts }
+    ensures limit { CutIsALimit }
 {}
 
 /// What a fetch has appended: something behind what was held; where the shelf tells the text, all of it at

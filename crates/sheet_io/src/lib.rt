@@ -9,16 +9,17 @@
 //! [`SureShelf`] and [`SureSink`] never fail, and [`MemoryShelf`] and [`MemorySink`] fail by a list.
 //! [`FileShelf`] and [`StreamSink`] reach the outside: what a file holds or a stream took, no clause says.
 //! Definitions: `specs/Faults.antt`, `specs/Shelf.antt` and `specs/Sink.antt`; what their words say in plain
-//! numbers and lists are the laws of `fault_laws`, `put_laws` and `fetch_laws`. Below this crate stands the
+//! numbers and lists are the laws of `fault_laws`, `put_laws`, `cut_laws` and `fetch_laws`. Below this crate stands the
 //! standard library alone, and above it whatever reads a text or writes output.
 #![tactic(auto)]
 
+mod counts;
+mod cuts;
 mod file_shelf;
 mod laws;
 mod memory_shelf;
 mod memory_sink;
 mod refusals;
-mod schedule;
 mod shelf;
 mod sink;
 mod stream_sink;
@@ -27,8 +28,9 @@ mod sure;
 mod tests;
 mod texts;
 
+pub use cuts::Cut;
 pub use file_shelf::FileShelf;
-pub use laws::{fault_laws, fetch_laws, put_laws};
+pub use laws::{cut_laws, fault_laws, fetch_laws, put_laws};
 pub use memory_shelf::MemoryShelf;
 pub use memory_sink::MemorySink;
 pub use refusals::{Failed, Fetch, Memory};

@@ -1,14 +1,14 @@
 // A shelf whose texts stand in memory.
 ghost use Rattle.std.specs.Prelude.{◌≡◌, ◌<◌, ◌≤◌, ◌↔◌, OnErr, IsErrOf};
 ghost use Rattle.sheet_io.specs.Faults.{Rose};
-ghost use Rattle.sheet_io.specs.Schedule.{next_call, next_fault};
+ghost use Rattle.sheet_io.specs.Counts.{next_call, next_fault};
 ghost use Rattle.sheet_io.specs.Shelf.{Fetches};
 ghost use Rattle.sheet_io.specs.MemoryShelf.{memory_holds, fetches_to_fail, fetch_calls};
 ghost use Rattle.sheet_io.specs.MemoryShelf.{fetch_faults, FetchFails, HoldsTooMuch};
 ghost use Rattle.sheet_io.specs.Texts.{text_under};
 ghost use Rattle.sheet_io.specs.declared.refusals.Fetch.TheVariants.{Failed, TooLong};
 
-use crate::schedule::Schedule;
+use crate::counts::Counts;
 use crate::texts::find_text;
 use crate::{Fetch, Shelf};
 
@@ -19,7 +19,8 @@ use crate::{Fetch, Shelf};
 #[derive(Debug, Drop)]
 pub struct MemoryShelf {
     texts: Vec<(String, Vec<u8>)>,
-    schedule: Schedule,
+    fail: Vec<u32>,
+    counts: Counts,
 }
 
 impl MemoryShelf {
@@ -33,7 +34,8 @@ impl MemoryShelf {
     {
         MemoryShelf {
             texts,
-            schedule: Schedule::new(fail),
+            fail,
+            counts: Counts::new(),
         }
     }
 
@@ -46,7 +48,7 @@ impl MemoryShelf {
         ensures faults { fetch_faults self.new ≡ next_fault (fetch_faults self.old) }
         ensures counted { fetch_faults self.old ≤ fetch_faults self.new }
     {
-        self.schedule.raise();
+        self.counts.raise();
         Fetch::Failed
     }
 }
@@ -56,7 +58,7 @@ impl Shelf for MemoryShelf {
 
     ghost faults = { fetch_faults };
 
-    /// Looks at the names one after the other.
+    /// Looks at each number of the list, and then at the names one after the other.
     fn fetch(&mut self, name: &str, limit: usize, into: &mut Vec<u8>) -> Result<(), Fetch>
         ensures fetched { Fetches
             (memory_holds self.old name.now) limit into.old.items into.new.items result }
@@ -77,7 +79,8 @@ impl Shelf for MemoryShelf {
             → fetch_faults self.new ≡ next_fault (fetch_faults self.old) }
         ensures stays { ¬ IsErrOf result Failed → fetch_faults self.new ≡ fetch_faults self.old }
     {
-        if self.schedule.begin() {
+        let call = self.counts.begin();
+        if self.fail.contains(&call) {
             return Err(self.refuse());
         }
         let Some(text) = find_text(&self.texts, name) else {

@@ -1,7 +1,7 @@
 // A sink over a writer of the standard library, as standard output.
 ghost use Rattle.std.specs.Prelude.{◌≡◌, ◌≤◌, OnOk, OnErr};
 ghost use Rattle.sheet_io.specs.Faults.{Rose};
-ghost use Rattle.sheet_io.specs.Schedule.{next_fault};
+ghost use Rattle.sheet_io.specs.Counts.{next_fault};
 ghost use Rattle.sheet_io.specs.Sink.{Puts};
 ghost use Rattle.sheet_io.specs.StreamSink.{stream_writer, stream_faults};
 

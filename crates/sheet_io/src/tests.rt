@@ -89,6 +89,29 @@ fn a_sink_in_memory_fails_by_its_list_and_at_its_room(rt: HostRuntime) -> Result
     Ok(())
 }
 
+// A cut that takes more than its piece takes the piece, and one that takes more than there is room for takes what fits.
+#[test]
+fn a_cut_put_takes_first_bytes_and_fails(rt: HostRuntime) -> Result<(), Fail> {
+    let alloc = rt.alloc();
+    let cuts = [(2, 1), (4, 0), (5, 9), (2, 3), (7, 4)]
+        .map(|(call, taken)| Cut { call, taken })
+        .to_vec(alloc)?;
+    let mut sink = MemorySink::cutting(alloc, 9, cuts)?;
+    for (piece, is_taken, written) in [
+        ("ab", true, "ab"),
+        ("cde", false, "abc"),
+        ("d", true, "abcd"),
+        ("efg", false, "abcd"),
+        ("ef", false, "abcdef"),
+        ("", true, "abcdef"),
+        ("ghijk", false, "abcdefghi"),
+    ] {
+        assert_eq!(rt; put_through(&mut sink, piece), is_taken, "putting {piece}");
+        assert_eq!(rt; sink.written(), written.as_bytes());
+    }
+    Ok(())
+}
+
 // A text of this many letters.
 fn letters(alloc: Global, count: usize) -> Result<Vec<u8>, AllocError> {
     vec![in alloc; b'x'; count]
