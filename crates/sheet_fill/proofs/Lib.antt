@@ -1,0 +1,9 @@
+pub mod EndLemmas
+pub mod FillLemmas
+pub mod FillTextLemmas
+pub mod LineTexts
+pub mod OtherLemmas
+pub mod PairLemmas
+pub mod RunLemmas
+pub mod ScriptLemmas
+pub mod ShapeLemmas
