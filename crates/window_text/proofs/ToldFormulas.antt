@@ -72,6 +72,9 @@ function_is_clear f.Islogical = refl
 function_is_clear f.Istext = refl
 function_is_clear f.Isblank = refl
 function_is_clear f.Na = refl
+function_is_clear f.Countif = refl
+function_is_clear f.Sumif = refl
+function_is_clear f.Match = refl
 
 dollar_is_clear : (b : Bool) → IsClear (dollar b)
 dollar_is_clear true = alone_clear 36 (λ is. not_dollar 36 is refl)

@@ -144,7 +144,10 @@ run_open : (t : TranscriptValue) → live_text t ≡ codes "log" ++ (32 ∷ (dec
     ++ (clients_text t.sheet.labels t.names t.reports ++ 115 ∷ (codes "heet " ++ (decimal (length t.log) ++ (32 ∷ closing_rows t.sheet)))))))
 run_open t =
     let rest = entries_text t.names t.sheet.labels 1 t.log ++ (clients_text t.sheet.labels t.names t.reports ++ closing_text (length t.log) t.sheet) in
+    let with_end : List ℕ → List ℕ = λ u. codes "log" ++ (32 ∷ (decimal (length t.log) ++ 10 ∷ (entries_text t.names t.sheet.labels 1 t.log
+    ++ (clients_text t.sheet.labels t.names t.reports ++ 115 ∷ (codes "heet " ++ u))))) in
     ap (λ u. codes "log" ++ (32 ∷ u)) (append_assoc (decimal (length t.log)) (10 ∷ []) rest)
+    ∙ ap with_end (append_assoc (decimal (length t.log)) (32 ∷ []) (closing_rows t.sheet))
 
 pub run_told : (t u : TranscriptValue) → IsTellableRun t → IsTellableRun u → live_text t ≡ live_text u → told_run t ≡ told_run u
 run_told t u one two same =

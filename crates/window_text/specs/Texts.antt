@@ -1,7 +1,7 @@
 -- What the commands print of a sheet, and of its edges.
-use Rattle.std.specs.Prelude.{ℕ, List, [], ◌∷◌, ◌++◌, map, flat_map, length, codes, IsTrue}
+use Rattle.std.specs.Prelude.{ℕ, ℤ, List, [], ◌∷◌, ◌++◌, map, flat_map, length, codes, IsTrue}
 use Rattle.std.specs.List.{join_with_byte}
-use Rattle.std.specs.Fmt.{decimal}
+use Rattle.std.specs.Fmt.{decimal, signed_decimal}
 use Rattle.sheet_refs.specs.Cells.{Position, Corners, IsIn, rows_of, row_cells}
 use Rattle.sheet_refs.specs.Names.{range_text}
 use Rattle.sheet_refs.specs.Sizes.{is_inside}
@@ -38,9 +38,13 @@ rows_text shown window = flat_map (row_text shown window) (rows_of window)
 abbrev pub sheet_window : SheetValue → Corners → List ℕ
 sheet_window sheet window = range_text window ++ (10 ∷ rows_text (shown_cell sheet) window)
 
--- what `show` writes
+-- what stands ahead of a window of a sheet after so many edits
+abbrev pub sheet_head : ℕ → List ℕ
+sheet_head number = codes "sheet " ++ (decimal number ++ (32 ∷ []))
+
+-- what `show` writes: a window of the sheet after no edit
 abbrev pub show_text : SheetValue → Corners → List ℕ
-show_text sheet window = codes "sheet 0 " ++ sheet_window sheet window
+show_text sheet window = sheet_head 0 ++ sheet_window sheet window
 
 -- what `deps` and `precs` write: a line for each of their ranges
 abbrev pub runs_text : List Corners → List ℕ
@@ -70,3 +74,9 @@ count_line word number = word ++ (32 ∷ (decimal number ++ 10 ∷ []))
 abbrev pub check_text : ℕ → List EdgeValue → List ℕ
 check_text pairs edges =
     count_line (codes "pairs") pairs ++ (count_line (codes "edges") (length edges) ++ flat_map edge_line edges)
+
+-- what `gen` writes: the number of the generated run, the cells of its sheet, how many edits it has, and the sum of its values
+abbrev pub generated_text : ℕ → ℕ → ℤ → List ℕ
+generated_text number edits sum =
+    count_line (codes "gen") number
+    ++ (codes "cells 7000" ++ (10 ∷ (count_line (codes "edits") edits ++ (codes "sum " ++ (signed_decimal sum ++ 10 ∷ [])))))

@@ -9,7 +9,7 @@ use Rattle.sheet_model.specs.Values.{AreValues}
 use Rattle.sheet_model.specs.declared.entry.Entry.{Entry}
 use Rattle.window_text.specs.Changes.{changes_text}
 use Rattle.window_text.specs.Reports.{IsFull, play_text}
-use Rattle.window_text.specs.Texts.{count_line, sheet_window}
+use Rattle.window_text.specs.Texts.{count_line, sheet_head, sheet_window}
 use Rattle.window_text.specs.declared.report.Report.{Report}
 use Rattle.window_text.specs.declared.transcript.Transcript.{Transcript}
 
@@ -74,7 +74,7 @@ closing_rows sheet =
     if nat_eq sheet.sizes.rows 0 then codes "-" ++ 10 ∷ [] else sheet_window sheet (whole_range sheet.sizes)
 
 abbrev pub closing_text : ℕ → SheetValue → List ℕ
-closing_text number sheet = codes "sheet " ++ (decimal number ++ (32 ∷ closing_rows sheet))
+closing_text number sheet = sheet_head number ++ closing_rows sheet
 
 -- what `live` writes
 abbrev pub live_text : TranscriptValue → List ℕ

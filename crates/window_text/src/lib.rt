@@ -1,11 +1,11 @@
 //! The texts that the commands print, handed out in pieces.
 //!
-//! `Printer` hands a text to a function that its caller gives, piece by piece, and stops where that answers
-//! false, as `text_pieces` says it. What the texts are stands in `specs/Texts.antt`: windows of values, lists of
-//! ranges, and lists of edges; in `specs/Reports.antt`: what was shown of windows after a number of edits; in
-//! `specs/Changes.antt`: the changes of an edit as lines of a script; and in `specs/Transcripts.antt`: a live run, with
-//! its log, its clients' reports and its closing sheet. No call takes memory.
-//! That the text of a live run tells one run, whose labels and clients are told by their texts, is a law (`specs/Told.antt`).
+//! `Printer` hands a text to a function that its caller gives, piece by piece, and stops where that answers false, as
+//! `text_pieces` says it. What the texts are stands in `specs/Texts.antt`: windows of values, lists of ranges, and
+//! lists of edges; in `specs/Reports.antt`: what was shown of windows after a number of edits; in `specs/Changes.antt`:
+//! the changes of an edit as lines of a script; and in `specs/Transcripts.antt`: a live run, with its log, its clients'
+//! reports and its closing sheet. No call takes memory. That the text of a live run tells one run, whose labels and
+//! clients are told by their texts, is a law (`specs/Told.antt`).
 //!
 //! Below stand `text_pieces`, `value_core`, `formula_syntax`, which prints formulas, `edge_patterns` and `sheet_model`;
 //! above stand `play_machine`, which makes the reports, and `sheet_cli`, which keeps the pieces.
@@ -13,6 +13,7 @@
 
 mod changes;
 mod edges;
+mod generated;
 mod laws;
 mod live;
 mod pieces;

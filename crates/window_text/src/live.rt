@@ -11,7 +11,7 @@ use crate::changes::send_changes;
 use crate::pieces::send_decimal;
 use crate::report::Report;
 use crate::reports::send_reports;
-use crate::windows::send_window;
+use crate::windows::{send_sheet_head, send_window};
 use sheet_model::{Edit, Entry, Labels, Sheet};
 use sheet_refs::{Cell, Range};
 use text_pieces::send;
@@ -164,13 +164,7 @@ pub(crate) fn send_closing<F: FnMut(&[u8]) -> bool>(
     requires values { AreValues sheet.now values.now }
     ensures sent { HandsOut F.FnMut to.old (closing_text number sheet.now) result to.new }
 {
-    if !send(b"sheet ", to) {
-        return false;
-    }
-    if !send_decimal(number, to) {
-        return false;
-    }
-    if !send(b" ", to) {
+    if !send_sheet_head(number, to) {
         return false;
     }
     send_closing_rows(sheet, values, to)

@@ -3,16 +3,17 @@ ghost use Rattle.sheet_model.specs.Values.{AreValues};
 ghost use Rattle.text_pieces.specs.Pieces.{HandsOut};
 ghost use Rattle.window_text.specs.Changes.{batch_text};
 ghost use Rattle.window_text.specs.Reports.{IsFull, play_text};
-ghost use Rattle.window_text.specs.Texts.{IsWithinSheet, check_text, runs_text, show_text};
+ghost use Rattle.window_text.specs.Texts.{IsWithinSheet, check_text, generated_text, runs_text, show_text};
 ghost use Rattle.window_text.specs.Transcripts.{IsWhole, live_text, transcript_value};
 
 use crate::changes::send_changes;
 use crate::edges::{send_count, send_edge};
+use crate::generated::send_sum;
 use crate::live::{send_clients, send_closing, send_entries};
 use crate::report::Report;
 use crate::reports::send_reports;
 use crate::transcript::Transcript;
-use crate::windows::send_window;
+use crate::windows::{send_sheet_head, send_window};
 use edge_patterns::Edge;
 use sheet_model::{Edit, Entry, Sheet};
 use sheet_refs::Range;
@@ -38,7 +39,7 @@ impl Printer {
         requires within { IsWithinSheet range sheet.now }
         ensures sent { HandsOut F.FnMut to.old (show_text sheet.now range) result to.new }
     {
-        if !send(b"sheet 0 ", to) {
+        if !send_sheet_head(0, to) {
             return false;
         }
         send_window(sheet, range, values, to)
@@ -134,5 +135,29 @@ impl Printer {
             return false;
         }
         send_closing(log.len() as u64, &transcript.sheet, &transcript.values, to)
+    }
+
+    /// What `gen` prints of a generated run: a line `gen NUMBER` with the number that it is drawn from, a line `cells
+    /// 7000`, a line `edits N` with the number of its edits, and a line `sum S` with the sum of the numbers among its
+    /// closing values.
+    pub fn generated<F: FnMut(&[u8]) -> bool>(
+        number: u32,
+        edits: u64,
+        sum: i128,
+        to: &mut F,
+    ) -> bool
+        requires callable { F.IsAlwaysCallable to.old }
+        ensures sent { HandsOut F.FnMut to.old (generated_text number edits sum) result to.new }
+    {
+        if !send_count(b"gen", u64::from(number), to) {
+            return false;
+        }
+        if !send(b"cells 7000\n", to) {
+            return false;
+        }
+        if !send_count(b"edits", edits, to) {
+            return false;
+        }
+        send_sum(sum, to)
     }
 }

@@ -3,13 +3,28 @@ ghost use Rattle.std.specs.Prelude.{◌≡◌, ◌≤◌, IsTrue};
 ghost use Rattle.sheet_refs.specs.Sizes.{is_inside};
 ghost use Rattle.sheet_model.specs.Values.{AreValues, value_of};
 ghost use Rattle.text_pieces.specs.Pieces.{HandsOut};
-ghost use Rattle.window_text.specs.Texts.{IsWithinSheet, row_text, shown_cell, sheet_window};
+ghost use Rattle.window_text.specs.Texts.{IsWithinSheet, row_text, sheet_head, sheet_window, shown_cell};
 
-use crate::pieces::send_value;
+use crate::pieces::{send_decimal, send_value};
 use sheet_model::Sheet;
 use sheet_refs::{Cell, Range};
 use text_pieces::{send, send_range};
 use value_core::{Value, decode};
+
+/// Hands out what stands ahead of a window of a sheet after so many edits.
+pub(crate) fn send_sheet_head<F: FnMut(&[u8]) -> bool>(number: u64, to: &mut F) -> bool
+    requires callable { F.IsAlwaysCallable to.old }
+    ensures sent { HandsOut F.FnMut to.old (sheet_head number) result to.new }
+    ensures callable { F.IsAlwaysCallable to.new }
+{
+    if !send(b"sheet ", to) {
+        return false;
+    }
+    if !send_decimal(number, to) {
+        return false;
+    }
+    send(b" ", to)
+}
 
 /// Hands out a range of a sheet and its rows. The values are the codes of all cells of the sheet, row by row.
 pub(crate) fn send_window<F: FnMut(&[u8]) -> bool>(
