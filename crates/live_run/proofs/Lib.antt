@@ -9,11 +9,13 @@ pub mod NumberLemmas
 pub mod OrderLemmas
 pub mod PartLemmas
 pub mod ReadsLemmas
+pub mod RoomLemmas
 pub mod RunLemmas
 pub mod RunningLemmas
 pub mod ScriptLemmas
 pub mod ShownLemmas
 pub mod StepLemmas
+pub mod SumLemmas
 pub mod TaskLemmas
 pub mod TouchedLemmas
 pub mod TranscriptLemmas

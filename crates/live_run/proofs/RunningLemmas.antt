@@ -14,7 +14,7 @@ use Rattle.sheet_model.specs.Edits.{AreHeldBeside, EditValue}
 use Rattle.sheet_model.specs.Sheets.{SheetValue}
 use Rattle.sheet_refs.specs.Cells.{Corners}
 use Rattle.window_text.specs.declared.report.Report.{Report}
-use Rattle.live_run.specs.Client.{Begins, HasEnded, HasMade, HasRun, IsCutAt, IsCutShort, IsLook, IsOrderFor, command_of, commands_of, look_command, task_commands}
+use Rattle.live_run.specs.Client.{Begins, HasMade, HasRun, IsCutAt, IsCutShort, IsLook, IsOrderFor, command_of, commands_of, look_command, task_commands}
 use Rattle.live_run.specs.Legal.{edits_asked, looks_asked, looks_behind}
 use Rattle.live_run.specs.Told.{HasAnswered, IsReported, StandsAs}
 use Rattle.live_run.specs.declared.client.Client.{Client}
@@ -135,13 +135,3 @@ module _ {N : Type 0} {G : Ghosts N} (opening : SheetValue) where
       → HasRun opening client commands pass reports
   underway_ends client commands pass orders reports number room none so =
       subst (λ (l : List Command). HasRun opening client l pass reports) (sym (so.whole ∙ ap (λ l. so.done ++ commands_of l) none ∙ append-nil so.done)) so.run
-
-  -- how a task ends after its last order, and where it is cut
-  pub ended_whole : (client : ℕ) (commands : List Command) (task : Client N G) → task.full ≡ false → HasRun opening client commands task.pass task.reports.items → HasEnded opening client commands task
-  ended_whole client commands task not_full run = record { whole = λ going rest. run; full = λ full. absurd (cc) }
-
-  pub ended_failed : (client : ℕ) (commands : List Command) (task : Client N G) → task.failed ≡ true → task.full ≡ false → HasEnded opening client commands task
-  ended_failed client commands task failed not_full = record { whole = λ going rest. absurd (cc); full = λ full. absurd (cc) }
-
-  pub ended_full : (client : ℕ) (commands : List Command) (task : Client N G) → task.full ≡ true → IsCutShort opening client commands task.pass → HasEnded opening client commands task
-  ended_full client commands task full cut = record { whole = λ going rest. absurd (cc); full = λ full. cut }

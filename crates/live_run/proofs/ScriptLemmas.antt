@@ -8,14 +8,14 @@ use Rattle.std.proofs.lemmas.Map.Views.{Contains-from_any}
 use Rattle.std.proofs.lemmas.Slice.Eq.{bytes_eq-Decides}
 use Rattle.bstr.proofs.lemmas.LengthLemmas.{length-lines}
 use Rattle.sheet_refs.specs.Cells.{Position}
-use Rattle.sheet_refs.specs.declared.sizes.Sizes.{Sizes}
+use Rattle.formula_syntax.specs.declared.edition.Edition.{Edition}
 use Rattle.sheet_model.specs.Changes.{ChangeValue}
 use Rattle.sheet_model.specs.Edits.{EditValue}
 use Rattle.sheet_model.specs.Labels.{with_label}
 use Rattle.sheet_model.specs.Sheets.{SheetValue, Constant, with_labels}
 use Rattle.value_core.specs.declared.value.Value.TheVariants.{Empty}
 use Rattle.edit_script.specs.Lines.{FitsMode, LineValue, Skip, Client, Set, Clear, Look, Firm, Work, Batch, End, script_lines}
-use Rattle.edit_script.specs.Scripts.{AddsCommand, AreLines, AreSteps, Brought, GoesOn, IsAllowed, IsScript, MakesChange, ScriptValue, brought_by, change_of, nothing_yet, with_change, with_client, with_line}
+use Rattle.edit_script.specs.Scripts.{AddsCommand, AreLines, AreSteps, Brought, GoesOn, Ground, IsAllowed, IsScript, MakesChange, ScriptValue, brought_by, change_of, ground_of, nothing_yet, with_change, with_client, with_line}
 use Rattle.edit_script.specs.Scripts.AreLines.{none as no_lines, more as more_lines}
 use Rattle.edit_script.specs.Scripts.AreSteps.{none as no_steps, more as step_more}
 use Rattle.edit_script.specs.declared.script.Command.{Command}
@@ -57,27 +57,27 @@ few_change : (batch : Option (List Position)) (now : Brought) (cell : Position) 
 few_change None now cell few = let more = goes_on now few in record { few = more.few; named = more.named }
 few_change (Some cells) now cell few = record { few = few.few; named = few.named }
 
-few_line : (sizes : Sizes) (now : Brought) (line : LineValue) → IsAllowed sizes now line → AreFewClients now → AreFewClients (with_line now line)
-few_line sizes now Skip allowed few = few
-few_line sizes now (Client name) allowed few = joins now name few (client_room sizes now name (λ why early. allowed why))
-few_line sizes now (Set cell text) allowed few = few_change now.batch now cell few
-few_line sizes now (Clear cell) allowed few = few_change now.batch now cell few
-few_line sizes now (Look range) allowed few = let more = goes_on now few in record { few = more.few; named = more.named }
-few_line sizes now (Firm range) allowed few = let more = goes_on now few in record { few = more.few; named = more.named }
-few_line sizes now (Work turns) allowed few = goes_on now few
-few_line sizes now Batch allowed few = record { few = few.few; named = few.named }
-few_line sizes now End allowed few = let more = goes_on now few in record { few = more.few; named = more.named }
+few_line : (ground : Ground) (now : Brought) (line : LineValue) → IsAllowed ground now line → AreFewClients now → AreFewClients (with_line now line)
+few_line ground now Skip allowed few = few
+few_line ground now (Client name) allowed few = joins now name few (client_room ground now name (λ why early. allowed why))
+few_line ground now (Set cell text) allowed few = few_change now.batch now cell few
+few_line ground now (Clear cell) allowed few = few_change now.batch now cell few
+few_line ground now (Look range) allowed few = let more = goes_on now few in record { few = more.few; named = more.named }
+few_line ground now (Firm range) allowed few = let more = goes_on now few in record { few = more.few; named = more.named }
+few_line ground now (Work turns) allowed few = goes_on now few
+few_line ground now Batch allowed few = record { few = few.few; named = few.named }
+few_line ground now End allowed few = let more = goes_on now few in record { few = more.few; named = more.named }
 
-few_lines : (mode : Mode) (sizes : Sizes) (texts : List (List ℕ)) (lines : List LineValue) → AreLines mode sizes texts lines → AreFewClients (brought_by lines)
-few_lines mode sizes _ _ no_lines = record { few = omega arith; named = inl refl }
-few_lines mode sizes _ _ (more_lines texts all text lines known line are says allowed all_is known_is) =
-    subst AreFewClients (sym (ap brought_by known_is ∙ fold_last nothing_yet lines line)) (few_line sizes (brought_by lines) line allowed (few_lines mode sizes texts lines are))
+few_lines : (mode : Mode) (ground : Ground) (texts : List (List ℕ)) (lines : List LineValue) → AreLines mode ground texts lines → AreFewClients (brought_by lines)
+few_lines mode ground _ _ no_lines = record { few = omega arith; named = inl refl }
+few_lines mode ground _ _ (more_lines texts all text lines known line are says allowed all_is known_is) =
+    subst AreFewClients (sym (ap brought_by known_is ∙ fold_last nothing_yet lines line)) (few_line ground (brought_by lines) line allowed (few_lines mode ground texts lines are))
 
 -- there are as many lines as texts
-counted : (mode : Mode) (sizes : Sizes) (texts : List (List ℕ)) (lines : List LineValue) → AreLines mode sizes texts lines → length lines ≡ length texts
-counted mode sizes _ _ no_lines = refl
-counted mode sizes _ _ (more_lines texts all text lines known line are says allowed all_is known_is) =
-    let rest = counted mode sizes texts lines are in
+counted : (mode : Mode) (ground : Ground) (texts : List (List ℕ)) (lines : List LineValue) → AreLines mode ground texts lines → length lines ≡ length texts
+counted mode ground _ _ no_lines = refl
+counted mode ground _ _ (more_lines texts all text lines known line are says allowed all_is known_is) =
+    let rest = counted mode ground texts lines are in
     let left = ap length known_is ∙ length-append lines (line ∷ []) in
     let right = ap length all_is ∙ length-append texts (text ∷ []) in
     omega (arith, rest, left, right)
@@ -93,22 +93,22 @@ one_change : (there : Brought) (change : ChangeValue) (before after : Option Edi
 one_change there change None after old new (is, adds) = one_added (asks.Put (change ∷ [])) there old new adds
 one_change there change (Some changes) after old new (is, same) = same_steps old new same
 
-one_line : (labels : List (List ℕ)) (there : Brought) (line : LineValue) (before after : Option EditValue) (old new : List Step) → GoesOn labels there line before after old new → length new ≤ length old + 1
-one_line labels there Skip before after old new (is, same) = same_steps old new same
-one_line labels there (Client name) before after old new (is, same) = same_steps old new same
-one_line labels there (Set cell text) before after old new (content, writes, makes) = one_change there (change_of cell content) before after old new makes
-one_line labels there (Clear cell) before after old new makes = one_change there (change_of cell (Constant Empty)) before after old new makes
-one_line labels there (Look range) before after old new (is, adds) = one_added (asks.Look range) there old new adds
-one_line labels there (Firm range) before after old new (is, adds) = one_added (asks.Firm range) there old new adds
-one_line labels there (Work turns) before after old new (is, adds) = one_added (asks.Work turns) there old new adds
-one_line labels there Batch before after old new (is, same) = same_steps old new same
-one_line labels there End before after old new (changes, was, is, adds) = one_added (asks.Put changes) there old new adds
+one_line : (edition : Edition) (labels : List (List ℕ)) (there : Brought) (line : LineValue) (before after : Option EditValue) (old new : List Step) → GoesOn edition labels there line before after old new → length new ≤ length old + 1
+one_line edition labels there Skip before after old new (is, same) = same_steps old new same
+one_line edition labels there (Client name) before after old new (is, same) = same_steps old new same
+one_line edition labels there (Set cell text) before after old new (content, writes, makes) = one_change there (change_of cell content) before after old new makes
+one_line edition labels there (Clear cell) before after old new makes = one_change there (change_of cell (Constant Empty)) before after old new makes
+one_line edition labels there (Look range) before after old new (is, adds) = one_added (asks.Look range) there old new adds
+one_line edition labels there (Firm range) before after old new (is, adds) = one_added (asks.Firm range) there old new adds
+one_line edition labels there (Work turns) before after old new (is, adds) = one_added (asks.Work turns) there old new adds
+one_line edition labels there Batch before after old new (is, same) = same_steps old new same
+one_line edition labels there End before after old new (changes, was, is, adds) = one_added (asks.Put changes) there old new adds
 
-few_steps : (labels : List (List ℕ)) (lines : List LineValue) (after : Option EditValue) (steps : List Step) → AreSteps labels lines after steps → length steps ≤ length lines
-few_steps labels _ _ _ no_steps = omega arith
-few_steps labels _ _ _ (step_more lines known line before after steps all are goes known_is) =
-    let rest = few_steps labels lines before steps are in
-    let one = one_line labels (brought_by known) line before after steps all goes in
+few_steps : (edition : Edition) (labels : List (List ℕ)) (lines : List LineValue) (after : Option EditValue) (steps : List Step) → AreSteps edition labels lines after steps → length steps ≤ length lines
+few_steps edition labels _ _ _ no_steps = omega arith
+few_steps edition labels _ _ _ (step_more lines known line before after steps all are goes known_is) =
+    let rest = few_steps edition labels lines before steps are in
+    let one = one_line edition labels (brought_by known) line before after steps all goes in
     let more = ap length known_is ∙ length-append lines (line ∷ []) in
     omega (arith, rest, one, more)
 
@@ -132,10 +132,10 @@ live_line (Work turns) fits = absurd (cc)
 live_line Batch fits = tt
 live_line End fits = tt
 
-live_lines : (sizes : Sizes) (texts : List (List ℕ)) (lines : List LineValue) → AreLines Live sizes texts lines → All IsLiveLine lines
-live_lines sizes _ _ no_lines = All-nil IsLiveLine
-live_lines sizes _ _ (more_lines texts all text lines known line are says allowed all_is known_is) =
-    subst (All IsLiveLine) (sym known_is) (All-push IsLiveLine lines line (live_lines sizes texts lines are) (live_line line says.1))
+live_lines : (ground : Ground) (texts : List (List ℕ)) (lines : List LineValue) → AreLines Live ground texts lines → All IsLiveLine lines
+live_lines ground _ _ no_lines = All-nil IsLiveLine
+live_lines ground _ _ (more_lines texts all text lines known line are says allowed all_is known_is) =
+    subst (All IsLiveLine) (sym known_is) (All-push IsLiveLine lines line (live_lines ground texts lines are) (live_line line says.1))
 
 live_added : (command : Command) (there : Brought) (old new : List Step) → IsLiveCommand command → AddsCommand command there old new → All (λ (s : Step). IsLiveCommand s.command) old → All (λ (s : Step). IsLiveCommand s.command) new
 live_added command there old new live adds all = subst (All (λ (s : Step). IsLiveCommand s.command)) (sym adds.added) (All-push (λ (s : Step). IsLiveCommand s.command) old _ all live)
@@ -147,23 +147,23 @@ live_change : (there : Brought) (change : ChangeValue) (before after : Option Ed
 live_change there change None after old new (is, adds) all = live_added (asks.Put (change ∷ [])) there old new tt adds all
 live_change there change (Some changes) after old new (is, same) all = live_same old new same all
 
-live_step : (labels : List (List ℕ)) (there : Brought) (line : LineValue) (before after : Option EditValue) (old new : List Step) → IsLiveLine line → GoesOn labels there line before after old new
+live_step : (edition : Edition) (labels : List (List ℕ)) (there : Brought) (line : LineValue) (before after : Option EditValue) (old new : List Step) → IsLiveLine line → GoesOn edition labels there line before after old new
     → All (λ (s : Step). IsLiveCommand s.command) old → All (λ (s : Step). IsLiveCommand s.command) new
-live_step labels there Skip before after old new live (is, same) all = live_same old new same all
-live_step labels there (Client name) before after old new live (is, same) all = live_same old new same all
-live_step labels there (Set cell text) before after old new live (content, writes, makes) all = live_change there (change_of cell content) before after old new makes all
-live_step labels there (Clear cell) before after old new live makes all = live_change there (change_of cell (Constant Empty)) before after old new makes all
-live_step labels there (Look range) before after old new live (is, adds) all = live_added (asks.Look range) there old new tt adds all
-live_step labels there (Firm range) before after old new live (is, adds) all = live_added (asks.Firm range) there old new tt adds all
-live_step labels there (Work turns) before after old new live goes all = absurd live
-live_step labels there Batch before after old new live (is, same) all = live_same old new same all
-live_step labels there End before after old new live (changes, was, is, adds) all = live_added (asks.Put changes) there old new tt adds all
+live_step edition labels there Skip before after old new live (is, same) all = live_same old new same all
+live_step edition labels there (Client name) before after old new live (is, same) all = live_same old new same all
+live_step edition labels there (Set cell text) before after old new live (content, writes, makes) all = live_change there (change_of cell content) before after old new makes all
+live_step edition labels there (Clear cell) before after old new live makes all = live_change there (change_of cell (Constant Empty)) before after old new makes all
+live_step edition labels there (Look range) before after old new live (is, adds) all = live_added (asks.Look range) there old new tt adds all
+live_step edition labels there (Firm range) before after old new live (is, adds) all = live_added (asks.Firm range) there old new tt adds all
+live_step edition labels there (Work turns) before after old new live goes all = absurd live
+live_step edition labels there Batch before after old new live (is, same) all = live_same old new same all
+live_step edition labels there End before after old new live (changes, was, is, adds) all = live_added (asks.Put changes) there old new tt adds all
 
-live_steps : (labels : List (List ℕ)) (lines : List LineValue) (after : Option EditValue) (steps : List Step) → AreSteps labels lines after steps → All IsLiveLine lines → All (λ (s : Step). IsLiveCommand s.command) steps
-live_steps labels _ _ _ no_steps live = All-nil (λ (s : Step). IsLiveCommand s.command)
-live_steps labels _ _ _ (step_more lines known line before after steps all are goes known_is) live =
+live_steps : (edition : Edition) (labels : List (List ℕ)) (lines : List LineValue) (after : Option EditValue) (steps : List Step) → AreSteps edition labels lines after steps → All IsLiveLine lines → All (λ (s : Step). IsLiveCommand s.command) steps
+live_steps edition labels _ _ _ no_steps live = All-nil (λ (s : Step). IsLiveCommand s.command)
+live_steps edition labels _ _ _ (step_more lines known line before after steps all are goes known_is) live =
     let both = All-pop IsLiveLine known lines (Some line) known_is live in
-    live_step labels (brought_by known) line before after steps all both.1 goes (live_steps labels lines before steps are both.0)
+    live_step edition labels (brought_by known) line before after steps all both.1 goes (live_steps edition labels lines before steps are both.0)
 
 -- a command of the sheet that asks for no turns is for the sheet
 for_sheet : (sheet : SheetValue) (command : Command) → IsCommandOfSheet sheet command → IsLiveCommand command → IsCommandFor sheet command
@@ -173,14 +173,15 @@ for_sheet sheet (asks.Firm window) of live = record { inside = of.inside; small 
 for_sheet sheet (asks.Work turns) of live = live
 
 pub runs : (sheet : SheetValue) (labels : List (List ℕ)) (text : List ℕ) (script : ScriptValue) → length text ≤ 16777216
-    → IsScript Live sheet.sizes sheet.labels labels text script → IsRunnable (with_labels sheet labels) script
+    → IsScript Live (ground_of sheet) sheet.labels labels text script → IsRunnable (with_labels sheet labels) script
 runs sheet labels text script small is =
     let fits = script_fits Live sheet labels text script is in
-    let live = live_steps labels is.lines None script.steps is.steps (live_lines sheet.sizes (script_lines text) is.lines is.said) in
-    let clients = few_lines Live sheet.sizes (script_lines text) is.lines is.said in
+    let live = live_steps sheet.edition labels is.lines None script.steps is.steps (live_lines (ground_of sheet) (script_lines text) is.lines is.said) in
+    let clients = few_lines Live (ground_of sheet) (script_lines text) is.lines is.said in
     let names = ap length is.names in
     record {
       few = (let some = clients.few in omega (arith, names, some));
-      short = (let steps = few_steps labels is.lines None script.steps is.steps in let lines = counted Live sheet.sizes (script_lines text) is.lines is.said in let most = length-lines text in omega (arith, steps, lines, most, small));
+      short = (let steps = few_steps sheet.edition labels is.lines None script.steps is.steps in let lines = counted Live (ground_of sheet) (script_lines text) is.lines is.said in let most = length-lines text in omega (arith, steps, lines, most, small));
       commands = λ place step within. for_sheet (with_labels sheet labels) _ (fits.each place step within) (live place step within);
+      edits = fits.few;
     }

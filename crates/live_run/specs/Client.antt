@@ -1,5 +1,5 @@
 -- One client's part of a live run: what is to be done, and what is known of what was done.
-use Rattle.std.specs.Prelude.{◌≡◌, ◌<◌, ◌≤◌, ◌^◌, ℕ, true, false, Bool, if◌then◌else◌, List, [], ◌∷◌, ◌++◌, map, reverse, length, All, vec_capacity}
+use Rattle.std.specs.Prelude.{◌≡◌, ◌<◌, ◌≤◌, ◌^◌, ◌⊎◌, ℕ, true, false, Bool, if◌then◌else◌, List, [], ◌∷◌, ◌++◌, map, reverse, length, All, vec_capacity}
 use Rattle.sheet_refs.specs.Cells.{Corners, IsOrdered, cells_of}
 use Rattle.edit_log.specs.Rows.{IsInside}
 use Rattle.edit_script.specs.declared.script.Command.{Command}
@@ -110,7 +110,6 @@ module _ {N : Type 0} {G : Ghosts N} (opening : SheetValue) where
     pub none : task.reports.items ≡ []
     pub room : length (looks_asked (task_commands task)) ≤ vec_capacity task.reports
     pub going : task.failed ≡ false
-    pub not_full : task.full ≡ false
 
   -- it is the task of a client that asks for these commands
   pub record IsReady (client : ℕ) (commands : List Command) (task : Client N G) : Type 0 where
@@ -118,7 +117,7 @@ module _ {N : Type 0} {G : Ghosts N} (opening : SheetValue) where
     pub asked : task_commands task ≡ commands
     pub begins : Begins task
 
-  -- How a task ends: all of its commands were followed, unless there was no memory or the log was full.
-  pub record HasEnded (client : ℕ) (commands : List Command) (task : Client N G) : Type 0 where
-    pub whole : task.failed ≡ false → task.full ≡ false → HasRun client commands task.pass task.reports.items
-    pub full : task.full ≡ true → IsCutShort client commands task.pass
+  -- How a task ends: all of its commands were followed, or a full log cut them short, unless there was no memory.
+  abbrev pub HasEnded : ℕ → List Command → Client N G → Type 0
+  HasEnded client commands task =
+      task.failed ≡ false → HasRun client commands task.pass task.reports.items ⊎ IsCutShort client commands task.pass

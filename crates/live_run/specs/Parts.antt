@@ -1,11 +1,11 @@
 -- The parts of a script's clients, as they are made ahead of a run.
-use Rattle.std.specs.Prelude.{◌≡◌, ◌<◌, ◌≤◌, ◌^◌, ℕ, Bool, true, false, List, [], ◌∷◌, ◌++◌, length, slice_get, Some, All}
+use Rattle.std.specs.Prelude.{◌≡◌, ◌<◌, ◌≤◌, ◌^◌, ◌+◌, ℕ, Bool, true, false, List, [], ◌∷◌, ◌++◌, length, slice_get, Some, All}
 use Rattle.edit_script.specs.declared.script.Command.{Command}
 use Rattle.edit_script.specs.declared.script.Command.TheVariants as asks
 use Rattle.edit_script.specs.declared.script.Step.{Step}
 use Rattle.sheet_refs.specs.Cells.{Corners, cells_of}
 use Rattle.window_text.specs.declared.report.Report.{Report}
-use Rattle.live_run.specs.Legal.{commands_by}
+use Rattle.live_run.specs.Legal.{commands_by, edits_asked}
 use Rattle.sheet_model.specs.Sheets.{SheetValue}
 use Rattle.live_run.specs.Runs.{AreCommandsFor, AreReportsFor}
 use Rattle.live_run.specs.declared.part.Part.{Part}
@@ -50,6 +50,11 @@ pub record IsPartOf (client : ℕ) (steps : List Step) (part : Part) : Type 0 wh
 pub record ArePartsOf (clients : ℕ) (steps : List Step) (parts : List Part) : Type 0 where
   pub count : length parts ≡ clients
   pub each : (client : ℕ) (part : Part) → slice_get parts client ≡ Some part → IsPartOf client steps part
+
+-- how many edits parts ask for together
+abbrev pub edits_of : List Part → ℕ
+edits_of [] = 0
+edits_of (part ∷ parts) = length (edits_asked part.commands.items) + edits_of parts
 
 -- a part for a sheet: its commands are for it and of a number that a counter holds, and there is a report for each look
 pub record IsPartFor (sheet : SheetValue) (part : Part) : Type 0 where

@@ -36,10 +36,9 @@ module _ {N : Type 0} {G : Ghosts N} where
     pub each : (client : ℕ) (part : Part) (task : Client N G) → slice_get parts client ≡ Some part → slice_get tasks client ≡ Some task
         → HasEnded opening client part.commands.items task
 
-  -- a task that went on to its end
-  pub record IsUncut (task : Client N G) : Type 0 where
-    pub whole : task.failed ≡ false
-    pub room : task.full ≡ false
+  -- a task that had all the memory that it wanted
+  abbrev pub HadMemory : Client N G → Type 0
+  HadMemory task = task.failed ≡ false
 
 -- What a run of some parts leaves: each client has followed the commands of its part, and all its boards are full; the log
 -- has no entries but theirs; and the sheet is the one after the whole log, with the values of all its cells.

@@ -29,12 +29,10 @@ pub(crate) struct Client<N: Naming> {
     pub(crate) reports: Vec<Report>,
     /// Whether it ended early since there was no memory.
     pub(crate) failed: bool,
-    /// Whether it ended early since the log was full.
-    pub(crate) full: bool,
 }
 
-/// The task of a client, with all memory that it knows it will want. There is a report for each look of its commands, in
-/// order, with room for the look's window.
+/// The task of a client, with all memory that it knows it will want. There is a report for each look of its commands,
+/// in order, with room for the look's window.
 pub(crate) fn ready_client<N: Naming>(
     alloc: Global,
     client: u32,
@@ -55,12 +53,11 @@ pub(crate) fn ready_client<N: Naming>(
         orders,
         reports,
         failed: false,
-        full: false,
     })
 }
 
 /// Follows the client's commands, in order. The gate is told of each ahead of it. Want of memory, for an edit or a firm
-/// look, ends the task, and so does a full log.
+/// look, ends the task. So would a full log, which the pass knows then; closing shows that no run of a script has one.
 pub(crate) fn run_client<N: Naming, R: Threads + Wait + Sync, T: Gate + Sync>(
     rt: &R,
     live: &Live<N>,
@@ -77,7 +74,6 @@ pub(crate) fn run_client<N: Naming, R: Threads + Wait + Sync, T: Gate + Sync>(
         orders,
         reports,
         failed,
-        full,
     } = task;
     let mut number: u32 = 0;
     while let Some(order) = orders.pop() {
@@ -89,10 +85,7 @@ pub(crate) fn run_client<N: Naming, R: Threads + Wait + Sync, T: Gate + Sync>(
                 *failed = true;
                 return;
             }
-            Err(Cut::FullLog) => {
-                *full = true;
-                return;
-            }
+            Err(Cut::FullLog) => return,
         }
     }
 }

@@ -1,5 +1,5 @@
 ghost use Rattle.std.specs.Prelude.{◌≡◌, ◌≤◌, [], length, map, All, IfOk, vec_capacity};
-ghost use Rattle.live_run.specs.Tasks.{IsUncut};
+ghost use Rattle.live_run.specs.Tasks.{HadMemory};
 
 use crate::client::Client;
 use live_sheet::{Naming, Pass};
@@ -27,7 +27,7 @@ impl<N: Naming> Ended<N> {
         Ok(Ended { passes, reports })
     }
 
-    /// Takes tasks apart, in their order; there is room for them. `Memory` where one of them was cut short.
+    /// Takes tasks apart, in their order; there is room for them. `Memory` where one of them wanted it.
     pub(crate) fn take_apart(self, tasks: Vec<Client<N>>) -> Result<Ended<N>, Memory>
         requires passes { self.passes.items ≡ [] }
         requires reports { self.reports.items ≡ [] }
@@ -35,7 +35,7 @@ impl<N: Naming> Ended<N> {
         requires space { length tasks.items ≤ vec_capacity self.reports }
         ensures passes { IfOk result (λ ended. ended.passes.items ≡ map (λ task. task.pass) tasks.items) }
         ensures reports { IfOk result (λ ended. ended.reports.items ≡ map (λ task. task.reports) tasks.items) }
-        ensures uncut { IfOk result (λ _. All IsUncut tasks.items) }
+        ensures had { IfOk result (λ _. All HadMemory tasks.items) }
     {
         let Ended {
             mut passes,
@@ -49,9 +49,8 @@ impl<N: Naming> Ended<N> {
                 orders: _,
                 reports: shown,
                 failed,
-                full,
             } = tasks.remove(0);
-            if failed || full {
+            if failed {
                 return Err(Memory);
             }
             passes.push_reserved(pass);

@@ -2,7 +2,7 @@ ghost use Rattle.std.specs.Prelude.{◌≡◌, ◌≤◌, length, All, IfOk};
 ghost use Rattle.live_sheet.specs.Opened.{AreNewPasses};
 ghost use Rattle.live_sheet.specs.Setups.{IsNamedBy};
 ghost use Rattle.sheet_model.specs.Sheets.{IsSheet};
-ghost use Rattle.live_run.specs.Parts.{IsPartFor};
+ghost use Rattle.live_run.specs.Parts.{IsPartFor, edits_of};
 ghost use Rattle.live_run.specs.Tasks.{AreReady, IsRunOf};
 
 use crate::client::{Client, ready_client};
@@ -55,6 +55,7 @@ pub(crate) fn session<N: Naming + Send + Sync, R: Threads + Wait + Sync, T: Gate
     requires few { N.clients ≤ 32 }
     requires count { length parts.items ≡ N.clients }
     requires parts { All (IsPartFor N.opening) parts.items }
+    requires edits { edits_of parts.items ≤ 1048576 }
     ensures { IfOk result (IsRunOf N.opening parts.items) }
 {
     let Opened {

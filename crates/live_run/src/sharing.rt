@@ -12,8 +12,7 @@ fn may_go<T: Send>()
 
 /// A client's task may go to another thread.
 pub(crate) fn clients_cross<N: Naming + Send + Sync>()
-    ensures { IsSend (client_row N.row (record { words = N.words; queue = N.queue; opening = N.opening; clients = N.clients })
-        (record { name = N.name; parts = N.parts })) }
+    ensures { IsSend (client_row N.row N.Naming.own N.Ledger) }
 {
     may_go::<Vec<Order>>();
     may_go::<Vec<Report>>();

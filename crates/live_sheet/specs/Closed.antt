@@ -42,7 +42,7 @@ ReadsAreLegal opening codes log seat =
 module _ {N : Type 0} {G : Ghosts N} where
   -- the codes with which the cells opened, row by row
   abbrev pub codes_of : Live N G → List (Option ℕ)
-  codes_of live = (topic_of live.marks).opening.value.items
+  codes_of live = (topic_of live.marks).opening.value
 
   -- the pass at each place of the list is that of the client with this number
   abbrev pub AreInOrder : List (Pass N G) → Type 0

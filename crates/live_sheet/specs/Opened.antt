@@ -39,4 +39,4 @@ pub record IsNewDesk {N : Type 0} {G : Ghosts N} {L : LedgerGhosts N} (desk : De
 
 -- the words of a live sheet opened with the codes of the constants of this sheet, and with none where a formula stands
 abbrev pub OpensWith : {N : Type 0} {G : Ghosts N} → SheetValue → Live N G → Type 0
-OpensWith opening live = (topic_of live.marks).opening.value.items ≡ opening_codes opening
+OpensWith opening live = (topic_of live.marks).opening.value ≡ opening_codes opening

@@ -17,8 +17,8 @@ use edit_log::OverSheet;
 use mark_words::{Marks, Seat};
 
 /// Closes the words of a sheet of which the editor's seat knows each cell as clean: lists the codes of the values that
-/// the cells have after the log of that seat, row by row. What the other seats know is a part of that log, and each read
-/// of any of them is legal over it.
+/// the cells have after the log of that seat, row by row. What the other seats know is a part of that log, and each
+/// read of any of them is legal over it.
 pub(crate) fn close_cells(
     marks: Marks<OverSheet>,
     editor: Seat<OverSheet>,
@@ -39,7 +39,7 @@ pub(crate) fn close_cells(
         → slice_get result.items (place_of (subject_of marks).sizes cell)
         ≡ Some (code_of (value_of (after (subject_of marks) (log_of editor)) cell)) }
     ensures prefixes { All (λ other. IsPrefix (log_of other) (log_of editor)) others.items }
-    ensures legal { All (ReadsAreLegal (subject_of marks) (topic_of marks).opening.value.items (log_of editor))
+    ensures legal { All (ReadsAreLegal (subject_of marks) (topic_of marks).opening.value (log_of editor))
         others.items }
 {
     entries_cross();

@@ -72,7 +72,7 @@ impl<N: Naming> Locked<N> {
         requires room { IsRoomFor (cell_count N.opening.sizes) (length passes.items) room }
         requires clients { length passes.items ≡ N.clients }
         requires order { AreInOrder passes.items }
-        ensures { HasClosedWith N.opening (topic_of marks).opening.value.items passes.items result }
+        ensures { HasClosedWith N.opening (topic_of marks).opening.value passes.items result }
     {
         let cells = self.cells();
         let Locked {

@@ -1,4 +1,5 @@
-ghost use Rattle.std.specs.Prelude.{◌≡◌, ◌≤◌, ◌<◌, ◌++◌, ◌∷◌, [], length, Err, IfOk, IfErr, OnOk, OnErr, All, IsTrue, vec_len, vec_capacity};
+ghost use Rattle.std.specs.Prelude.{◌≡◌, ◌≤◌, ◌<◌, ◌++◌, ◌∷◌, [], length, Err, IfOk, IfErr, OnOk, OnErr};
+ghost use Rattle.std.specs.Prelude.{All, IsTrue, vec_len, vec_capacity};
 ghost use Rattle.edit_log.specs.Books.{IsPreparedFor, HasApplied, IsUnchanged, client_entry};
 ghost use Rattle.edit_log.specs.Touches.{AreTouched};
 ghost use Rattle.sheet_refs.specs.Sizes.{is_inside};
@@ -155,7 +156,8 @@ impl<N: Naming> Locked<N> {
 
 impl<N: Naming> Locked<N> {
     /// Makes an edit of the pass's client, or refuses it. The cells that it touches are marked first, one after the
-    /// other, and then it is committed; a refused edit marks and commits nothing. The pass then knows what the book has.
+    /// other, and then it is committed; a refused edit marks and commits nothing. The pass then knows what the book
+    /// has.
     pub(crate) fn edit(
         &mut self,
         marks: &Marks<OverSheet>,
@@ -170,7 +172,8 @@ impl<N: Naming> Locked<N> {
         ensures committed { IfOk result
             (λ applied. IsCommitted edit applied.number self.old.book.log pass.old pass.new) }
         ensures touched { IfOk result
-            (λ applied. AreTouched N.opening self.old.book.log (client_entry pass.old.client edit) applied.touched.items) }
+            (λ applied. AreTouched N.opening self.old.book.log (client_entry pass.old.client edit)
+            applied.touched.items) }
         ensures inside { IfOk result
             (λ applied. All (λ cell. IsTrue (is_inside N.opening.sizes cell)) applied.touched.items) }
         ensures hand { pass.new.hand ≡ pass.old.hand }

@@ -18,9 +18,9 @@ impl<N: Naming> Live<N> {
     /// then the pass knows the log up to it. The lock is held for this alone. After it a job is offered for each of the
     /// cells, row by row; one that finds the queue full is dropped.
     ///
-    /// An edit is refused where a cell of it is outside the sheet, with the first such cell; where the log is full, which
-    /// the pass then knows; or where there is no memory. A refused edit offers nothing and leaves the pass's accepted
-    /// edits; from the first mark on nothing is refused.
+    /// An edit is refused where a cell of it is outside the sheet, with the first such cell; where the log is full,
+    /// which the pass then knows; or where there is no memory. A refused edit offers nothing and leaves the pass's
+    /// accepted edits; from the first mark on nothing is refused.
     pub fn edit<R: Wait>(
         &self,
         rt: &R,

@@ -67,7 +67,8 @@ fn commit(marks: &Marks<OverSheet>, editor: &mut Seat<OverSheet>) -> u64
     marks.commit(editor)
 }
 
-/// Makes a prepared edit: marks each cell that it touches, makes it in the book, and then commits it. Nothing is refused.
+/// Makes a prepared edit: marks each cell that it touches, makes it in the book, and then commits it. Nothing is
+/// refused.
 pub(crate) fn enter(
     marks: &Marks<OverSheet>,
     editor: &mut Seat<OverSheet>,

@@ -71,8 +71,8 @@ fn firm_for<R: Threads + Wait + Sync, G: Graph, T: Gate + Sync>(
 }
 
 impl<N: Naming> Locked<N> {
-    /// Computes the cells of a window that aren't clean, with those on which they depend, and shows the window: the value
-    /// of each cell after the log. Whatever is answered, the sheet, its graph and the log stay as they are.
+    /// Computes the cells of a window that aren't clean, with those on which they depend, and shows the window: the
+    /// value of each cell after the log. Whatever is answered, the sheet, its graph and the log stay as they are.
     pub(crate) fn firm<R: Threads + Wait + Sync, T: Gate + Sync>(
         &mut self,
         rt: &R,
@@ -111,12 +111,12 @@ impl<N: Naming> Live<N> {
     ghost use Rattle.live_sheet.specs.Firm.{IsFirmLookOf, KeepsPass};
 
     /// Shows the value of each cell of the window on the board, after the log, which the pass knows then: the board's
-    /// number is its length, and isn't below any number that the pass saw or was told. What isn't clean of the window and
-    /// of the cells on which it depends is computed first. The pass knows each cell of the window as clean, with its last
-    /// mark in that log.
+    /// number is its length, and isn't below any number that the pass saw or was told. What isn't clean of the window
+    /// and of the cells on which it depends is computed first. The pass knows each cell of the window as clean, with
+    /// its last mark in that log.
     ///
-    /// It takes the lock for the whole of it. After `Memory` the log is as it was, some cells may have been computed, and
-    /// what is on the board is open.
+    /// It takes the lock for the whole of it. After `Memory` the log is as it was, some cells may have been computed,
+    /// and what is on the board is open.
     pub fn firm<R: Threads + Wait + Sync, T: Gate + Sync>(
         &self,
         rt: &R,

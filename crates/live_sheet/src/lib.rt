@@ -8,7 +8,8 @@
 //! `specs/Edits.antt` says); `look` takes no lock, no runtime and no memory (`specs/Looks.antt`). `firm` and `settle`
 //! compute what is stale first, level by level (`specs/Ranges.antt`, `specs/Levels.antt`, `specs/Firm.antt`). All speak
 //! of the pass that they are lent (`specs/Passes.antt`, `specs/Accepted.antt`). `work` is one turn at a worker's desk
-//! (`specs/Worked.antt`). `close` settles and gives the log, the sheet and the values of all cells (`specs/Closed.antt`).
+//! (`specs/Worked.antt`). `close` settles and gives the log, the sheet and the values of all cells
+//! (`specs/Closed.antt`).
 //!
 //! Below stand `edit_log` over a compressed graph, `mark_words` and `recalc_workers`; above, the program.
 #![tactic(auto)]

@@ -9,9 +9,9 @@ use mark_words::Seat;
 use recalc_workers::Desk as SettlingDesk;
 use std::sync::ledger::Book as LedgerBook;
 
-/// What lies behind the lock: the book, the editor's seat, the desks that settle, and the book of the ledger of accepted
-/// edits with the share of it that no client has. The editor's seat knows the book's log and nothing is pending; the log
-/// has as many entries as the ledger has counted; and all belong to what `N` names.
+/// What lies behind the lock: the book, the editor's seat, the desks that settle, and the book of the ledger of
+/// accepted edits with the share of it that no client has. The editor's seat knows the book's log and nothing is
+/// pending; the log has as many entries as the ledger has counted; and all belong to what `N` names.
 #[derive(Drop)]
 pub(crate) struct Locked<N: Naming> {
     pub(crate) book: Book<LiveGraph>,

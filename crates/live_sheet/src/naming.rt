@@ -1,9 +1,9 @@
 use std::marker::Brand;
 use std::sync::ledger::Ledger;
 
-/// What the parts of one live sheet belong to. Each type of a live sheet has it as a parameter, so that what lies behind
-/// the lock is known to belong to what lies outside. Its ledger counts the accepted edits, and has one part more than
-/// there are clients.
+/// What the parts of one live sheet belong to. Each type of a live sheet has it as a parameter, so that what lies
+/// behind the lock is known to belong to what lies outside. Its ledger counts the accepted edits, and has one part more
+/// than there are clients.
 pub trait Naming: Ledger {
     ghost use Rattle.std.specs.Prelude.{ℕ};
     ghost use Rattle.atomic_table.specs.Seated.{TableId};

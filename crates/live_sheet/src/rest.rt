@@ -2,8 +2,8 @@ use crate::naming::Naming;
 use std::marker::Model;
 use std::sync::ledger::Share;
 
-/// The one share of the ledger that no client has. Its amount is 0. By it the ledger is known to have one part more than
-/// there are clients.
+/// The one share of the ledger that no client has. Its amount is 0. By it the ledger is known to have one part more
+/// than there are clients.
 #[derive(Drop)]
 pub(crate) struct Rest<N: Naming> {
     share: Share<N>,

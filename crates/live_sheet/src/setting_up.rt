@@ -25,7 +25,7 @@ fn open_marks(alloc: Global, sheet: &Sheet) -> Result<(Marks<OverSheet>, Seat<Ov
     subject_crosses();
     let codes = opening_codes(alloc, sheet)?;
     let _sizes = sheet.sizes();
-    let subject = OverSheet::new(sheet.copy()?);
+    let subject = OverSheet::of(sheet);
     match Marks::open(alloc, subject, &codes) {
         Ok(opened) => Ok(opened),
         Err(_) => Err(Memory),

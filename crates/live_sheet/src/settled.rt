@@ -59,8 +59,8 @@ fn settle_for<R: Threads + Wait + Sync, G: Graph, T: Gate + Sync>(
 }
 
 impl<N: Naming> Locked<N> {
-    /// Computes all cells of the sheet that aren't clean, of which the seat knows then. Whatever is answered, the sheet,
-    /// its graph and the log stay as they are.
+    /// Computes all cells of the sheet that aren't clean, of which the seat knows then. Whatever is answered, the
+    /// sheet, its graph and the log stay as they are.
     pub(crate) fn settle<R: Threads + Wait + Sync, T: Gate + Sync>(
         &mut self,
         rt: &R,
@@ -90,10 +90,11 @@ impl<N: Naming> Locked<N> {
 impl<N: Naming> Live<N> {
     ghost use Rattle.live_sheet.specs.Firm.{HasSettledBy, KeepsPass};
 
-    /// Computes all cells of the sheet that aren't clean. The pass then knows the log, which isn't shorter than any number
-    /// that it saw or was told, and each cell of the sheet as clean, with its last mark in that log.
+    /// Computes all cells of the sheet that aren't clean. The pass then knows the log, which isn't shorter than any
+    /// number that it saw or was told, and each cell of the sheet as clean, with its last mark in that log.
     ///
-    /// It takes the lock for the whole of it. After `Memory` the log is as it was, and some cells may have been computed.
+    /// It takes the lock for the whole of it. After `Memory` the log is as it was, and some cells may have been
+    /// computed.
     pub fn settle<R: Threads + Wait + Sync, T: Gate + Sync>(
         &self,
         rt: &R,

@@ -18,27 +18,24 @@ fn may_be_shared<T: Sync>()
     ensures { IsSync T.row }
 {}
 
-/// A pass may go to another thread. The search that proves this of a thread's closure doesn't find it by itself: a function
-/// that hands passes to threads calls this first. So it is of a desk, and of a live sheet that threads share.
+/// A pass may go to another thread. The search that proves this of a thread's closure doesn't find it by itself: a
+/// function that hands passes to threads calls this first. So it is of a desk, and of a live sheet that threads share.
 pub fn passes_cross<N: Naming + Send + Sync>()
-    ensures { IsSend (pass_row N.row (record { words = N.words; queue = N.queue; opening = N.opening; clients = N.clients })
-        (record { name = N.name; parts = N.parts })) }
+    ensures { IsSend (pass_row N.row N.Naming.own N.Ledger) }
 {
     entries_cross();
 }
 
 /// A desk may go to another thread.
 pub fn desks_cross<N: Naming + Send + Sync>()
-    ensures { IsSend (desk_row N.row (record { words = N.words; queue = N.queue; opening = N.opening; clients = N.clients })
-        (record { name = N.name; parts = N.parts })) }
+    ensures { IsSend (desk_row N.row N.Naming.own N.Ledger) }
 {
     entries_cross();
 }
 
 // What lies behind the lock may go to another thread.
 fn locked_crosses<N: Naming + Send + Sync>()
-    ensures { IsSend (locked_row N.row (record { words = N.words; queue = N.queue; opening = N.opening; clients = N.clients })
-        (record { name = N.name; parts = N.parts })) }
+    ensures { IsSend (locked_row N.row N.Naming.own N.Ledger) }
 {
     entries_cross();
     book_crosses::<LiveGraph>();
@@ -46,8 +43,7 @@ fn locked_crosses<N: Naming + Send + Sync>()
 
 /// Threads may share a live sheet.
 pub fn live_crosses<N: Naming + Send + Sync>()
-    ensures { IsSync (live_row N.row (record { words = N.words; queue = N.queue; opening = N.opening; clients = N.clients })
-        (record { name = N.name; parts = N.parts })) }
+    ensures { IsSync (live_row N.row N.Naming.own N.Ledger) }
 {
     may_be_shared::<Marks<OverSheet>>();
     may_be_shared::<Jobs>();

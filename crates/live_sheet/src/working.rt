@@ -9,9 +9,9 @@ use std::sync::Wait;
 impl<N: Naming> Live<N> {
     ghost use Rattle.live_sheet.specs.Worked.{ComesWithCause, KeepsSeat, UsesJobs};
 
-    /// One turn of a worker at a desk: it takes a job, and computes its cell if that is due. Each answer comes only with
-    /// its cause, in what the desk's seat noted in this call and in the lists of its hand. The seat loses nothing that it
-    /// knew, and holds no place afterwards.
+    /// One turn of a worker at a desk: it takes a job, and computes its cell if that is due. Each answer comes only
+    /// with its cause, in what the desk's seat noted in this call and in the lists of its hand. The seat loses nothing
+    /// that it knew, and holds no place afterwards.
     ///
     /// The lock is held while it learns what stands in the cell, and again while it looks whether the cell is on a
     /// cycle; not while it reads, computes, claims and puts.

@@ -9,7 +9,6 @@ invariant-loop-order g l =
       so : IsUnderway g.N.Naming.opening l.fn.task.client (task_commands l.fn.task) l.pass l.orders.items l.reports.items l.number (vec_capacity l.fn.task.reports);
       room : vec_capacity l.reports ≡ vec_capacity l.fn.task.reports;
       going : l.failed ≡ false;
-      not_full : l.full ≡ false;
     }
 
 abbrev pub decreases-loop-order : goal.decreases-loop-order

@@ -1,10 +1,11 @@
-use Rattle.std.proofs.Common.{◌≡◌, ℕ, List, length, All, refl, sym, ap, subst, ◌∙◌}
+use Rattle.std.proofs.Common.{◌≡◌, ℕ, List, length, All, refl, sym, ap, subst, ◌∙◌, arith}
 use Rattle.std.specs.Prelude.{string_bytes}
 use Rattle.std.proofs.lemmas.List.{length-map}
 use Rattle.edit_script.specs.declared.script.Step.{Step}
 use Rattle.live_run.specs.Parts.{ArePartsOf, IsPartFor}
 use Rattle.live_run.specs.Tasks.{IsRunOf}
 use Rattle.live_run.proofs.PartLemmas.{parts_for}
+use Rattle.live_run.proofs.RoomLemmas.{few_edits}
 use Rattle.live_run.proofs.TranscriptLemmas.{is_legal, is_whole}
 use Rattle.live_run.proofs.run.run_live.Goals as goal
 
@@ -19,6 +20,13 @@ session-requires-clause-parts g c κs within =
     let are = subst (λ (steps : List Step). ArePartsOf c.len-clients.result steps c.in_ok-parts.parts.items) c.steps.ensures.steps c.in_ok-parts.ensures in
     subst (λ s. All (IsPartFor s) c.in_ok-parts.parts.items) (sym c.in_ok-setup.ensures.opening)
     (parts_for c.args.sheet c.len-clients.result c.args.script.now.steps c.in_ok-parts.parts.items c.requires.runnable.short c.requires.runnable.commands are)
+
+pub session-requires-clause-edits : goal.session-requires-clause-edits
+session-requires-clause-edits g c κs within =
+    let are = subst (λ (steps : List Step). ArePartsOf c.len-clients.result steps c.in_ok-parts.parts.items) c.steps.ensures.steps c.in_ok-parts.ensures in
+    let most = few_edits c.len-clients.result c.args.script.now.steps c.in_ok-parts.parts.items are in
+    let few = c.requires.runnable.edits in
+    omega (arith, most, few)
 
 pub returns-clause-legal : goal.returns-clause-legal
 returns-clause-legal g c =

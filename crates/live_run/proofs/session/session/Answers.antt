@@ -10,7 +10,7 @@ close-requires-clause-order g c κs within =
     let opening = g.N.Naming.opening in
     let tasks = c.run_all-desks.result.1.items in
     let ended = all_ended opening c.args.parts.items c.in_ok-tasks.tasks.items tasks c.in_ok-tasks.ensures c.run_all-desks.ensures in
-    in_order opening c.args.parts.items tasks c.in_ok-passes.field-0.passes.items ended c.in_ok-passes.ensures.uncut c.in_ok-passes.ensures.passes
+    in_order opening c.args.parts.items tasks c.in_ok-passes.field-0.passes.items ended c.in_ok-passes.ensures.had c.in_ok-passes.ensures.passes
 
 pub returns-in-Ok : goal.returns-in-Ok
 returns-in-Ok g c =
@@ -18,4 +18,4 @@ returns-in-Ok g c =
     let tasks = c.run_all-desks.result.1.items in
     let ended = all_ended opening c.args.parts.items c.in_ok-tasks.tasks.items tasks c.in_ok-tasks.ensures c.run_all-desks.ensures in
     is_run opening c.args.parts.items tasks c.in_ok-passes.field-0.passes.items (codes_of c.in_ok-live.field-0.live) (record { closed = c.in-Ok.closed; reports = c.in_ok-passes.field-0.reports })
-    ended c.in_ok-passes.ensures.uncut c.in_ok-passes.ensures.passes c.in_ok-passes.ensures.reports c.in-Ok.ensures.closed c.in_ok-live.ensures.words c.requires.sheet
+    ended c.in_ok-passes.ensures.had c.in_ok-passes.ensures.passes c.in_ok-passes.ensures.reports c.in-Ok.ensures.closed c.in_ok-live.ensures.words c.requires.sheet c.requires.edits

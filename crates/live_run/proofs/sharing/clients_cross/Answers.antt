@@ -10,7 +10,7 @@ returns g c =
         c.passes_cross.ensures,
         (
           record { owned = c.may_go.ensures.owned; leaving = λ k x w. tt },
-          (record { owned = c.may_go-2.ensures.owned; leaving = λ k x w. tt }, (search sendable, (search sendable, tt))),
+          (record { owned = c.may_go-2.ensures.owned; leaving = λ k x w. tt }, (search sendable, tt)),
         ),
       ),
     )

@@ -1,6 +1,6 @@
 use Rattle.std.proofs.Common.{◌<◌, All, ◌∷◌, [], length, ap, sym, subst, arith, ◌∙◌, length-append}
 use Rattle.std.proofs.lemmas.List.Elements.{All-cons}
-use Rattle.live_run.specs.Tasks.{IsUncut}
+use Rattle.live_run.specs.Tasks.{HadMemory}
 use Rattle.live_run.specs.declared.client.Client.{Client}
 use Rattle.live_run.proofs.TaskLemmas.{first_is, made_more}
 use Rattle.live_run.proofs.ended.Ended.take_apart.Goals as goal
@@ -23,7 +23,7 @@ loop-preserved g c =
       passes = made_more (λ (task : Client _ _). task.pass) c.args.tasks.items l.tasks.items next l.passes.items c.push_reserved.new.self.items x l.invariant.passes is c.push_reserved.ensures.items;
       reports =
           made_more (λ (task : Client _ _). task.reports) c.args.tasks.items l.tasks.items next l.reports.items c.push_reserved-in-loop.new.self.items x l.invariant.reports is c.push_reserved-in-loop.ensures.items;
-      uncut = λ rest. l.invariant.uncut (subst (All IsUncut) (sym is) (All-cons IsUncut x next (record { whole = c.if-failed.false; room = c.if-full.false }) rest));
+      had = λ rest. l.invariant.had (subst (All HadMemory) (sym is) (All-cons HadMemory x next c.if-failed.false rest));
       room = omega (arith, shorter, passes, room, c.push_reserved.ensures.capacity);
       space = omega (arith, shorter, reports, space, c.push_reserved-in-loop.ensures.capacity);
     }

@@ -36,7 +36,7 @@ pub returns : goal.returns
 returns g c =
     let me = c.args.self in
     let opening = g.N.Naming.opening in
-    let codes = (topic_of c.args.marks).opening.value.items in
+    let codes = (topic_of c.args.marks).opening.value in
     let passes = c.args.passes.items in
     let seats = c.gather.new.seats.items in
     let parts = c.into_parts-sheet.ensures in
