@@ -12,12 +12,12 @@ use Rattle.sheet_cli.specs.Graphs.{AreDependents, ArePrecedents}
 use Rattle.sheet_cli.specs.declared.window.WindowCommand.{WindowCommand}
 use Rattle.sheet_refs.proofs.VerticalRuns.{one_list}
 
-path_over : (step other : Position → Position → Type 0) → ((a b : Position) → step a b → other a b) → (from to : Position) (cells : List Position) → IsPath step from cells to → IsPath other from cells to
+pub path_over : (step other : Position → Position → Type 0) → ((a b : Position) → step a b → other a b) → (from to : Position) (cells : List Position) → IsPath step from cells to → IsPath other from cells to
 path_over step other over from to [] path = path
 path_over step other over from to (next ∷ cells) path = (over from next path.0, path_over step other over next to cells path.1)
 
 module _ (sheet : SheetValue) (pairs others : List Pair) (here : ArePairsOf sheet pairs) (there : ArePairsOf sheet others) where
-  step_over : (a b : Position) → Step pairs a b → Step others a b
+  pub step_over : (a b : Position) → Step pairs a b → Step others a b
   step_over a b step = record { pair = step.pair; listed = (there step.pair).1 ((here step.pair).0 step.listed); inside = step.inside; cell_is = step.cell_is }
 
   pub reach_over : (window : Corners) (cell : Position) → Reach pairs window cell → Reach others window cell

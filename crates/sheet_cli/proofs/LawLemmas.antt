@@ -6,37 +6,59 @@ use Rattle.std.specs.Fmt.{decimal}
 use Rattle.std.specs.Io.KnownBytes.{Appends}
 use Rattle.window_text.specs.Texts.{check_text, count_line, edge_line}
 use Rattle.edge_patterns.specs.Edges.{EdgeValue}
-use Rattle.sheet_cli.specs.Answers.{HasGivenSheet, IsLived, status_of}
+use Rattle.sheet_cli.specs.Answers.{AreAlternatives, HasGivenSheet, IsLived, status_of}
+use Rattle.sheet_cli.specs.Answers.AreAlternatives.{either_check, either_live, either_path}
 use Rattle.sheet_cli.specs.Answers.Answer.{output, refusal}
-use Rattle.sheet_cli.specs.Laws.{AreChecks, AreLives, CalmLineIsWhole, ChecksHaveOneCount, DueIsNamed, LineIsTakenFromItsFront, LivesHaveOneScript, NoOutputAndRefusal, OneOutput, OneRefusal, TellsOfCheck, TellsOfLive, TellsOfPlay, TellsOfWindow, UnfetchedOfCheck, UnfetchedOfLive, UnfetchedOfPlay, UnfetchedOfWindow}
+use Rattle.sheet_cli.specs.Laws.{AreChecks, AreLives, AreOtherTexts, ArePaths, CalmLineIsWhole, ChecksHaveOneCount, DueIsNamed, LineIsTakenFromItsFront, LivesHaveOneScript, NoOutputAndRefusal, OneOutput, OneRefusal, PathsHaveOneLength, TellsOfCheck, TellsOfFill, TellsOfLive, TellsOfPath, TellsOfPlay, TellsOfUndo, TellsOfWindow, UnfetchedOfCheck, UnfetchedOfFill, UnfetchedOfLive, UnfetchedOfPath, UnfetchedOfPlay, UnfetchedOfUndo, UnfetchedOfWindow}
+use Rattle.sheet_cli.specs.Laws.AreOtherTexts.{checks as plain_checks, lives as plain_lives, paths as plain_paths}
 use Rattle.sheet_cli.specs.Lines.{read_failed_line}
 use Rattle.sheet_cli.specs.Requests.{Request, texts_named}
 use Rattle.sheet_cli.specs.Runs.{IsUnfetched}
-use Rattle.sheet_cli.specs.Requests.Request.{of_window, of_check, of_script}
+use Rattle.sheet_cli.specs.Requests.Request.{of_check, of_script, of_path}
 use Rattle.sheet_cli.specs.Words.{Asks, command_word}
-use Rattle.sheet_cli.specs.Words.Asks.{asks_of_window, asks_check, asks_live, asks_play}
-use Rattle.sheet_cli.specs.declared.script.ScriptCommand.TheVariants.{Live, Play}
+use Rattle.sheet_cli.specs.Words.CommandWord.{window_word, check_word, fill_word, play_word, undo_word, path_word}
+use Rattle.sheet_cli.specs.declared.script.ScriptCommand.TheVariants.{Live}
 use Rattle.sheet_cli.specs.declared.window.WindowCommand.{WindowCommand}
-use Rattle.sheet_cli.proofs.OneAnswer.{not_refused, one_answer}
-use Rattle.sheet_cli.proofs.WordLemmas.{behind_check, behind_play, behind_window, one_request}
+use Rattle.sheet_cli.proofs.OneAnswer.{are_texts, not_refused, one_answer}
+use Rattle.sheet_cli.proofs.PathLemmas.{as_long}
+use Rattle.sheet_cli.proofs.WordLemmas.{asked_for, behind, one_request}
 
 -- ---- what words name
 
 pub window_names : (command : WindowCommand) (sheet range : List ℕ) (request : Request) → Asks (command_word command ∷ sheet ∷ range ∷ []) request → texts_named request ≡ sheet ∷ []
 window_names command sheet range request asked =
-    let asks = behind_window command (sheet ∷ range ∷ []) request asked in
+    let asks = behind (window_word command) (sheet ∷ range ∷ []) request asked in
     let same : asks.sheet ≡ sheet = cc asks.positions.words_are in
     ap texts_named asks.request_is ∙ ap (λ s. s ∷ []) same
 
 pub check_names : (sheet : List ℕ) (request : Request) → Asks (codes "check" ∷ sheet ∷ []) request → texts_named request ≡ sheet ∷ []
 check_names sheet request asked =
-    let asks = behind_check (sheet ∷ []) request asked in
+    let asks = behind check_word (sheet ∷ []) request asked in
     let same : asks.sheet ≡ sheet = cc asks.position.words_are in
+    ap texts_named asks.request_is ∙ ap (λ s. s ∷ []) same
+
+pub path_names : (sheet first second : List ℕ) (request : Request) → Asks (codes "path" ∷ sheet ∷ first ∷ second ∷ []) request → texts_named request ≡ sheet ∷ []
+path_names sheet first second request asked =
+    let asks = behind path_word (sheet ∷ first ∷ second ∷ []) request asked in
+    let same : asks.sheet ≡ sheet = cc asks.positions.words_are in
+    ap texts_named asks.request_is ∙ ap (λ s. s ∷ []) same
+
+pub fill_names : (sheet first second : List ℕ) (request : Request) → Asks (codes "fill" ∷ sheet ∷ first ∷ second ∷ []) request → texts_named request ≡ sheet ∷ []
+fill_names sheet first second request asked =
+    let asks = behind fill_word (sheet ∷ first ∷ second ∷ []) request asked in
+    let same : asks.sheet ≡ sheet = cc asks.positions.words_are in
     ap texts_named asks.request_is ∙ ap (λ s. s ∷ []) same
 
 pub play_names : (sheet script : List ℕ) (request : Request) → Asks (codes "play" ∷ sheet ∷ script ∷ []) request → texts_named request ≡ sheet ∷ script ∷ []
 play_names sheet script request asked =
-    let asks = behind_play (sheet ∷ script ∷ []) request asked in
+    let asks = behind play_word (sheet ∷ script ∷ []) request asked in
+    let same : asks.sheet ≡ sheet = cc asks.positions.words_are in
+    let also : asks.script ≡ script = cc asks.positions.words_are in
+    ap texts_named asks.request_is ∙ (λ i. same i ∷ also i ∷ [])
+
+pub undo_names : (sheet script digits : List ℕ) (request : Request) → Asks (codes "undo" ∷ sheet ∷ script ∷ digits ∷ []) request → texts_named request ≡ sheet ∷ script ∷ []
+undo_names sheet script digits request asked =
+    let asks = behind undo_word (sheet ∷ script ∷ digits ∷ []) request asked in
     let same : asks.sheet ≡ sheet = cc asks.positions.words_are in
     let also : asks.script ≡ script = cc asks.positions.words_are in
     ap texts_named asks.request_is ∙ (λ i. same i ∷ also i ∷ [])
@@ -62,9 +84,19 @@ tells_window command sheet range text holds here request asked = subst (All (IsT
 pub tells_check : TellsOfCheck
 tells_check sheet text holds here request asked = subst (All (IsTold holds)) (sym (check_names sheet request asked)) (one_told holds sheet text here)
 
+pub tells_path : TellsOfPath
+tells_path sheet first second text holds here request asked = subst (All (IsTold holds)) (sym (path_names sheet first second request asked)) (one_told holds sheet text here)
+
+pub tells_fill : TellsOfFill
+tells_fill sheet first second text holds here request asked = subst (All (IsTold holds)) (sym (fill_names sheet first second request asked)) (one_told holds sheet text here)
+
 pub tells_play : TellsOfPlay
 tells_play sheet script text steps holds here there request asked =
     subst (All (IsTold holds)) (sym (play_names sheet script request asked)) (two_told holds sheet script text steps here there)
+
+pub tells_undo : TellsOfUndo
+tells_undo sheet script digits text steps holds here there request asked =
+    subst (All (IsTold holds)) (sym (undo_names sheet script digits request asked)) (two_told holds sheet script text steps here there)
 
 pub tells_live : TellsOfLive
 tells_live words workers sheet script text steps holds asked here there request other =
@@ -94,6 +126,14 @@ pub unfetched_check : UnfetchedOfCheck
 unfetched_check sheet holds line missed =
     sym missed.noted ∙ ap read_failed_line (only_name missed.due.before missed.due.after missed.name sheet (sym (check_names sheet missed.request missed.asked) ∙ missed.due.named))
 
+pub unfetched_path : UnfetchedOfPath
+unfetched_path sheet first second holds line missed =
+    sym missed.noted ∙ ap read_failed_line (only_name missed.due.before missed.due.after missed.name sheet (sym (path_names sheet first second missed.request missed.asked) ∙ missed.due.named))
+
+pub unfetched_fill : UnfetchedOfFill
+unfetched_fill sheet first second holds line missed =
+    sym missed.noted ∙ ap read_failed_line (only_name missed.due.before missed.due.after missed.name sheet (sym (fill_names sheet first second missed.request missed.asked) ∙ missed.due.named))
+
 -- of two texts
 unfetched_two : (words : List (List ℕ)) (sheet script : List ℕ) (holds : List ℕ → Option (List ℕ)) (line : List ℕ) → (missed : IsUnfetched words holds (λ noted. noted ≡ line)) → texts_named missed.request ≡ sheet ∷ script ∷ [] → (line ≡ read_failed_line sheet) ⊎ ((line ≡ read_failed_line script) × HasGivenSheet holds sheet)
 unfetched_two words sheet script holds line missed names =
@@ -104,6 +144,9 @@ unfetched_two words sheet script holds line missed names =
 
 pub unfetched_play : UnfetchedOfPlay
 unfetched_play sheet script holds line missed = unfetched_two _ sheet script holds line missed (play_names sheet script missed.request missed.asked)
+
+pub unfetched_undo : UnfetchedOfUndo
+unfetched_undo sheet script digits holds line missed = unfetched_two _ sheet script holds line missed (undo_names sheet script digits missed.request missed.asked)
 
 pub unfetched_live : UnfetchedOfLive
 unfetched_live words workers sheet script holds line asked missed = unfetched_two words sheet script holds line missed (live_names words workers sheet script missed.request asked missed.asked)
@@ -140,65 +183,53 @@ same_line h = cc
 pub no_refusal : {s : ℕ} {l t : List ℕ} → refusal s l ≡ output t → ⊥
 no_refusal h = cc
 
-asked_check : (words : List (List ℕ)) (request : Request) (name : List ℕ) → request ≡ of_check name → Asks words request → words ≡ codes "check" ∷ name ∷ []
-asked_check words _ name re (asks_of_window command sheet range window is _ _) = absurd (no re)
-  where
-    no : of_window command sheet window ≡ of_check name → ⊥
-    no h = cc
-asked_check words _ name re (asks_check sheet is _) = let same : sheet ≡ name = cc re in is ∙ ap (λ n. codes "check" ∷ n ∷ []) same
-asked_check words _ name re (asks_play sheet script is _ _) = absurd (no re)
-  where
-    no : of_script Play sheet script ≡ of_check name → ⊥
-    no h = cc
-asked_check words _ name re (asks_live rest left workers sheet script is _ _) = absurd (no re)
-  where
-    no : of_script (Live workers) sheet script ≡ of_check name → ⊥
-    no h = cc
-
--- the words of `live` begin with it
-begins_live : (words : List (List ℕ)) (request : Request) (workers : ℕ) (name script_name : List ℕ) → request ≡ of_script (Live workers) name script_name → Asks words request → (rest : List (List ℕ)) × (words ≡ codes "live" ∷ rest)
-begins_live words _ workers name script_name re (asks_of_window command sheet range window is _ _) = absurd (no re)
-  where
-    no : of_window command sheet window ≡ of_script (Live workers) name script_name → ⊥
-    no h = cc
-begins_live words _ workers name script_name re (asks_check sheet is _) = absurd (no re)
-  where
-    no : of_check sheet ≡ of_script (Live workers) name script_name → ⊥
-    no h = cc
-begins_live words _ workers name script_name re (asks_play sheet script is _ _) = absurd (no re)
-  where
-    no : of_script Play sheet script ≡ of_script (Live workers) name script_name → ⊥
-    no h = cc
-begins_live words _ workers name script_name re (asks_live rest left given sheet script is _ _) = (rest, is)
-
 -- what stands behind the number of pairs
-abbrev pub behind : List EdgeValue → List ℕ
-behind edges = count_line (codes "edges") (length edges) ++ flat_map edge_line edges
+abbrev pub behind_count : List EdgeValue → List ℕ
+behind_count edges = count_line (codes "edges") (length edges) ++ flat_map edge_line edges
 
-pub in_front : (pairs : ℕ) (edges : List EdgeValue) → check_text pairs edges ≡ codes "pairs " ++ (decimal pairs ++ 10 ∷ behind edges)
-in_front pairs edges = ap (λ t. codes "pairs " ++ t) (append_assoc (decimal pairs) (10 ∷ []) (behind edges))
+pub in_front : (pairs : ℕ) (edges : List EdgeValue) → check_text pairs edges ≡ codes "pairs " ++ (decimal pairs ++ 10 ∷ behind_count edges)
+in_front pairs edges = ap (λ t. codes "pairs " ++ t) (append_assoc (decimal pairs) (10 ∷ []) (behind_count edges))
 
 pub one_count : ChecksHaveOneCount
-one_count words a b checks = record {
-  name = checks.name;
-  words_are = asked_check words (of_check checks.name) checks.name refl checks.asked;
-  pairs = checks.pairs;
-  rest = behind checks.edges;
-  others = behind checks.others;
-  one = same_text checks.one ∙ in_front checks.pairs checks.edges;
-  other = same_text checks.other ∙ in_front checks.pairs checks.others;
-}
+one_count words a b checks =
+    let (rest, words_are, asks) = asked_for words (of_check checks.name) checks.asked in
+    let same : asks.sheet ≡ checks.name = cc asks.request_is in
+    record {
+      name = checks.name;
+      words_are = words_are ∙ ap (λ ws. codes "check" ∷ ws) (asks.position.words_are ∙ ap (λ n. n ∷ []) same);
+      pairs = checks.pairs;
+      rest = behind_count checks.edges;
+      others = behind_count checks.others;
+      one = same_text checks.one ∙ in_front checks.pairs checks.edges;
+      other = same_text checks.other ∙ in_front checks.pairs checks.others;
+    }
 
 pub one_script_lives : LivesHaveOneScript
 one_script_lives words a b lives =
-    let begins = begins_live words (of_script (Live lives.workers) lives.name lives.script_name) lives.workers lives.name lives.script_name refl lives.asked in
+    let (rest, words_are, asks) = asked_for words (of_script (Live lives.workers) lives.name lives.script_name) lives.asked in
     record {
-      rest = begins.0;
-      words_are = begins.1;
+      rest = rest;
+      words_are = words_are;
       sheet = lives.sheet;
       script = lives.script;
       one = subst (IsLived lives.sheet lives.script) (sym (same_text lives.one)) lives.lived;
       other = subst (IsLived lives.sheet lives.script) (sym (same_text lives.other)) lives.again;
+    }
+
+pub one_length : PathsHaveOneLength
+one_length words a b paths =
+    let (rest, words_are, asks) = asked_for words (of_path paths.name paths.from paths.to) paths.asked in
+    let same : asks.sheet ≡ paths.name = cc asks.request_is in
+    record {
+      name = paths.name;
+      first = asks.first;
+      second = asks.second;
+      words_are = words_are ∙ ap (λ ws. codes "path" ∷ ws) (asks.positions.words_are ∙ ap (λ n. n ∷ asks.first ∷ asks.second ∷ []) same);
+      cells = paths.cells;
+      others = paths.others;
+      long = as_long paths.pairs paths.from paths.to paths.cells paths.others paths.shortest paths.again;
+      one = same_text paths.one;
+      other = same_text paths.other;
     }
 
 two_lives : (words : List (List ℕ)) (a b text said : List ℕ) → a ≡ text → b ≡ said → AreLives words text said → AreLives words a b
@@ -222,18 +253,35 @@ two_checks words a b text said is re checks = record {
   other = re ∙ checks.other;
 }
 
+two_paths : (words : List (List ℕ)) (a b text said : List ℕ) → a ≡ text → b ≡ said → ArePaths words text said → ArePaths words a b
+two_paths words a b text said is re paths = record {
+  name = paths.name;
+  first = paths.first;
+  second = paths.second;
+  words_are = paths.words_are;
+  cells = paths.cells;
+  others = paths.others;
+  long = paths.long;
+  one = is ∙ paths.one;
+  other = re ∙ paths.other;
+}
+
+-- two texts of which a run may write either, in plain words
+either_text : (words : List (List ℕ)) (a b text said : List ℕ) → a ≡ text → b ≡ said → AreAlternatives words (output text) (output said) → AreOtherTexts words a b
+either_text words a b text said is re (either_check both) = plain_checks (two_checks words a b text said is re (one_count words text said both))
+either_text words a b text said is re (either_live both) = plain_lives (two_lives words a b text said is re (one_script_lives words text said both))
+either_text words a b text said is re (either_path both) = plain_paths (two_paths words a b text said is re (one_length words text said both))
+
 pub one_output : OneOutput
 one_output words holds a b tells x y = elim (one_answer words holds (output x.text) (output y.text) tells x.owed y.owed) [
   | inl same ↦ inl (x.gained ∙ same_text same ∙ sym y.gained)
-  | inr (inl checks) ↦ inr (inl (two_checks words a b x.text y.text x.gained y.gained (one_count words x.text y.text checks)))
-  | inr (inr lives) ↦ inr (inr (two_lives words a b x.text y.text x.gained y.gained (one_script_lives words x.text y.text lives)))
+  | inr either ↦ inr (either_text words a b x.text y.text x.gained y.gained either)
 ]
 
 pub one_refusal : OneRefusal
 one_refusal words holds status given line other tells x y = elim (one_answer words holds (refusal status x.line) (refusal given y.line) tells x.owed y.owed) [
   | inl same ↦ (ap status_of same, sym x.noted ∙ same_line same ∙ y.noted)
-  | inr (inl checks) ↦ absurd (no_refusal checks.one)
-  | inr (inr lives) ↦ absurd (no_refusal lives.one)
+  | inr either ↦ absurd (no_refusal (are_texts words (refusal status x.line) (refusal given y.line) either).one)
 ]
 
 pub not_both : NoOutputAndRefusal

@@ -2,17 +2,21 @@ pub mod CheckLemmas
 pub mod ClapLemmas
 pub mod ClapOne
 pub mod CommandLemmas
-pub mod GraphLemmas
+pub mod FillingLemmas
+pub mod GeneratedLemmas
+mod GraphLemmas
 pub mod InOrder
 pub mod LawLemmas
 pub mod OneAnswer
 pub mod OptionLemmas
 pub mod OutputLemmas
+pub mod PathLemmas
 pub mod ReplyLemmas
 pub mod RowGraph
 pub mod RowPlay
 pub mod RowShow
 pub mod RunLemmas
+pub mod UndoLemmas
 pub mod WordLemmas
 pub mod WorkedGraph
 pub mod WorkedPlay

@@ -1,33 +1,41 @@
 -- From what a text gives to the reply to the words, over a shelf.
 use Rattle.std.proofs.Common.{◌≡◌, ◌≢◌, ℕ, zero, suc, All, ◌+◌, ◌*◌, ◌<◌, ◌≤◌, inl, inr, List, [], ◌∷◌, ◌++◌, length, length-append, refl, sym, subst, ap, arith}
 use Rattle.std.specs.Prelude.{max, fold, Option, IfSome, Result, Ok, Err, IfOk, Some, None, string_bytes}
-use Rattle.sheet_refs.specs.Cells.{Corners}
-use Rattle.csv_sheet.specs.Results.{IsSheetResult}
+use Rattle.sheet_refs.specs.Cells.{Corners, Position}
+use Rattle.csv_sheet.specs.Headings.{HeadedText, heading_of}
+use Rattle.csv_sheet.specs.Results.{IsHeadedResult, IsSheetResult}
 use Rattle.csv_sheet.specs.declared.refused.SheetRefused.{SheetRefused}
 use Rattle.csv_sheet.specs.declared.refused.SheetRefused.TheVariants as why
-use Rattle.csv_sheet.specs.Records.{Rows, all_fields, longest}
+use Rattle.csv_sheet.specs.Records.{Rows, all_fields, longest, without_marks}
 use Rattle.sheet_model.specs.Labels.{IsTable}
-use Rattle.sheet_model.specs.Sheets.{SheetValue}
+use Rattle.sheet_model.specs.Sheets.{SheetValue, with_labels}
 use Rattle.sheet_model.proofs.TableLemmas.{adds_few}
-use Rattle.edit_script.specs.Scripts.{ScriptValue, IsScriptResult}
+use Rattle.edit_script.specs.Scripts.{ScriptValue, IsScriptResult, ground_of}
 use Rattle.edit_script.specs.declared.refused.ScriptRefused.{ScriptRefused}
 use Rattle.edit_script.specs.declared.refused.ScriptRefused.TheVariants as script_why
 use Rattle.edit_script.specs.declared.script.Mode.{Mode}
-use Rattle.sheet_cli.specs.Answers.{Answer, AnswersRequest, AnswersWindow, AnswersCheck, AnswersScript, GivesSheet, HasGivenSheet, HasNoScript, IsDue, Owes, HasNoSheet, mode_of, status_of}
+use Rattle.sheet_cli.specs.Answers.{Answer, AnswersRequest, AnswersWindow, AnswersCheck, AnswersFill, AnswersGenerated, AnswersPath, AnswersScript, GivesSheet, HasGivenSheet, HasNoScript, IsDue, OverScript, OverSheet, Owes, HasNoSheet, mode_of, status_of, AnswersUndo, IsLived, IsPlayed, IsText}
 use Rattle.sheet_cli.specs.Answers.Answer.{output, refusal}
-use Rattle.sheet_cli.specs.Answers.AnswersWindow.{written, outside, no_sheet}
-use Rattle.sheet_cli.specs.Answers.AnswersCheck.{listed, unlisted}
-use Rattle.sheet_cli.specs.Answers.AnswersScript.{scripted, unscripted, sheetless}
+use Rattle.sheet_cli.specs.Answers.AnswersWindow.{written, outside}
+use Rattle.sheet_cli.specs.Answers.AnswersCheck.{listed}
+use Rattle.sheet_cli.specs.Answers.AnswersFill.{filled_range, elsewhere, none_to_fill, many_to_fill}
+use Rattle.sheet_cli.specs.Answers.AnswersPath.{shown, beyond}
+use Rattle.sheet_cli.specs.Answers.AnswersGenerated.{summed}
+use Rattle.sheet_cli.specs.Answers.AnswersUndo.{undone, no_edit, overtaken}
+use Rattle.sheet_cli.specs.Answers.IsText.{written_text}
+use Rattle.sheet_cli.specs.Answers.OverSheet.{over_sheet, no_sheet}
+use Rattle.sheet_cli.specs.Answers.OverScript.{over_script, no_script}
 use Rattle.sheet_cli.specs.Answers.HasNoScript.{long_script, refused_script}
 use Rattle.sheet_cli.specs.Answers.HasNoSheet.{too_long, refused}
 use Rattle.sheet_cli.specs.Answers.Owes.{answers, usage}
 use Rattle.sheet_io.specs.Faults.{Rose}
 use Rattle.sheet_cli.specs.Lines.{read_failed_line, refused_line, script_line, too_long_line, usage_line}
 use Rattle.sheet_cli.specs.Requests.{Request, texts_named}
-use Rattle.sheet_cli.specs.Requests.Request.{of_window, of_check, of_script}
+use Rattle.sheet_cli.specs.Requests.Request.{of_window, of_check, of_script, of_path, of_fill, of_generated}
 use Rattle.sheet_cli.specs.Replies.{HasFetched, HasSheet, IsMissed, IsOwed, IsRefusedStatus, RepliesOfText, RepliesOverSheet, RepliesTo, answer_of}
 use Rattle.sheet_cli.specs.Words.{Asks, AsksNothing}
 use Rattle.sheet_cli.specs.declared.script.ScriptCommand.{ScriptCommand}
+use Rattle.sheet_cli.specs.declared.script.ScriptCommand.TheVariants.{Live, Play, Undo}
 use Rattle.sheet_cli.specs.declared.window.WindowCommand.{WindowCommand}
 use Rattle.sheet_cli.specs.declared.reply.Reply.{Reply}
 use Rattle.sheet_cli.specs.declared.reply.Reply.TheVariants.{Output, Refusal}
@@ -89,9 +97,9 @@ same_script_cause h = cc
 pub a_script : (script : ScriptValue) → script_for script ≢ no_script_for script_why.Memory
 a_script script h = cc
 
-pub no_script_reply : (command : ScriptCommand) (sheet : SheetValue) (labels : List (List ℕ)) (text : List ℕ) (cause : ScriptRefused) (reply : Reply) → IsTable labels → IsScriptResult (mode_of command) sheet.sizes sheet.labels labels text (Err cause) → answer_of reply ≡ refusal 4 (script_line cause) → RepliesOfText command sheet text reply
-no_script_reply command sheet labels text cause reply table gives is holds name script sheet_gives stands =
-    subst (AnswersScript holds command name script) (sym is) (unscripted sheet 4 (script_line cause) sheet_gives (refused_script cause labels (record { text = text; stands = stands; gives = gives; table = table })))
+pub no_script_reply : (command : ScriptCommand) (sheet : SheetValue) (labels : List (List ℕ)) (text : List ℕ) (cause : ScriptRefused) (reply : Reply) → IsTable labels → IsScriptResult (mode_of command) (ground_of sheet) sheet.labels labels text (Err cause) → answer_of reply ≡ refusal 4 (script_line cause) → RepliesOfText command sheet text reply
+no_script_reply command sheet labels text cause reply table gives is holds script stands =
+    subst (OverScript holds (mode_of command) script (AnswersScript command) sheet) (sym is) (no_script 4 (script_line cause) (refused_script cause labels (record { text = text; stands = stands; gives = gives; table = table })))
 
 -- ---- over a shelf
 
@@ -109,18 +117,31 @@ module _ (holds : List ℕ → Option (List ℕ)) (name : List ℕ) (before afte
   first_due : (request : Request) (others : List (List ℕ)) → texts_named request ≡ name ∷ others → IsDue holds request name
   first_due request others is = record { before = []; after = others; named = is; there = λ k d within. absurd (omega (arith, within)) }
 
-  -- where there is no sheet, each command says so
+  -- where there is no sheet, a request says so
+  without : (request : Request) (others : List (List ℕ)) → texts_named request ≡ name ∷ others → ((status : ℕ) (line : List ℕ) → HasNoSheet holds name status line → AnswersRequest holds request (refusal status line))
+      → (reply : Reply) → HasFetched holds name before after (Err reply) → RepliesTo request holds before after reply
+  without request others is says reply (inl miss) = read_failure request reply (first_due request others is) miss
+  without request others is says reply (inr lacks) = inr (subst (AnswersRequest holds request) (sym lacks.reply_is) (says lacks.status lacks.line lacks.none))
+
   pub no_window : (command : WindowCommand) (window : Corners) (reply : Reply) → HasFetched holds name before after (Err reply) → RepliesTo (of_window command name window) holds before after reply
-  no_window command window reply (inl miss) = read_failure (of_window command name window) reply (first_due (of_window command name window) [] refl) miss
-  no_window command window reply (inr lacks) = inr (subst (AnswersWindow holds command name window) (sym lacks.reply_is) (no_sheet lacks.status lacks.line lacks.none))
+  no_window command window = without (of_window command name window) [] refl (λ status line. no_sheet status line)
 
   pub no_check : (reply : Reply) → HasFetched holds name before after (Err reply) → RepliesTo (of_check name) holds before after reply
-  no_check reply (inl miss) = read_failure (of_check name) reply (first_due (of_check name) [] refl) miss
-  no_check reply (inr lacks) = inr (subst (AnswersCheck holds name) (sym lacks.reply_is) (unlisted lacks.status lacks.line lacks.none))
+  no_check = without (of_check name) [] refl (λ status line. no_sheet status line)
+
+  pub no_path : (from to : Position) (reply : Reply) → HasFetched holds name before after (Err reply) → RepliesTo (of_path name from to) holds before after reply
+  no_path from to = without (of_path name from to) [] refl (λ status line. no_sheet status line)
+
+  pub no_fill : (from : Position) (to : Corners) (reply : Reply) → HasFetched holds name before after (Err reply) → RepliesTo (of_fill name from to) holds before after reply
+  no_fill from to = without (of_fill name from to) [] refl (λ status line. no_sheet status line)
 
   pub no_sheet_of_script : (command : ScriptCommand) (script : List ℕ) (reply : Reply) → HasFetched holds name before after (Err reply) → RepliesTo (of_script command name script) holds before after reply
-  no_sheet_of_script command script reply (inl miss) = read_failure (of_script command name script) reply (first_due (of_script command name script) (script ∷ []) refl) miss
-  no_sheet_of_script command script reply (inr lacks) = inr (subst (AnswersScript holds command name script) (sym lacks.reply_is) (sheetless lacks.status lacks.line lacks.none))
+  no_sheet_of_script command script = without (of_script command name script) (script ∷ []) refl (λ status line. no_sheet status line)
+
+-- what is answered of a sheet that is given is the reply
+pub over_given : {E : Type 0} (holds : List ℕ → Option (List ℕ)) (name : List ℕ) (P : SheetValue → Answer → Type 0) (sheet : SheetValue) (result : Result Reply E) → GivesSheet holds name (Ok sheet) → IfOk result (λ reply. P sheet (answer_of reply)) → IfOk result (λ reply. OverSheet holds name P (answer_of reply))
+over_given holds name P sheet (Ok reply) gives is = over_sheet sheet (answer_of reply) gives is
+over_given holds name P sheet (Err e) gives is = tt
 
 -- a fault that rose later has risen
 rose_from : (before mid after : ℕ) → before ≤ mid → Rose mid after → Rose before after
@@ -138,20 +159,24 @@ second_due holds command name script sheet gives = record { before = name ∷ []
 -- the reply over a sheet is one to the words
 pub script_replies : (holds : List ℕ → Option (List ℕ)) (command : ScriptCommand) (name script : List ℕ) (sheet : SheetValue) (before mid after : ℕ) (reply : Reply) → before ≤ mid → GivesSheet holds name (Ok sheet) → RepliesOverSheet holds command sheet script mid after reply → RepliesTo (of_script command name script) holds before after reply
 script_replies holds command name script sheet before mid after reply grown gives (inl miss) = inl (record { name = script; due = second_due holds command name script sheet gives; rose = rose_from before mid after grown miss.rose; reply_is = miss.reply_is })
-script_replies holds command name script sheet before mid after reply grown gives (inr writes) = inr (writes name gives)
+script_replies holds command name script sheet before mid after reply grown gives (inr writes) = inr (over_sheet sheet (answer_of reply) gives writes)
 
 -- a sheet that was read has no more labels than cells
-labels_few : (holds : List ℕ → Option (List ℕ)) (name : List ℕ) (sheet : SheetValue) → GivesSheet holds name (Ok sheet) → length sheet.labels ≤ 1048576
-labels_few holds name sheet gives =
-    let is = gives.gives.answer in
-    let added = adds_few (all_fields gives.gives.rows) [] sheet.labels is.labels in
-    let fields = fields_within gives.gives.rows 0 in
+headed_few : (heading : Option HeadedText) (sheet : SheetValue) → IsHeadedResult heading (Ok sheet) → length sheet.labels ≤ 1048576
+headed_few None sheet gives = absurd (cc)
+headed_few (Some heading) sheet gives =
+    let is = gives.answer in
+    let added = adds_few (all_fields gives.rows) [] sheet.labels is.labels in
+    let fields = fields_within gives.rows 0 in
     let fits = is.readable.fits in
-    let most : length gives.gives.rows * longest gives.gives.rows ≤ 1048576 = at_most (length gives.gives.rows * longest gives.gives.rows) (λ large. fits (inl large)) in
+    let most : length gives.rows * longest gives.rows ≤ 1048576 = at_most (length gives.rows * longest gives.rows) (λ large. fits (inl large)) in
     omega (arith, added, fields, most)
   where
     at_most : (n : ℕ) → ((1048576 < n) → ⊥) → n ≤ 1048576
     at_most n not = omega (arith, not)
+
+labels_few : (holds : List ℕ → Option (List ℕ)) (name : List ℕ) (sheet : SheetValue) → GivesSheet holds name (Ok sheet) → length sheet.labels ≤ 1048576
+labels_few holds name sheet gives = headed_few (heading_of (without_marks gives.text)) sheet gives.gives
 
 pub room_for_labels : (holds : List ℕ → Option (List ℕ)) (name : List ℕ) (sheet : SheetValue) → GivesSheet holds name (Ok sheet) → length sheet.labels ≤ 3000000000
 room_for_labels holds name sheet gives = (let few = labels_few holds name sheet gives in omega (arith, few))
@@ -175,25 +200,59 @@ none_status : (holds : List ℕ → Option (List ℕ)) (mode : Mode) (name : Lis
 none_status holds mode name sheet _ _ (long_script _) = inr (inr refl)
 none_status holds mode name sheet _ _ (refused_script _ _ _) = inr (inr refl)
 
-script_status : (holds : List ℕ → Option (List ℕ)) (command : ScriptCommand) (name script : List ℕ) (answer : Answer) (status : ℕ) (line : List ℕ) → answer ≡ refusal status line → AnswersScript holds command name script answer → IsRefusedStatus status
-script_status holds command name script _ status line is (scripted _ _ _ _ _ _ _) = absurd (no_output is)
-script_status holds command name script _ status line is (unscripted sheet given said gives none) = subst IsRefusedStatus (same_status is) (none_status holds (mode_of command) script sheet given said none)
-script_status holds command name script _ status line is (sheetless given said none) = subst IsRefusedStatus (same_status is) (cause_status holds name given said none)
+-- the status of a refusal that is answered
+abbrev HasStatus : Answer → Type 0
+HasStatus answer = (status : ℕ) (line : List ℕ) → answer ≡ refusal status line → IsRefusedStatus status
 
--- the status of a refusal that a request is answered
-window_status : (holds : List ℕ → Option (List ℕ)) (command : WindowCommand) (name : List ℕ) (window : Corners) (answer : Answer) (status : ℕ) (line : List ℕ) → answer ≡ refusal status line → AnswersWindow holds command name window answer → IsRefusedStatus status
-window_status holds command name window _ status line is (written _ _ _ _ _) = absurd (no_output is)
-window_status holds command name window _ status line is (outside _ _ _) = inl (sym (same_status is))
-window_status holds command name window _ status line is (no_sheet given said none) = subst IsRefusedStatus (same_status is) (cause_status holds name given said none)
+status_over : (holds : List ℕ → Option (List ℕ)) (name : List ℕ) (P : SheetValue → Answer → Type 0) → ((sheet : SheetValue) (answer : Answer) → P sheet answer → HasStatus answer) → (answer : Answer) → OverSheet holds name P answer → HasStatus answer
+status_over holds name P has _ (over_sheet sheet answer gives given) = has sheet answer given
+status_over holds name P has _ (no_sheet said told none) = λ status line is. subst IsRefusedStatus (same_status is) (cause_status holds name said told none)
 
-check_status : (holds : List ℕ → Option (List ℕ)) (name : List ℕ) (answer : Answer) (status : ℕ) (line : List ℕ) → answer ≡ refusal status line → AnswersCheck holds name answer → IsRefusedStatus status
-check_status holds name _ status line is (listed _ _ _ _) = absurd (no_output is)
-check_status holds name _ status line is (unlisted given said none) = subst IsRefusedStatus (same_status is) (cause_status holds name given said none)
+status_over_script : (holds : List ℕ → Option (List ℕ)) (mode : Mode) (name : List ℕ) (P : SheetValue → ScriptValue → Answer → Type 0) → ((sheet : SheetValue) (script : ScriptValue) (answer : Answer) → P sheet script answer → HasStatus answer) → (sheet : SheetValue) (answer : Answer) → OverScript holds mode name P sheet answer → HasStatus answer
+status_over_script holds mode name P has sheet _ (over_script labels script answer gives given) = has (with_labels sheet labels) script answer given
+status_over_script holds mode name P has sheet _ (no_script said told none) = λ status line is. subst IsRefusedStatus (same_status is) (none_status holds mode name sheet said told none)
 
-refusal_of_request : (holds : List ℕ → Option (List ℕ)) (request : Request) (status : ℕ) (line : List ℕ) → AnswersRequest holds request (refusal status line) → IsRefusedStatus status
-refusal_of_request holds (of_window command name window) status line given = window_status holds command name window (refusal status line) status line refl given
-refusal_of_request holds (of_check name) status line given = check_status holds name (refusal status line) status line refl given
-refusal_of_request holds (of_script command name script) status line given = script_status holds command name script (refusal status line) status line refl given
+window_status : (command : WindowCommand) (window : Corners) (sheet : SheetValue) (answer : Answer) → AnswersWindow command window sheet answer → HasStatus answer
+window_status command window sheet _ (written _ _ _) status line is = absurd (no_output is)
+window_status command window sheet _ (outside _) status line is = inl (sym (same_status is))
+
+check_status : (sheet : SheetValue) (answer : Answer) → AnswersCheck sheet answer → HasStatus answer
+check_status sheet _ (listed _ _) status line is = absurd (no_output is)
+
+path_status : (from to : Position) (sheet : SheetValue) (answer : Answer) → AnswersPath from to sheet answer → HasStatus answer
+path_status from to sheet _ (shown _ _ _) status line is = absurd (no_output is)
+path_status from to sheet _ (beyond _) status line is = inl (sym (same_status is))
+
+fill_status : (from : Position) (to : Corners) (sheet : SheetValue) (answer : Answer) → AnswersFill from to sheet answer → HasStatus answer
+fill_status from to sheet _ (filled_range _ _) status line is = absurd (no_output is)
+fill_status from to sheet _ (elsewhere _) status line is = inl (sym (same_status is))
+fill_status from to sheet _ (none_to_fill _ _) status line is = inl (sym (same_status is))
+fill_status from to sheet _ (many_to_fill _ _ _ _) status line is = inl (sym (same_status is))
+
+text_status : (Holds : List ℕ → Type 0) (answer : Answer) → IsText Holds answer → HasStatus answer
+text_status Holds _ (written_text _ _) status line is = absurd (no_output is)
+
+undo_status : (number : ℕ) (sheet : SheetValue) (script : ScriptValue) (answer : Answer) → AnswersUndo number sheet script answer → HasStatus answer
+undo_status number sheet script _ (undone _ _) status line is = absurd (no_output is)
+undo_status number sheet script _ (no_edit _ _) status line is = inl (sym (same_status is))
+undo_status number sheet script _ (overtaken _ _ _) status line is = inl (sym (same_status is))
+
+script_status : (command : ScriptCommand) (sheet : SheetValue) (script : ScriptValue) (answer : Answer) → AnswersScript command sheet script answer → HasStatus answer
+script_status Play sheet script answer given = text_status (IsPlayed sheet script.steps) answer given
+script_status (Live workers) sheet script answer given = text_status (IsLived sheet script) answer given
+script_status (Undo number) sheet script answer given = undo_status number sheet script answer given
+
+generated_status : (number : ℕ) (answer : Answer) → AnswersGenerated number answer → HasStatus answer
+generated_status number _ (summed _ _) status line is = absurd (no_output is)
+
+request_status : (holds : List ℕ → Option (List ℕ)) (request : Request) (answer : Answer) → AnswersRequest holds request answer → HasStatus answer
+request_status holds (of_window command name window) answer given = status_over holds name (AnswersWindow command window) (window_status command window) answer given
+request_status holds (of_check name) answer given = status_over holds name AnswersCheck check_status answer given
+request_status holds (of_script command name script) answer given =
+    status_over holds name (OverScript holds (mode_of command) script (AnswersScript command)) (status_over_script holds (mode_of command) script (AnswersScript command) (script_status command)) answer given
+request_status holds (of_path name from to) answer given = status_over holds name (AnswersPath from to) (path_status from to) answer given
+request_status holds (of_fill name from to) answer given = status_over holds name (AnswersFill from to) (fill_status from to) answer given
+request_status holds (of_generated number workers) answer given = generated_status number answer given
 
 -- the reply to what the words ask for
 pub to_words : (words : List (List ℕ)) (holds : List ℕ → Option (List ℕ)) (before after : ℕ) (request : Request) (reply : Reply) → Asks words request → RepliesTo request holds before after reply → IsOwed words holds before after reply
@@ -211,7 +270,7 @@ to_words words holds before after request (Refusal status line) asked (inl failu
     })
 to_words words holds before after request (Refusal status line) asked (inr given) =
     inr (record {
-      status_is = refusal_of_request holds request status (string_bytes line) given;
+      status_is = request_status holds request (refusal status (string_bytes line)) given status (string_bytes line) refl;
       owed = answers request (refusal status (string_bytes line)) asked given;
     })
 

@@ -1,41 +1,19 @@
 -- The words of a command line, by what they ask for.
-use Rattle.std.proofs.Common.{◌≡◌, ◌≢◌, ℕ, ◌≤◌, ◌<◌, List, [], ◌∷◌, ◌++◌, length, codes, refl, sym, ◌∙◌, ap, subst, arith, All, inl, inr, slice_index_or, append_assoc, zero, suc}
-use Rattle.std.proofs.lemmas.List.{append-nil}
+use Rattle.std.proofs.Common.{◌≡◌, ◌≢◌, ℕ, List, [], ◌∷◌, length, codes, refl, sym, ◌∙◌, ap, subst, arith, All, zero, suc}
 use Rattle.std.proofs.lemmas.List.Elements.{All-map}
-use Rattle.std.specs.Prelude.{Bool, true, false, IfOk, IsTrue, MatchOption, None, Ok, Err, Option, Result, Some, ◌↔◌, String, string_bytes, ◌⊎◌}
+use Rattle.std.specs.Prelude.{Bool, true, false, if◌then◌else◌, IfOk, IsTrue, MatchOption, None, Ok, Err, Option, Result, Some, ◌↔◌, String, string_bytes}
+use Rattle.std.specs.Str.{bytes_eq}
 use Rattle.std.specs.declared.alloc.Global.{Global}
-use Rattle.sheet_refs.specs.Cells.{Position, Corners}
-use Rattle.sheet_refs.specs.Names.{IsRangeName, IsCellName}
-use Rattle.sheet_refs.specs.Names.IsRangeName.{one, two}
-use Rattle.sheet_refs.proofs.NameLemmas.{one_range}
+use Rattle.sheet_refs.specs.Names.{IsRangeName, IsCellName, decimal_number}
+use Rattle.sheet_refs.proofs.NameLemmas.{one_cell, one_range}
 use Rattle.sheet_cli.specs.Answers.{WordsAskForOne}
 use Rattle.sheet_cli.specs.Requests.{Request}
-use Rattle.sheet_cli.specs.Requests.Request.{of_window, of_check, of_script}
-use Rattle.sheet_cli.specs.Words.{AreTwoPositions, Asks, AsksNothing, IsNoWindowWord, IsOnePosition, IsOption, TakesWorkers, bytes_of, command_word}
-use Rattle.sheet_cli.specs.Words.Asks.{asks_of_window, asks_check, asks_live, asks_play}
-use Rattle.sheet_cli.specs.declared.script.ScriptCommand.TheVariants.{Live, Play}
-use Rattle.sheet_cli.specs.declared.window.WindowCommand.{WindowCommand}
+use Rattle.sheet_cli.specs.Requests.Request.{of_window, of_check, of_script, of_path, of_fill, of_generated}
+use Rattle.sheet_cli.specs.Words.{AreThreePositions, AreTwoPositions, Asks, AsksBehind, AsksNothing, CommandWord, IsNoWindowWord, IsOnePosition, IsOption, bytes_of, spelled}
+use Rattle.sheet_cli.specs.Words.CommandWord.{window_word, check_word, play_word, live_word, path_word, fill_word, gen_word, undo_word}
+use Rattle.sheet_cli.specs.declared.script.ScriptCommand.TheVariants.{Live, Play, Undo}
 use Rattle.sheet_cli.specs.declared.window.WindowCommand.TheVariants.{Show, Deps, Precs}
 use Rattle.sheet_cli.proofs.OptionLemmas.{one_left}
-
--- a name of a cell, and what follows it, begins with a letter
-letters_first : (letters rest : List ℕ) → 0 < length letters → ((k : ℕ) (d : ℕ) → k < length letters → ((65 ≤ slice_index_or letters k d) × (slice_index_or letters k d ≤ 90)) ⊎ ((97 ≤ slice_index_or letters k d) × (slice_index_or letters k d ≤ 122))) → ¬ IsOption (letters ++ rest)
-letters_first [] rest some letters option = absurd (omega (arith, some))
-letters_first (b ∷ bs) rest some letters option = go (letters 0 0 some) (cc option)
-  where
-    go : ((65 ≤ b) × (b ≤ 90)) ⊎ ((97 ≤ b) × (b ≤ 122)) → b ≡ 45 → ⊥
-    go (inl upper) dash = omega (arith, upper.0, dash)
-    go (inr lower) dash = omega (arith, lower.0, dash)
-
-cell_first : (text : List ℕ) (cell : Position) (rest : List ℕ) → IsCellName text cell → ¬ IsOption (text ++ rest)
-cell_first text cell rest name option =
-    letters_first name.letters (name.digits ++ rest) name.column.some name.column.letters
-    (rw (← append_assoc name.letters name.digits rest) (rw name.text_is at option))
-
--- a name of a range is no option
-pub range_plain : (name : List ℕ) (window : Corners) → IsRangeName name window → ¬ IsOption name
-range_plain name _ (one _ cell is) option = cell_first name cell [] is (rw append-nil option)
-range_plain name _ (two _ first second a b text_is is _) option = cell_first first a (58 ∷ second) is (rw text_is at option)
 
 -- words of which none is an option, as bytes
 pub as_bytes : (words : List (String Global)) → All (λ w. ¬ IsOption (string_bytes w)) words → All (λ w. ¬ IsOption w) (bytes_of words)
@@ -82,156 +60,146 @@ two_found first second words (Ok (Some v)) plain is = record {
 two_found first second words (Ok None) plain fails = λ a b are. fails (ap length are.words_are)
 two_found first second words (Err e) plain is = tt
 
--- ---- what the words behind a command ask for: a lemma for each form
+-- three positions are one and two others
+pub three_of : (word : List ℕ) (words : List (List ℕ)) (first second third : List ℕ) → AreThreePositions (word ∷ words) first second third → (word ≡ first) × AreTwoPositions words second third
+three_of word words first second third are = (cc are.words_are, record { words_are = cc are.words_are; first_plain = are.second_plain; second_plain = are.third_plain })
 
--- the commands about a window are told by the first letters of their words
-abbrev letter : WindowCommand → ℕ
-letter Show = 115
-letter Deps = 100
-letter Precs = 112
+-- ---- a word spells one command at most
 
-letter_first : (command : WindowCommand) → slice_index_or (command_word command) 0 0 ≡ letter command
-letter_first Show = refl
-letter_first Deps = refl
-letter_first Precs = refl
+-- the command that a word spells, if it isn't another
+abbrev command_of : List ℕ → CommandWord
+command_of word =
+    if bytes_eq word (codes "show") then window_word Show else
+    if bytes_eq word (codes "deps") then window_word Deps else
+    if bytes_eq word (codes "precs") then window_word Precs else
+    if bytes_eq word (codes "check") then check_word else
+    if bytes_eq word (codes "play") then play_word else
+    if bytes_eq word (codes "live") then live_word else
+    if bytes_eq word (codes "undo") then undo_word else
+    if bytes_eq word (codes "path") then path_word else
+    if bytes_eq word (codes "fill") then fill_word else gen_word
 
-by_letter : (a b : WindowCommand) → letter a ≡ letter b → a ≡ b
-by_letter Show Show same = refl
-by_letter Show Deps same = absurd (omega (arith, same))
-by_letter Show Precs same = absurd (omega (arith, same))
-by_letter Deps Show same = absurd (omega (arith, same))
-by_letter Deps Deps same = refl
-by_letter Deps Precs same = absurd (omega (arith, same))
-by_letter Precs Show same = absurd (omega (arith, same))
-by_letter Precs Deps same = absurd (omega (arith, same))
-by_letter Precs Precs same = refl
+spells : (command : CommandWord) → command_of (spelled command) ≡ command
+spells (window_word Show) = refl
+spells (window_word Deps) = refl
+spells (window_word Precs) = refl
+spells check_word = refl
+spells play_word = refl
+spells live_word = refl
+spells undo_word = refl
+spells path_word = refl
+spells fill_word = refl
+spells gen_word = refl
 
-one_command : (a b : WindowCommand) → command_word a ≡ command_word b → a ≡ b
-one_command a b same = by_letter a b (sym (letter_first a) ∙ (ap (λ w. slice_index_or w 0 0) same ∙ letter_first b))
+one_spelled : (a b : CommandWord) → spelled a ≡ spelled b → a ≡ b
+one_spelled a b same = sym (spells a) ∙ (ap command_of same ∙ spells b)
 
-not_check : (command : WindowCommand) → command_word command ≡ codes "check" → ⊥
-not_check Show same = let long = ap length same in absurd (omega (arith, long))
-not_check Deps same = let long = ap length same in absurd (omega (arith, long))
-not_check Precs same = let first = ap (λ w. slice_index_or w 0 0) same in absurd (omega (arith, first))
+-- what the words behind a command's ask for
+pub behind : (command : CommandWord) (rest : List (List ℕ)) (request : Request) → Asks (spelled command ∷ rest) request → AsksBehind command rest request
+behind command rest request asked =
+    let word : spelled asked.command ≡ spelled command = cc asked.words_are in
+    let tail : asked.rest ≡ rest = cc asked.words_are in
+    subst (λ c. AsksBehind c rest request) (one_spelled asked.command command word) (subst (λ words. AsksBehind asked.command words request) tail asked.behind)
 
-not_play : (command : WindowCommand) → command_word command ≡ codes "play" → ⊥
-not_play Show same = let first = ap (λ w. slice_index_or w 0 0) same in absurd (omega (arith, first))
-not_play Deps same = let first = ap (λ w. slice_index_or w 0 0) same in absurd (omega (arith, first))
-not_play Precs same = let long = ap length same in absurd (omega (arith, long))
+-- the command whose words ask for a request
+abbrev pub command_for : Request → CommandWord
+command_for (of_window command sheet window) = window_word command
+command_for (of_check sheet) = check_word
+command_for (of_script Play sheet script) = play_word
+command_for (of_script (Live workers) sheet script) = live_word
+command_for (of_script (Undo number) sheet script) = undo_word
+command_for (of_path sheet from to) = path_word
+command_for (of_fill sheet from to) = fill_word
+command_for (of_generated number workers) = gen_word
 
-not_live : (command : WindowCommand) → command_word command ≡ codes "live" → ⊥
-not_live Show same = let first = ap (λ w. slice_index_or w 0 0) same in absurd (omega (arith, first))
-not_live Deps same = let first = ap (λ w. slice_index_or w 0 0) same in absurd (omega (arith, first))
-not_live Precs same = let long = ap length same in absurd (omega (arith, long))
+is_for : (command : CommandWord) (rest : List (List ℕ)) (request : Request) → AsksBehind command rest request → command ≡ command_for request
+is_for (window_word command) rest request asked = sym (ap command_for asked.request_is)
+is_for check_word rest request asked = sym (ap command_for asked.request_is)
+is_for play_word rest request asked = sym (ap command_for asked.request_is)
+is_for live_word rest request asked = sym (ap command_for asked.request_is)
+is_for undo_word rest request asked = sym (ap command_for asked.request_is)
+is_for path_word rest request asked = sym (ap command_for asked.request_is)
+is_for fill_word rest request asked = sym (ap command_for asked.request_is)
+is_for gen_word rest request asked = sym (ap command_for asked.request_is)
 
-check_is_not_live : codes "check" ≡ codes "live" → ⊥
-check_is_not_live same = let long = ap length same in absurd (omega (arith, long))
-
-play_is_not_live : codes "play" ≡ codes "live" → ⊥
-play_is_not_live same = let first = ap (λ w. slice_index_or w 0 0) same in absurd (omega (arith, first))
-
-check_is_not_play : codes "check" ≡ codes "play" → ⊥
-check_is_not_play same = let long = ap length same in absurd (omega (arith, long))
-
-pub record AsksWindow (command : WindowCommand) (rest : List (List ℕ)) (request : Request) : Type 0 where
-  pub sheet : List ℕ
-  pub name : List ℕ
-  pub window : Corners
-  pub positions : AreTwoPositions rest sheet name
-  pub named : IsRangeName name window
-  pub request_is : request ≡ of_window command sheet window
-
-pub behind_window : (command : WindowCommand) (rest : List (List ℕ)) (request : Request) → Asks (command_word command ∷ rest) request → AsksWindow command rest request
-behind_window command rest _ (asks_of_window given sheet name window is plain named) =
-    let tail : rest ≡ sheet ∷ name ∷ [] = cc is in
-    let word : command_word given ≡ command_word command = cc is in
-    record {
-      sheet = sheet;
-      name = name;
-      window = window;
-      positions = record { words_are = tail; first_plain = plain; second_plain = range_plain name window named };
-      named = named;
-      request_is = ap (λ c. of_window c sheet window) (one_command given command word);
-    }
-behind_window command rest _ (asks_check sheet is plain) = let word : command_word command ≡ codes "check" = cc is in absurd (not_check command word)
-behind_window command rest _ (asks_play sheet script is plain also) = let word : command_word command ≡ codes "play" = cc is in absurd (not_play command word)
-behind_window command rest _ (asks_live others left workers sheet script is takes are) = let word : command_word command ≡ codes "live" = cc is in absurd (not_live command word)
-
-pub record AsksCheck (rest : List (List ℕ)) (request : Request) : Type 0 where
-  pub sheet : List ℕ
-  pub position : IsOnePosition rest sheet
-  pub request_is : request ≡ of_check sheet
-
-pub behind_check : (rest : List (List ℕ)) (request : Request) → Asks (codes "check" ∷ rest) request → AsksCheck rest request
-behind_check rest _ (asks_of_window given sheet name window is plain named) = let word : command_word given ≡ codes "check" = cc is in absurd (not_check given word)
-behind_check rest _ (asks_check sheet is plain) =
-    let tail : rest ≡ sheet ∷ [] = cc is in
-    record { sheet = sheet; position = record { words_are = tail; first_plain = plain }; request_is = refl }
-behind_check rest _ (asks_play sheet script is plain also) = let word : codes "check" ≡ codes "play" = cc is in absurd (check_is_not_play word)
-behind_check rest _ (asks_live others left workers sheet script is takes are) = let word : codes "check" ≡ codes "live" = cc is in absurd (check_is_not_live word)
-
-pub record AsksPlay (rest : List (List ℕ)) (request : Request) : Type 0 where
-  pub sheet : List ℕ
-  pub script : List ℕ
-  pub positions : AreTwoPositions rest sheet script
-  pub request_is : request ≡ of_script Play sheet script
-
-pub behind_play : (rest : List (List ℕ)) (request : Request) → Asks (codes "play" ∷ rest) request → AsksPlay rest request
-behind_play rest _ (asks_of_window given sheet name window is plain named) = let word : command_word given ≡ codes "play" = cc is in absurd (not_play given word)
-behind_play rest _ (asks_check sheet is plain) = let word : codes "check" ≡ codes "play" = cc is in absurd (check_is_not_play word)
-behind_play rest _ (asks_play sheet script is plain also) =
-    let tail : rest ≡ sheet ∷ script ∷ [] = cc is in
-    record { sheet = sheet; script = script; positions = record { words_are = tail; first_plain = plain; second_plain = also }; request_is = refl }
-behind_play rest _ (asks_live others left workers sheet script is takes are) = let word : codes "play" ≡ codes "live" = cc is in absurd (play_is_not_live word)
-
-pub record AsksLive (rest : List (List ℕ)) (request : Request) : Type 0 where
-  pub left : List (List ℕ)
-  pub workers : ℕ
-  pub sheet : List ℕ
-  pub script : List ℕ
-  pub takes : TakesWorkers rest left workers
-  pub positions : AreTwoPositions left sheet script
-  pub request_is : request ≡ of_script (Live workers) sheet script
-
-pub behind_live : (rest : List (List ℕ)) (request : Request) → Asks (codes "live" ∷ rest) request → AsksLive rest request
-behind_live rest _ (asks_of_window given sheet name window is plain named) = let word : command_word given ≡ codes "live" = cc is in absurd (not_live given word)
-behind_live rest _ (asks_check sheet is plain) = let word : codes "live" ≡ codes "check" = cc is in absurd (check_is_not_live (sym word))
-behind_live rest _ (asks_play sheet script is plain also) = let word : codes "live" ≡ codes "play" = cc is in absurd (play_is_not_live (sym word))
-behind_live rest _ (asks_live others left workers sheet script is takes are) =
-    let tail : others ≡ rest = cc is in
-    record { left = left; workers = workers; sheet = sheet; script = script; takes = subst (λ ws. TakesWorkers ws left workers) tail takes; positions = are; request_is = refl }
+pub asked_for : (words : List (List ℕ)) (request : Request) → Asks words request → (rest : List (List ℕ)) × (words ≡ spelled (command_for request) ∷ rest) × AsksBehind (command_for request) rest request
+asked_for words request asked =
+    let same = is_for asked.command asked.rest request asked.behind in
+    (asked.rest, subst (λ c. words ≡ spelled c ∷ asked.rest) same asked.words_are, subst (λ c. AsksBehind c asked.rest request) same asked.behind)
 
 -- other words are no command
-pub no_other : (word : List ℕ) (rest : List (List ℕ)) → IsNoWindowWord word → word ≢ codes "check" → word ≢ codes "play" → word ≢ codes "live" → AsksNothing (word ∷ rest)
-no_other word rest window check play live _ (asks_of_window given sheet name range is plain named) = let same : word ≡ command_word given = cc is in window given same
-no_other word rest window check play live _ (asks_check sheet is plain) = let same : word ≡ codes "check" = cc is in check same
-no_other word rest window check play live _ (asks_play sheet script is plain also) = let same : word ≡ codes "play" = cc is in play same
-no_other word rest window check play live _ (asks_live others left workers sheet script is takes are) = let same : word ≡ codes "live" = cc is in live same
+unspelled : (word : List ℕ) → IsNoWindowWord word → word ≢ codes "check" → word ≢ codes "play" → word ≢ codes "live" → word ≢ codes "undo" → word ≢ codes "path"
+    → word ≢ codes "fill" → word ≢ codes "gen" → (command : CommandWord) → word ≢ spelled command
+unspelled word window check play live undo path fill gen (window_word command) = window command
+unspelled word window check play live undo path fill gen check_word = check
+unspelled word window check play live undo path fill gen play_word = play
+unspelled word window check play live undo path fill gen live_word = live
+unspelled word window check play live undo path fill gen undo_word = undo
+unspelled word window check play live undo path fill gen path_word = path
+unspelled word window check play live undo path fill gen fill_word = fill
+unspelled word window check play live undo path fill gen gen_word = gen
 
--- words ask for one thing
+pub no_other : (word : List ℕ) (rest : List (List ℕ)) → IsNoWindowWord word → word ≢ codes "check" → word ≢ codes "play" → word ≢ codes "live" → word ≢ codes "undo"
+    → word ≢ codes "path" → word ≢ codes "fill" → word ≢ codes "gen" → AsksNothing (word ∷ rest)
+no_other word rest window check play live undo path fill gen request asked =
+    let same : word ≡ spelled asked.command = cc asked.words_are in
+    unspelled word window check play live undo path fill gen asked.command same
+
+-- ---- words ask for one thing
+
+one_behind : (command : CommandWord) (rest : List (List ℕ)) (a b : Request) → AsksBehind command rest a → AsksBehind command rest b → a ≡ b
+one_behind (window_word command) rest a b one other =
+    let two : one.sheet ∷ one.name ∷ [] ≡ other.sheet ∷ other.name ∷ [] = sym one.positions.words_are ∙ other.positions.words_are in
+    let sheets : one.sheet ≡ other.sheet = cc two in
+    let names : one.name ≡ other.name = cc two in
+    let windows = one_range other.name one.window other.window (subst (λ n. IsRangeName n one.window) names one.named) other.named in
+    one.request_is ∙ ((λ i. of_window command (sheets i) (windows i)) ∙ sym other.request_is)
+one_behind check_word rest a b one other =
+    let sheets : one.sheet ≡ other.sheet = cc (sym one.position.words_are ∙ other.position.words_are) in
+    one.request_is ∙ (ap of_check sheets ∙ sym other.request_is)
+one_behind play_word rest a b one other =
+    let two : one.sheet ∷ one.script ∷ [] ≡ other.sheet ∷ other.script ∷ [] = sym one.positions.words_are ∙ other.positions.words_are in
+    let sheets : one.sheet ≡ other.sheet = cc two in
+    let scripts : one.script ≡ other.script = cc two in
+    one.request_is ∙ ((λ i. of_script Play (sheets i) (scripts i)) ∙ sym other.request_is)
+one_behind live_word rest a b one other =
+    let same = one_left rest one.left other.left one.workers other.workers one.takes other.takes in
+    let two : one.sheet ∷ one.script ∷ [] ≡ other.sheet ∷ other.script ∷ [] = sym one.positions.words_are ∙ same.0 ∙ other.positions.words_are in
+    let sheets : one.sheet ≡ other.sheet = cc two in
+    let scripts : one.script ≡ other.script = cc two in
+    one.request_is ∙ ((λ i. of_script (Live (same.1 i)) (sheets i) (scripts i)) ∙ sym other.request_is)
+one_behind undo_word rest a b one other =
+    let three : one.sheet ∷ one.script ∷ one.digits ∷ [] ≡ other.sheet ∷ other.script ∷ other.digits ∷ [] = sym one.positions.words_are ∙ other.positions.words_are in
+    let sheets : one.sheet ≡ other.sheet = cc three in
+    let scripts : one.script ≡ other.script = cc three in
+    let digits : one.digits ≡ other.digits = cc three in
+    let numbers : one.number ≡ other.number = one.numbered.number_is.value ∙ ap decimal_number digits ∙ sym other.numbered.number_is.value in
+    one.request_is ∙ ((λ i. of_script (Undo (numbers i)) (sheets i) (scripts i)) ∙ sym other.request_is)
+one_behind path_word rest a b one other =
+    let three : one.sheet ∷ one.first ∷ one.second ∷ [] ≡ other.sheet ∷ other.first ∷ other.second ∷ [] = sym one.positions.words_are ∙ other.positions.words_are in
+    let sheets : one.sheet ≡ other.sheet = cc three in
+    let firsts : one.first ≡ other.first = cc three in
+    let seconds : one.second ≡ other.second = cc three in
+    let froms = one_cell other.first one.from other.from (subst (λ n. IsCellName n one.from) firsts one.first_named) other.first_named in
+    let tos = one_cell other.second one.to other.to (subst (λ n. IsCellName n one.to) seconds one.second_named) other.second_named in
+    one.request_is ∙ ((λ i. of_path (sheets i) (froms i) (tos i)) ∙ sym other.request_is)
+one_behind fill_word rest a b one other =
+    let three : one.sheet ∷ one.first ∷ one.second ∷ [] ≡ other.sheet ∷ other.first ∷ other.second ∷ [] = sym one.positions.words_are ∙ other.positions.words_are in
+    let sheets : one.sheet ≡ other.sheet = cc three in
+    let firsts : one.first ≡ other.first = cc three in
+    let seconds : one.second ≡ other.second = cc three in
+    let froms = one_cell other.first one.from other.from (subst (λ n. IsCellName n one.from) firsts one.cell_named) other.cell_named in
+    let tos = one_range other.second one.to other.to (subst (λ n. IsRangeName n one.to) seconds one.range_named) other.range_named in
+    one.request_is ∙ ((λ i. of_fill (sheets i) (froms i) (tos i)) ∙ sym other.request_is)
+one_behind gen_word rest a b one other =
+    let same = one_left rest one.left other.left one.workers other.workers one.takes other.takes in
+    let digits : one.digits ≡ other.digits = cc (sym one.position.words_are ∙ same.0 ∙ other.position.words_are) in
+    let numbers : one.number ≡ other.number = one.writes.number_is.value ∙ (ap decimal_number digits ∙ sym other.writes.number_is.value) in
+    one.request_is ∙ ((λ i. of_generated (numbers i) (same.1 i)) ∙ sym other.request_is)
+
 pub one_request : WordsAskForOne
-one_request words _ b (asks_of_window command sheet name window is plain named) other =
-    let asks = behind_window command (sheet ∷ name ∷ []) b (subst (λ ws. Asks ws b) is other) in
-    let sheets : sheet ≡ asks.sheet = cc asks.positions.words_are in
-    let names : name ≡ asks.name = cc asks.positions.words_are in
-    let windows = one_range asks.name window asks.window (subst (λ n. IsRangeName n window) names named) asks.named in
-    (λ i. of_window command (sheets i) (windows i)) ∙ sym asks.request_is
-one_request words _ b (asks_check sheet is plain) other =
-    let asks = behind_check (sheet ∷ []) b (subst (λ ws. Asks ws b) is other) in
-    let sheets : sheet ≡ asks.sheet = cc asks.position.words_are in
-    ap of_check sheets ∙ sym asks.request_is
-one_request words _ b (asks_play sheet script is plain also) other =
-    let asks = behind_play (sheet ∷ script ∷ []) b (subst (λ ws. Asks ws b) is other) in
-    let sheets : sheet ≡ asks.sheet = cc asks.positions.words_are in
-    let scripts : script ≡ asks.script = cc asks.positions.words_are in
-    (λ i. of_script Play (sheets i) (scripts i)) ∙ sym asks.request_is
-one_request words _ b (asks_live rest left workers sheet script is takes are) other =
-    let asks = behind_live rest b (subst (λ ws. Asks ws b) is other) in
-    let same = one_left rest left asks.left workers asks.workers takes asks.takes in
-    let two : sheet ∷ script ∷ [] ≡ asks.sheet ∷ asks.script ∷ [] = sym are.words_are ∙ same.0 ∙ asks.positions.words_are in
-    let sheets : sheet ≡ asks.sheet = cc two in
-    let scripts : script ≡ asks.script = cc two in
-    (λ i. of_script (Live (same.1 i)) (sheets i) (scripts i)) ∙ sym asks.request_is
+one_request words a b one other =
+    one_behind one.command one.rest a b one.behind (behind one.command one.rest b (subst (λ ws. Asks ws b) one.words_are other))
 
 -- what a test that failed has told
 pub refuted : {P : Type 0} (b : Bool) → IsTrue b ↔ P → b ≡ false → ¬ P

@@ -6,6 +6,7 @@ use Rattle.sheet_refs.specs.Cells.{Corners}
 use Rattle.sheet_refs.specs.Names.{IsCellName, IsDigit, IsLetter, IsRangeName}
 use Rattle.sheet_refs.specs.Names.IsRangeName.{two}
 use Rattle.value_core.specs.declared.value.Value.TheVariants.{Number}
+use Rattle.formula_syntax.specs.declared.edition.Edition.TheVariants.{One}
 use Rattle.formula_syntax.specs.Spelling.{IsIntroduced, HasTooManyRefs}
 use Rattle.formula_syntax.specs.Spelling.IsIntroduced.{plain, prefixed}
 use Rattle.sheet_model.specs.Fields.{IsNumberField}
@@ -17,7 +18,7 @@ use Rattle.sheet_model.specs.Edits.{EditValue}
 use Rattle.edit_script.specs.Lines.{LineValue, Says, Set, Look, Work, script_lines}
 use Rattle.edit_script.specs.Lines.IsLineOf.{order}
 use Rattle.edit_script.specs.Lines.IsOrder.{set, look, work}
-use Rattle.edit_script.specs.Scripts.{AreLines, AreSteps, HasCause, IsAllowed, IsFirstFault, IsLargeWindow, IsMisplaced, IsMisplacedAlone, IsMisplacedIn, IsPartOutside, IsScript, ScriptValue, brought_by, place_in_order}
+use Rattle.edit_script.specs.Scripts.{AreLines, AreSteps, HasCause, IsAllowed, IsFirstFault, IsLargeWindow, IsMisplaced, IsMisplacedAlone, IsMisplacedIn, IsPartOutside, IsScript, ScriptValue, brought_by, ground_of, place_in_order}
 use Rattle.edit_script.specs.Scripts.AreLines.{none as no_line, more as line_more}
 use Rattle.edit_script.specs.Scripts.AreSteps.{none as no_step, more as step_more}
 use Rattle.edit_script.specs.declared.refused.ScriptRefused.{ScriptRefused}
@@ -89,10 +90,10 @@ no_formula : (rest : List ℕ) → ¬ IsIntroduced (codes "5") rest
 no_formula rest (plain _ _ is) = (let first = ap (λ t. slice_index_or t 0 0) is in omega (arith, first))
 no_formula rest (prefixed _ _ is) = (let first = ap (λ t. slice_index_or t 0 0) is in omega (arith, first))
 
-no_references : ¬ HasTooManyRefs (codes "5")
-no_references (shallow, tree, spelt, many) = no_formula spelt.rest spelt.introduced
+no_references : ¬ HasTooManyRefs One (codes "5")
+no_references (shallow, tree, spells, many) = no_formula spells.spelt.rest spells.spelt.introduced
 
-set_allowed : IsAllowed worked_sheet.sizes (brought_by []) sets_five
+set_allowed : IsAllowed (ground_of worked_sheet) (brought_by []) sets_five
 set_allowed (BadLine number) = λ never. never
 set_allowed (OutOfSheet number) = λ out. out refl
 set_allowed (CellTwice number) = λ never. never
@@ -115,7 +116,7 @@ not_large lines few (inr all) = omega (arith, few, all)
 placed : (lines : List LineValue) (line : LineValue) → (brought_by lines).batch ≡ None → ¬ IsMisplacedAlone line → ¬ IsMisplaced (brought_by lines) line
 placed lines line closed fine misplaced = fine (subst (λ b. MatchOption b (IsMisplacedAlone line) (λ cells. IsMisplacedIn cells line)) closed misplaced)
 
-look_allowed : (lines : List LineValue) → (brought_by lines).cells ≤ 4 → (brought_by lines).batch ≡ None → IsAllowed worked_sheet.sizes (brought_by lines) looks_whole
+look_allowed : (lines : List LineValue) → (brought_by lines).cells ≤ 4 → (brought_by lines).batch ≡ None → IsAllowed (ground_of worked_sheet) (brought_by lines) looks_whole
 look_allowed lines few closed (BadLine number) = placed lines looks_whole closed (λ never. never)
 look_allowed lines few closed (OutOfSheet number) = not_outside
 look_allowed lines few closed (CellTwice number) = λ never. never
@@ -127,7 +128,7 @@ look_allowed lines few closed (FormulaTooDeep number) = λ never. never
 look_allowed lines few closed (TooManyRefs number) = λ never. never
 look_allowed lines few closed Memory = λ never. never
 
-work_allowed : (lines : List LineValue) → (brought_by lines).batch ≡ None → IsAllowed worked_sheet.sizes (brought_by lines) (Work 2)
+work_allowed : (lines : List LineValue) → (brought_by lines).batch ≡ None → IsAllowed (ground_of worked_sheet) (brought_by lines) (Work 2)
 work_allowed lines closed (BadLine number) = placed lines (Work 2) closed (λ never. never)
 work_allowed lines closed (OutOfSheet number) = λ never. never
 work_allowed lines closed (CellTwice number) = λ never. never
@@ -151,7 +152,7 @@ three_lines = sets_five ∷ looks_whole ∷ Work 2 ∷ []
 abbrev four_lines : List LineValue
 four_lines = sets_five ∷ looks_whole ∷ Work 2 ∷ looks_whole ∷ []
 
-all_said : AreLines Play worked_sheet.sizes (codes "set A1 5" ∷ codes "look A1:B2" ∷ codes "work 2" ∷ codes "look A1:B2" ∷ []) four_lines
+all_said : AreLines Play (ground_of worked_sheet) (codes "set A1 5" ∷ codes "look A1:B2" ∷ codes "work 2" ∷ codes "look A1:B2" ∷ []) four_lines
 all_said =
     line_more (codes "set A1 5" ∷ codes "look A1:B2" ∷ codes "work 2" ∷ []) _ (codes "look A1:B2") three_lines four_lines looks_whole
     (line_more (codes "set A1 5" ∷ codes "look A1:B2" ∷ []) _ (codes "work 2") two_lines three_lines (Work 2)
@@ -166,7 +167,7 @@ all_said =
 pub field_of_five : IsNumberField (codes "5") (pos 5)
 field_of_five = unsigned (codes "5") 5 (digit_number 53 9007199254740991 5 (omega arith) (omega arith) refl (omega arith))
 
-all_steps : AreSteps [] four_lines None worked_steps
+all_steps : AreSteps One [] four_lines None worked_steps
 all_steps =
     step_more three_lines four_lines looks_whole None None _ worked_steps
     (step_more two_lines three_lines (Work 2) None None _ _
@@ -177,12 +178,12 @@ all_steps =
     (refl, record { client = 0; place = refl; added = refl }) refl)
     (refl, record { client = 0; place = refl; added = refl }) refl
 
-pub is_script : IsScript Play worked_sheet.sizes [] [] worked_script played_script
+pub is_script : IsScript Play (ground_of worked_sheet) [] [] worked_script played_script
 is_script = record {
   lines = four_lines;
-  said = subst (λ texts. AreLines Play worked_sheet.sizes texts four_lines) (sym lines_there) all_said;
+  said = subst (λ texts. AreLines Play (ground_of worked_sheet) texts four_lines) (sym lines_there) all_said;
   names = refl;
-  ended = λ number. none_begun [] four_lines worked_steps number all_steps;
+  ended = λ number. none_begun One [] four_lines worked_steps number all_steps;
   steps = all_steps;
   labels = and_next _ (codes "5") [] [] [] [] refl (number_table (codes "5") (pos 5) field_of_five) (done [] [] [] refl refl);
 }
@@ -220,7 +221,7 @@ leaves : ¬ (false ≡ true)
 leaves h = cc
 
 -- the line stands in its place
-no_earlier : (earlier : ScriptRefused) → place_in_order earlier < 1 → ¬ HasCause worked_sheet.sizes (brought_by []) (Set (at 99 26) (codes "1")) earlier
+no_earlier : (earlier : ScriptRefused) → place_in_order earlier < 1 → ¬ HasCause (ground_of worked_sheet) (brought_by []) (Set (at 99 26) (codes "1")) earlier
 no_earlier (BadLine number) before = λ never. never
 no_earlier (OutOfSheet number) before = absurd (omega (arith, before))
 no_earlier (CellTwice number) before = absurd (omega (arith, before))
@@ -232,7 +233,7 @@ no_earlier (FormulaTooDeep number) before = absurd (omega (arith, before))
 no_earlier (TooManyRefs number) before = absurd (omega (arith, before))
 no_earlier Memory before = absurd (omega (arith, before))
 
-pub is_fault : IsFirstFault Play worked_sheet.sizes [] [] outside_script (OutOfSheet 1)
+pub is_fault : IsFirstFault Play (ground_of worked_sheet) [] [] outside_script (OutOfSheet 1)
 is_fault = record {
   before = [];
   line = codes "set Z99 1";

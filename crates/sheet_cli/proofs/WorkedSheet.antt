@@ -25,6 +25,7 @@ use Rattle.formula_syntax.specs.Lexing.IsToken.{word as a_word, operator as an_o
 use Rattle.formula_syntax.specs.Lexing.IsWord.{number as a_count, reference as a_name}
 use Rattle.formula_syntax.specs.Grammar.{Derives}
 use Rattle.formula_syntax.specs.Grammar.Derives.{tighter, operator, a_number, a_reference}
+use Rattle.formula_syntax.specs.declared.edition.Edition.TheVariants.{One}
 use Rattle.formula_syntax.specs.Spelling.{IsTooDeep, IsRead}
 use Rattle.formula_syntax.specs.Spelling.IsIntroduced.{plain}
 use Rattle.sheet_model.specs.Fields.{IsContent, IsNumberField, IsTableAfter}
@@ -50,6 +51,7 @@ cell_tree row col = reference (one_end (end_at row col))
 
 abbrev pub worked_sheet : SheetValue
 worked_sheet = record {
+  edition = One;
   sizes = record { rows = 2; cols = 2 };
   contents =
       Constant (Number (pos 1)) ∷ Computed (binary Add (cell_tree 1 1) (number (pos 1)))
@@ -132,7 +134,7 @@ plus_tokens first second one two is re =
     (next (43 ∷ second) (43 ∷ []) second (token.Operator Add) (two ∷ []) refl (an_operator second Add tt)
     (next second second [] two [] (sym (append-nil second)) (a_word second [] two re tt) (nothing [] refl)))
 
-pub first_sum : IsRead (codes "=A1+1") (binary Add (cell_tree 1 1) (number (pos 1)))
+pub first_sum : IsRead One (codes "=A1+1") (binary Add (cell_tree 1 1) (number (pos 1)))
 first_sum = record {
   shallow = not_deep (codes "=A1+1") (omega arith);
   spelt = record {
@@ -142,10 +144,11 @@ first_sum = record {
     has_tokens = plus_tokens (codes "A1") (codes "1") (token.Reference (one_end (end_at 1 1))) (token.Number (pos 1)) (a_name (codes "A1") (one_end (end_at 1 1)) name_a1) (a_count (codes "1") 1 (digit_number 49 9007199254740991 1 (omega arith) (omega arith) refl (omega arith)));
     derived = sum_of (token.Reference (one_end (end_at 1 1))) (token.Number (pos 1)) (cell_tree 1 1) (number (pos 1)) (a_reference (one_end (end_at 1 1))) (a_number (pos 1));
   };
+  within = refl;
   few = omega arith;
 }
 
-pub second_sum : IsRead (codes "=A2+B1") (binary Add (cell_tree 2 1) (cell_tree 1 2))
+pub second_sum : IsRead One (codes "=A2+B1") (binary Add (cell_tree 2 1) (cell_tree 1 2))
 second_sum = record {
   shallow = not_deep (codes "=A2+B1") (omega arith);
   spelt = record {
@@ -155,6 +158,7 @@ second_sum = record {
     has_tokens = plus_tokens (codes "A2") (codes "B1") (token.Reference (one_end (end_at 2 1))) (token.Reference (one_end (end_at 1 2))) (a_name (codes "A2") (one_end (end_at 2 1)) name_a2) (a_name (codes "B1") (one_end (end_at 1 2)) name_b1);
     derived = sum_of (token.Reference (one_end (end_at 2 1))) (token.Reference (one_end (end_at 1 2))) (cell_tree 2 1) (cell_tree 1 2) (a_reference (one_end (end_at 2 1))) (a_reference (one_end (end_at 1 2)));
   };
+  within = refl;
   few = omega arith;
 }
 
@@ -246,7 +250,7 @@ not_large : ¬ IsTooLarge worked_rows
 not_large (inl cells) = omega (arith, cells)
 not_large (inr wide) = omega (arith, wide)
 
-in_cells : (row col : ℕ) → row < length worked_rows → col < longest worked_rows → IsContent [] (field_at worked_rows row col) (content_of worked_sheet (cell_there row col))
+in_cells : (row col : ℕ) → row < length worked_rows → col < longest worked_rows → IsContent One [] (field_at worked_rows row col) (content_of worked_sheet (cell_there row col))
 in_cells zero zero r c = field_of_one
 in_cells zero (suc zero) r c = first_sum
 in_cells zero (suc (suc col)) r c = absurd (omega (arith, c))
@@ -255,10 +259,11 @@ in_cells (suc zero) (suc zero) r c = second_sum
 in_cells (suc zero) (suc (suc col)) r c = absurd (omega (arith, c))
 in_cells (suc (suc row)) col r c = absurd (omega (arith, r))
 
-sheet_of_rows : IsSheetOf worked_rows worked_sheet
+sheet_of_rows : IsSheetOf One worked_rows worked_sheet
 sheet_of_rows = record {
   readable = record { text = all_text; fits = not_large; short = short_fields };
   kept = is_sheet;
+  edition_is = refl;
   sizes = refl;
   labels = no_labels;
   cells = in_cells;

@@ -1,32 +1,43 @@
 -- What the program owes to its words and to the texts that they name.
-use Rattle.std.specs.Prelude.{◌≡◌, ℕ, ◌<◌, ◌≤◌, ◌⊎◌, List, ◌∷◌, ◌++◌, length, Result, Ok, Err, Some, IfSome, All}
+use Rattle.std.specs.Prelude.{◌≡◌, ℕ, ◌<◌, ◌≤◌, ◌⊎◌, List, ◌∷◌, ◌++◌, length, Result, Ok, Err, Some, IfSome, All, IsTrue}
 use Rattle.std.specs.declared.option.Option.{Option}
-use Rattle.sheet_refs.specs.Cells.{Corners}
+use Rattle.sheet_refs.specs.Cells.{Corners, Position}
+use Rattle.sheet_refs.specs.Sizes.{is_inside}
+use Rattle.sheet_model.specs.Edits.{EditValue}
 use Rattle.sheet_model.specs.Labels.{IsTable}
 use Rattle.sheet_model.specs.Sheets.{SheetValue, with_labels}
 use Rattle.csv_sheet.specs.Results.{IsSheetResult}
 use Rattle.csv_sheet.specs.declared.refused.SheetRefused.{SheetRefused}
-use Rattle.edit_script.specs.Scripts.{ScriptValue, IsScriptResult}
+use Rattle.edit_script.specs.Scripts.{ScriptValue, IsScriptResult, ground_of}
 use Rattle.edit_script.specs.declared.refused.ScriptRefused.{ScriptRefused}
 use Rattle.edit_script.specs.declared.script.Mode.{Mode}
 use Rattle.edit_script.specs.declared.script.Mode.TheVariants.{Live as as_run, Play as as_played}
 use Rattle.edit_script.specs.declared.script.Step.{Step}
+use Rattle.live_gen.specs.Generated.{generated_script}
+use Rattle.live_gen.specs.Rows.{IsGeneratedSheet}
+use Rattle.live_gen.specs.Sums.{sheet_sum}
 use Rattle.live_run.specs.Legal.{IsLegalTranscript}
 use Rattle.play_machine.specs.Machine.{ArePlayed}
+use Rattle.sheet_undo.specs.Undoing.{HasNoEntry, IsOvertaken}
+use Rattle.window_text.specs.Changes.{batch_text}
 use Rattle.window_text.specs.Reports.{play_text}
 use Rattle.window_text.specs.declared.report.Report.{Report}
-use Rattle.window_text.specs.Texts.{IsWithinSheet, check_text, show_text, runs_text}
+use Rattle.window_text.specs.Texts.{IsWithinSheet, check_text, generated_text, show_text, runs_text}
 use Rattle.window_text.specs.Transcripts.{TranscriptValue, live_text}
 use Rattle.edge_patterns.specs.Edges.{EdgeValue}
-use Rattle.graph_walk.specs.Graphs.{SamePairs}
+use Rattle.graph_walk.specs.Graphs.{Pair, SamePairs}
 use Rattle.taco_graph.specs.Pairs.{pairs_of}
-use Rattle.sheet_cli.specs.Graphs.{AreDependents, ArePrecedents, ListsEdges}
-use Rattle.sheet_cli.specs.Lines.{usage_line, outside_line, too_long_line, refused_line, long_script_line, script_line}
+use Rattle.dep_path.specs.Chains.{IsShortest}
+use Rattle.sheet_fill.specs.Filling.{HasNoOthers, HasTooMany}
+use Rattle.sheet_cli.specs.Filled.{CanFill, HasPlaces, filled_text}
+use Rattle.sheet_cli.specs.Graphs.{AreDependents, ArePrecedents, ListsEdges, ShowsPath, cells_text}
+use Rattle.sheet_cli.specs.Lines.{usage_line, outside_line, too_long_line, refused_line, long_script_line, script_line, no_edit_line, overtaken_line, nothing_line, many_line}
 use Rattle.sheet_cli.specs.Requests.{Request, texts_named}
-use Rattle.sheet_cli.specs.Requests.Request.{of_window, of_check, of_script}
+use Rattle.sheet_cli.specs.Requests.Request.{of_window, of_check, of_script, of_path, of_fill, of_generated}
+use Rattle.sheet_cli.specs.Undone.{UndoesEdit, entries_of}
 use Rattle.sheet_cli.specs.Words.{Asks, AsksNothing}
 use Rattle.sheet_cli.specs.declared.script.ScriptCommand.{ScriptCommand}
-use Rattle.sheet_cli.specs.declared.script.ScriptCommand.TheVariants.{Live, Play}
+use Rattle.sheet_cli.specs.declared.script.ScriptCommand.TheVariants.{Live, Play, Undo}
 use Rattle.sheet_cli.specs.declared.window.WindowCommand.{WindowCommand}
 use Rattle.sheet_cli.specs.declared.window.WindowCommand.TheVariants.{Show, Deps, Precs}
 
@@ -71,37 +82,60 @@ pub data Writes (sheet : SheetValue) (window : Corners) : WindowCommand → List
   -- `precs` lists the window's cells and all on which they depend
   precedents : (runs : List Corners) → ArePrecedents sheet window runs → Writes sheet window Precs (runs_text runs)
 
--- what a command about a window of the sheet under a name is answered
-pub data AnswersWindow (holds : Texts) (command : WindowCommand) (name : List ℕ) (window : Corners) : Answer → Type 0 where
-  -- it writes what it writes of the sheet
-  written : (sheet : SheetValue) (text : List ℕ) → GivesSheet holds name (Ok sheet) → IsWithinSheet window sheet
-      → Writes sheet window command text → AnswersWindow holds command name window (output text)
-  -- unless the window is not wholly in the sheet
-  outside : (sheet : SheetValue) → GivesSheet holds name (Ok sheet) → ¬ IsWithinSheet window sheet
-      → AnswersWindow holds command name window (refusal 2 outside_line)
-  -- or there is no sheet
+-- what is answered of the sheet under a name, or why there is none
+pub data OverSheet (holds : Texts) (name : List ℕ) (Answers : SheetValue → Answer → Type 0) : Answer → Type 0 where
+  over_sheet : (sheet : SheetValue) (answer : Answer) → GivesSheet holds name (Ok sheet) → Answers sheet answer
+      → OverSheet holds name Answers answer
   no_sheet : (status : ℕ) (line : List ℕ) → HasNoSheet holds name status line
-      → AnswersWindow holds command name window (refusal status line)
+      → OverSheet holds name Answers (refusal status line)
+
+-- what a command about a window of a sheet is answered
+pub data AnswersWindow (command : WindowCommand) (window : Corners) (sheet : SheetValue) : Answer → Type 0 where
+  -- it writes what it writes of the sheet
+  written : (text : List ℕ) → IsWithinSheet window sheet → Writes sheet window command text
+      → AnswersWindow command window sheet (output text)
+  -- unless the window is not wholly in the sheet
+  outside : ¬ IsWithinSheet window sheet → AnswersWindow command window sheet (refusal 2 outside_line)
 
 -- what `check` is answered
-pub data AnswersCheck (holds : Texts) (name : List ℕ) : Answer → Type 0 where
+pub data AnswersCheck (sheet : SheetValue) : Answer → Type 0 where
   -- it lists edges that stand for the sheet's pairs, of which no two can be joined
-  listed : (sheet : SheetValue) (text : List ℕ) → GivesSheet holds name (Ok sheet) → ListsEdges sheet text
-      → AnswersCheck holds name (output text)
-  -- or there is no sheet
-  unlisted : (status : ℕ) (line : List ℕ) → HasNoSheet holds name status line
-      → AnswersCheck holds name (refusal status line)
+  listed : (text : List ℕ) → ListsEdges sheet text → AnswersCheck sheet (output text)
+
+-- two cells are in a sheet
+abbrev pub AreInSheet : SheetValue → Position → Position → Type 0
+AreInSheet sheet from to = IsTrue (is_inside sheet.sizes from) × IsTrue (is_inside sheet.sizes to)
+
+-- what `path` is answered
+pub data AnswersPath (from to : Position) (sheet : SheetValue) : Answer → Type 0 where
+  -- it shows how one cell comes to depend on the other
+  shown : (text : List ℕ) → AreInSheet sheet from to → ShowsPath sheet from to text → AnswersPath from to sheet (output text)
+  -- unless one of them is not in the sheet
+  beyond : ¬ AreInSheet sheet from to → AnswersPath from to sheet (refusal 2 outside_line)
+
+-- what `fill` is answered
+pub data AnswersFill (from : Position) (to : Corners) (sheet : SheetValue) : Answer → Type 0 where
+  -- it writes the edit that fills the range
+  filled_range : HasPlaces from to sheet → CanFill from to → AnswersFill from to sheet (output (filled_text sheet from to))
+  -- unless the cell or a part of the range is not in the sheet
+  elsewhere : ¬ HasPlaces from to sheet → AnswersFill from to sheet (refusal 2 outside_line)
+  -- or the range is that cell alone
+  none_to_fill : HasPlaces from to sheet → HasNoOthers from to → AnswersFill from to sheet (refusal 2 nothing_line)
+  -- or has more other cells than an edit may change
+  many_to_fill : (count : ℕ) → HasPlaces from to sheet → ¬ HasNoOthers from to → HasTooMany from to count
+      → AnswersFill from to sheet (refusal 2 many_line)
 
 -- for whom the script of a command is written
 abbrev pub mode_of : ScriptCommand → Mode
 mode_of Play = as_played
 mode_of (Live workers) = as_run
+mode_of (Undo number) = as_played
 
 -- what the text under a name gives as a script over a sheet, and the sheet's labels after it
 pub record GivesScript (holds : Texts) (mode : Mode) (name : List ℕ) (sheet : SheetValue) (labels : List (List ℕ)) (result : Result ScriptValue ScriptRefused) : Type 0 where
   pub text : List ℕ
   pub stands : IsTextOf holds name text
-  pub gives : IsScriptResult mode sheet.sizes sheet.labels labels text result
+  pub gives : IsScriptResult mode (ground_of sheet) sheet.labels labels text result
   pub table : IsTable labels
 
 -- there is no script under a name, and this says why
@@ -129,31 +163,58 @@ pub record IsLived (sheet : SheetValue) (script : ScriptValue) (text : List ℕ)
   pub legal : IsLegalTranscript sheet script transcript
   pub text_is : text ≡ live_text transcript
 
--- what a command writes of a script over a sheet
-abbrev pub WritesOfScript : ScriptCommand → SheetValue → ScriptValue → List ℕ → Type 0
-WritesOfScript Play sheet script text = IsPlayed sheet script.steps text
-WritesOfScript (Live workers) sheet script text = IsLived sheet script text
+-- what is answered of the script under a name over a sheet, or why there is none
+pub data OverScript (holds : Texts) (mode : Mode) (name : List ℕ) (Answers : SheetValue → ScriptValue → Answer → Type 0) (sheet : SheetValue) : Answer → Type 0 where
+  over_script : (labels : List (List ℕ)) (script : ScriptValue) (answer : Answer)
+      → GivesScript holds mode name sheet labels (Ok script) → Answers (with_labels sheet labels) script answer
+      → OverScript holds mode name Answers sheet answer
+  no_script : (status : ℕ) (line : List ℕ) → HasNoScript holds mode name sheet status line
+      → OverScript holds mode name Answers sheet (refusal status line)
 
--- what a command about a script is answered
-pub data AnswersScript (holds : Texts) (command : ScriptCommand) (name script_name : List ℕ) : Answer → Type 0 where
-  -- it writes what it writes of the script
-  scripted : (sheet : SheetValue) (labels : List (List ℕ)) (script : ScriptValue) (text : List ℕ)
-      → GivesSheet holds name (Ok sheet) → GivesScript holds (mode_of command) script_name sheet labels (Ok script)
-      → WritesOfScript command (with_labels sheet labels) script text
-      → AnswersScript holds command name script_name (output text)
-  -- or there is no script
-  unscripted : (sheet : SheetValue) (status : ℕ) (line : List ℕ) → GivesSheet holds name (Ok sheet)
-      → HasNoScript holds (mode_of command) script_name sheet status line
-      → AnswersScript holds command name script_name (refusal status line)
-  -- or there is no sheet
-  sheetless : (status : ℕ) (line : List ℕ) → HasNoSheet holds name status line
-      → AnswersScript holds command name script_name (refusal status line)
+-- an answer is a text of which this holds
+pub data IsText (Holds : List ℕ → Type 0) : Answer → Type 0 where
+  written_text : (text : List ℕ) → Holds text → IsText Holds (output text)
+
+-- what `undo` is answered
+pub data AnswersUndo (number : ℕ) (sheet : SheetValue) (script : ScriptValue) : Answer → Type 0 where
+  -- it writes the edit that undoes the one of the number
+  undone : (edit : EditValue) → UndoesEdit sheet script.steps number edit
+      → AnswersUndo number sheet script (output (batch_text sheet.labels edit))
+  -- unless there is no edit of that number
+  no_edit : (count : ℕ) → HasNoEntry (entries_of script.steps) number count
+      → AnswersUndo number sheet script (refusal 2 (no_edit_line number))
+  -- or a later edit changes one of its cells: the first such edit is named, and the first cell that it changes
+  overtaken : (by : ℕ) (cell : Position) → IsOvertaken (entries_of script.steps) number by cell
+      → AnswersUndo number sheet script (refusal 2 (overtaken_line number by cell))
+
+-- what a command about a script is answered, over a sheet
+abbrev pub AnswersScript : ScriptCommand → SheetValue → ScriptValue → Answer → Type 0
+AnswersScript Play sheet script answer = IsText (IsPlayed sheet script.steps) answer
+AnswersScript (Live workers) sheet script answer = IsText (IsLived sheet script) answer
+AnswersScript (Undo number) sheet script answer = AnswersUndo number sheet script answer
+
+-- What `gen` writes of a number: it prints how many edits a run of the number's sheet and script has, and the sum of the
+-- numbers among the one-thread values of its closing sheet. The run is one that `live` may print.
+pub record IsSummed (number : ℕ) (text : List ℕ) : Type 0 where
+  pub sheet : SheetValue
+  pub drawn : IsGeneratedSheet number sheet
+  pub transcript : TranscriptValue
+  pub legal : IsLegalTranscript sheet (generated_script number) transcript
+  pub text_is : text ≡ generated_text number (length transcript.log) (sheet_sum transcript.sheet)
+
+-- what `gen` is answered
+pub data AnswersGenerated (number : ℕ) : Answer → Type 0 where
+  summed : (text : List ℕ) → IsSummed number text → AnswersGenerated number (output text)
 
 -- what a request is answered
 abbrev pub AnswersRequest : Texts → Request → Answer → Type 0
-AnswersRequest holds (of_window command name window) = AnswersWindow holds command name window
-AnswersRequest holds (of_check name) = AnswersCheck holds name
-AnswersRequest holds (of_script command name script) = AnswersScript holds command name script
+AnswersRequest holds (of_window command name window) = OverSheet holds name (AnswersWindow command window)
+AnswersRequest holds (of_check name) = OverSheet holds name AnswersCheck
+AnswersRequest holds (of_script command name script) =
+    OverSheet holds name (OverScript holds (mode_of command) script (AnswersScript command))
+AnswersRequest holds (of_path name from to) = OverSheet holds name (AnswersPath from to)
+AnswersRequest holds (of_fill name from to) = OverSheet holds name (AnswersFill from to)
+AnswersRequest holds (of_generated number workers) = AnswersGenerated number
 
 -- what words are answered, over the texts of a shelf
 pub data Owes (words : List (List ℕ)) (holds : Texts) : Answer → Type 0 where
@@ -212,15 +273,42 @@ pub record AreOfLive (words : List (List ℕ)) (a b : Answer) : Type 0 where
   pub one : a ≡ output text
   pub other : b ≡ output said
 
--- words are answered in one way, where the shelf tells the texts that they name, but for the edges that `check` lists, and
--- for what `live` may write
+-- two texts of `path`, each with a shortest chain from one cell to another by one sheet's pairs; which of them is shown isn't said
+pub record AreOfPath (words : List (List ℕ)) (a b : Answer) : Type 0 where
+  pub name : List ℕ
+  pub from : Position
+  pub to : Position
+  pub asked : Asks words (of_path name from to)
+  pub pairs : List Pair
+  pub cells : List Position
+  pub others : List Position
+  pub shortest : IsShortest pairs from to cells
+  pub again : IsShortest pairs from to others
+  pub one : a ≡ output (cells_text cells)
+  pub other : b ≡ output (cells_text others)
+
+-- two answers of which a run may give either
+pub data AreAlternatives (words : List (List ℕ)) (a b : Answer) : Type 0 where
+  either_check : AreOfCheck words a b → AreAlternatives words a b
+  either_live : AreOfLive words a b → AreAlternatives words a b
+  either_path : AreOfPath words a b → AreAlternatives words a b
+
+-- words are answered in one way, where the shelf tells the texts that they name, but for the edges that `check` lists, for
+-- what `live` may write, and for which shortest chain `path` shows
 abbrev pub OneAnswer : Type 0
 OneAnswer =
     (words : List (List ℕ)) (holds : Texts) (a b : Answer)
-    → TellsTexts words holds → Owes words holds a → Owes words holds b
-    → (a ≡ b) ⊎ (AreOfCheck words a b ⊎ AreOfLive words a b)
+    → TellsTexts words holds → Owes words holds a → Owes words holds b → (a ≡ b) ⊎ AreAlternatives words a b
 
--- a request is in order: the texts that it names give a sheet, and a script where it names one, and its window is in the sheet
+-- a script over a sheet is one with which a command does what it is for: an edit that is to be undone is there, and no later
+-- one changes its cells
+abbrev pub CanBeDone : ScriptCommand → SheetValue → ScriptValue → Type 0
+CanBeDone Play sheet script = Unit {0}
+CanBeDone (Live workers) sheet script = Unit {0}
+CanBeDone (Undo number) sheet script = (edit : EditValue) × UndoesEdit sheet script.steps number edit
+
+-- a request is in order: the texts that it names give a sheet, and a script where it names one, with which the command does
+-- what it is for, its window or its cells are in the sheet, and a range that it is to fill has other cells, and not too many
 abbrev pub IsInOrder : Texts → Request → Type 0
 IsInOrder holds (of_window command name window) =
     (sheet : SheetValue) × GivesSheet holds name (Ok sheet) × IsWithinSheet window sheet
@@ -228,6 +316,12 @@ IsInOrder holds (of_check name) = (sheet : SheetValue) × GivesSheet holds name 
 IsInOrder holds (of_script command name script_name) =
     (sheet : SheetValue) × (labels : List (List ℕ)) × (script : ScriptValue)
     × GivesSheet holds name (Ok sheet) × GivesScript holds (mode_of command) script_name sheet labels (Ok script)
+    × CanBeDone command (with_labels sheet labels) script
+IsInOrder holds (of_path name from to) =
+    (sheet : SheetValue) × GivesSheet holds name (Ok sheet) × AreInSheet sheet from to
+IsInOrder holds (of_fill name from to) =
+    (sheet : SheetValue) × GivesSheet holds name (Ok sheet) × HasPlaces from to sheet × CanFill from to
+IsInOrder holds (of_generated number workers) = Unit {0}
 
 -- words ask for what is in order
 pub record IsAccepted (words : List (List ℕ)) (holds : Texts) : Type 0 where

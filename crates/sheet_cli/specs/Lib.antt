@@ -1,5 +1,6 @@
 pub mod Answers
 pub mod Clap
+pub mod Filled
 pub mod Graphs
 pub mod Laws
 pub mod Lines
@@ -10,4 +11,5 @@ pub mod Requests
 pub mod Rows
 pub mod Runs
 pub mod Scripts
+pub mod Undone
 pub mod Words

@@ -1,15 +1,13 @@
 -- Replies, before a byte is written.
 use Rattle.std.specs.Prelude.{◌≡◌, ℕ, ◌<◌, ◌≤◌, List, ◌⊎◌, length, Result, Ok, Err, IfSome, string_bytes}
-use Rattle.sheet_refs.specs.Cells.{Corners}
 use Rattle.sheet_model.specs.Sheets.{SheetValue}
 use Rattle.sheet_io.specs.Faults.{Rose}
-use Rattle.sheet_cli.specs.Answers.{Answer, AnswersRequest, AnswersScript, AnswersWindow, GivesSheet, HasNoSheet, IsDue, IsTextOf, Owes, Texts}
+use Rattle.sheet_cli.specs.Answers.{Answer, AnswersRequest, AnswersScript, GivesSheet, HasNoSheet, IsDue, IsTextOf, OverScript, Owes, Texts, mode_of}
 use Rattle.sheet_cli.specs.Answers.Answer.{output, refusal}
 use Rattle.sheet_cli.specs.Lines.{read_failed_line}
 use Rattle.sheet_cli.specs.Requests.{Request}
 use Rattle.sheet_cli.specs.Words.{Asks}
 use Rattle.sheet_cli.specs.declared.script.ScriptCommand.{ScriptCommand}
-use Rattle.sheet_cli.specs.declared.window.WindowCommand.{WindowCommand}
 use Rattle.sheet_cli.specs.declared.texts.Fetched.{Fetched}
 use Rattle.sheet_cli.specs.declared.texts.Fetched.TheVariants.{Text, Missed, TooLong}
 use Rattle.sheet_cli.specs.declared.reply.Reply.{Reply}
@@ -36,17 +34,11 @@ HasFound holds name (Err reply) = LacksSheet holds name reply
 abbrev pub HasSheet : List ℕ → Result SheetValue Reply → Type 0
 HasSheet text found = (holds : Texts) (name : List ℕ) → IsTextOf holds name text → HasFound holds name found
 
--- a reply to a command about a window of a sheet, under whatever name the sheet's text stands
-abbrev pub RepliesWindow : SheetValue → WindowCommand → Corners → Reply → Type 0
-RepliesWindow sheet command window reply =
-    (holds : Texts) (name : List ℕ) → GivesSheet holds name (Ok sheet)
-    → AnswersWindow holds command name window (answer_of reply)
-
--- a reply to a command about a script over a sheet and the script's text, under whatever names these stand
+-- a reply to a command about a script over a sheet, by the script's text, under whatever name this stands
 abbrev pub RepliesOfText : ScriptCommand → SheetValue → List ℕ → Reply → Type 0
 RepliesOfText command sheet text reply =
-    (holds : Texts) (name script : List ℕ) → GivesSheet holds name (Ok sheet) → IsTextOf holds script text
-    → AnswersScript holds command name script (answer_of reply)
+    (holds : Texts) (script : List ℕ) → IsTextOf holds script text
+    → OverScript holds (mode_of command) script (AnswersScript command) sheet (answer_of reply)
 
 -- a text that is due for a request was not fetched
 pub record IsReadFailure (request : Request) (holds : Texts) (before after : ℕ) (reply : Reply) : Type 0 where
@@ -67,11 +59,10 @@ HasText holds name before after (Text text) = IsTextOf holds name text.items × 
 HasText holds name before after (Missed reply) = IsMissed name before after reply
 HasText holds name before after TooLong = IfSome (holds name) (λ t. 16777216 < length t)
 
--- a reply to such a command over a sheet, from a shelf whose faults went from a number to another
+-- a reply of what is answered of the script under a name over a sheet, from a shelf whose faults went from a number to another
 abbrev pub RepliesOverSheet : Texts → ScriptCommand → SheetValue → List ℕ → ℕ → ℕ → Reply → Type 0
 RepliesOverSheet holds command sheet script before after reply =
-    IsMissed script before after reply
-    ⊎ ((name : List ℕ) → GivesSheet holds name (Ok sheet) → AnswersScript holds command name script (answer_of reply))
+    IsMissed script before after reply ⊎ OverScript holds (mode_of command) script (AnswersScript command) sheet (answer_of reply)
 
 -- the sheet under a name on a shelf whose faults went from a number to another, or the reply that says why there is none
 abbrev pub HasFetched : Texts → List ℕ → ℕ → ℕ → Result SheetValue Reply → Type 0

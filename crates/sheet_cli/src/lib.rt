@@ -4,24 +4,30 @@
 //! `run` is all that it does. Its contract says what each status tells, what was written and what was noted.
 //! Words ask for at most one thing (`specs/Words.antt`, `specs/Requests.antt`), and words and the texts that
 //! they name are answered in one way, by a text or by the status and the line of a refusal, but for which
-//! edges `check` lists and which legal transcript `live` writes (`specs/Answers.antt`); `run_laws` says both.
+//! edges `check` lists, which legal transcript `live` writes and which shortest chain `path` shows
+//! (`specs/Answers.antt`); `run_laws` says both.
 //! Each command is a case of each of these definitions. What their words mean in plain bytes are further laws
 //! (`specs/Laws.antt`), with rows worked out over a small sheet (`specs/Rows.antt`); `run_without_faults` shows
 //! that the premises of success can be met.
 //!
 //! The words after a command's name are read with the kit's `clap`, once it is known that none of them is
-//! written as an option; that of `live` is taken out before. Below stand `csv_sheet` and `edit_script`, which
+//! written as an option; that of `live` and `gen` is taken out before. Below stand `csv_sheet` and `edit_script`, which
 //! read sheets and scripts, `sheet_model`, which computes values, `edit_log`, `taco_graph` with `edge_patterns`,
-//! and `graph_walk`, by which edges, dependents and precedents are found, `play_machine`, which plays scripts,
-//! `live_run`, which runs them by threads, `window_text`, which prints, and `sheet_io`, through which all input
-//! and output goes; above stands the program's `main`.
+//! `graph_walk` and `dep_path`, by which edges, dependents, precedents and chains are found, `sheet_undo` and
+//! `sheet_fill`, which give the edits that undo one and fill a range, `play_machine`,
+//! which plays scripts, `live_run`, which runs them by threads, `window_text`, which prints, and `sheet_io`,
+//! through which all input and output goes; above stands the program's `main`.
 #![tactic(auto)]
 
+mod cells;
 mod check;
+mod fill;
+mod generated;
 mod laws;
 mod live;
 mod options;
 mod output;
+mod path;
 mod play;
 mod positions;
 mod reply;
@@ -31,12 +37,13 @@ mod sure;
 mod tests;
 mod texts;
 mod top;
+mod undo;
 mod window;
 mod words;
 
 pub use laws::{
-    check_laws, ending_laws, note_laws, row_laws, run_laws, script_row_laws, status_laws,
-    told_laws, unfetched_laws,
+    check_laws, ending_laws, filled_laws, generated_laws, note_laws, path_laws, row_laws, run_laws,
+    script_row_laws, status_laws, told_laws, unfetched_laws,
 };
 pub use script::ScriptCommand;
 pub use sure::run_without_faults;

@@ -1,24 +1,30 @@
 // The text that a command writes, in parts that are printed piece by piece.
-ghost use Rattle.std.specs.Prelude.{◌≡◌, ◌≤◌, ◌++◌, length, All, IfOk, OnErr};
+ghost use Rattle.std.specs.Prelude.{◌≡◌, ◌≤◌, ◌++◌, [], length, All, IfOk, OnErr};
+ghost use Rattle.live_gen.specs.Sums.{sheet_sum};
 ghost use Rattle.sheet_io.specs.Faults.{Rose};
 ghost use Rattle.sheet_io.specs.Sink.{Puts};
 ghost use Rattle.sink_buffer.specs.Buffers.{Passes};
 ghost use Rattle.taco_graph.specs.Pairs.{HaveFewPairs, pairs_of};
 ghost use Rattle.text_pieces.specs.Pieces.{HandsOut};
+ghost use Rattle.window_text.specs.Changes.{batch_text};
 ghost use Rattle.window_text.specs.Reports.{IsFull, play_text};
-ghost use Rattle.window_text.specs.Texts.{IsWithinSheet, check_text, runs_text, show_text};
+ghost use Rattle.window_text.specs.Texts.{IsWithinSheet, check_text, generated_text, runs_text, show_text};
 ghost use Rattle.window_text.specs.Transcripts.{IsWhole, live_text, transcript_value};
+ghost use Rattle.sheet_cli.specs.Graphs.{cells_text, none_text};
 ghost use Rattle.sheet_cli.specs.Outputs.{CanBePrinted, parts_text};
 
+use crate::cells::send_cells;
 use edge_patterns::Edge;
 use edit_log::Book;
+use live_gen::sum_of_numbers;
 use sheet_io::{Failed, Sink};
-use sheet_model::{Sheet, all_values};
-use sheet_refs::{Memory, Range};
+use sheet_model::{Edit, Sheet, all_values};
+use sheet_refs::{Cell, Memory, Range};
 use sink_buffer::SinkBuffer;
 use std::alloc::Global;
 use std::marker::Model;
 use taco_graph::{SheetGraph, pair_count};
+use text_pieces::send;
 use window_text::{Printer, Report, Transcript};
 
 /// What a text is printed of.
@@ -37,6 +43,10 @@ pub(crate) enum Parts {
         pairs: u64,
         edges: Vec<Edge>,
     },
+    /// The cells of a chain of references.
+    Chain(Vec<Cell>),
+    /// That there is no chain.
+    NoChain,
     /// The reports of a script, and the book that has the sheet with its labels.
     Reports {
         book: Book<SheetGraph>,
@@ -44,6 +54,17 @@ pub(crate) enum Parts {
     },
     /// What a live run has come to.
     Run(Transcript),
+    /// The number of a generated run, how many edits it has, and the sum of its values.
+    Summary {
+        number: u32,
+        edits: u64,
+        sum: i128,
+    },
+    /// An edit, and the sheet that has the labels.
+    Batch {
+        sheet: Sheet,
+        edit: Edit,
+    },
 }
 
 /// A text that is to be written, with all that its writing takes: what is printed, and the buffer on its way out.
@@ -111,6 +132,20 @@ impl Output {
         Output::of_parts(alloc, Parts::Edges { pairs, edges })
     }
 
+    /// The text of the cells of a chain.
+    pub(crate) fn of_chain(alloc: Global, cells: Vec<Cell>) -> Result<Output, Memory>
+        ensures { IfOk result (λ text. text ≡ cells_text cells.items) }
+    {
+        Output::of_parts(alloc, Parts::Chain(cells))
+    }
+
+    /// The text which says that there is no chain.
+    pub(crate) fn of_no_chain(alloc: Global) -> Result<Output, Memory>
+        ensures { IfOk result (λ text. text ≡ none_text) }
+    {
+        Output::of_parts(alloc, Parts::NoChain)
+    }
+
     /// The text of reports of a script, beside the labels of a book's sheet.
     pub(crate) fn of_reports(
         alloc: Global,
@@ -131,6 +166,29 @@ impl Output {
         Output::of_parts(alloc, Parts::Run(transcript))
     }
 
+    /// The text of what the run of a number has come to: how many edits it has, and the sum of the numbers among its
+    /// closing values.
+    pub(crate) fn of_summary(
+        alloc: Global,
+        number: u32,
+        transcript: &Transcript,
+    ) -> Result<Output, Memory>
+        requires { IsWhole transcript.now }
+        ensures { IfOk result (λ text. text
+            ≡ generated_text number (length transcript.now.log.items) (sheet_sum transcript.now.sheet)) }
+    {
+        let edits = transcript.log.len() as u64;
+        let sum = sum_of_numbers(&transcript.sheet, &transcript.values);
+        Output::of_parts(alloc, Parts::Summary { number, edits, sum })
+    }
+
+    /// The text of an edit as lines of a script, beside the labels of a sheet.
+    pub(crate) fn of_edit(alloc: Global, sheet: Sheet, edit: Edit) -> Result<Output, Memory>
+        ensures { IfOk result (λ text. text ≡ batch_text sheet.labels edit) }
+    {
+        Output::of_parts(alloc, Parts::Batch { sheet, edit })
+    }
+
     /// Writes the text to a sink, in pieces of 65,536 bytes and a last one of at most that many. It takes no memory.
     pub(crate) fn write<K: Sink>(self, out: &mut K) -> Result<(), Failed>
         ensures taken { Puts (K.written out.old) (K.written out.new) self result }
@@ -138,12 +196,23 @@ impl Output {
         ensures cause { OnErr result (Rose (K.faults out.old) (K.faults out.new)) }
     {
         let Output { parts, buffer } = self;
-        let mut buffer = buffer;
-        if !pass_parts(&parts, &mut buffer, out) {
-            return Err(Failed);
-        }
-        buffer.finish(out)
+        write_parts(&parts, buffer, out)
     }
+}
+
+// Writes the text of these parts to a sink, by way of a buffer in which nothing waits.
+fn write_parts<K: Sink>(parts: &Parts, buffer: SinkBuffer, out: &mut K) -> Result<(), Failed>
+    requires printable { CanBePrinted parts.now }
+    requires empty { buffer ≡ [] }
+    ensures taken { Puts (K.written out.old) (K.written out.new) (parts_text parts.now) result }
+    ensures counted { K.faults out.old ≤ K.faults out.new }
+    ensures cause { OnErr result (Rose (K.faults out.old) (K.faults out.new)) }
+{
+    let mut buffer = buffer;
+    if !pass_parts(parts, &mut buffer, out) {
+        return Err(Failed);
+    }
+    buffer.finish(out)
 }
 
 // Has the text of these parts pass a buffer on its way to a sink; false where a put fails.
@@ -171,7 +240,11 @@ fn send_parts<F: FnMut(&[u8]) -> bool>(parts: &Parts, to: &mut F) -> bool
         } => Printer::show(sheet, *range, values, to),
         Parts::Runs(runs) => Printer::runs(runs, to),
         Parts::Edges { pairs, edges } => Printer::check(*pairs, edges, to),
+        Parts::Chain(cells) => send_cells(cells, to),
+        Parts::NoChain => send(b"none\n", to),
         Parts::Reports { book, reports } => Printer::play(book.sheet(), reports, to),
         Parts::Run(transcript) => Printer::live(transcript, to),
+        Parts::Summary { number, edits, sum } => Printer::generated(*number, *edits, *sum, to),
+        Parts::Batch { sheet, edit } => Printer::batch(sheet, edit, to),
     }
 }

@@ -4,12 +4,19 @@ ghost use Rattle.std.specs.Prelude.{IsTrue, IfOk, MatchOption, All, string_bytes
 ghost use Rattle.clap.specs.Simple.{app_of};
 ghost use Rattle.clap.specs.Values.{kind_of};
 ghost use Rattle.sheet_cli.specs.Clap.{one_position, two_positions};
-ghost use Rattle.sheet_cli.specs.Words.{AreTwoPositions, IsOnePosition, IsOption, bytes_of};
+ghost use Rattle.sheet_cli.specs.Words.{AreThreePositions, AreTwoPositions, IsOnePosition, IsOption};
+ghost use Rattle.sheet_cli.specs.Words.{bytes_of};
 
 use clap::error::ErrorKind;
 use clap::{Arg, Command, Error};
 use sheet_refs::Memory;
 use std::alloc::{AllocError, Global};
+
+/// The most digits that write a number among the words, that of an edit or of a generated run.
+pub(crate) const MAX_DIGITS: usize = 10;
+
+/// The greatest such number.
+pub(crate) const MAX_NUMBER: u64 = 4_294_967_295;
 
 /// The position of a command that has one and no option; None exactly where the words are anything else.
 pub(crate) fn one_word<'a>(alloc: Global, words: &'a [String]) -> Result<Option<&'a str>, Memory>
@@ -36,6 +43,29 @@ pub(crate) fn two_words<'a>(
         return Ok(None);
     }
     match_two(alloc, words)
+}
+
+/// The positions of a command that has three and no option; None exactly where the words are anything else.
+pub(crate) fn three_words<'a>(
+    alloc: Global,
+    words: &'a [String],
+) -> Result<Option<(&'a str, &'a str, &'a str)>, Memory>
+    ensures { IfOk result (λ found.
+        MatchOption found ((first second third : List ℕ)
+        → ¬ AreThreePositions (bytes_of words.now) first second third)
+        (λ three. AreThreePositions (bytes_of words.now) three.0.now three.1.now three.2.now)) }
+{
+    // With the first one taken off, those are left of a command that has two.
+    let Some((first, rest)) = words.split_first() else {
+        return Ok(None);
+    };
+    if is_option(first.as_str()) {
+        return Ok(None);
+    }
+    let Some((second, third)) = two_words(alloc, rest)? else {
+        return Ok(None);
+    };
+    Ok(Some((first.as_str(), second, third)))
 }
 
 // Whether none of the words is written as an option.

@@ -1,10 +1,10 @@
 // The commands about a script over a sheet: the two texts, and what the command writes of them.
 ghost use Rattle.std.specs.Prelude.{◌≡◌, ◌≢◌, ◌≤◌, length, Err, IfOk};
 ghost use Rattle.edit_script.specs.declared.refused.ScriptRefused.TheVariants as script_refused;
-ghost use Rattle.edit_script.specs.Scripts.{IsScriptResult};
+ghost use Rattle.edit_script.specs.Scripts.{IsScriptResult, ground_of};
 ghost use Rattle.sheet_model.specs.Labels.{IsTable};
 ghost use Rattle.sheet_model.specs.Sheets.{with_labels};
-ghost use Rattle.sheet_cli.specs.Answers.{WritesOfScript, mode_of};
+ghost use Rattle.sheet_cli.specs.Answers.{AnswersScript, mode_of};
 ghost use Rattle.sheet_cli.specs.Answers.Answer.{refusal as refusal_answer};
 ghost use Rattle.sheet_cli.specs.Lines.{long_script_line, script_line};
 ghost use Rattle.sheet_cli.specs.Replies.{RepliesOfText, RepliesOverSheet, RepliesTo, answer_of};
@@ -12,10 +12,10 @@ ghost use Rattle.sheet_cli.specs.Requests.Request.{of_script};
 ghost use Rattle.sheet_cli.specs.Scripts.{HasWorkers, SuitsCommand};
 
 use crate::live::live_output;
-use crate::output::Output;
 use crate::play::play_output;
 use crate::reply::{Reply, refusal};
 use crate::texts::{Fetched, fetch_sheet, fetch_text};
+use crate::undo::undo_reply;
 use edit_script::{Mode, Script, ScriptRefused, read_script};
 use recalc_workers::Gate;
 use sheet_io::Shelf;
@@ -33,6 +33,8 @@ pub enum ScriptCommand {
     /// `live`: the log, the reports and the closing sheet of a run by threads, with so many workers, 1 to 64, beside
     /// the clients.
     Live { workers: u32 },
+    /// `undo`: the edit that undoes the one of this number, which counts the script's edits from 1.
+    Undo { number: u64 },
 }
 
 impl ScriptCommand {
@@ -41,7 +43,7 @@ impl ScriptCommand {
         ensures { result ≡ mode_of self }
     {
         match self {
-            ScriptCommand::Play => Mode::Play,
+            ScriptCommand::Play | ScriptCommand::Undo { .. } => Mode::Play,
             ScriptCommand::Live { .. } => Mode::Live,
         }
     }
@@ -110,9 +112,7 @@ fn reply_of_text<R: Threads + Wait + Sync, G: Gate + Sync>(
 {
     let mut sheet = sheet;
     match script_of(alloc, command.mode(), text, &mut sheet) {
-        Ok(script) => Ok(Reply::Output(output_of_script(
-            rt, alloc, command, sheet, &script, gate,
-        )?)),
+        Ok(script) => script_reply(rt, alloc, command, sheet, &script, gate),
         Err(why) => Ok(no_script(alloc, why)?),
     }
 }
@@ -127,7 +127,7 @@ fn script_of(
     requires short { length text.now ≤ 16777216 }
     requires few { length sheet.old.labels ≤ 3000000000 }
     ensures result { result ≢ Err script_refused.Memory
-        → IsScriptResult mode sheet.old.sizes sheet.old.labels sheet.new.labels text.now result }
+        → IsScriptResult mode (ground_of sheet.old) sheet.old.labels sheet.new.labels text.now result }
     ensures kept { sheet.new ≡ with_labels sheet.old sheet.new.labels }
     ensures table { IsTable sheet.new.labels }
 {
@@ -137,21 +137,25 @@ fn script_of(
     script
 }
 
-// The text that a command writes of a script over a sheet.
-fn output_of_script<R: Threads + Wait + Sync, G: Gate + Sync>(
+// The reply to a command over a sheet and a script.
+fn script_reply<R: Threads + Wait + Sync, G: Gate + Sync>(
     rt: &R,
     alloc: Global,
     command: ScriptCommand,
     sheet: Sheet,
     script: &Script,
     gate: &G,
-) -> Result<Output, Memory>
+) -> Result<Reply, Memory>
     requires { SuitsCommand command sheet script.now }
-    ensures { IfOk result (λ text. WritesOfScript command sheet script.now text) }
+    ensures { IfOk result (λ reply. AnswersScript command sheet script.now (answer_of reply)) }
 {
     match command {
-        ScriptCommand::Play => play_output(alloc, sheet, script.steps()),
-        ScriptCommand::Live { workers } => live_output(rt, alloc, sheet, script, workers, gate),
+        ScriptCommand::Play => Ok(Reply::Output(play_output(alloc, sheet, script.steps())?)),
+        ScriptCommand::Live { workers } => {
+            let text = live_output(rt, alloc, sheet, script, workers, gate)?;
+            Ok(Reply::Output(text))
+        }
+        ScriptCommand::Undo { number } => undo_reply(alloc, sheet, script, number),
     }
 }
 

@@ -1,4 +1,5 @@
 // What no clause says: that calls succeed with ample memory, and that the statuses and lines are those meant.
+mod paths;
 mod scripts;
 
 use crate::reply::USAGE;
@@ -152,6 +153,15 @@ fn a_run_ends_by_its_words_and_its_sheet(rt: HostRuntime) -> Result<(), Fail> {
         (
             WORKED,
             "deps s B3",
+            2,
+            "",
+            "antifreeze: range outside the sheet\n",
+        ),
+        (WORKED, "path s A1 B2", 0, "A1\nB1\nB2\n", ""),
+        (WORKED, "path s B2 A1", 0, "none\n", ""),
+        (
+            WORKED,
+            "path s A1 C9",
             2,
             "",
             "antifreeze: range outside the sheet\n",

@@ -3,8 +3,9 @@ ghost use Rattle.sheet_io.specs.Faults.{Rose};
 ghost use Rattle.sheet_cli.specs.Lines.{write_failed_line, no_memory_line};
 ghost use Rattle.sheet_cli.specs.Replies.{IsRefusedStatus};
 ghost use Rattle.sheet_cli.specs.Runs.{IsStatus, HasWritten, HasBegun, IsRefused, IsUnfetched};
-ghost use Rattle.sheet_cli.specs.Runs.{LivesAsAsked, TakesLine, IsCalm, IsComplete, AcceptsAll, RefusesAll};
-ghost use Rattle.sheet_cli.specs.Words.{AsksNothing, bytes_of};
+ghost use Rattle.sheet_cli.specs.Runs.{FillsAsAsked, LivesAsAsked, ShowsAsAsked, SumsAsAsked, TakesLine};
+ghost use Rattle.sheet_cli.specs.Runs.{IsCalm, IsComplete, AcceptsAll, RefusesAll, UndoesAsAsked};
+ghost use Rattle.sheet_cli.specs.Words.{NamesNoText, bytes_of, AsksNothing};
 
 use crate::reply::{Reply, reply_to};
 use recalc_workers::Gate;
@@ -13,19 +14,23 @@ use std::alloc::Global;
 use std::sync::Wait;
 use std::thread::Threads;
 
-/// Does what the words ask for, and writes it to `out`: `show SHEET RANGE` the values of the range; `deps`
-/// and `precs` with the same words the vertical runs of the range's cells and of all that depend on them, or
-/// on which they depend; `check SHEET` the number of the sheet's pairs, and the edges that stand for them;
-/// `play SHEET SCRIPT` what the looks of the script show, one step after the other; and `live SHEET SCRIPT`, with the
-/// option `--workers N`, what a run of the script by threads has come to: each client runs its commands in a task, and
-/// N workers recalculate in others; ahead of each command, and between a claim and its put, the gate is called. A text
-/// is what stands under its name on the shelf.
+/// Does what the words ask for, and writes it to `out`: `show SHEET RANGE` the values of the range; `deps` and `precs`
+/// with the same words the vertical runs of the range's cells and of all that depend on them, or on which they depend;
+/// `check SHEET` the number of the sheet's pairs, and the edges that stand for them; `path SHEET CELL CELL` the cells
+/// of a shortest chain of references from the first cell to the second, or `none`; `fill SHEET CELL RANGE` the edit by
+/// which the range gets what the cell holds, as lines of a script; `play SHEET SCRIPT` what the looks of the script
+/// show, one step after the other; `undo SHEET SCRIPT NUMBER` the edit that undoes one of the script's edits; and
+/// `live SHEET SCRIPT`, with the option `--workers N`, what a run of the script by threads has come to: each client
+/// runs its commands in a task, and N workers recalculate in others; ahead of each command, and between a claim and its
+/// put, the gate is called. `gen NUMBER`, with the same option, does this with a sheet and a script that are drawn from
+/// the number, for which nothing is fetched, and writes how many edits there were and the sum of the closing sheet's
+/// numbers. A text is what stands under its name on the shelf.
 ///
-/// The result is the status of the process: 0 for done, 2 for words that are no command or a range that
-/// isn't in the sheet, 3 for a sheet's text that is refused, 4 for a script's, 5 for a fetch that failed,
-/// 6 for a put on `out` that failed, and 7 for want of memory. With every status but 0 one line goes to `notes`, and
-/// nothing is written to `out` with any but 0 and 6: all memory is taken before the first byte, and what is written
-/// goes out in pieces, so that no text is put together in memory.
+/// The result is the status of the process: 0 for done, 2 for words that are no command, or for a range or a cell that
+/// isn't in the sheet, an edit that isn't undone or a range that isn't filled, 3 for a sheet's text that is refused, 4
+/// for a script's, 5 for a fetch that failed, 6 for a put on `out` that failed, and 7 for want of memory. With every
+/// status but 0 one line goes to `notes`, and nothing is written to `out` with any but 0 and 6: all memory is taken
+/// before the first byte, and what is written goes out in pieces, so that no text is put together in memory.
 pub fn run<R: Threads + Wait + Sync, F: Shelf, K: Sink, N: Sink, G: Gate + Sync>(
     rt: &R,
     alloc: Global,
@@ -41,11 +46,31 @@ pub fn run<R: Threads + Wait + Sync, F: Shelf, K: Sink, N: Sink, G: Gate + Sync>
     ensures done { result ≡ 0
         → HasWritten (bytes_of words.now) (F.holds shelf.old)
         (K.written out.old) (K.written out.new) }
-    // With `live`, one log with each client's edits once and in order; each value in a look the one-thread value after as
-    // many edits as the look's number, which never falls for a client and covers its own earlier edits; and the closing
-    // sheet with the one-thread values after the whole log.
+    // With `live`, one log with each client's edits once and in order; each value in a look the one-thread value after
+    // as many edits as the look's number, which never falls for a client and covers its own earlier edits; and the
+    // closing sheet with the one-thread values after the whole log.
     ensures lived { result ≡ 0
         → LivesAsAsked (bytes_of words.now) (F.holds shelf.old)
+        (K.written out.old) (K.written out.new) }
+    // With `path`, the cells of a list that leads by the sheet's pairs from the first cell to the second, than which no
+    // such list has fewer cells, or `none` exactly where there is no such list.
+    ensures shown { result ≡ 0
+        → ShowsAsAsked (bytes_of words.now) (F.holds shelf.old)
+        (K.written out.old) (K.written out.new) }
+    // With `gen`, what such a run of the number's sheet and script comes to: it is the same whatever the schedule.
+    ensures summed { result ≡ 0
+        → SumsAsAsked (bytes_of words.now) (K.written out.old) (K.written out.new) }
+
+    // With `fill`, the edit that gives each cell of the range but the one that is copied what that one holds, a formula
+    // with its references moved.
+    ensures filled { result ≡ 0
+        → FillsAsAsked (bytes_of words.now) (F.holds shelf.old)
+        (K.written out.old) (K.written out.new) }
+
+    // With `undo`, an edit of the cells of the script's edit of that number, in its order, each to what it held before
+    // that edit; no later edit changes one of them.
+    ensures undone { result ≡ 0
+        → UndoesAsAsked (bytes_of words.now) (F.holds shelf.old)
         (K.written out.old) (K.written out.new) }
     ensures refused { IsRefusedStatus result
         → IsRefused (bytes_of words.now) (F.holds shelf.old) result
@@ -64,7 +89,7 @@ pub fn run<R: Threads + Wait + Sync, F: Shelf, K: Sink, N: Sink, G: Gate + Sync>
         → TakesLine N.written N.faults notes.old notes.new no_memory_line }
     ensures nothing_written { result ≢ 0 → result ≢ 6 → K.written out.new ≡ K.written out.old }
     ensures nothing_noted { result ≡ 0 → N.written notes.new ≡ N.written notes.old }
-    ensures nothing_fetched { AsksNothing (bytes_of words.now)
+    ensures nothing_fetched { NamesNoText (bytes_of words.now)
         → F.faults shelf.new ≡ F.faults shelf.old }
 
     // Where no fault rises, what the words and the texts that they name ask for is done.

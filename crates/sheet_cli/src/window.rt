@@ -2,15 +2,15 @@
 ghost use Rattle.std.specs.Prelude.{◌≡◌, ◌≤◌, ◌∷◌, MatchBool, IfOk};
 ghost use Rattle.sheet_refs.specs.Names.{Finds};
 ghost use Rattle.window_text.specs.Texts.{IsWithinSheet};
-ghost use Rattle.sheet_cli.specs.Answers.{Writes};
+ghost use Rattle.sheet_cli.specs.Answers.{AnswersWindow, Writes};
 ghost use Rattle.sheet_cli.specs.Graphs.{AreDependents, ArePrecedents};
-ghost use Rattle.sheet_cli.specs.Replies.{RepliesTo, RepliesWindow};
+ghost use Rattle.sheet_cli.specs.Replies.{RepliesTo, answer_of};
 ghost use Rattle.sheet_cli.specs.Requests.Request.{of_window};
 ghost use Rattle.sheet_cli.specs.Words.{IsAskedBy, bytes_of, command_word};
 
 use crate::output::Output;
 use crate::positions::two_words;
-use crate::reply::{Reply, refusal};
+use crate::reply::{Reply, outside};
 use crate::texts::fetch_sheet;
 use crate::words::Asked;
 use edit_log::graph_of;
@@ -93,16 +93,16 @@ fn window_reply(
     sheet: Sheet,
     range: Range,
 ) -> Result<Reply, Memory>
-    ensures { IfOk result (RepliesWindow sheet command range) }
+    ensures { IfOk result (λ reply. AnswersWindow command range sheet (answer_of reply)) }
 {
     if !covers(&sheet, range) {
-        return refusal(alloc, 2, "antifreeze: range outside the sheet\n");
+        return outside(alloc);
     }
     Ok(Reply::Output(window_output(alloc, command, sheet, range)?))
 }
 
-// Whether the range lies wholly in the sheet.
-fn covers(sheet: &Sheet, range: Range) -> bool
+/// Whether the range lies wholly in the sheet.
+pub(crate) fn covers(sheet: &Sheet, range: Range) -> bool
     ensures { MatchBool result (IsWithinSheet range sheet.now) (¬ IsWithinSheet range sheet.now) }
 {
     sheet.holds(range.head()) && sheet.holds(range.tail())

@@ -2,11 +2,15 @@ ghost use Rattle.std.specs.Prelude.{◌∷◌, IfOk};
 ghost use Rattle.sheet_cli.specs.Words.{IsAskedBy, IsNoWindowWord, bytes_of};
 
 use crate::check::read_check;
+use crate::fill::read_fill;
+use crate::generated::read_generated;
 use crate::live::read_live;
+use crate::path::read_path;
 use crate::play::read_play;
 use crate::script::ScriptCommand;
+use crate::undo::read_undo;
 use crate::window::{WindowCommand, read_window, window_command};
-use sheet_refs::{Memory, Range};
+use sheet_refs::{Cell, Memory, Range};
 use std::alloc::Global;
 
 /// What the words of a command line ask for.
@@ -24,12 +28,30 @@ pub enum Asked {
     OfCheck {
         sheet: String,
     },
-    /// `play SHEET SCRIPT`, or `live SHEET SCRIPT` with or without the option for the number of workers: what a command
-    /// writes of the script with this name over the sheet with this name.
+    /// `play SHEET SCRIPT`, `live SHEET SCRIPT` with or without the option for the number of workers, or
+    /// `undo SHEET SCRIPT NUMBER`: what a command writes of the script with this name over the sheet with this name.
     OfScript {
         command: ScriptCommand,
         sheet: String,
         script: String,
+    },
+    /// `gen NUMBER`, with or without the option for the number of workers: what a run of the sheet and the script that
+    /// are drawn from the number comes to.
+    OfGenerated {
+        number: u32,
+        workers: u32,
+    },
+    /// `path SHEET CELL CELL`: how the second cell comes to depend on the first, in the sheet with this name.
+    OfPath {
+        sheet: String,
+        from: Cell,
+        to: Cell,
+    },
+    /// `fill SHEET CELL RANGE`: the edit that fills the range with what the cell holds, in the sheet with this name.
+    OfFill {
+        sheet: String,
+        from: Cell,
+        to: Range,
     },
 }
 
@@ -57,6 +79,10 @@ fn read_other(alloc: Global, command: &str, words: &[String]) -> Result<Asked, M
         "check" => read_check(alloc, words),
         "play" => read_play(alloc, words),
         "live" => read_live(alloc, words),
+        "undo" => read_undo(alloc, words),
+        "path" => read_path(alloc, words),
+        "fill" => read_fill(alloc, words),
+        "gen" => read_generated(alloc, words),
         _ => Ok(Asked::Nothing),
     }
 }

@@ -1,5 +1,5 @@
 use Rattle.sheet_cli.proofs.InOrder.{accepted_not_refused}
-use Rattle.sheet_cli.proofs.LawLemmas.{not_both, one_count, one_output, one_refusal, one_script_lives}
+use Rattle.sheet_cli.proofs.LawLemmas.{not_both, one_count, one_length, one_output, one_refusal, one_script_lives}
 use Rattle.sheet_cli.proofs.laws.ending_laws.Goals as goal
 
 pub returns-clause-output : goal.returns-clause-output
@@ -10,6 +10,9 @@ returns-clause-checks c = one_count
 
 pub returns-clause-lives : goal.returns-clause-lives
 returns-clause-lives c = one_script_lives
+
+pub returns-clause-paths : goal.returns-clause-paths
+returns-clause-paths c = one_length
 
 pub returns-clause-refusal : goal.returns-clause-refusal
 returns-clause-refusal c = one_refusal

@@ -1,9 +1,25 @@
-use Rattle.sheet_cli.proofs.RunLemmas.{lives_as_asked, output_complete, output_refuses, refusal_accepts, refusal_complete, refusal_refuses, unfetched}
+use Rattle.sheet_cli.proofs.RunLemmas.{fills_as_asked, lives_as_asked, output_complete, output_refuses, refusal_accepts, refusal_complete, refusal_refuses, shows_as_asked, unfetched, sums_as_asked, undoes_as_asked}
 use Rattle.sheet_cli.proofs.top.run.Goals as goal
 
 pub returns-in-Ok-clause-lived : goal.returns-in-Ok-clause-lived
 returns-in-Ok-clause-lived g c = λ done.
     lives_as_asked _ _ _ _ (record { text = c.in-Ok-Output.text; owed = rw c.in-Ok-Output.field-0-is at c.in-Ok-Output.ensures.owed; gained = c.in-Ok.ensures.taken })
+
+pub returns-in-Ok-clause-shown : goal.returns-in-Ok-clause-shown
+returns-in-Ok-clause-shown g c = λ done.
+    shows_as_asked _ _ _ _ (record { text = c.in-Ok-Output.text; owed = rw c.in-Ok-Output.field-0-is at c.in-Ok-Output.ensures.owed; gained = c.in-Ok.ensures.taken })
+
+pub returns-in-Ok-clause-summed : goal.returns-in-Ok-clause-summed
+returns-in-Ok-clause-summed g c = λ done.
+    sums_as_asked _ _ _ _ (record { text = c.in-Ok-Output.text; owed = rw c.in-Ok-Output.field-0-is at c.in-Ok-Output.ensures.owed; gained = c.in-Ok.ensures.taken })
+
+pub returns-in-Ok-clause-filled : goal.returns-in-Ok-clause-filled
+returns-in-Ok-clause-filled g c = λ done.
+    fills_as_asked _ _ _ _ (record { text = c.in-Ok-Output.text; owed = rw c.in-Ok-Output.field-0-is at c.in-Ok-Output.ensures.owed; gained = c.in-Ok.ensures.taken })
+
+pub returns-in-Ok-clause-undone : goal.returns-in-Ok-clause-undone
+returns-in-Ok-clause-undone g c = λ done.
+    undoes_as_asked _ _ _ _ (record { text = c.in-Ok-Output.text; owed = rw c.in-Ok-Output.field-0-is at c.in-Ok-Output.ensures.owed; gained = c.in-Ok.ensures.taken })
 
 pub returns-in-Ok-clause-complete : goal.returns-in-Ok-clause-complete
 returns-in-Ok-clause-complete g c = λ calm quiet. output_complete _ _ _ (rw c.in-Ok-Output.field-0-is at c.in-Ok-Output.ensures.owed)

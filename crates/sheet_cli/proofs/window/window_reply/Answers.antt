@@ -6,8 +6,8 @@ use Rattle.sheet_cli.proofs.window.window_reply.Goals as goal
 
 pub returns-then-not-covers : goal.returns-then-not-covers
 returns-then-not-covers c =
-    if_reply c.refusal.result _ _ c.refusal.ensures
-    (λ reply is holds name gives. subst (AnswersWindow holds c.args.command name c.args.range) (sym is) (outside c.args.sheet gives c.if-not-covers.ensures))
+    if_reply c.outside.result _ _ c.outside.ensures
+    (λ reply is. subst (AnswersWindow c.args.command c.args.range c.args.sheet) (sym is) (outside c.if-not-covers.ensures))
 
 pub returns : goal.returns
-returns c = λ holds name gives. written c.args.sheet _ gives c.if-not-covers.ensures c.in_ok-window_output.ensures
+returns c = written _ c.if-not-covers.ensures c.in_ok-window_output.ensures

@@ -1,14 +1,6 @@
-use Rattle.std.proofs.Common.{refl, ap, ◌∙◌, ◌++◌, subst}
-use Rattle.sink_buffer.specs.Buffers.{HasPassed}
-use Rattle.sheet_cli.specs.Outputs.{parts_text}
-use Rattle.sheet_cli.proofs.OutputLemmas.{put_rest}
+use Rattle.std.proofs.Common.{subst}
+use Rattle.sheet_io.specs.Sink.{Puts}
 use Rattle.sheet_cli.proofs.output.Output.write.Goals as goal
 
 pub returns-clause-taken : goal.returns-clause-taken
-returns-clause-taken g c =
-    let before = g.K.Sink.written c.args.out.now in
-    let mid = g.K.Sink.written c.pass_parts.new.out in
-    let held = c.pass_parts.new.buffer in
-    let same = ap (λ b. b ++ parts_text c.self.inside.parts) c.self.invariant.empty ∙ c.self.view_is in
-    put_rest before mid (g.K.Sink.written c.finish.new.sink) c.args.self held c.finish.result
-    (subst (λ t. HasPassed before mid t held) same (c.if-not-pass_parts.ensures.passed refl)) c.finish.ensures.taken
+returns-clause-taken g c = subst (λ t. Puts (g.K.Sink.written c.args.out.now) (g.K.Sink.written c.write_parts.new.out) t c.write_parts.result) c.self.view_is c.write_parts.ensures.taken
