@@ -1,4 +1,4 @@
-use crate::runs::script::{printed, sheet_of, two_formulas};
+use crate::runs::script::{TWO_FORMULAS, printed};
 use recalc_workers::OpenGate;
 use std::test::Fail;
 
@@ -7,10 +7,11 @@ fn two_edits_and_a_firm_look(rt: HostRuntime) -> Result<(), Fail> {
     let alloc = rt.alloc();
     let script = "client ann\nset A1 5\nset A2 =a1 * 2\nfirm A1:B2\n";
     for workers in [1, 4] {
-        let text = printed(&rt, alloc, two_formulas(alloc)?, script, workers, &OpenGate)?;
+        let text = printed(&rt, alloc, TWO_FORMULAS, script, workers, &OpenGate)?;
         assert_eq!(rt;
             text.as_str(),
-            "log 2\n1 ann set A1 5\n2 ann set A2 =A1*2\nclient ann\nfirm 2 A1:B2\n5,6\n10,16\nsheet 2 A1:B2\n5,6\n10,16\n"
+            "log 2\n1 ann set A1 5\n2 ann set A2 =A1*2\n\
+             client ann\nfirm 2 A1:B2\n5,6\n10,16\nsheet 2 A1:B2\n5,6\n10,16\n"
         );
     }
     Ok(())
@@ -20,7 +21,7 @@ fn two_edits_and_a_firm_look(rt: HostRuntime) -> Result<(), Fail> {
 fn a_look_behind_a_firm_one(rt: HostRuntime) -> Result<(), Fail> {
     let alloc = rt.alloc();
     let script = "client ann\nset A1 5\nfirm B1\nlook A1\n";
-    let text = printed(&rt, alloc, two_formulas(alloc)?, script, 2, &OpenGate)?;
+    let text = printed(&rt, alloc, TWO_FORMULAS, script, 2, &OpenGate)?;
     assert_eq!(rt;
         text.as_str(),
         "log 1\n1 ann set A1 5\nclient ann\nfirm 1 B1:B1\n6\nlook 1 A1:A1\n5\nsheet 1 A1:B2\n5,6\n2,8\n"
@@ -31,13 +32,19 @@ fn a_look_behind_a_firm_one(rt: HostRuntime) -> Result<(), Fail> {
 #[test]
 fn a_cycle_and_no_clients(rt: HostRuntime) -> Result<(), Fail> {
     let alloc = rt.alloc();
-    let sheet = sheet_of(alloc, 1, 2, &[("A1", "1"), ("B1", "=A1")])?;
-    let text = printed(&rt, alloc, sheet, "set A1 =B1\nfirm A1:B1\n", 1, &OpenGate)?;
+    let text = printed(
+        &rt,
+        alloc,
+        "1,=A1\n",
+        "set A1 =B1\nfirm A1:B1\n",
+        1,
+        &OpenGate,
+    )?;
     assert_eq!(rt;
         text.as_str(),
         "log 1\n1 main set A1 =B1\nclient main\nfirm 1 A1:B1\n#CIRC!,#CIRC!\nsheet 1 A1:B1\n#CIRC!,#CIRC!\n"
     );
-    let text = printed(&rt, alloc, two_formulas(alloc)?, "", 3, &OpenGate)?;
+    let text = printed(&rt, alloc, TWO_FORMULAS, "", 3, &OpenGate)?;
     assert_eq!(rt; text.as_str(), "log 0\nsheet 0 A1:B2\n1,2\n2,4\n");
     Ok(())
 }

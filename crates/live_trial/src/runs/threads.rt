@@ -1,5 +1,5 @@
-use crate::runs::gates::{UntilClaimed, UntilTwo};
-use crate::runs::script::{printed, sheet_of, two_formulas};
+use crate::gates::{UntilClaimed, UntilTwo};
+use crate::runs::script::{TWO_FORMULAS, printed};
 use recalc_workers::OpenGate;
 use sheet_refs::cell_of;
 use std::alloc::Global;
@@ -19,7 +19,7 @@ fn a_worker_computes_what_an_edit_marked(rt: HostRuntime) -> Result<(), Fail> {
         late: AtomicU64::new(0),
     };
     let script = "client ann\nset A1 5\nlook A1\n";
-    let text = printed(&rt, alloc, two_formulas(alloc)?, script, 1, &gate)?;
+    let text = printed(&rt, alloc, TWO_FORMULAS, script, 1, &gate)?;
     assert_eq!(rt;
         text.as_str(),
         "log 1\n1 ann set A1 5\nclient ann\nlook 1 A1:A1\n5\nsheet 1 A1:B2\n5,6\n2,8\n"
@@ -38,6 +38,16 @@ fn many_edits(alloc: Global, edits: u32) -> Result<String, Fail> {
     Ok(text)
 }
 
+// The text of a sheet with these records, and so many with the number 7 below.
+fn numbers(alloc: Global, first: &str, rows: u32) -> Result<String, Fail> {
+    let mut text = String::new(alloc);
+    text.push_str(first)?;
+    for _ in 0..rows {
+        text.push_str("7\n")?;
+    }
+    Ok(text)
+}
+
 // Two workers are between a claim and a put at once, while the client waits.
 #[test]
 fn two_workers_compute_at_once(rt: HostRuntime) -> Result<(), Fail> {
@@ -49,8 +59,8 @@ fn two_workers_compute_at_once(rt: HostRuntime) -> Result<(), Fail> {
         late: AtomicU64::new(0),
     };
     let script = many_edits(alloc, 100)?;
-    let sheet = sheet_of(alloc, 100, 1, &[("A1", "7"), ("A100", "8")])?;
-    let text = printed(&rt, alloc, sheet, &script, 4, &gate)?;
+    let sheet = numbers(alloc, "", 100)?;
+    let text = printed(&rt, alloc, &sheet, &script, 4, &gate)?;
     assert!(rt; text.starts_with("log 100\n1 main set A1 1\n2 main set A2 2\n"));
     assert!(rt; text.ends_with("\n98\n99\n100\n"));
     assert_eq!(rt; gate.late.load(Ordering::SeqCst), 0);
@@ -76,10 +86,9 @@ fn many_clients(alloc: Global, clients: u32, commands: u32) -> Result<String, Fa
 #[test]
 fn many_clients_beside_many_workers(rt: HostRuntime) -> Result<(), Fail> {
     let alloc = rt.alloc();
-    let fields = [("B1", "=A1+A2"), ("C1", "=SUM(B1:B2)"), ("B2", "=A32*2")];
-    let sheet = sheet_of(alloc, 32, 3, &fields)?;
+    let sheet = numbers(alloc, "7,=A1+A2,=SUM(B1:B2)\n7,=A32*2\n", 30)?;
     let script = many_clients(alloc, 32, 100)?;
-    let text = printed(&rt, alloc, sheet, &script, 64, &OpenGate)?;
+    let text = printed(&rt, alloc, &sheet, &script, 64, &OpenGate)?;
     assert!(rt; text.starts_with("log 1600\n"));
     assert!(rt; text.contains("\nsheet 1600 A1:C32\n99,198,396\n99,198,\n99,,\n"));
     Ok(())

@@ -1,7 +1,7 @@
 ghost use Rattle.std.specs.Prelude.{◌≤◌};
 ghost use Rattle.live_sheet.specs.Setups.{IsNamedBy};
 
-use crate::sheets::edits::sheet_of;
+use crate::fields::sheet_of;
 use crate::sheets::texts::write_codes;
 use live_sheet::{Live, Naming, Opened, Setup};
 use recalc_workers::OpenGate;

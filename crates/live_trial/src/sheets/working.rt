@@ -2,7 +2,8 @@ ghost use Rattle.std.specs.Prelude.{◌≡◌, ℕ};
 ghost use Rattle.sheet_model.specs.Edits.{HaveLabels};
 ghost use Rattle.live_sheet.specs.Setups.{IsNamedBy};
 
-use crate::sheets::edits::{cell, sets, sheet_of};
+use crate::fields::{cell, sheet_of};
+use crate::sheets::edits::sets;
 use crate::sheets::stories::{edit, look, work};
 use live_sheet::{Live, Naming, Opened, Setup};
 use recalc_workers::OpenGate;

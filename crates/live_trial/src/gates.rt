@@ -7,7 +7,7 @@ use std::thread::yield_now;
 const TURNS: u32 = 10_000_000;
 
 /// Holds until the count is as great as that. Where the limit of turns ends it, the flag is set.
-fn hold(count: &AtomicU64, least: u64, late: &AtomicU64) {
+pub(crate) fn hold(count: &AtomicU64, least: u64, late: &AtomicU64) {
     for _ in 0..TURNS {
         if count.load(Ordering::SeqCst) >= least {
             return;
@@ -63,4 +63,21 @@ impl Gate for UntilTwo {
             hold(&self.claims, 2, &self.late);
         }
     }
+}
+
+/// Holds a worker between its claim and its put until somebody else has done something.
+#[derive(Drop)]
+pub(crate) struct UntilAnswered {
+    pub(crate) claims: AtomicU64,
+    pub(crate) answers: AtomicU64,
+    pub(crate) late: AtomicU64,
+}
+
+impl Gate for UntilAnswered {
+    fn between(&self, _: Cell) {
+        let _ = self.claims.fetch_add(1, Ordering::SeqCst);
+        hold(&self.answers, 1, &self.late);
+    }
+
+    fn before(&self, _: u32, _: u32) {}
 }
