@@ -128,7 +128,7 @@ handed {S} {E} {G} table first start all all' others others' last inv is same ma
 
 module _ {S E : Type 0} {G : Ghosts S E} (places : S → ℕ) (worth : S → List E → ℕ → ℕ) (touches : S → List E → E → ℕ → Type 0)
     (marks : Marks S E) (editor : Seat S E G) (others : List (Seat S E G)) (words : Words S E G) where
-  module _ (t : TableState E (History S E)) (kept : IsKeptTable (subject_of marks) (places (subject_of marks)) (worth (subject_of marks)) (touches (subject_of marks)) (topic_of marks).opening.value.items t)
+  module _ (t : TableState E (History S E)) (kept : IsKeptTable (subject_of marks) (places (subject_of marks)) (worth (subject_of marks)) (touches (subject_of marks)) (topic_of marks).opening.value t)
       (id : ℕ) (seat : History S E) (at : get_elem? t.views id ≡ some seat) (live : seat.doing.view.spent ≡ false) (on : seat.doing.editor ≡ true) where
     pub closes : ((log : List E) (entry : E) (place : ℕ) → place < places (subject_of marks) → (touches (subject_of marks) log entry place → ⊥)
         → worth (subject_of marks) (log ++ entry ∷ []) place ≡ worth (subject_of marks) log place)
@@ -138,11 +138,11 @@ module _ {S E : Type 0} {G : Ghosts S E} (places : S → ℕ) (worth : S → Lis
         → HasClosed places worth touches marks editor others words
     closes untouched is view edits steps knows about log before handed =
         let core : State E = kept.core in
-        let honest = honest_state (subject_of marks) (places (subject_of marks)) (worth (subject_of marks)) (touches (subject_of marks)) (topic_of marks).opening.value.items t kept untouched in
+        let honest = honest_state (subject_of marks) (places (subject_of marks)) (worth (subject_of marks)) (touches (subject_of marks)) (topic_of marks).opening.value t kept untouched in
         let places' : ℕ = places (subject_of marks) in
         let worth' = worth (subject_of marks) in
         let touches' = touches (subject_of marks) in
-        let opening = (topic_of marks).opening.value.items in
+        let opening = (topic_of marks).opening.value in
         let ed : IsEditor core id seat.doing = (seat_right (subject_of marks) places' worth' touches' opening t kept id seat at).editor on in
         let there = doing_at t.views id seat at in
         let gathered : AreGathered core kept.events (doings_of t.views) seat.doing.gathered = kept.seats.gathered id seat.doing there in
@@ -190,8 +190,8 @@ module _ {S E : Type 0} {G : Ghosts S E} (places : S → ℕ) (worth : S → Lis
     pub legal_closed : AreLegal worth touches marks editor (editor ∷ others)
     legal_closed seat read word among read_among had =
         let n = view_closed seat among in
-        let right : IsRightRead (worth (subject_of marks)) (touches (subject_of marks)) (IsCodeless (topic_of marks).opening.value.items) closed.core.edits (words_of closed.core.places) read =
-        All-contains (IsRightRead (worth (subject_of marks)) (touches (subject_of marks)) (IsCodeless (topic_of marks).opening.value.items) closed.core.edits (words_of closed.core.places))
+        let right : IsRightRead (worth (subject_of marks)) (touches (subject_of marks)) (IsCodeless (topic_of marks).opening.value) closed.core.edits (words_of closed.core.places) read =
+        All-contains (IsRightRead (worth (subject_of marks)) (touches (subject_of marks)) (IsCodeless (topic_of marks).opening.value) closed.core.edits (words_of closed.core.places))
         (view_at closed.core n.0).reads read (closed.honest.views n.0).reads (subst (λ (v : View (List E)). Contains v.reads read) (sym n.1) read_among) in
-        subst (λ (x : Edits E). IsLegalRead (worth (subject_of marks)) (touches (subject_of marks)) (IsCodeless (topic_of marks).opening.value.items) x read word) closed.edits
+        subst (λ (x : Edits E). IsLegalRead (worth (subject_of marks)) (touches (subject_of marks)) (IsCodeless (topic_of marks).opening.value) x read word) closed.edits
         (right.legal word had)

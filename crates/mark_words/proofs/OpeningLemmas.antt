@@ -12,7 +12,7 @@ use Rattle.mark_core.proofs.Prefixes.{prefix_itself}
 use Rattle.mark_words.specs.declared.tables.Doing.{Doing}
 use Rattle.mark_words.specs.declared.tables.History.{History}
 use Rattle.mark_words.specs.declared.tables.Topic.{Topic}
-use Rattle.mark_words.specs.Words.{words_of_places, opening_words}
+use Rattle.mark_words.specs.Words.{words_of_places, opening_words, codes_of_places}
 use Rattle.mark_words.specs.Doing.{first_doing, first_history}
 use Rattle.mark_words.specs.Rule.{IsRightSeat, AreGathered, IsKeptTable, NameSubject}
 use Rattle.mark_words.proofs.TableLemmas.{none_gathered}
@@ -22,36 +22,42 @@ words_open [] = refl
 words_open (None ∷ opening) = ap (λ l. 0 ∷ 0 ∷ 0 ∷ l) (words_open opening)
 words_open (Some code ∷ opening) = ap (λ l. 0 ∷ 2 ∷ code ∷ l) (words_open opening)
 
+-- the words that a table opens with show the codes
+pub codes_open : (opening : List (Option ℕ)) → codes_of_places (opening_words opening) ≡ opening
+codes_open [] = refl
+codes_open (None ∷ opening) = ap (λ l. None ∷ l) (codes_open opening)
+codes_open (Some code ∷ opening) = ap (λ l. Some code ∷ l) (codes_open opening)
+
 marks_open : (opening : List (Option ℕ)) → map (λ (code : Option ℕ). 0) opening ≡ map (λ (place : Place). place.mark) (map opening_place opening)
 marks_open [] = refl
 marks_open (None ∷ opening) = ap (λ l. 0 ∷ l) (marks_open opening)
 marks_open (Some code ∷ opening) = ap (λ l. 0 ∷ l) (marks_open opening)
 
 module _ {S E : Type 0} (places : ℕ) (worth : List E → ℕ → ℕ) (touches : List E → E → ℕ → Type 0) (topic : Topic S)
-    (right : IsOpening places worth topic.opening.value.items) where
-  first_right : IsRightSeat (opening_state topic.opening.value.items) 0 (first_doing {E = E} topic)
+    (right : IsOpening places worth topic.opening.value) where
+  first_right : IsRightSeat (opening_state topic.opening.value) 0 (first_doing {E = E} topic)
   first_right =
       record {
         first = λ zero. refl;
-        editor = λ e. record { first = refl; edits = refl; marks = marks_open topic.opening.value.items };
+        editor = λ e. record { first = refl; edits = refl; marks = marks_open topic.opening.value };
         shorter = prefix_itself [];
         shorter_length = omega arith;
       }
 
-  seats_open : (seat : ℕ) (doing : Doing S E) → get_elem? (first_doing topic ∷ []) seat ≡ some doing → IsRightSeat (opening_state topic.opening.value.items) seat doing
-  seats_open zero doing e = subst (λ (d : Doing S E). IsRightSeat (opening_state topic.opening.value.items) 0 d) (some-injective (first_doing topic) doing e) first_right
+  seats_open : (seat : ℕ) (doing : Doing S E) → get_elem? (first_doing topic ∷ []) seat ≡ some doing → IsRightSeat (opening_state topic.opening.value) seat doing
+  seats_open zero doing e = subst (λ (d : Doing S E). IsRightSeat (opening_state topic.opening.value) 0 d) (some-injective (first_doing topic) doing e) first_right
   seats_open (suc seat) doing e = absurd (some-ne-none doing (sym e))
 
   views_open : (seat : ℕ) (doing : Doing S E) → get_elem? (first_doing topic ∷ []) seat ≡ some doing → doing.view.spent ≡ false
-      → view_at (opening_state topic.opening.value.items) seat ≡ doing.view
+      → view_at (opening_state topic.opening.value) seat ≡ doing.view
   views_open zero doing e = λ live. ap (λ (d : Doing S E). d.view) (some-injective (first_doing topic) doing e)
   views_open (suc seat) doing e = λ live. absurd (some-ne-none doing (sym e))
 
   gathered_open : (seat : ℕ) (doing : Doing S E) → get_elem? (first_doing topic ∷ []) seat ≡ some doing
-      → AreGathered (opening_state topic.opening.value.items) [] (first_doing {E = E} topic ∷ []) doing.gathered
+      → AreGathered (opening_state topic.opening.value) [] (first_doing {E = E} topic ∷ []) doing.gathered
   gathered_open zero doing e =
-      subst (λ (d : Doing S E). AreGathered (opening_state topic.opening.value.items) [] (first_doing {E = E} topic ∷ []) d.gathered) (some-injective (first_doing topic) doing e)
-      (none_gathered (opening_state topic.opening.value.items) [] (first_doing {E = E} topic ∷ []))
+      subst (λ (d : Doing S E). AreGathered (opening_state topic.opening.value) [] (first_doing {E = E} topic ∷ []) d.gathered) (some-injective (first_doing topic) doing e)
+      (none_gathered (opening_state topic.opening.value) [] (first_doing {E = E} topic ∷ []))
   gathered_open (suc seat) doing e = absurd (some-ne-none doing (sym e))
 
   subjects_open : NameSubject topic.subject.value (first_doing {E = E} topic ∷ [])
@@ -62,15 +68,15 @@ module _ {S E : Type 0} (places : ℕ) (worth : List E → ℕ → ℕ) (touches
   steps_open zero history e = ap (λ (h : History S E). h.steps) (sym (some-injective (first_history topic) history e))
   steps_open (suc seat) history e = absurd (some-ne-none history (sym e))
 
-  pub opens : (words : List ℕ) → words ≡ 0 ∷ opening_words topic.opening.value.items
-      → IsKeptTable topic.subject.value places worth touches topic.opening.value.items (opening_table words [] (first_history topic))
+  pub opens : (words : List ℕ) → words ≡ 0 ∷ opening_words topic.opening.value
+      → IsKeptTable topic.subject.value places worth touches topic.opening.value (opening_table words [] (first_history topic))
   opens words is =
       record {
         right = right;
-        core = opening_state topic.opening.value.items;
+        core = opening_state topic.opening.value;
         events = [];
         run = refl;
-        words = is ∙ ap (λ l. 0 ∷ l) (words_open topic.opening.value.items);
+        words = is ∙ ap (λ l. 0 ∷ l) (words_open topic.opening.value);
         subjects = subjects_open;
         steps = record { each = λ seat history e known. steps_open seat history e; none = λ seat past. refl };
         seats =

@@ -11,7 +11,6 @@ use Rattle.mark_core.specs.declared.subjects.Subject.{Ghosts}
 use Rattle.mark_words.specs.declared.marks.Marks.{Marks}
 use Rattle.mark_words.specs.declared.seats.Seat.{Seat}
 use Rattle.mark_words.specs.declared.closing.Words.{Words}
-use Rattle.mark_words.specs.declared.closing.Kept.{Kept}
 use Rattle.mark_words.specs.declared.tables.Made.{Made}
 use Rattle.mark_words.specs.Rule.{HaveNoRepeats}
 use Rattle.mark_words.specs.Steps.{steps_of}
@@ -27,8 +26,8 @@ pub record HasClosed {S E : Type 0} {G : Ghosts S E} (places : S → ℕ) (worth
   pub same_log : closed_log words ≡ log_of editor
   pub core : State E
   pub events : List (Made E)
-  pub run : RunsWith (worth (subject_of marks)) (touches (subject_of marks)) (opening_state (topic_of marks).opening.value.items) events core
-  pub honest : IsHonest (places (subject_of marks)) (worth (subject_of marks)) (touches (subject_of marks)) (IsCodeless (topic_of marks).opening.value.items) core
+  pub run : RunsWith (worth (subject_of marks)) (touches (subject_of marks)) (opening_state (topic_of marks).opening.value) events core
+  pub honest : IsHonest (places (subject_of marks)) (worth (subject_of marks)) (touches (subject_of marks)) (IsCodeless (topic_of marks).opening.value) core
   pub sized : length core.places ≡ closed_places words
   pub same_places : (place : ℕ) → place < closed_places words → closed_place words place ≡ place_at core.places place
   pub edits : core.edits ≡ edits_of editor
@@ -49,10 +48,4 @@ ArePrefixes {S} {E} {G} others words = (other : Seat S E G) → Contains others 
 abbrev pub AreLegal : {S E : Type 0} {G : Ghosts S E} → (S → List E → ℕ → ℕ) → (S → List E → E → ℕ → Type 0) → Marks S E → Seat S E G → List (Seat S E G) → Type 0
 AreLegal {S} {E} {G} worth touches marks editor seats =
     (seat : Seat S E G) (read : Finished) (word : ℕ) → Contains seats seat → Contains (view_of seat).reads read → read.word ≡ Some word
-    → IsLegalRead (worth (subject_of marks)) (touches (subject_of marks)) (IsCodeless (topic_of marks).opening.value.items) (edits_of editor) read word
-
--- all that was handed in comes back
-pub record IsHandedBack {S E : Type 0} {G : Ghosts S E} (marks : Marks S E) (editor : Seat S E G) (others : List (Seat S E G)) (kept : Kept S E G) : Type 0 where
-  pub same_marks : kept.marks ≡ marks
-  pub same_editor : kept.editor ≡ editor
-  pub same_others : kept.others.items ≡ others
+    → IsLegalRead (worth (subject_of marks)) (touches (subject_of marks)) (IsCodeless (topic_of marks).opening.value) (edits_of editor) read word

@@ -51,7 +51,7 @@ first_doing topic =
       shorter = [];
       gathered = [];
       edits = no_edits;
-      marks = map (λ code. 0) topic.opening.value.items;
+      marks = map (λ code. 0) topic.opening.value;
     }
 
 -- the seat that stays, to which another one was handed in, with its steps

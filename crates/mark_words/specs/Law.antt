@@ -51,13 +51,13 @@ module _ {S E : Type 0} (places : S → ℕ) (worth : S → List E → ℕ → �
   abbrev pub MomentsAreHonest : Type 0
   MomentsAreHonest =
       (t : TableState E (History S E)) (kept : Holds t)
-      → IsHonest (places topic.subject.value) (worth topic.subject.value) (touches topic.subject.value) (IsCodeless topic.opening.value.items) kept.core
+      → IsHonest (places topic.subject.value) (worth topic.subject.value) (touches topic.subject.value) (IsCodeless topic.opening.value) kept.core
 
   -- events of the core have led to it from the opening one,
   abbrev pub EventsHaveLed : Type 0
   EventsHaveLed =
       (t : TableState E (History S E)) (kept : Holds t)
-      → Runs (worth topic.subject.value) (touches topic.subject.value) (opening_state topic.opening.value.items)
+      → Runs (worth topic.subject.value) (touches topic.subject.value) (opening_state topic.opening.value)
       (map (λ (made : Made E). made.event) kept.events) kept.core
 
   -- the words of the table are the count of its log, and mark, clean word and value of each of its places,

@@ -10,7 +10,7 @@ use Rattle.mark_words.specs.Token.{subject_of, topic_of, places_of, doing_of, Is
 -- begins with
 pub record HasOpened {S E : Type 0} {G : Ghosts S E} (places : S → ℕ) (subject : S) (opening : List (Option ℕ)) (marks : Marks S E) (seat : Seat S E G) : Type 0 where
   pub same_subject : subject_of marks ≡ subject
-  pub same_codes : (topic_of marks).opening.value.items ≡ opening
+  pub same_codes : (topic_of marks).opening.value ≡ opening
   pub sized : places_of marks ≡ places (subject_of marks)
   pub same_table : IsSeatOf marks seat
   pub begins : doing_of seat ≡ first_doing (topic_of marks)

@@ -89,8 +89,8 @@ pub record IsKeptTable {S E : Type 0} (subject : S) (places : ℕ) (worth : List
 abbrev pub HoldsRule : {S E : Type 0} → (S → ℕ) → (S → List E → ℕ → ℕ) → (S → List E → E → ℕ → Type 0) → Topic S → TableState E (History S E) → Type 0
 HoldsRule places worth touches topic =
     IsKeptTable topic.subject.value (places topic.subject.value) (worth topic.subject.value) (touches topic.subject.value)
-    topic.opening.value.items
+    topic.opening.value
 
 -- how many places the table has
 abbrev pub place_count : {S : Type 0} → Topic S → ℕ
-place_count topic = length topic.opening.value.items
+place_count topic = length topic.opening.value

@@ -1,5 +1,5 @@
 -- The words of the table as a function of the state of the core.
-use Rattle.std.specs.Prelude.{ℕ, ◌+◌, ◌*◌, ◌/◌, ◌%◌, ◌==◌, List, [], ◌∷◌, Option, Some, None, Result, Ok, Err, length, if◌then◌else◌, slice_index}
+use Rattle.std.specs.Prelude.{ℕ, zero, suc, ◌+◌, ◌*◌, ◌/◌, ◌%◌, ◌==◌, List, [], ◌∷◌, Option, Some, None, Result, Ok, Err, length, if◌then◌else◌, slice_index}
 use Rattle.mark_core.specs.declared.words.Clean.{Clean}
 use Rattle.mark_core.specs.declared.words.Place.{Place}
 use Rattle.mark_core.specs.State.{State}
@@ -31,6 +31,19 @@ abbrev pub opening_words : List (Option ℕ) → List ℕ
 opening_words [] = []
 opening_words (None ∷ opening) = 0 ∷ 0 ∷ 0 ∷ opening_words opening
 opening_words (Some code ∷ opening) = 0 ∷ 2 ∷ code ∷ opening_words opening
+
+-- the codes in the three words of each place, none where a place has been computed for no mark
+abbrev pub codes_of_places : List ℕ → List (Option ℕ)
+codes_of_places [] = []
+codes_of_places (mark ∷ []) = []
+codes_of_places (mark ∷ clean ∷ []) = []
+codes_of_places (mark ∷ zero ∷ value ∷ words) = None ∷ codes_of_places words
+codes_of_places (mark ∷ suc clean ∷ value ∷ words) = Some value ∷ codes_of_places words
+
+-- the codes in the words that a table opens with
+abbrev pub codes_of_words : List ℕ → List (Option ℕ)
+codes_of_words [] = []
+codes_of_words (count ∷ words) = codes_of_places words
 
 -- the place with this number, as the words of a table show it
 abbrev pub shown_place : List ℕ → ℕ → Place

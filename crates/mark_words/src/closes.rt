@@ -1,7 +1,7 @@
 #![tactic(auto)]
 
-ghost use Rattle.std.specs.Prelude.{◌≡◌, ◌<◌, ◌∷◌, true, All, IfOk, IfErr, IsOk};
-ghost use Rattle.mark_words.specs.Closed.{HasClosed, ArePrefixes, AreLegal, IsHandedBack};
+ghost use Rattle.std.specs.Prelude.{◌≡◌, ◌<◌, ◌∷◌, true, All, IfOk, IsOk};
+ghost use Rattle.mark_words.specs.Closed.{HasClosed, ArePrefixes, AreLegal};
 ghost use Rattle.mark_words.specs.Token.{IsSeatOf, is_editor, closed_places, closed_place};
 
 use crate::closing::{Kept, Words};
@@ -39,8 +39,7 @@ impl<S: Subject> Words<S> {
 
 impl<S: Subject> Marks<S> {
     /// The words as they stand, with the seats handed in. One step for each seat. It takes no memory, so it always
-    /// answers Ok. The Err is for a closing that takes some: it hands all back, with no seat joined, and callers that
-    /// match it will do then.
+    /// answers Ok. The Err is for a closing that takes some: it would hand all back, with no seat joined.
     pub fn close(self, editor: Seat<S>, others: Vec<Seat<S>>) -> Result<Words<S>, Kept<S>>
         requires table { IsSeatOf self editor }
         requires editor { is_editor editor ≡ true }
@@ -51,7 +50,6 @@ impl<S: Subject> Marks<S> {
         ensures prefixes { IfOk result (λ words. ArePrefixes others.items words) }
         ensures legal { IfOk result
             (λ _. AreLegal S.worth S.touches self editor (editor ∷ others.items)) }
-        ensures kept { IfErr result (λ kept. IsHandedBack self editor others.items kept) }
     {
         let Marks { table } = self;
         let Seat {

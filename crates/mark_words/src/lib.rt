@@ -12,6 +12,7 @@ mod closes;
 mod closing;
 mod codes;
 mod laws;
+mod listed;
 mod marks;
 mod opens;
 mod plays;
@@ -23,6 +24,7 @@ mod work;
 
 pub use closing::{Kept, Words};
 pub use laws::{is_honest_between_steps, takes_one_event_a_step};
+pub use listed::Codes;
 pub use marks::Marks;
 pub use seats::Seat;
 pub use tables::{Doing, History, Keeps, Made, OwnStep, Past, Topic};

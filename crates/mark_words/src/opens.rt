@@ -5,6 +5,7 @@ ghost use Rattle.mark_core.specs.Run.{IsOpening};
 ghost use Rattle.mark_words.specs.Words.{opening_words};
 ghost use Rattle.mark_words.specs.Opened.{HasOpened};
 
+use crate::listed::Codes;
 use crate::marks::Marks;
 use crate::seats::{EditorMarks, Seat};
 use crate::tables::{MarkTable, Topic};
@@ -25,12 +26,11 @@ impl<S: Subject> Marks<S> {
         requires right { IsOpening (S.places subject) (S.worth subject) opening.now }
         ensures { IfOk result (λ r. HasOpened S.places subject opening.now r.0 r.1) }
     {
-        let codes = Vec::from_slice(alloc, opening)?;
         let words = first_words(alloc, opening)?;
         let marks = first_marks(alloc, opening)?;
         let topic = Topic {
             subject: Snapshot::of(&subject),
-            opening: Snapshot::of(&codes),
+            opening: Snapshot::of(&Codes::of(&words, opening)),
         };
         let (table, seat) = MarkTable::<S>::of_words(alloc, &words, &topic)?;
         let editor_marks = Some(EditorMarks { count: 0, marks });

@@ -1,5 +1,6 @@
 #![tactic(auto)]
 
+use crate::listed::Codes;
 use atomic_table::{Seat as TableSeat, Table, TableRule};
 use mark_core::{Edits, Event, Subject, View};
 use std::alloc::Global;
@@ -50,7 +51,7 @@ pub struct History<S, E> {
 #[derive(Drop)]
 pub struct Topic<S> {
     pub subject: Snapshot<S>,
-    pub opening: Snapshot<Vec<Option<u64>>>,
+    pub opening: Snapshot<Codes>,
 }
 
 /// The rule of the table: words and views are those of a state of the core to which events lead from the opening one.

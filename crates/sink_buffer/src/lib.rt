@@ -6,7 +6,8 @@
 //! `buffer_laws` what that is in plain bytes: of all that came nothing is lost, put twice or held back for long.
 //!
 //! Below stand `sheet_io`, whose sinks these are, and `text_pieces`, by whose word a text is handed out in pieces
-//! (`proofs/SendLemmas.antt` joins the two for the callers, and `Passes` is what they can say of it); above stands `sheet_cli`.
+//! (`proofs/SendLemmas.antt` joins the two for the callers, and `Passes` is what they can say of it); above stands
+//! `sheet_cli`.
 #![tactic(auto)]
 
 mod buffer;

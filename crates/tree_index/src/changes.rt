@@ -14,7 +14,7 @@ use sheet_refs::{Memory, Range};
 
 /// How many nodes are made ready for so many inserts; what finds no node waits for the next `reserve`.
 fn nodes_for(inserts: usize) -> usize {
-    (inserts / 7).min(80_000) + 32
+    (inserts / 7).min(80_000).max(inserts / 10) + 32
 }
 
 impl Tree {

@@ -5,10 +5,11 @@ ghost use Rattle.tree_index.specs.Changes.{Rearranges, MayShare, KeepsNode, Keep
 use crate::choices::{Halves, halves_of};
 use crate::node::MOST_CHILDREN;
 use crate::nodes::Tree;
+use sheet_refs::Range;
 
 impl Tree {
-    /// Splits the child at a place of a node that has room, and gives the new node.
-    pub(crate) fn split(&mut self, above: usize, place: usize) -> Option<usize>
+    /// Splits the child at a place of a node that has room, where a range is to come, and gives the new node.
+    pub(crate) fn split(&mut self, above: usize, place: usize, added: Range) -> Option<usize>
         requires tree { HoldTree self.old }
         ensures rest { Rearranges self.old self.new }
         ensures above { KeepsNode self.old self.new above }
@@ -21,7 +22,7 @@ impl Tree {
             return None;
         };
         let level = node.level;
-        let halves = halves_of(node.children.as_slice());
+        let halves = halves_of(node.children.as_slice(), added);
         let Some(to) = self.make_beside(above, place) else {
             return None;
         };

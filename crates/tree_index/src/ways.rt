@@ -11,24 +11,24 @@ use sheet_refs::Range;
 
 impl Tree {
     // Puts a new root above the old one, and splits that in halves.
-    fn raise(&mut self)
+    fn raise(&mut self, added: Range)
         requires { HoldTree self.old }
         ensures { Rearranges self.old self.new }
     {
         if let Some(root) = self.grow() {
-            self.split(root, 0);
+            self.split(root, 0, added);
         }
     }
 
     // Makes a root where there is none, or raises a full one.
-    fn open_root(&mut self)
+    fn open_root(&mut self, added: Range)
         requires { HoldTree self.old }
         ensures { Rearranges self.old self.new }
     {
         if self.nodes.get(self.root).is_none() {
             self.plant();
         } else if self.is_full(self.root) {
-            self.raise();
+            self.raise(added);
         }
     }
 
@@ -77,7 +77,7 @@ impl Tree {
         ensures admits { Admits (node_at self.new) key range }
         ensures level { IsInner self.old key → IsInner self.new key }
     {
-        self.split(key, place);
+        self.split(key, place, range);
         let last = self.last_place(key);
         let better = self.better_of(key, place, last, range);
         self.place_if_room(key, better)
@@ -184,7 +184,7 @@ impl Tree {
         ensures rest { Rearranges self.old self.new }
         ensures leaf { IfSome result (λ key. TakesIn self.new key range) }
     {
-        self.open_root();
+        self.open_root(range);
         if self.is_full(self.root) {
             return None;
         }

@@ -1,5 +1,4 @@
 -- What the rule says of its state.
-use Rattle.std.proofs.Common.{ap}
 use Rattle.mark_core.specs.State.{opening_state}
 use Rattle.mark_words.proofs.RunLemmas.{run_of, honest_state}
 use Rattle.mark_words.proofs.StepLemmas.{doing_at}
@@ -10,12 +9,12 @@ pub returns-clause-honest : goal.returns-clause-honest
 returns-clause-honest g c t kept =
     honest_state c.args._marks.now.table.shared.key.subject.value (g.S.Subject.places c.args._marks.now.table.shared.key.subject.value)
     (g.S.Subject.worth c.args._marks.now.table.shared.key.subject.value) (g.S.Subject.touches c.args._marks.now.table.shared.key.subject.value)
-    c.args._marks.now.table.shared.key.opening.value.items t kept (g.S.Subject.untouched c.args._marks.now.table.shared.key.subject.value)
+    c.args._marks.now.table.shared.key.opening.value t kept (g.S.Subject.untouched c.args._marks.now.table.shared.key.subject.value)
 
 pub returns-clause-events : goal.returns-clause-events
 returns-clause-events g c t kept =
     run_of (g.S.Subject.worth c.args._marks.now.table.shared.key.subject.value) (g.S.Subject.touches c.args._marks.now.table.shared.key.subject.value)
-    kept.events (opening_state c.args._marks.now.table.shared.key.opening.value.items) kept.core kept.run
+    kept.events (opening_state c.args._marks.now.table.shared.key.opening.value) kept.core kept.run
 
 pub returns-clause-words : goal.returns-clause-words
 returns-clause-words g c t kept =

@@ -11,7 +11,7 @@ split_seat-witness-requires g c = (
   splits c.args.self.table.shared.key.subject.value (g.S.Subject.places c.args.self.table.shared.key.subject.value)
       (g.S.Subject.worth c.args.self.table.shared.key.subject.value)
       (g.S.Subject.touches c.args.self.table.shared.key.subject.value) (g.S.Subject.untouched c.args.self.table.shared.key.subject.value)
-      c.args.self.table.shared.key.opening.value.items _ _ c.args.editor.live,
+      c.args.self.table.shared.key.opening.value _ _ c.args.editor.live,
 )
 
 pub join_seat-requires : goal.join_seat-requires
@@ -23,7 +23,7 @@ join_seat-requires g c =
       omega (arith, c.args.self.sized),
       gathers c.args.self.table.shared.key.subject.value (g.S.Subject.places c.args.self.table.shared.key.subject.value) (g.S.Subject.worth c.args.self.table.shared.key.subject.value)
           (g.S.Subject.touches c.args.self.table.shared.key.subject.value) (g.S.Subject.untouched c.args.self.table.shared.key.subject.value)
-          c.args.self.table.shared.key.opening.value.items _ _ _ _ inv.live inv.editor c.in-Some-pop.other.live,
+          c.args.self.table.shared.key.opening.value _ _ _ _ inv.live inv.editor c.in-Some-pop.other.live,
     )
 
 pub loop-other-preserved-in-Some-pop : goal.loop-other-preserved-in-Some-pop

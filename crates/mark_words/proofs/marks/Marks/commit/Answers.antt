@@ -14,7 +14,7 @@ store-requires g c = (
   omega (arith, c.args.self.now.sized),
   commits_some c.args.self.now.table.shared.key.subject.value (g.S.Subject.places c.args.self.now.table.shared.key.subject.value) (g.S.Subject.worth c.args.self.now.table.shared.key.subject.value)
       (g.S.Subject.touches c.args.self.now.table.shared.key.subject.value) (g.S.Subject.untouched c.args.self.now.table.shared.key.subject.value)
-      c.args.self.now.table.shared.key.opening.value.items _ _ _ _ _ c.args.seat.now.live c.requires.editor c.requires.pending c.requires.marked
+      c.args.self.now.table.shared.key.opening.value _ _ _ _ _ c.args.seat.now.live c.requires.editor c.requires.pending c.requires.marked
       (ap (λ n. n + 1) (c.args.seat.now.has_own.count c.in-Some.own (sym c.take.ensures.value ∙ c.in-Some.is))),
 )
 

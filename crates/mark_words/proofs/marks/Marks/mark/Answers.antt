@@ -10,7 +10,7 @@ compare_exchange_with-requires g c = (
   omega (arith, c.args.self.now.sized, c.requires.there),
   marks_place c.args.self.now.table.shared.key.subject.value (g.S.Subject.places c.args.self.now.table.shared.key.subject.value) (g.S.Subject.worth c.args.self.now.table.shared.key.subject.value)
       (g.S.Subject.touches c.args.self.now.table.shared.key.subject.value) (g.S.Subject.untouched c.args.self.now.table.shared.key.subject.value)
-      c.args.self.now.table.shared.key.opening.value.items _ _ _ _ c.args.entry.now c.args.place c.mark-old.result c.args.number
+      c.args.self.now.table.shared.key.opening.value _ _ _ _ c.args.entry.now c.args.place c.mark-old.result c.args.number
       c.args.seat.now.live c.requires.editor c.requires.there c.requires.idle c.requires.touched c.requires.number c.mark-old.result
       (c.mark-old.ensures
       ∙ ap (λ l. get_or l c.args.place c.mark-old.result) (c.args.seat.now.has_own.marks c.in-Some.own (sym c.take.ensures.value ∙ c.in-Some.is)))

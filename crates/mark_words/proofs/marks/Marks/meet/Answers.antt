@@ -15,7 +15,7 @@ split_seat-note-requires g c = (
   omega (arith, c.args.self.now.sized),
   splits c.args.self.now.table.shared.key.subject.value (g.S.Subject.places c.args.self.now.table.shared.key.subject.value) (g.S.Subject.worth c.args.self.now.table.shared.key.subject.value)
       (g.S.Subject.touches c.args.self.now.table.shared.key.subject.value) (g.S.Subject.untouched c.args.self.now.table.shared.key.subject.value)
-      c.args.self.now.table.shared.key.opening.value.items _ _ c.args.other.now.live,
+      c.args.self.now.table.shared.key.opening.value _ _ c.args.other.now.live,
 )
 
 pub join_seat-requires : goal.join_seat-requires
@@ -28,7 +28,7 @@ join_seat-requires g c =
       omega (arith, c.args.self.now.sized),
       joins c.args.self.now.table.shared.key.subject.value (g.S.Subject.places c.args.self.now.table.shared.key.subject.value) (g.S.Subject.worth c.args.self.now.table.shared.key.subject.value)
           (g.S.Subject.touches c.args.self.now.table.shared.key.subject.value) (g.S.Subject.untouched c.args.self.now.table.shared.key.subject.value)
-          c.args.self.now.table.shared.key.opening.value.items
+          c.args.self.now.table.shared.key.opening.value
           c.args.seat.now.seat.id c.args.seat.now.seat.me.0 c.split_seat-note.result.id c.split_seat-note.result.me.0 c.args.seat.now.live
           (ap (λ (h : History _ _). h.doing.view.spent) copy) (ap (λ (h : History _ _). h.doing.view.holds) copy) (ap (λ (h : History _ _). h.doing.editor) copy)
           (ap (λ (h : History _ _). h.doing.gathered) (sym copy)) (ap (λ (h : History _ _). h.steps) (sym copy)),
@@ -40,7 +40,7 @@ load-requires g c = (
   omega (arith, c.args.self.now.sized),
   sees c.args.self.now.table.shared.key.subject.value (g.S.Subject.places c.args.self.now.table.shared.key.subject.value) (g.S.Subject.worth c.args.self.now.table.shared.key.subject.value)
       (g.S.Subject.touches c.args.self.now.table.shared.key.subject.value) (g.S.Subject.untouched c.args.self.now.table.shared.key.subject.value)
-      c.args.self.now.table.shared.key.opening.value.items _ _ _ _
+      c.args.self.now.table.shared.key.opening.value _ _ _ _
       (ap (λ m. m.0.doing.view.spent) c.join_seat.ensures.2 ∙ c.args.seat.now.live),
 )
 

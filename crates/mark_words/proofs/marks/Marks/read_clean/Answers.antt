@@ -12,7 +12,7 @@ load-requires g c = (
   omega (arith, c.args.self.now.sized, c.requires.there),
   reads_clean c.args.self.now.table.shared.key.subject.value (g.S.Subject.places c.args.self.now.table.shared.key.subject.value) (g.S.Subject.worth c.args.self.now.table.shared.key.subject.value)
       (g.S.Subject.touches c.args.self.now.table.shared.key.subject.value) (g.S.Subject.untouched c.args.self.now.table.shared.key.subject.value)
-      c.args.self.now.table.shared.key.opening.value.items _ _ _ _ c.args.place
+      c.args.self.now.table.shared.key.opening.value _ _ _ _ c.args.place
       c.args.seat.now.live c.requires.there refl,
 )
 

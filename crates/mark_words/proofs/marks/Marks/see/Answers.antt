@@ -8,5 +8,5 @@ load-requires g c = (
   search rules,
   sees c.args.self.now.table.shared.key.subject.value (g.S.Subject.places c.args.self.now.table.shared.key.subject.value) (g.S.Subject.worth c.args.self.now.table.shared.key.subject.value)
       (g.S.Subject.touches c.args.self.now.table.shared.key.subject.value) (g.S.Subject.untouched c.args.self.now.table.shared.key.subject.value)
-      c.args.self.now.table.shared.key.opening.value.items _ _ _ _ c.args.seat.now.live,
+      c.args.self.now.table.shared.key.opening.value _ _ _ _ c.args.seat.now.live,
 )
