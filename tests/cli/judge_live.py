@@ -38,20 +38,17 @@ def inputs(content):
     return [place(it) for it in items(content) if not it.lstrip("-").isdigit()] if content.startswith("=") else []
 
 
-def value(contents, cell, open_cells=()):
-    """A cell's value by one thread, as text."""
-    content = contents.get(cell, "")
-    if not content.startswith("="):
-        return content
-    if cell in open_cells:
-        return "#CIRC!"
-    total = 0
-    for it in items(content):
-        found = it if it.lstrip("-").isdigit() else value(contents, place(it), (*open_cells, cell))
-        if found == "#CIRC!":
-            return found
-        total += int(found or 0)
-    return str(total)
+def values_of(contents):
+    """The values by one thread, as text, of all cells that hold something. A formula whose cells never all have a value
+    leads into a cycle."""
+    found = {cell: content for cell, content in contents.items() if not content.startswith("=")}
+    left = {cell: inputs(content) for cell, content in contents.items() if cell not in found}
+    while ready := [cell for cell, needs in left.items() if not any(it in left for it in needs)]:
+        for cell in ready:
+            del left[cell]
+            of = lambda it: int(it) if it.lstrip("-").isdigit() else int(found.get(place(it)) or 0)
+            found[cell] = str(sum(of(it) for it in items(contents[cell])))
+    return {**found, **{cell: "#CIRC!" for cell in left}}
 
 
 def touched(contents, changes):
@@ -145,11 +142,12 @@ def judge(sheet, script, text):
     log = read_log(output)
     reports = read_reports(output, clients)
 
-    # The contents after each number of entries, and what each entry touches.
-    after, touches = [opening], [set()]
+    # The values after each number of entries, and what each entry touches.
+    contents, touches, after = opening, [set()], [values_of(opening)]
     for _, changes in log:
-        touches.append(touched(after[-1], changes))
-        after.append({**after[-1], **dict(changes)})
+        touches.append(touched(contents, changes))
+        contents = {**contents, **dict(changes)}
+        after.append(values_of(contents))
 
     def last_touch(cell, number):
         return max((n for n in range(1, number + 1) if cell in touches[n]), default=0)
@@ -172,7 +170,7 @@ def judge(sheet, script, text):
             for cell, text in shown:
                 mark = int(text[1:]) if text[:1] in ("~", "^") else None
                 if mark is None:
-                    assert text == value(after[number], cell), f"{name}: {cell} at {number} shows {text}"
+                    assert text == after[number].get(cell, ""), f"{name}: {cell} at {number} shows {text}"
                     values[cell] = number
                     continue
                 assert kind == "look", f"{name}: a mark in a firm look"
@@ -184,7 +182,7 @@ def judge(sheet, script, text):
     assert {client for client, _ in log} <= set(clients), "an entry of somebody else"
     assert output.next() == f"sheet {len(log)} A1:{chr(64 + width)}{height}", "the closing sheet's line"
     whole = [[(row, col) for col in range(width)] for row in range(height)]
-    assert all(text == value(after[-1], cell) for cell, text in output.rows(whole)), "a closing value"
+    assert all(text == after[-1].get(cell, "") for cell, text in output.rows(whole)), "a closing value"
     assert output.lines == [""], "more lines"
 
 

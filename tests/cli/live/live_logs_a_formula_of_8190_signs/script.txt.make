@@ -1,0 +1,2 @@
+formula = "=" + "-" * 8190 + "1"
+print("set A1 " + formula)
