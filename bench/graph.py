@@ -13,21 +13,15 @@ runs each (5 by default), the commands in turn:
 
 Below them stand the times of two lines that tell something together, the second's divided by the first's.
 
-What it starts and how is that of bench/show.py.
+How it starts the program is that of bench/measuring.py.
 """
 
-import importlib.machinery
-import importlib.util
-import os
 import pathlib
 import random
-import subprocess
 import sys
 import tempfile
 
-LOADER = importlib.machinery.SourceFileLoader("show", str(pathlib.Path(__file__).resolve().parent / "show.py"))
-SHOW = importlib.util.module_from_spec(importlib.util.spec_from_loader("show", LOADER))
-LOADER.exec_module(SHOW)
+from measuring import LETTERS, build, chain, head, lines, name, started
 
 
 def books(row):
@@ -39,28 +33,23 @@ def books(row):
 def at_random(row):
     """A formula of two references to cells drawn from 100,000 rows and 25 columns beside the first."""
     draw = random.Random(row)
-    one, other = (f"{draw.choice(SHOW.LETTERS[1:])}{draw.randint(1, 100_000)}" for _ in range(2))
+    one, other = (f"{draw.choice(LETTERS[1:])}{draw.randint(1, 100_000)}" for _ in range(2))
     return f"={one}+{other}"
 
 
 def fan(count):
     """Each cell but the first refers to that one."""
-    return SHOW.lines(count, lambda r: "=$A$1*2" if r > 1 else "1")
-
-
-def chain(count):
-    """Each cell refers to the one above it."""
-    return SHOW.lines(count, lambda r: f"=A{r - 1}+1" if r > 1 else "1")
+    return lines(count, lambda r: "=$A$1*2" if r > 1 else "1")
 
 
 def shared(count, rows):
     """Each so many cells of a column refer to one cell, those below them to the next such cell."""
-    return SHOW.lines(count, lambda r: f"=$B${r - (r - 1) % rows}")
+    return lines(count, lambda r: f"=$B${r - (r - 1) % rows}")
 
 
 def sums_above(count, least, most):
     """Each cell but the first adds up the cells above it, of which it takes between so few and so many."""
-    return SHOW.lines(count, lambda r: f"=SUM(A{max(r - random.Random(r).randint(least, most), 1)}:A{r - 1})" if r > 1 else "1")
+    return lines(count, lambda r: f"=SUM(A{max(r - random.Random(r).randint(least, most), 1)}:A{r - 1})" if r > 1 else "1")
 
 
 def drawn_chain(with_sums):
@@ -68,7 +57,7 @@ def drawn_chain(with_sums):
     cells = [(row, col) for row in range(1, 1_001) for col in range(3, 43)]
     random.Random(1).shuffle(cells)
     cells.insert(0, cells.pop(cells.index((1, 3))))
-    before = {cell: SHOW.name(*last) for last, cell in zip(cells, cells[1:])}
+    before = {cell: name(*last) for last, cell in zip(cells, cells[1:])}
 
     ends = random.Random(2)
 
@@ -77,20 +66,20 @@ def drawn_chain(with_sums):
         beside = (f"=SUM($A$1:B{end})" if with_sums else str(end) for end in (ends.randint(1, 1_024) for _ in range(20)))
         return ",".join([str(row), "2", *steps, *beside])
 
-    return SHOW.lines(1_000, line)
+    return lines(1_000, line)
 
 
 def alike(references):
     """5,000 rows, in each of which the first cell refers to so many cells behind it."""
-    return SHOW.lines(5_000, lambda r: "=SUM(" + ";".join(SHOW.name(r, col) for col in range(2, references + 2)) + ")")
+    return lines(5_000, lambda r: "=SUM(" + ";".join(name(r, col) for col in range(2, references + 2)) + ")")
 
 
 # What is measured: the sheet's text, the cell that is shown, and the cell whose dependents are asked for, where it isn't A1.
 MEASURED = {
-    "100,000 formulas =$A$1*2": (lambda: SHOW.lines(100_000, lambda r: f"{r},=$A$1*2"), "B100000"),
+    "100,000 formulas =$A$1*2": (lambda: lines(100_000, lambda r: f"{r},=$A$1*2"), "B100000"),
     "a chain of 100,000": (lambda: chain(100_000), "A100000"),
-    "5,000 sums =SUM($A$1:Ar)": (lambda: SHOW.lines(5_000, lambda r: f"{r},=SUM($A$1:A{r})"), "B5000"),
-    "a ledger of 50,000 rows with five formulas": (lambda: SHOW.lines(50_000, books), "G50000"),
+    "5,000 sums =SUM($A$1:Ar)": (lambda: lines(5_000, lambda r: f"{r},=SUM($A$1:A{r})"), "B5000"),
+    "a ledger of 50,000 rows with five formulas": (lambda: lines(50_000, books), "G50000"),
     "5,000 rows of 32 references": (lambda: alike(32), "A5000"),
     "5,000 rows of 128 references": (lambda: alike(128), "A5000"),
     "5,000 rows of 255 references": (lambda: alike(255), "A5000"),
@@ -98,7 +87,7 @@ MEASURED = {
     "a fan of 1,000,000": (lambda: fan(1_000_000), "A1000000"),
     "a chain of 10,000": (lambda: chain(10_000), "A10000"),
     "a chain of 1,000,000": (lambda: chain(1_000_000), "A1000000"),
-    "100,000 formulas with references drawn at random": (lambda: SHOW.lines(100_000, at_random), "A1"),
+    "100,000 formulas with references drawn at random": (lambda: lines(100_000, at_random), "A1"),
     "1,000,000 cells of which each eight share a reference": (lambda: shared(1_000_000, 8), "A1000000"),
     "1,000,000 cells of which each ten share a reference": (lambda: shared(1_000_000, 10), "A1000000"),
     "100,000 sums of the 2 to 7 cells above": (lambda: sums_above(100_000, 2, 7), "A1"),
@@ -117,9 +106,7 @@ COMPARED = [
 
 def timed(folder, *words):
     """The time and the peak of one run."""
-    status, taken, peak = SHOW.told(SHOW.STARTER, folder, SHOW.PROGRAM, *words)
-    if status:
-        sys.exit(f"bench/graph.py: {' '.join(words)} ended with status {status}")
+    taken, _, peak = started(folder, *words)
     return taken, peak
 
 
@@ -139,11 +126,8 @@ def measure(folder, runs, cell, asked="A1"):
 def main():
     runs = int(sys.argv[1]) if len(sys.argv) > 1 else 5
     word = sys.argv[2] if len(sys.argv) > 2 else ""
-    # (the launcher builds what isn't built)
-    built = subprocess.run([SHOW.ROOT / "antifreeze", "show", SHOW.ROOT / "examples" / "first.csv", "A1:B2"], stdout=subprocess.DEVNULL)
-    if built.returncode:
-        sys.exit("bench/graph.py: the program could not be built")
-    print(f"{len(os.sched_getaffinity(0))} processors, load {os.getloadavg()[0]:.1f}, least of {runs} runs each")
+    build()
+    head(runs)
     print(f"{'show':>8} {'deps':>7} {'check':>7} {'us/pair':>8} {'B/pair':>8}  edges of pairs")
     with tempfile.TemporaryDirectory(prefix="antifreeze-bench-") as folder:
         folder = pathlib.Path(folder)

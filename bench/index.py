@@ -14,19 +14,17 @@ with the least of RUNS runs each (3 by default), the indexes in turn, in microse
 Of a list, which looks at all its ranges, and of mdds fewer queries and removals are timed.
 """
 
-import os
 import pathlib
-import shutil
 import subprocess
 import sys
 import tempfile
 
-ROOT = pathlib.Path(__file__).resolve().parent.parent
+import proved
+from measuring import ROOT, head
+
 SOURCES = ROOT / "bench" / "index"
-FOLDER = pathlib.Path(tempfile.gettempdir()) / "antifreeze-index"
-LIBRARIES = {"sheet_refs": "", "range_index": "sheet_refs", "tree_index": "sheet_refs range_index slab arrayvec"}
-PROGRAM = FOLDER / "crates" / "index_bench" / "out" / "index_bench"
-PEER = FOLDER / "mdds_bench"
+LIBRARIES = ["sheet_refs", "range_index", "tree_index", "slab", "arrayvec"]
+PEER = pathlib.Path(tempfile.gettempdir()) / "antifreeze-mdds_bench"
 
 # The shapes: the program's name of each, how many ranges, how many queries, and how many of the list and of mdds.
 SHAPES = {
@@ -41,71 +39,45 @@ SHAPES = {
 }
 
 
-def stripped(file):
-    """The name of a source whose file here ends in .txt."""
-    return file.relative_to(SOURCES).with_suffix("")
-
-
-def put(file, text):
-    """Writes a file, unless it has the text already."""
-    file.parent.mkdir(parents=True, exist_ok=True)
-    if not file.exists() or file.read_text() != text:
-        file.write_text(text)
-
-
-def prepare():
-    """Puts the program and the crates below it into the folder."""
-    for name in LIBRARIES:
-        for part in ("src", "specs", "proofs"):
-            shutil.rmtree(FOLDER / "crates" / name / part, ignore_errors=True)
-            shutil.copytree(ROOT / "crates" / name / part, FOLDER / "crates" / name / part)
-    for file in SOURCES.rglob("*.txt"):
-        put(FOLDER / "crates" / "index_bench" / stripped(file), file.read_text())
-    lines = [f"{name}: {below}" for name, below in LIBRARIES.items()] + [f"index_bench: {' '.join(LIBRARIES)}"]
-    put(FOLDER / "crates.txt", "\n".join(lines) + "\n")
-
-
 def build():
-    """Proves and builds the program, and the peer's where its headers are."""
-    prepare()
-    ran = subprocess.run(["rt", "run", "--", "tree", "cells", "10", "1", "10"], cwd=FOLDER / "crates" / "index_bench", stdin=subprocess.DEVNULL, stdout=subprocess.PIPE, stderr=subprocess.STDOUT, text=True)
-    if ran.returncode:
-        sys.exit(f"bench/index.py: the program could not be built\n{ran.stdout[-3000:]}")
+    """The program, proved and built, and whether the peer's could be, whose headers are wanted."""
+    program = proved.program("index_bench", SOURCES, LIBRARIES, ["tree", "cells", "10", "1", "10"])
     headers = sorted(pathlib.Path("/usr/include").glob("mdds-*"))
     peer = ["c++", "-std=c++17", "-O2", *(f"-I{folder}" for folder in headers), "-o", PEER, SOURCES / "mdds.cpp"]
-    return bool(headers) and not subprocess.run(peer, stderr=subprocess.DEVNULL).returncode
+    return program, bool(headers) and not subprocess.run(peer, stderr=subprocess.DEVNULL).returncode
 
 
-def timed(index, line, count, queries, removals):
+def timed(program, index, line, count, queries, removals):
     """The times of one run, each for one of what was done, and how many ids a query got."""
-    program = [PEER] if index == "mdds" else [PROGRAM, index]
-    ran = subprocess.run([*program, line, str(count), str(queries), str(removals)], stdout=subprocess.PIPE, text=True)
+    words = [PEER] if index == "mdds" else [program, index]
+    ran = subprocess.run([*words, line, str(count), str(queries), str(removals)], stdout=subprocess.PIPE, text=True)
     if ran.returncode:
         sys.exit(f"bench/index.py: {index} ended with status {ran.returncode} over {line}")
     inserts, asked, removed, answers = map(int, ran.stdout.split())
     return inserts / count / 1e3, asked / queries / 1e3, removed / removals / 1e3, answers / queries
 
 
-def measure(index, line, count, queries, few, runs):
+def measure(program, index, line, count, queries, few, runs):
     """The least times of so many runs."""
     if index in ("list", "mdds"):
-        taken = [timed(index, line, count, few, few) for _ in range(runs)]
+        taken = [timed(program, index, line, count, few, few) for _ in range(runs)]
     else:
-        taken = [timed(index, line, count, queries, count) for _ in range(runs)]
+        taken = [timed(program, index, line, count, queries, count) for _ in range(runs)]
     return [min(column) for column in zip(*taken)]
 
 
 def main():
     runs = int(sys.argv[1]) if len(sys.argv) > 1 else 3
     word = sys.argv[2] if len(sys.argv) > 2 else ""
-    indexes = ["list", "grid", "tree"] + ["mdds"] * build()
-    print(f"{len(os.sched_getaffinity(0))} processors, load {os.getloadavg()[0]:.1f}, least of {runs} runs each")
+    program, has_peer = build()
+    indexes = ["list", "grid", "tree"] + ["mdds"] * has_peer
+    head(runs)
     print(f"{'':>5} {'insert':>8} {'query':>9} {'answers':>9} {'removal':>8}")
     for what, (line, count, queries, few) in SHAPES.items():
         if word not in what:
             continue
         for index in indexes:
-            inserted, asked, removed, answers = measure(index, line, count, queries, few, runs)
+            inserted, asked, removed, answers = measure(program, index, line, count, queries, few, runs)
             print(f"{index:>5} {inserted:8.2f} {asked:9.2f} {answers:9.1f} {removed:8.2f}  {what}", flush=True)
 
 

@@ -7,32 +7,16 @@ Run by hand: bench/live.py [RUNS]. A line for each pair, with the least of RUNS 
     ratio       the one divided by the other
     more        the one less the other, in seconds
 
-The number of processors stands in the first line, since threads are what is measured. Sheets and how the program is
-started are those of bench/show.py.
+The number of processors stands in the first line, since threads are what is measured. How the program is
+started is that of bench/measuring.py.
 """
 
-import importlib.machinery
-import importlib.util
-import os
 import pathlib
-import subprocess
 import sys
 import tempfile
 
-LOADER = importlib.machinery.SourceFileLoader("show", str(pathlib.Path(__file__).resolve().parent / "show.py"))
-SHOW = importlib.util.module_from_spec(importlib.util.spec_from_loader("show", LOADER))
-LOADER.exec_module(SHOW)
-
-STARTER = """
-import json, os, sys, time
-start = time.monotonic()
-pid = os.fork()
-if not pid:
-    os.dup2(os.open("output", os.O_WRONLY | os.O_CREAT | os.O_TRUNC, 0o644), 1)
-    os.execv(sys.argv[1], sys.argv[1:])
-_, status, used = os.wait4(pid, 0)
-print(json.dumps([os.waitstatus_to_exitcode(status), time.monotonic() - start]))
-"""
+import measuring
+from measuring import build, grid, head, lines, started, sums
 
 LIVE = "live sheet.csv script.txt"
 FOUR = f"{LIVE} --workers 4"
@@ -41,12 +25,12 @@ ONE = f"{LIVE} --workers 1"
 
 def ledger():
     """A ledger of 50,000 rows and six columns."""
-    return SHOW.lines(50_000, SHOW.ledger)
+    return lines(50_000, measuring.ledger)
 
 
 def pairs():
     """1,000 numbers, each with one cell that depends on it."""
-    return SHOW.lines(1_000, lambda row: f"{row},=A{row}*2")
+    return lines(1_000, lambda row: f"{row},=A{row}*2")
 
 
 def edits(count):
@@ -60,26 +44,20 @@ MEASURED = {
     "the same; with 1 worker": (ledger, FOUR, "", ONE, ""),
     "100,000 edits of a number with one dependent, 4 workers; play": (pairs, FOUR, edits(100_000), "play sheet.csv script.txt", edits(100_000)),
     "the same, 1 worker; play": (pairs, ONE, edits(100_000), "play sheet.csv script.txt", edits(100_000)),
-    "64 looks of 65,536 cells, 4 workers; none": (lambda: SHOW.grid(SHOW.sums), FOUR, "look A1:BL1024\n" * 64, FOUR, ""),
+    "64 looks of 65,536 cells, 4 workers; none": (lambda: grid(sums), FOUR, "look A1:BL1024\n" * 64, FOUR, ""),
 }
 
 
 def taken(folder, words, script):
     """The seconds of one run."""
     (folder / "script.txt").write_text(script)
-    status, seconds = SHOW.told(STARTER, folder, SHOW.PROGRAM, *words.split())
-    if status:
-        sys.exit(f"bench/live.py: {words} ended with status {status}")
-    return seconds
+    return started(folder, *words.split())[1]
 
 
 def main():
     runs = int(sys.argv[1]) if len(sys.argv) > 1 else 3
-    # (the launcher builds what isn't built)
-    built = subprocess.run([SHOW.ROOT / "antifreeze", "show", SHOW.ROOT / "examples" / "first.csv", "A1:B2"], stdout=subprocess.DEVNULL)
-    if built.returncode:
-        sys.exit("bench/live.py: the program could not be built")
-    print(f"{len(os.sched_getaffinity(0))} processors, load {os.getloadavg()[0]:.1f}, least of {runs} runs each, by the clock")
+    build()
+    head(runs, "least of {runs} runs each, by the clock")
     print(f"{'one':>8} {'other':>8} {'ratio':>7} {'more':>7}")
     with tempfile.TemporaryDirectory(prefix="antifreeze-bench-") as folder:
         folder = pathlib.Path(folder)

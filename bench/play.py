@@ -8,35 +8,24 @@ of RUNS runs each (3 by default), the two commands in turn:
     play      seconds of processor time of `play`
     ratio     the one divided by the other
 
-What it starts and how is that of bench/show.py.
+How it starts the program is that of bench/measuring.py.
 """
 
-import importlib.machinery
-import importlib.util
-import os
 import pathlib
-import subprocess
 import sys
 import tempfile
 
-LOADER = importlib.machinery.SourceFileLoader("show", str(pathlib.Path(__file__).resolve().parent / "show.py"))
-SHOW = importlib.util.module_from_spec(importlib.util.spec_from_loader("show", LOADER))
-LOADER.exec_module(SHOW)
-
-
-def chain(count):
-    """Each cell refers to the one above it."""
-    return SHOW.lines(count, lambda r: f"=A{r - 1}+1" if r > 1 else "1")
+from measuring import build, chain, head, lines, started
 
 
 def total_on_top(count):
     """The total of a column above it, an input, and formulas of that input."""
-    return f"=SUM(A3:A{count})\n1\n" + SHOW.lines(count - 2, lambda r: "=$A$2*2")
+    return f"=SUM(A3:A{count})\n1\n" + lines(count - 2, lambda r: "=$A$2*2")
 
 
 def circles(count):
     """An input, and so many circles of two cells each, all of which lead to it."""
-    return "1,\n" + SHOW.lines(count, lambda r: f"=B{r + 1}+$A$1,=A{r + 1}")
+    return "1,\n" + lines(count, lambda r: f"=B{r + 1}+$A$1,=A{r + 1}")
 
 
 # What is measured: the sheet's text, the cell that is shown, and the script's text.
@@ -51,35 +40,24 @@ MEASURED = {
         lambda: chain(100_000), "A100000", lambda: "set A1 2\n" + "work 1\n" * 100_000 + "look A100000\n"),
     "1,048,576 lines that say nothing": (lambda: "1\n", "A1", lambda: "#\n" * 1_048_576),
     "1,048,576 edits of 1,000 cells": (
-        lambda: "1\n" * 1_000, "A1", lambda: SHOW.lines(1_048_576, lambda r: f"set A{r % 1_000 + 1} {r % 10}")),
+        lambda: "1\n" * 1_000, "A1", lambda: lines(1_048_576, lambda r: f"set A{r % 1_000 + 1} {r % 10}")),
 }
-
-
-def timed(folder, *words):
-    """The time of one run."""
-    status, taken, _ = SHOW.told(SHOW.STARTER, folder, SHOW.PROGRAM, *words)
-    if status:
-        sys.exit(f"bench/play.py: {' '.join(words)} ended with status {status}")
-    return taken
 
 
 def measure(folder, cell, runs):
     """The least times of the two commands, in as many runs, in turn."""
     shows, plays = [], []
     for _ in range(runs):
-        shows.append(timed(folder, "show", "sheet.csv", cell))
-        plays.append(timed(folder, "play", "sheet.csv", "script.txt"))
+        shows.append(started(folder, "show", "sheet.csv", cell)[0])
+        plays.append(started(folder, "play", "sheet.csv", "script.txt")[0])
     return min(shows), min(plays)
 
 
 def main():
     runs = int(sys.argv[1]) if len(sys.argv) > 1 else 3
     word = sys.argv[2] if len(sys.argv) > 2 else ""
-    # (the launcher builds what isn't built)
-    built = subprocess.run([SHOW.ROOT / "antifreeze", "show", SHOW.ROOT / "examples" / "first.csv", "A1:B2"], stdout=subprocess.DEVNULL)
-    if built.returncode:
-        sys.exit("bench/play.py: the program could not be built")
-    print(f"{len(os.sched_getaffinity(0))} processors, load {os.getloadavg()[0]:.1f}, least of {runs} runs each")
+    build()
+    head(runs)
     print(f"{'show':>8} {'play':>8} {'ratio':>7}")
     with tempfile.TemporaryDirectory(prefix="antifreeze-bench-") as folder:
         folder = pathlib.Path(folder)

@@ -1,0 +1,104 @@
+"""What the scripts of bench/ share: sheets of several shapes, how the built program is started and timed, and what a table says
+of the machine. They are run by hand, and import it from their own folder.
+"""
+
+import datetime
+import json
+import os
+import pathlib
+import subprocess
+import sys
+
+ROOT = pathlib.Path(__file__).resolve().parent.parent
+PROGRAM = ROOT / "crates" / "antifreeze" / "out" / "antifreeze"
+LETTERS = "ABCDEFGHIJKLMNOPQRSTUVWXYZ"
+
+# The program is started by a small process of its own: what a process had resident before it turned into the program counts as
+# the program's, so it must not come from one that holds the texts. What is told: the status, the processor time, the time by the
+# clock, and the most memory that was resident.
+STARTER = """
+import json, os, sys, time
+start = time.monotonic()
+pid = os.fork()
+if not pid:
+    os.dup2(os.open("output", os.O_WRONLY | os.O_CREAT | os.O_TRUNC, 0o644), 1)
+    os.execvp(sys.argv[1], sys.argv[1:])
+_, status, used = os.wait4(pid, 0)
+clock = time.monotonic() - start
+print(json.dumps([os.waitstatus_to_exitcode(status), used.ru_utime + used.ru_stime, clock, used.ru_maxrss * 1024]))
+"""
+
+
+def name(row, col):
+    """The name of a cell, by its row and its column from 1."""
+    letters = ""
+    while col:
+        col, digit = divmod(col - 1, 26)
+        letters = LETTERS[digit] + letters
+    return f"{letters}{row}"
+
+
+def lines(count, line):
+    """A text of so many lines, from a function that gives each by its number from 1."""
+    return "".join(f"{line(number)}\n" for number in range(1, count + 1))
+
+
+def grid(content):
+    """A text of 1,024 rows and 64 columns, from a function that gives each cell's content."""
+    return lines(1_024, lambda row: ",".join(content(row, col) for col in range(1, 65)))
+
+
+def ledger(row):
+    """One booking: day, kind, what was planned and spent, the rest, and the balance so far."""
+    balance = f"=E{row}" if row == 1 else f"=F{row - 1}+E{row}"
+    return f'2026-{row % 12 + 1:02}-{row % 28 + 1:02},"Rent, flat",{row % 900},{row % 700},=C{row}-D{row},{balance}'
+
+
+def chain(count):
+    """Each cell of a column refers to the one above it."""
+    return lines(count, lambda r: f"=A{r - 1}+1" if r > 1 else "1")
+
+
+def sums(row, col):
+    """The first row and column are numbers; each other cell adds the heads of its row and its column."""
+    return f"={name(1, col)}+{name(row, 1)}+1" if row > 1 and col > 1 else str(row + col)
+
+
+def script():
+    """The name of the script that runs, for what it says."""
+    return f"bench/{pathlib.Path(sys.argv[0]).name}"
+
+
+def told(code, folder, *words):
+    """What a Python program of its own process prints."""
+    ran = subprocess.run([sys.executable, "-S", "-E", "-c", code, *words], cwd=folder, stdin=subprocess.DEVNULL, stdout=subprocess.PIPE)
+    if ran.returncode:
+        sys.exit(f"{script()}: a measuring process failed")
+    return json.loads(ran.stdout)
+
+
+def started(folder, *words):
+    """Processor time, time by the clock and peak of memory of one run of the program, which has to end with 0."""
+    status, processor, clock, peak = told(STARTER, folder, PROGRAM, *words)
+    if status:
+        sys.exit(f"{script()}: {' '.join(words)} ended with status {status}")
+    return processor, clock, peak
+
+
+def build():
+    """Has the launcher build what isn't built."""
+    shown = subprocess.run([ROOT / "antifreeze", "show", ROOT / "examples" / "first.csv", "A1:B2"], stdout=subprocess.DEVNULL)
+    if shown.returncode:
+        sys.exit(f"{script()}: the program could not be built")
+
+
+def machine():
+    """The kind of machine, its processors, its load and the day."""
+    kinds = [line.partition(":")[2].strip() for line in open("/proc/cpuinfo") if line.startswith("model name")]
+    kind = kinds[0] if kinds else "unknown machine"
+    return f"{kind}, {len(os.sched_getaffinity(0))} processors, load {os.getloadavg()[0]:.1f}, {datetime.date.today()}"
+
+
+def head(runs, how="least of {runs} runs each"):
+    """The first line of a table."""
+    print(f"{machine()}, {how.format(runs=runs)}")
