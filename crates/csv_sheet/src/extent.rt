@@ -1,4 +1,5 @@
-ghost use Rattle.std.specs.Prelude.{◌≡◌, ◌↔◌, ◌<◌, ◌≤◌, ◌^◌, ◌-◌, ◌*◌, ◌+◌, ◌⊎◌, [], ◌∷◌, ◌++◌, ℕ};
+ghost use Rattle.std.specs.Prelude.{◌≡◌, ◌↔◌, ◌<◌, ◌≤◌, ◌^◌, ◌-◌, ◌*◌};
+ghost use Rattle.std.specs.Prelude.{◌+◌, ◌⊎◌, [], ◌∷◌, ◌++◌, ℕ};
 ghost use Rattle.std.specs.Prelude.{length, slice_index_or, IfOk, IsTrue, MatchOption};
 ghost use Rattle.csv.specs.Reading.{AreRecords, default_config};
 ghost use Rattle.csv.specs.Records.{fields_of, AllText};

@@ -1,4 +1,5 @@
-ghost use Rattle.std.specs.Prelude.{◌≡◌, ◌↔◌, ◌<◌, ◌≤◌, ◌++◌, ◌∷◌, [], length, Contains, IsTrue, OnOk};
+ghost use Rattle.std.specs.Prelude.{◌≡◌, ◌↔◌, ◌<◌, ◌≤◌, ◌++◌};
+ghost use Rattle.std.specs.Prelude.{◌∷◌, [], length, Contains, IsTrue, OnOk};
 ghost use Rattle.sheet_model.specs.Edits.{HasName, named_place};
 ghost use Rattle.edit_script.specs.Batches.{changed_cells};
 

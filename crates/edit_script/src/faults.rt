@@ -1,4 +1,5 @@
-ghost use Rattle.std.specs.Prelude.{◌≡◌, ◌⊎◌, ◌<◌, ◌≤◌, length, Contains, MatchBool, MatchOption, IsTrue};
+ghost use Rattle.std.specs.Prelude.{◌≡◌, ◌⊎◌, ◌<◌, ◌≤◌, length};
+ghost use Rattle.std.specs.Prelude.{Contains, MatchBool, MatchOption, IsTrue};
 ghost use Rattle.sheet_refs.specs.Sizes.{is_inside};
 ghost use Rattle.edit_script.specs.Batches.{changed_cells};
 ghost use Rattle.edit_script.specs.Progress.{brought, names_of, IsWithinLimits, IsPlainlyAllowed, MayChange};

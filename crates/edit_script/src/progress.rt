@@ -1,4 +1,5 @@
-ghost use Rattle.std.specs.Prelude.{◌≡◌, ◌≢◌, ◌<◌, ◌≤◌, ◌+◌, ◌-◌, ◌^◌, ◌∷◌, ◌++◌, [], length};
+ghost use Rattle.std.specs.Prelude.{◌≡◌, ◌≢◌, ◌<◌, ◌≤◌, ◌+◌, ◌-◌};
+ghost use Rattle.std.specs.Prelude.{◌^◌, ◌∷◌, ◌++◌, [], length};
 ghost use Rattle.std.specs.Prelude.{Some, None, MatchOption, IfOk, IfErr, IsSome, OnOk, OnErr};
 ghost use Rattle.sheet_model.specs.Fields.{IsContent, IsTableAfter};
 ghost use Rattle.sheet_model.specs.Sheets.{ContentValue, IsWritten, content_value, with_labels};

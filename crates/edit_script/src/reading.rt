@@ -1,4 +1,5 @@
-ghost use Rattle.std.specs.Prelude.{◌≡◌, ◌≢◌, ◌<◌, ◌≤◌, ◌-◌, ◌^◌, length, Ok, Err, IfSome, IsNone};
+ghost use Rattle.std.specs.Prelude.{◌≡◌, ◌≢◌, ◌<◌, ◌≤◌, ◌-◌};
+ghost use Rattle.std.specs.Prelude.{◌^◌, length, Ok, Err, IfSome, IsNone};
 ghost use Rattle.sheet_model.specs.Sheets.{with_labels};
 ghost use Rattle.edit_script.specs.Lines.{LineValue, Says};
 ghost use Rattle.edit_script.specs.Progress.{Extends, IsWithinLimits, Takes, brought};

@@ -1,4 +1,5 @@
-ghost use Rattle.std.specs.Prelude.{◌≡◌, ◌≤◌, ◌==◌, ◌&&◌, nat_lt, false, length, MatchOption, Some, map};
+ghost use Rattle.std.specs.Prelude.{◌≡◌, ◌≤◌, ◌==◌, ◌&&◌, nat_lt};
+ghost use Rattle.std.specs.Prelude.{false, length, MatchOption, Some, map};
 ghost use Rattle.std.specs.Prelude.{if◌then◌else◌};
 ghost use Rattle.sheet_refs.specs.Cells.{cells_of, height, width};
 ghost use Rattle.formula_syntax.specs.Tree.{reference, tree_of, trees_of};

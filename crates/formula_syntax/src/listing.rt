@@ -1,4 +1,5 @@
-ghost use Rattle.std.specs.Prelude.{◌≡◌, ◌++◌, ◌+◌, ◌∷◌, [], ◌↔◌, List, Contains, IfOk, IsTrue};
+ghost use Rattle.std.specs.Prelude.{◌≡◌, ◌++◌, ◌+◌, ◌∷◌, []};
+ghost use Rattle.std.specs.Prelude.{◌↔◌, List, Contains, IfOk, IsTrue};
 ghost use Rattle.sheet_refs.specs.Cells.{Corners};
 ghost use Rattle.formula_syntax.specs.Tree.{tree_of, trees_of, references_of, all_references};
 ghost use Rattle.formula_syntax.specs.Listing.{IsOnceEach, ranges_of, Lists, visit_count, all_visits};

@@ -1,4 +1,5 @@
-ghost use Rattle.std.specs.Prelude.{◌≡◌, ◌≢◌, ◌+◌, ◌∷◌, ◌<◌, ◌≤◌, ◌↔◌, ◌==◌, ◌^◌, length};
+ghost use Rattle.std.specs.Prelude.{◌≡◌, ◌≢◌, ◌+◌, ◌∷◌, ◌<◌};
+ghost use Rattle.std.specs.Prelude.{◌≤◌, ◌↔◌, ◌==◌, ◌^◌, length};
 ghost use Rattle.std.specs.Prelude.{count_by, IsTrue, MatchOption, IfOk, cond};
 ghost use Rattle.formula_syntax.specs.Spelling.{IsIntroduced, IsTooDeep, IsNoFormula};
 ghost use Rattle.formula_syntax.specs.Spelling.{HasTooManyRefs, IsRead, IsAnswer};

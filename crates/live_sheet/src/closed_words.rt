@@ -1,4 +1,5 @@
-ghost use Rattle.std.specs.Prelude.{◌≡◌, ◌≤◌, ◌<◌, ◌∷◌, [], ℕ, Some, length, slice_get, All, vec_capacity};
+ghost use Rattle.std.specs.Prelude.{◌≡◌, ◌≤◌, ◌<◌, ◌∷◌, [], ℕ, Some};
+ghost use Rattle.std.specs.Prelude.{length, slice_get, All, vec_capacity};
 ghost use Rattle.mark_core.specs.Mark.{IsPrefix};
 ghost use Rattle.mark_words.specs.Closed.{AreLegal};
 ghost use Rattle.mark_words.specs.Token.{IsSeatOf, subject_of, places_of, view_of, log_of, edits_of};

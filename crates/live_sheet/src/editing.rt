@@ -1,4 +1,5 @@
-ghost use Rattle.std.specs.Prelude.{◌≡◌, ◌≤◌, ◌<◌, ◌++◌, ◌∷◌, [], length, Err, IfOk, IfErr, OnOk, OnErr};
+ghost use Rattle.std.specs.Prelude.{◌≡◌, ◌≤◌, ◌<◌, ◌++◌, ◌∷◌, []};
+ghost use Rattle.std.specs.Prelude.{length, Err, IfOk, IfErr, OnOk, OnErr};
 ghost use Rattle.std.specs.Prelude.{All, IsTrue, vec_len, vec_capacity};
 ghost use Rattle.edit_log.specs.Books.{IsPreparedFor, HasApplied, IsUnchanged, client_entry};
 ghost use Rattle.edit_log.specs.Touches.{AreTouched};

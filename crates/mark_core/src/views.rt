@@ -1,6 +1,7 @@
 #![tactic(auto)]
 
-ghost use Rattle.std.specs.Prelude.{◌≡◌, ◌+◌, ◌<◌, ◌^◌, ◌∷◌, [], max, ℕ, All, IfOk, OnOk, OnErr};
+ghost use Rattle.std.specs.Prelude.{◌≡◌, ◌+◌, ◌<◌, ◌^◌, ◌∷◌, []};
+ghost use Rattle.std.specs.Prelude.{max, ℕ, All, IfOk, OnOk, OnErr};
 ghost use Rattle.std.specs.Prelude.{IsTrue, map, length};
 ghost use Rattle.mark_core.specs.declared.actors.View.{View};
 ghost use Rattle.mark_core.specs.State.{spent_with, new_view};

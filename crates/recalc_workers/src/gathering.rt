@@ -110,7 +110,8 @@ fn read_parts<S: Subject>(
     ensures same { IsSeatOf marks.now seat.new }
     ensures only { HasOnlyRead seat.old seat.new }
     ensures words { OnOk result (words.new.items ≡ words.old.items
-        ++ map (λ cell. S.worth (subject_of marks.now) (log_of seat.old) (place_of sizes cell)) (all_cells parts.now)) }
+        ++ map (λ cell. S.worth (subject_of marks.now) (log_of seat.old) (place_of sizes cell))
+        (all_cells parts.now)) }
     ensures stops { IfErr result
         (StopsReading sizes (IsInParts parts.now) seat.old seat.new met) }
 {

@@ -1,4 +1,5 @@
-ghost use Rattle.std.specs.Prelude.{◌≡◌, ◌≢◌, ◌≤◌, ◌<◌, ◌+◌, length, take, true, false, IsTrue, IsNone};
+ghost use Rattle.std.specs.Prelude.{◌≡◌, ◌≢◌, ◌≤◌, ◌<◌, ◌+◌};
+ghost use Rattle.std.specs.Prelude.{length, take, true, false, IsTrue, IsNone};
 ghost use Rattle.std.specs.Prelude.{IfSome};
 ghost use Rattle.sheet_refs.specs.Sizes.{is_inside, cell_count, place_of};
 ghost use Rattle.mark_core.specs.Mark.{IsLastMark};

@@ -1,4 +1,5 @@
-ghost use Rattle.std.specs.Prelude.{◌≡◌, ◌≢◌, ◌<◌, ◌≤◌, ℕ, [], map, set, length, slice_get, IfOk};
+ghost use Rattle.std.specs.Prelude.{◌≡◌, ◌≢◌, ◌<◌, ◌≤◌, ℕ, []};
+ghost use Rattle.std.specs.Prelude.{map, set, length, slice_get, IfOk};
 ghost use Rattle.std.specs.Prelude.{OnOk, Some};
 ghost use Rattle.sheet_refs.specs.Sizes.{place_of, cell_count};
 ghost use Rattle.sheet_model.specs.Values.{AreValues};

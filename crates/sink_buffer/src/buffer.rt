@@ -1,4 +1,5 @@
-ghost use Rattle.std.specs.Prelude.{◌≡◌, ◌≢◌, ◌<◌, ◌≤◌, ◌++◌, [], length, IfOk, IsTrue, OnErr};
+ghost use Rattle.std.specs.Prelude.{◌≡◌, ◌≢◌, ◌<◌, ◌≤◌, ◌++◌};
+ghost use Rattle.std.specs.Prelude.{[], length, IfOk, IsTrue, OnErr};
 ghost use Rattle.sheet_io.specs.Faults.{Rose};
 ghost use Rattle.sheet_io.specs.Sink.{AppendsPrefix, Puts};
 ghost use Rattle.sink_buffer.specs.Buffers.{HasPassed};

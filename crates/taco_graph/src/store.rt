@@ -1,5 +1,6 @@
 // The edges of a graph, and the two indexes of them.
-ghost use Rattle.std.specs.Prelude.{◌≡◌, ◌≢◌, ◌+◌, ◌≤◌, None, Some, IsSome, IfSome, IfOk, OnOk, AllPairs};
+ghost use Rattle.std.specs.Prelude.{◌≡◌, ◌≢◌, ◌+◌, ◌≤◌, None, Some};
+ghost use Rattle.std.specs.Prelude.{IsSome, IfSome, IfOk, OnOk, AllPairs};
 ghost use Rattle.taco_graph.specs.Stores.{edge_at, edges_of, AreEdges, IsApart, IsApartBeside, EdgesDiffer};
 ghost use Rattle.taco_graph.specs.Stores.{PutsEdge, Gains, LeavesApart};
 ghost use Rattle.taco_graph.specs.Answers.{NamesAnswering, IsMeant, AnswersAt, AddsAnswers, AddsOneEach};

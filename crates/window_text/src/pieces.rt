@@ -1,4 +1,5 @@
-ghost use Rattle.std.specs.Prelude.{◌≡◌, ◌++◌, ◌≤◌, ◌<◌, ◌≢◌, ◌∷◌, [], codes, All, MatchOption};
+ghost use Rattle.std.specs.Prelude.{◌≡◌, ◌++◌, ◌≤◌, ◌<◌, ◌≢◌};
+ghost use Rattle.std.specs.Prelude.{◌∷◌, [], codes, All, MatchOption};
 ghost use Rattle.std.specs.Prelude.{length, take, slice_get, Some};
 ghost use Rattle.std.specs.Fmt.{decimal, signed_decimal};
 ghost use Rattle.value_core.specs.Values.{error_text, in_quotes};
