@@ -1,5 +1,6 @@
 -- The fields of records to which a field or an empty record is added.
-use Rattle.std.proofs.Common.{◌≡◌, ◌≢◌, ℕ, zero, suc, ◌+◌, ◌*◌, ◌<◌, ◌≤◌, List, [], ◌∷◌, ◌++◌, length, get_or, inl, inr, sym, ◌∙◌, ap, arith, length-append, append_assoc}
+use Rattle.std.proofs.Common.{◌≡◌, ◌≢◌, ℕ, zero, suc, ◌+◌, ◌*◌, ◌<◌, ◌≤◌, List, [], ◌∷◌, ◌++◌, length, get_or, inl, inr}
+use Rattle.std.proofs.Common.{sym, ◌∙◌, ap, arith, length-append, append_assoc}
 use Rattle.std.specs.Prelude.{max, fold}
 use Rattle.std.proofs.lemmas.List.Sums.{fold-append}
 use Rattle.std.proofs.Math.ListN.{get_or-append}
@@ -14,7 +15,8 @@ use Rattle.csv_sheet.proofs.RowLemmas.{old_fields, new_fields, no_fields, longes
 pub all_more : (rows : Rows) (more : List (List ℕ)) → all_fields (rows ++ more ∷ []) ≡ all_fields rows ++ more
 all_more rows more = flat_map-append (λ (fields : List (List ℕ)). fields) rows (more ∷ []) ∙ ap (λ t. all_fields rows ++ t) (append-nil more)
 
-pub all_longer : (rows : Rows) (fields : List (List ℕ)) (field : List ℕ) → all_fields (rows ++ (fields ++ field ∷ []) ∷ []) ≡ all_fields (rows ++ fields ∷ []) ++ field ∷ []
+pub all_longer : (rows : Rows) (fields : List (List ℕ)) (field : List ℕ) → all_fields (rows ++ (fields ++ field ∷ [])
+    ∷ []) ≡ all_fields (rows ++ fields ∷ []) ++ field ∷ []
 all_longer rows fields field =
     all_more rows (fields ++ field ∷ []) ∙ sym (append_assoc (all_fields rows) fields (field ∷ [])) ∙ ap (λ t. t ++ field ∷ []) (sym (all_more rows fields))
 
@@ -27,7 +29,8 @@ same_in_row fields field col apart = elim (cases_order col (length fields)) [
   | inl at ↦ absurd (apart at)
   | inr other ↦ elim other [
     | inl before ↦ get_or-append fields (field ∷ []) [] col before
-    | inr past ↦ get_or_past (fields ++ field ∷ []) col [] (let e = length-append fields (field ∷ []) in omega (arith, e, past)) ∙ sym (get_or_past fields col [] (omega (arith, past)))
+    | inr past ↦ get_or_past (fields ++ field ∷ []) col [] (let e = length-append fields (field ∷ []) in
+        omega (arith, e, past)) ∙ sym (get_or_past fields col [] (omega (arith, past)))
   ]
 ]
 
@@ -64,7 +67,9 @@ longest_from most (fields ∷ rest) = let more = longest_from (max most (length 
 -- no record is longer than the longest
 pub longest_at : (rows rest : Rows) (fields : List (List ℕ)) → length fields ≤ longest ((rows ++ fields ∷ []) ++ rest)
 longest_at rows rest fields =
-    let whole : longest ((rows ++ fields ∷ []) ++ rest) ≡ fold (λ most fs. max most (length fs)) (longest (rows ++ fields ∷ [])) rest = fold-append (λ most fs. max most (length fs)) 0 (rows ++ fields ∷ []) rest in
+    let whole : longest ((rows ++ fields ∷ []) ++ rest) ≡ fold (λ most fs. max most (length fs))
+    (longest (rows ++ fields ∷ [])) rest = fold-append (λ most fs. max most (length fs)) 0 (rows ++ fields
+    ∷ []) rest in
     let here : longest (rows ++ fields ∷ []) ≡ max (longest rows) (length fields) = longest-more rows fields in
     let grown = longest_from (longest (rows ++ fields ∷ [])) rest in
     omega (arith, whole, here, grown)
@@ -77,7 +82,8 @@ place_below row col rows cols within inside = grind (arith, row_places)
 pub few_rows : (rows cols most : ℕ) → rows * cols ≤ most → 0 < cols → rows ≤ most
 few_rows rows cols most all some = grind (arith, row_places)
 
-longest_reached : (most : ℕ) (rows : Rows) (row col : ℕ) → row < length rows → col < length (fields_at rows row) → col < fold (λ m fs. max m (length fs)) most rows
+longest_reached : (most : ℕ) (rows : Rows) (row col : ℕ) → row < length rows → col < length (fields_at rows row)
+    → col < fold (λ m fs. max m (length fs)) most rows
 longest_reached most [] row col within inside = absurd (omega (arith, within))
 longest_reached most (fields ∷ rest) zero col within inside = let more = longest_from (max most (length fields)) rest in omega (arith, more, inside)
 longest_reached most (fields ∷ rest) (suc row) col within inside = longest_reached (max most (length fields)) rest row col (omega (arith, within)) inside

@@ -1,9 +1,9 @@
-pub mod FieldLemmas
-pub mod FillLemmas
-pub mod LoadLemmas
-pub mod MarkLemmas
-pub mod RecordLemmas
+mod FieldLemmas
+mod FillLemmas
+mod LoadLemmas
+mod MarkLemmas
+mod RecordLemmas
 pub mod ResultLemmas
-pub mod RowLemmas
-pub mod SomeResult
-pub mod WayLemmas
+mod RowLemmas
+mod SomeResult
+mod WayLemmas

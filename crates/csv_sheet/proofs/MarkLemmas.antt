@@ -54,7 +54,9 @@ without_marks_twice (a ∷ []) = refl
 without_marks_twice (a ∷ b ∷ []) = refl
 without_marks_twice (a ∷ b ∷ c ∷ rest) = by (is_bom a b c) refl (without_marks_twice rest)
   where
-    by : (t : Bool) → is_bom a b c ≡ t → without_marks (without_marks rest) ≡ without_marks rest → without_marks (if t then without_marks rest else a ∷ b ∷ c ∷ rest) ≡ (if t then without_marks rest else a ∷ b ∷ c ∷ rest)
+    by : (t : Bool) → is_bom a b c ≡ t → without_marks (without_marks rest) ≡ without_marks rest
+        → without_marks (if t then without_marks rest else a ∷ b ∷ c ∷ rest) ≡ (if t then without_marks rest else a ∷ b
+        ∷ c ∷ rest)
     by true is twice = twice
     by false is twice = ap (λ t. if t then without_marks rest else a ∷ b ∷ c ∷ rest) is
 
@@ -66,5 +68,7 @@ strip_nothing (a ∷ b ∷ []) same = refl
 strip_nothing (a ∷ b ∷ c ∷ rest) same = by (is_bom a b c) same
   where
     by : (t : Bool) → (if t then without_marks rest else a ∷ b ∷ c ∷ rest) ≡ a ∷ b ∷ c ∷ rest → (if t then rest else a ∷ b ∷ c ∷ rest) ≡ a ∷ b ∷ c ∷ rest
-    by true e = (let less = length-without_marks rest in let long : length (without_marks rest) ≡ length (a ∷ b ∷ c ∷ rest) = ap length e in absurd (omega (arith, less, long)))
+    by true e = (let less = length-without_marks rest in
+        let long : length (without_marks rest) ≡ length (a ∷ b ∷ c ∷ rest) = ap length e in
+        absurd (omega (arith, less, long)))
     by false e = refl

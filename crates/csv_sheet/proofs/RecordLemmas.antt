@@ -1,5 +1,7 @@
 -- Records and their fields.
-use Rattle.std.proofs.Common.{◌≡◌, ◌≢◌, ℕ, zero, suc, ◌<◌, Bool, true, false, List, [], ◌∷◌, ◌++◌, length, get_or, Some, None, Option, IsSome, Result, Ok, Err, inl, refl, sym, ◌∙◌, ap, subst, arith, if◌then◌else◌, length-append}
+use Rattle.std.proofs.Common.{◌≡◌, ◌≢◌, ℕ, zero, suc, ◌<◌, Bool, true, false, List, [], ◌∷◌, ◌++◌, length, get_or, Some}
+use Rattle.std.proofs.Common.{None, Option, IsSome, Result, Ok, Err, inl, refl, sym, ◌∙◌, ap, subst, arith}
+use Rattle.std.proofs.Common.{if◌then◌else◌, length-append}
 use Rattle.std.specs.Prelude.{IsUtf8, option_map, MatchBool, MatchResult, IfErr}
 use Rattle.std.specs.Result.{IsErrAnd}
 use Rattle.std.proofs.lemmas.List.{append-nil}
@@ -52,12 +54,15 @@ same_read : (o : Option Read) (p q : Read) → o ≡ Some p → o ≡ Some q →
 same_read o p q a b = cc
 
 -- records that were read are the first of all
-pub rows_in_front : (cfg : Config) (s : State) (xs : List ℕ) (some all : Rows) (s2 : State) (ys : List ℕ) → Reached cfg s xs some s2 ys → AreRecords cfg s xs all → (rest : Rows) × (all ≡ some ++ rest) × AreRecords cfg s2 ys rest
+pub rows_in_front : (cfg : Config) (s : State) (xs : List ℕ) (some all : Rows) (s2 : State) (ys : List ℕ)
+    → Reached cfg s xs some s2 ys → AreRecords cfg s xs all → (rest : Rows) × (all ≡ some ++ rest)
+    × AreRecords cfg s2 ys rest
 unfolding Reached
 rows_in_front cfg s xs [] all s2 ys read is =
     (all, refl, subst (λ t. AreRecords cfg t ys all) read.0 (subst (λ t. AreRecords cfg s t all) read.1 is))
 rows_in_front cfg s xs (r ∷ rs) [] s2 ys read is =
-    let at_end : next_record cfg s [] [] xs ≡ None = subst (λ t. next_record cfg t [] [] xs ≡ None) (sym is.2.0) (subst (λ t. next_record cfg is.0 [] [] t ≡ None) (sym is.2.1) is.3) in
+    let at_end : next_record cfg s [] [] xs ≡ None = subst (λ t. next_record cfg t [] [] xs ≡ None) (sym is.2.0)
+    (subst (λ t. next_record cfg is.0 [] [] t ≡ None) (sym is.2.1) is.3) in
     absurd (no_read (next_record cfg s [] [] xs) read.0 at_end read.1)
 rows_in_front cfg s xs (r ∷ rs) (q ∷ qs) s2 ys read is =
     let same : is.2.0 ≡ read.0 = same_read (next_record cfg s [] [] xs) is.2.0 read.0 is.2.1 read.1 in
@@ -78,7 +83,8 @@ one_rows cfg s xs a b x y =
     let none : more.0 ≡ [] = nothing_left cfg x.0 x.1 more.0 more.2 x.3 in
     sym (more.1 ∙ ap (λ rest. a ++ rest) none ∙ append-nil a)
 
-module _ {R : Type 0} (left : R → Option (List ℕ)) (a b : Reader R) (fields : List (List ℕ)) (text : List ℕ) (rows : Rows) (has : HasReadRecords left text rows a) where
+module _ {R : Type 0} (left : R → Option (List ℕ)) (a b : Reader R) (fields : List (List ℕ)) (text : List ℕ)
+    (rows : Rows) (has : HasReadRecords left text rows a) where
   -- one record more
   read_more : ReadRecord left a b true fields → b.flexible ≡ a.flexible → b.first ≡ true → HasReadRecords left text (rows ++ fields ∷ []) b
   read_more read flexible first =
@@ -128,10 +134,12 @@ some_fields cfg s fields field [] p e = at_end (ends_at_end s) e
         omega (arith, long, count)
     at_end false e = cc e
 some_fields cfg s fields field (c ∷ rest) p e =
-    go (step cfg s c).1 (step cfg s c).0 (λ more. some_fields cfg (step cfg s c).0 (fields_after (step cfg s c).1 fields field) (field_after (step cfg s c).1 c field) rest p more) e
+    go (step cfg s c).1 (step cfg s c).0 (λ more. some_fields cfg (step cfg s c).0
+    (fields_after (step cfg s c).1 fields field) (field_after (step cfg s c).1 c field) rest p more) e
   where
     go : (did : Action) (t : State) → (next_record cfg t (fields_after did fields field) (field_after did c field) rest ≡ Some p → 0 < length p.0)
-        → (if is_end did then Some (fields_after did fields field, t, rest) else next_record cfg t (fields_after did fields field) (field_after did c field) rest) ≡ Some p → 0 < length p.0
+        → (if is_end did then Some (fields_after did fields field, t, rest) else next_record cfg t
+        (fields_after did fields field) (field_after did c field) rest) ≡ Some p → 0 < length p.0
     go Skip t more e = more e
     go Copy t more e = more e
     go EndField t more e = more e

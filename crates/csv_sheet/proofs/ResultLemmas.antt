@@ -15,7 +15,9 @@ use Rattle.sheet_model.proofs.ContentLemmas.{one_content, refused_none}
 use Rattle.sheet_model.proofs.SameSheets.{same_sheet}
 use Rattle.sheet_model.proofs.TableLemmas.{adds_one}
 use Rattle.csv_sheet.specs.Records.{Rows, fields_at, field_at, all_fields, cell_there, longest, without_marks}
-use Rattle.csv_sheet.specs.Results.{AreText, IsFirstNotText, IsPlaceBefore, NoField, IsFirstField, IsLong, IsRefusedFormula, IsSheetOf, IsFirstRefused, IsGivenByRecords, IsRecordsResult, IsHeadedResult, IsSheetResult}
+use Rattle.csv_sheet.specs.Results.{AreText, IsFirstNotText, IsPlaceBefore, NoField, IsFirstField, IsLong}
+use Rattle.csv_sheet.specs.Results.{IsRefusedFormula, IsSheetOf, IsFirstRefused, IsGivenByRecords, IsRecordsResult}
+use Rattle.csv_sheet.specs.Results.{IsHeadedResult, IsSheetResult}
 use Rattle.csv_sheet.specs.Headings.{HeadedText, heading_of}
 use Rattle.csv_sheet.specs.declared.refused.SheetRefused.{SheetRefused}
 use Rattle.csv_sheet.specs.declared.refused.SheetRefused.TheVariants.{NotUtf8, TooManyCells, FieldTooLong, FormulaTooDeep, TooManyRefs, UnknownEdition, Memory}
@@ -98,19 +100,25 @@ one_sheet edition rows a b x y =
         let row_lt : cell.row - 1 < length rows = omega (arith, row_to, row_from) in
         let col_lt : cell.col - 1 < longest rows = omega (arith, col_to, col_from) in
         let back : cell_there (cell.row - 1) (cell.col - 1) ≡ cell = same_cell cell row_from col_from in
-        let in_a = subst (λ k. IsContent edition a.labels (field_at rows (cell.row - 1) (cell.col - 1)) (content_of a k)) back (x.cells (cell.row - 1) (cell.col - 1) row_lt col_lt) in
-        let in_b = subst (λ k. IsContent edition b.labels (field_at rows (cell.row - 1) (cell.col - 1)) (content_of b k)) back (y.cells (cell.row - 1) (cell.col - 1) row_lt col_lt) in
+        let in_a =
+        subst (λ k. IsContent edition a.labels (field_at rows (cell.row - 1) (cell.col - 1)) (content_of a k)) back
+        (x.cells (cell.row - 1) (cell.col - 1) row_lt col_lt) in
+        let in_b =
+        subst (λ k. IsContent edition b.labels (field_at rows (cell.row - 1) (cell.col - 1)) (content_of b k)) back
+        (y.cells (cell.row - 1) (cell.col - 1) row_lt col_lt) in
         one_content edition a.labels (field_at rows (cell.row - 1) (cell.col - 1)) (content_of a cell) (content_of b cell) x.kept.table in_a
         (subst (λ t. IsContent edition t (field_at rows (cell.row - 1) (cell.col - 1)) (content_of b cell)) (sym labels) in_b)
 
 -- a formula that is too deep has no number of references
-deep_not_many : (edition : Edition) (rows : Rows) (a b : Position) → IsFirstRefused edition IsDeepFormula rows a → IsFirstRefused edition (HasTooManyRefs edition) rows b → ⊥
+deep_not_many : (edition : Edition) (rows : Rows) (a b : Position) → IsFirstRefused edition IsDeepFormula rows a
+    → IsFirstRefused edition (HasTooManyRefs edition) rows b → ⊥
 deep_not_many edition rows a b x y =
     let same : a ≡ b = one_first (IsRefusedFormula edition) rows a b x.first y.first in
     let deep = subst (λ (k : Position). IsDeepFormula (field_at rows (k.row - 1) (k.col - 1))) same x.why in
     y.why.0 deep.deep
 
-one_answer : (edition : Edition) (rows : Rows) (a b : Result SheetValue SheetRefused) → IsGivenByRecords edition rows a → IsGivenByRecords edition rows b → a ≡ b
+one_answer : (edition : Edition) (rows : Rows) (a b : Result SheetValue SheetRefused) → IsGivenByRecords edition rows a
+    → IsGivenByRecords edition rows b → a ≡ b
 one_answer edition rows (Ok a) (Ok b) x y = ap Ok (one_sheet edition rows a b x y)
 one_answer edition rows (Ok a) (Err (NotUtf8 b)) x y = absurd (not_text rows b y x.readable.text)
 one_answer edition rows (Ok a) (Err (TooManyCells b b')) x y = absurd (x.readable.fits y.1)
@@ -129,7 +137,8 @@ one_answer edition rows (Err (NotUtf8 a)) (Err Memory) x y = absurd y
 one_answer edition rows (Err (NotUtf8 a)) (Err UnknownEdition) x y = absurd y
 one_answer edition rows (Err (TooManyCells a a')) (Ok b) x y = absurd (y.readable.fits x.1)
 one_answer edition rows (Err (TooManyCells a a')) (Err (NotUtf8 b)) x y = absurd (not_text rows b y x.0)
-one_answer edition rows (Err (TooManyCells a a')) (Err (TooManyCells b b')) x y = (let e = x.2 ∙ sym y.2 in let d = x.3 ∙ sym y.3 in λ i. Err (TooManyCells (e i) (d i)))
+one_answer edition rows (Err (TooManyCells a a')) (Err (TooManyCells b b')) x y = (let e = x.2 ∙ sym y.2 in
+    let d = x.3 ∙ sym y.3 in λ i. Err (TooManyCells (e i) (d i)))
 one_answer edition rows (Err (TooManyCells a a')) (Err (FieldTooLong b)) x y = absurd (y.1 x.1)
 one_answer edition rows (Err (TooManyCells a a')) (Err (FormulaTooDeep b)) x y = absurd (y.readable.fits x.1)
 one_answer edition rows (Err (TooManyCells a a')) (Err (TooManyRefs b)) x y = absurd (y.readable.fits x.1)
@@ -147,7 +156,8 @@ one_answer edition rows (Err (FormulaTooDeep a)) (Ok b) x y = absurd (no_first (
 one_answer edition rows (Err (FormulaTooDeep a)) (Err (NotUtf8 b)) x y = absurd (not_text rows b y x.readable.text)
 one_answer edition rows (Err (FormulaTooDeep a)) (Err (TooManyCells b b')) x y = absurd (x.readable.fits y.1)
 one_answer edition rows (Err (FormulaTooDeep a)) (Err (FieldTooLong b)) x y = absurd (no_first IsLong rows b y.2 x.readable.short)
-one_answer edition rows (Err (FormulaTooDeep a)) (Err (FormulaTooDeep b)) x y = ap (λ k. Err (FormulaTooDeep k)) (one_first (IsRefusedFormula edition) rows a b x.first y.first)
+one_answer edition rows (Err (FormulaTooDeep a)) (Err (FormulaTooDeep b)) x y =
+    ap (λ k. Err (FormulaTooDeep k)) (one_first (IsRefusedFormula edition) rows a b x.first y.first)
 one_answer edition rows (Err (FormulaTooDeep a)) (Err (TooManyRefs b)) x y = absurd (deep_not_many edition rows a b x y)
 one_answer edition rows (Err (FormulaTooDeep a)) (Err Memory) x y = absurd y
 one_answer edition rows (Err (FormulaTooDeep a)) (Err UnknownEdition) x y = absurd y
@@ -156,7 +166,8 @@ one_answer edition rows (Err (TooManyRefs a)) (Err (NotUtf8 b)) x y = absurd (no
 one_answer edition rows (Err (TooManyRefs a)) (Err (TooManyCells b b')) x y = absurd (x.readable.fits y.1)
 one_answer edition rows (Err (TooManyRefs a)) (Err (FieldTooLong b)) x y = absurd (no_first IsLong rows b y.2 x.readable.short)
 one_answer edition rows (Err (TooManyRefs a)) (Err (FormulaTooDeep b)) x y = absurd (deep_not_many edition rows b a y x)
-one_answer edition rows (Err (TooManyRefs a)) (Err (TooManyRefs b)) x y = ap (λ k. Err (TooManyRefs k)) (one_first (IsRefusedFormula edition) rows a b x.first y.first)
+one_answer edition rows (Err (TooManyRefs a)) (Err (TooManyRefs b)) x y =
+    ap (λ k. Err (TooManyRefs k)) (one_first (IsRefusedFormula edition) rows a b x.first y.first)
 one_answer edition rows (Err (TooManyRefs a)) (Err Memory) x y = absurd y
 one_answer edition rows (Err (TooManyRefs a)) (Err UnknownEdition) x y = absurd y
 one_answer edition rows (Err Memory) (Ok b) x y = absurd x
@@ -176,7 +187,8 @@ one_answer edition rows (Err UnknownEdition) (Err (TooManyRefs b)) x y = absurd 
 one_answer edition rows (Err UnknownEdition) (Err Memory) x y = absurd x
 one_answer edition rows (Err UnknownEdition) (Err UnknownEdition) x y = absurd x
 
-one_records : (edition : Edition) (records : List ℕ) (a b : Result SheetValue SheetRefused) → IsRecordsResult edition records a → IsRecordsResult edition records b → a ≡ b
+one_records : (edition : Edition) (records : List ℕ) (a b : Result SheetValue SheetRefused)
+    → IsRecordsResult edition records a → IsRecordsResult edition records b → a ≡ b
 one_records edition records a b x y =
     let same : y.rows ≡ x.rows = one_rows default_config StartRecord records y.rows x.rows y.has x.has in
     one_answer edition x.rows a b x.answer (subst (λ rows. IsGivenByRecords edition rows b) same y.answer)

@@ -1,5 +1,7 @@
 -- No text is without a result: its records exist, and where none of the causes holds, so does the sheet.
-use Rattle.std.proofs.Common.{◌≡◌, ◌≢◌, ℕ, zero, suc, ◌+◌, ◌-◌, ◌*◌, ◌<◌, ◌≤◌, Bool, true, false, ◌||◌, List, [], ◌∷◌, ◌++◌, length, get_or, take, drop, slice_get, Option, Some, None, Result, Ok, Err, inl, inr, ◌⊎◌, refl, sym, ◌∙◌, ap, subst, arith, if◌then◌else◌}
+use Rattle.std.proofs.Common.{◌≡◌, ◌≢◌, ℕ, zero, suc, ◌+◌, ◌-◌, ◌*◌, ◌<◌, ◌≤◌, Bool, true, false, ◌||◌, List, [], ◌∷◌}
+use Rattle.std.proofs.Common.{◌++◌, length, get_or, take, drop, slice_get, Option, Some, None, Result, Ok, Err, inl}
+use Rattle.std.proofs.Common.{inr, ◌⊎◌, refl, sym, ◌∙◌, ap, subst, arith, if◌then◌else◌}
 use Rattle.std.specs.List.{list_any}
 use Rattle.std.specs.Str.{bytes_eq}
 use Rattle.std.proofs.Math.Seq.{take-suc, take-length}
@@ -29,7 +31,9 @@ use Rattle.sheet_model.specs.Sheets.{SheetValue, ContentValue, content_of, Const
 use Rattle.sheet_model.proofs.ListLemmas.{slice_get-push}
 use Rattle.csv_sheet.specs.Filling.{HoldsRecords, IsPartFilled, IsRecordFor}
 use Rattle.csv_sheet.specs.Records.{Rows, fields_at, field_at, cell_there, longest, sizes_of, without_marks}
-use Rattle.csv_sheet.specs.Results.{AreText, IsFirstNotText, IsTooLarge, IsPlaceBefore, NoField, IsFirstField, IsLong, IsRefusedFormula, AreReadable, IsSheetOf, IsFirstRefused, IsGivenByRecords, IsRecordsResult, IsHeadedResult, IsSheetResult}
+use Rattle.csv_sheet.specs.Results.{AreText, IsFirstNotText, IsTooLarge, IsPlaceBefore, NoField, IsFirstField, IsLong}
+use Rattle.csv_sheet.specs.Results.{IsRefusedFormula, AreReadable, IsSheetOf, IsFirstRefused, IsGivenByRecords}
+use Rattle.csv_sheet.specs.Results.{IsRecordsResult, IsHeadedResult, IsSheetResult}
 use Rattle.csv_sheet.specs.Headings.{HeadedText, heading_of}
 use Rattle.csv_sheet.specs.declared.refused.SheetRefused.{SheetRefused}
 use Rattle.csv_sheet.specs.declared.refused.SheetRefused.TheVariants.{NotUtf8, TooManyCells, FieldTooLong, FormulaTooDeep, TooManyRefs, UnknownEdition}
@@ -57,10 +61,13 @@ next_less cfg s fields field [] p e = at_end (ends_at_end s) e
         inr (ap (λ (q : Read). q.1) (sym same), ap (λ (q : Read). q.2) (sym same))
     at_end false e = cc e
 next_less cfg s fields field (c ∷ rest) p e =
-    go (step cfg s c).1 (step cfg s c).0 (λ more. one_longer p c rest (next_less cfg (step cfg s c).0 (fields_after (step cfg s c).1 fields field) (field_after (step cfg s c).1 c field) rest p more)) e
+    go (step cfg s c).1 (step cfg s c).0
+    (λ more. one_longer p c rest (next_less cfg (step cfg s c).0 (fields_after (step cfg s c).1 fields field)
+    (field_after (step cfg s c).1 c field) rest p more)) e
   where
     go : (did : Action) (t : State) → (next_record cfg t (fields_after did fields field) (field_after did c field) rest ≡ Some p → IsLess p (c ∷ rest))
-        → (if is_end did then Some (fields_after did fields field, t, rest) else next_record cfg t (fields_after did fields field) (field_after did c field) rest) ≡ Some p → IsLess p (c ∷ rest)
+        → (if is_end did then Some (fields_after did fields field, t, rest) else next_record cfg t
+        (fields_after did fields field) (field_after did c field) rest) ≡ Some p → IsLess p (c ∷ rest)
     go Skip t more e = more e
     go Copy t more e = more e
     go EndField t more e = more e
@@ -80,7 +87,8 @@ unfolding Reached
 rows_within cfg zero s xs less = absurd (omega (arith, less))
 rows_within cfg (suc n) s xs less = read (next_record cfg s [] [] xs) refl (λ t ys fewer. rows_within cfg n t ys fewer)
   where
-    read : (o : Option Read) → next_record cfg s [] [] xs ≡ o → ((t : State) (ys : List ℕ) → length ys < n → (rows : Rows) × AreRecords cfg t ys rows) → (rows : Rows) × AreRecords cfg s xs rows
+    read : (o : Option Read) → next_record cfg s [] [] xs ≡ o → ((t : State) (ys : List ℕ) → length ys < n
+        → (rows : Rows) × AreRecords cfg t ys rows) → (rows : Rows) × AreRecords cfg s xs rows
     read None none more = ([], (s, xs, (refl, refl), none))
     read (Some p) is more = left (next_less cfg s [] [] xs p is)
       where
@@ -96,7 +104,8 @@ module _ (P : List ℕ → Type 0) (rows : Rows) (no_first : (cell : Position) �
   abbrev Above : ℕ → Type 0
   Above row = (r c : ℕ) → r < row → c < length (fields_at rows r) → ¬ P (field_at rows r c)
 
-  first_at : (row c : ℕ) → Above row → ((k : ℕ) → k < c → k < length (fields_at rows row) → ¬ P (field_at rows row k)) → c < length (fields_at rows row) → P (field_at rows row c) → ⊥
+  first_at : (row c : ℕ) → Above row → ((k : ℕ) → k < c → k < length (fields_at rows row) → ¬ P (field_at rows row k))
+      → c < length (fields_at rows row) → P (field_at rows row c) → ⊥
   first_at row c above left within is =
       no_first (cell_there row c) (record { row = row; col = c; cell_is = refl; there = within; is = is; before = before })
     where
@@ -133,7 +142,13 @@ module _ (rows : Rows) (no_first : (number : ℕ) → ¬ IsFirstNotText rows num
   text_before : (n : ℕ) → n ≤ length rows → (TextBefore n → ⊥) → ⊥
   text_before zero within denied = denied (λ k less. absurd (omega (arith, less)))
   text_before (suc n) within denied = text_before n (omega (arith, within)) (λ before.
-      no_first (n + 1) (record { row = n; number_is = refl; there = omega (arith, within); not_text = λ text. denied (one_more_text n before text); before = before }))
+      no_first (n + 1) (record {
+        row = n;
+        number_is = refl;
+        there = omega (arith, within);
+        not_text = λ text. denied (one_more_text n before text);
+        before = before;
+      }))
 
   all_are_text : (AreText rows → ⊥) → ⊥
   all_are_text denied = text_before (length rows) (omega arith) (λ before.
@@ -145,7 +160,8 @@ label_place : (labels : List (List ℕ)) (text : List ℕ) → list_any (bytes_e
 label_place [] text e = absurd (cc)
 label_place (l ∷ ls) text e = by (bytes_eq text l) refl e (λ later. label_place ls text later)
   where
-    by : (b : Bool) → bytes_eq text l ≡ b → (b || list_any (bytes_eq text) ls) ≡ true → (list_any (bytes_eq text) ls ≡ true → (place : ℕ) × (slice_get ls place ≡ Some text))
+    by : (b : Bool) → bytes_eq text l ≡ b → (b || list_any (bytes_eq text) ls) ≡ true
+        → (list_any (bytes_eq text) ls ≡ true → (place : ℕ) × (slice_get ls place ≡ Some text))
         → (place : ℕ) × (slice_get (l ∷ ls) place ≡ Some text)
     by true is e more = (zero, ap Some (sym ((bytes_eq-Decides text l).0 is)))
     by false is e more = let rest = more e in (suc rest.0, rest.1)
@@ -177,7 +193,12 @@ module _ (edition : Edition) (labels : List (List ℕ)) (field : List ℕ) (fine
       no_tree : (tree : Tree) → ¬ SpellsIn edition field tree
       no_tree tree spelt = elim (cases_lt 255 (length (references_of tree))) [
         | inl many ↦ fine (inr (shallow, tree, spelt, many))
-        | inr few ↦ not_other (Computed tree) (record { shallow = shallow; spelt = spelt.spelt; within = spelt.within; few = few }) (λ as_label. as_label.no_formula begins)
+        | inr few ↦ not_other (Computed tree) (record {
+          shallow = shallow;
+          spelt = spelt.spelt;
+          within = spelt.within;
+          few = few;
+        }) (λ as_label. as_label.no_formula begins)
       ]
 
   is_label : IsLabelField field
@@ -196,13 +217,17 @@ module _ (edition : Edition) (labels : List (List ℕ)) (field : List ℕ) (fine
 
 -- ---- records none of which is refused have a sheet
 
-next_part : (row : ℕ) (fields : List (List ℕ)) (old : SheetValue) → IsRecordFor old row fields → ((c : ℕ) → c < length fields → ¬ IsRefusedFormula old.edition (get_or fields c []))
+next_part : (row : ℕ) (fields : List (List ℕ)) (old : SheetValue) → IsRecordFor old row fields
+    → ((c : ℕ) → c < length fields → ¬ IsRefusedFormula old.edition (get_or fields c []))
     → (col : ℕ) → col ≤ length fields → ((new : SheetValue) → IsPartFilled row fields col old new → ⊥) → ⊥
 next_part row fields old record_for fine zero within denied = denied old (part_none row fields old record_for.few)
 next_part row fields old record_for fine (suc col) within denied = next_part row fields old record_for fine col (omega (arith, within)) (λ between part.
-    no_content between.edition between.labels (get_or fields col []) (subst (λ (e : Edition). ¬ IsRefusedFormula e (get_or fields col [])) (sym part.edition) (fine col (omega (arith, within)))) (λ labels content table writes.
+    no_content between.edition between.labels (get_or fields col [])
+    (subst (λ (e : Edition). ¬ IsRefusedFormula e (get_or fields col [])) (sym part.edition)
+    (fine col (omega (arith, within)))) (λ labels content table writes.
     let new = with_content (with_labels between labels) (cell_there row col) content in
-    let more : IsPartFilled row fields (col + 1) old new = part_step row fields col old between new (cell_there row col) (get_or fields col []) record_for (omega (arith, within)) part refl refl
+    let more : IsPartFilled row fields (col + 1) old new = part_step row fields col old between new (cell_there row col)
+    (get_or fields col []) record_for (omega (arith, within)) part refl refl
     (record { short = record_for.short col (omega (arith, within)); table = table; content = content; writes = writes; placed = refl }) in
     let same : col + 1 ≡ suc col = omega arith in
     denied new (subst (λ k. IsPartFilled row fields k old new) same more)))
@@ -211,7 +236,8 @@ next_part row fields old record_for fine (suc col) within denied = next_part row
 one_row : (n cols width most : ℕ) → most ≤ n * cols + width → width ≤ cols → most ≤ suc n * cols
 one_row n cols width most few narrow = grind (arith, row_places)
 
-module _ (edition : Edition) (all : Rows) (readable : AreReadable all) (clean : NoField (IsRefusedFormula edition) all) (size : IsSheetSize (sizes_of all)) where
+module _ (edition : Edition) (all : Rows) (readable : AreReadable all) (clean : NoField (IsRefusedFormula edition) all)
+    (size : IsSheetSize (sizes_of all)) where
   -- a sheet that holds the first records
   record HoldsFirst (n : ℕ) (sheet : SheetValue) : Type 0 where
     holds : HoldsRecords (take n all) sheet
@@ -223,7 +249,13 @@ module _ (edition : Edition) (all : Rows) (readable : AreReadable all) (clean : 
   parts_of n within = sym (take-append-drop (suc n) all) ∙ ap (λ front. front ++ drop (suc n) all) (take-suc all n [] within)
 
   next_sheet : (n : ℕ) → n ≤ length all → ((sheet : SheetValue) → HoldsFirst n sheet → ⊥) → ⊥
-  next_sheet zero within denied = denied (blank_sheet edition (sizes_of all)) (record { holds = holds_nothing edition (sizes_of all) size; edition_is = refl; sizes = refl; few = omega arith })
+  next_sheet zero within denied =
+      denied (blank_sheet edition (sizes_of all)) (record {
+        holds = holds_nothing edition (sizes_of all) size;
+        edition_is = refl;
+        sizes = refl;
+        few = omega arith;
+      })
   next_sheet (suc n) within denied = next_sheet n (omega (arith, within)) with_row
     where
       inside : n < length all
@@ -234,13 +266,21 @@ module _ (edition : Edition) (all : Rows) (readable : AreReadable all) (clean : 
 
       with_row : (sheet : SheetValue) → HoldsFirst n sheet → ⊥
       with_row sheet first =
-          let few : length sheet.labels ≤ length (take n all) * sheet.sizes.cols = subst (λ k. length sheet.labels ≤ k * sheet.sizes.cols) (sym count) first.few in
+          let few : length sheet.labels ≤ length (take n all) * sheet.sizes.cols =
+          subst (λ k. length sheet.labels ≤ k * sheet.sizes.cols) (sym count) first.few in
           let fits = record_fits all (take n all) (drop (suc n) all) (get_or all n []) (parts_of n inside) readable sheet first.holds first.sizes few in
-          next_part n (get_or all n []) sheet (subst (λ k. IsRecordFor sheet k (get_or all n [])) count fits) (λ c within refused. clean n c within (subst (λ (e : Edition). IsRefusedFormula e (get_or (get_or all n []) c [])) first.edition_is refused)) (length (get_or all n [])) (omega arith) (λ new part. denied new (record {
-            holds = subst (λ rows. HoldsRecords rows new) (ap (λ fs. take n all ++ fs ∷ []) (take-length (get_or all n [])) ∙ sym (take-suc all n [] inside)) (part.filled (take n all) count first.holds);
+          next_part n (get_or all n []) sheet (subst (λ k. IsRecordFor sheet k (get_or all n [])) count fits)
+          (λ c within refused. clean n c within
+          (subst (λ (e : Edition). IsRefusedFormula e (get_or (get_or all n []) c [])) first.edition_is refused))
+          (length (get_or all n [])) (omega arith) (λ new part. denied new (record {
+            holds =
+                subst (λ rows. HoldsRecords rows new) (ap (λ fs. take n all ++ fs ∷ []) (take-length (get_or all n []))
+                ∙ sym (take-suc all n [] inside)) (part.filled (take n all) count first.holds);
             edition_is = part.edition ∙ first.edition_is;
             sizes = part.sizes ∙ first.sizes;
-            few = subst (λ (s : Sizes). length new.labels ≤ suc n * s.cols) (sym part.sizes) (one_row n sheet.sizes.cols (length (get_or all n [])) (length new.labels) part.few fits.narrow);
+            few =
+                subst (λ (s : Sizes). length new.labels ≤ suc n * s.cols) (sym part.sizes)
+                (one_row n sheet.sizes.cols (length (get_or all n [])) (length new.labels) part.few fits.narrow);
           }))
 
   -- there is the sheet
@@ -284,11 +324,17 @@ module _ (edition : Edition) (rows : Rows) (records : List ℕ) (has : AreRecord
       readable : AreReadable rows
       readable = record { text = text; fits = fits; short = no_field IsLong rows (λ cell first. denied (Err (FieldTooLong cell)) (text, fits, first)) }
 
-      why_at : (Why : List ℕ → Type 0) (cell : Position) (first : IsFirstField (IsRefusedFormula edition) rows cell) → Why (field_at rows first.row first.col) → IsFirstRefused edition Why rows cell
+      why_at : (Why : List ℕ → Type 0) (cell : Position) (first : IsFirstField (IsRefusedFormula edition) rows cell)
+          → Why (field_at rows first.row first.col) → IsFirstRefused edition Why rows cell
       why_at Why cell first why =
           let row_is : cell.row - 1 ≡ first.row = ap (λ (p : Position). p.row - 1) first.cell_is ∙ (omega arith) in
           let col_is : cell.col - 1 ≡ first.col = ap (λ (p : Position). p.col - 1) first.cell_is ∙ (omega arith) in
-          record { readable = readable; first = first; why = subst (λ r. Why (field_at rows r (cell.col - 1))) (sym row_is) (subst (λ c. Why (field_at rows first.row c)) (sym col_is) why) }
+          record {
+            readable = readable;
+            first = first;
+            why = subst (λ r. Why (field_at rows r (cell.col - 1))) (sym row_is)
+                (subst (λ c. Why (field_at rows first.row c)) (sym col_is) why);
+          }
 
       clean : NoField (IsRefusedFormula edition) rows
       clean = no_field (IsRefusedFormula edition) rows (λ cell first. elim first.is [

@@ -1,5 +1,6 @@
 -- Records that are read and put into a sheet one after the other.
-use Rattle.std.proofs.Common.{◌≡◌, ◌≢◌, ℕ, ◌+◌, ◌-◌, ◌*◌, ◌<◌, ◌≤◌, List, [], ◌∷◌, ◌++◌, length, get_or, inl, inr, refl, sym, ◌∙◌, ap, subst, arith, Err, length-append, append_assoc}
+use Rattle.std.proofs.Common.{◌≡◌, ◌≢◌, ℕ, ◌+◌, ◌-◌, ◌*◌, ◌<◌, ◌≤◌, List, [], ◌∷◌, ◌++◌, length, get_or, inl, inr, refl}
+use Rattle.std.proofs.Common.{sym, ◌∙◌, ap, subst, arith, Err, length-append, append_assoc}
 use Rattle.std.specs.Prelude.{Option}
 use Rattle.std.proofs.Math.ListN.{get_or-append}
 use Rattle.std.proofs.Math.Seq.{get_or-append_seam}
@@ -41,13 +42,17 @@ module _ (all before rest : Rows) (fields : List (List ℕ)) (whole : all ≡ (b
       omega (arith, e, d, f)
 
   -- it fits the sheet
-  pub record_fits : (sheet : SheetValue) → HoldsRecords before sheet → sheet.sizes ≡ sizes_of all → length sheet.labels ≤ length before * sheet.sizes.cols → IsRecordFor sheet (length before) fields
+  pub record_fits : (sheet : SheetValue) → HoldsRecords before sheet → sheet.sizes ≡ sizes_of all
+      → length sheet.labels ≤ length before * sheet.sizes.cols → IsRecordFor sheet (length before) fields
   record_fits sheet holds sizes few = record {
     kept = holds.kept;
     within = subst (λ (s : Sizes). length before < s.rows) (sym sizes) below;
-    narrow = subst (λ (s : Sizes). length fields ≤ s.cols) (sym sizes) (subst (λ rows. length fields ≤ longest rows) (sym whole) (longest_at before rest fields));
+    narrow =
+        subst (λ (s : Sizes). length fields ≤ s.cols) (sym sizes) (subst (λ rows. length fields ≤ longest rows)
+        (sym whole) (longest_at before rest fields));
     text = subst AllText here (readable.text (length before) [] below);
-    short = λ col within long. readable.short (length before) col (subst (λ fs. col < length fs) (sym here) within) (subst (λ fs. IsLong (get_or fs col [])) (sym here) long);
+    short = λ col within long. readable.short (length before) col (subst (λ fs. col < length fs) (sym here) within)
+        (subst (λ fs. IsLong (get_or fs col [])) (sym here) long);
     few = few;
   }
 
@@ -57,7 +62,8 @@ module _ (all before rest : Rows) (fields : List (List ℕ)) (whole : all ≡ (b
       ap (λ rows. field_at rows r c) front ∙ ap (λ fs. get_or fs c []) (get_or-append before (fields ∷ rest) [] r less)
 
   -- no formula in the records before it is refused
-  earlier_kept : (sheet : SheetValue) → HoldsRecords before sheet → sheet.sizes ≡ sizes_of all → (r c : ℕ) → r < length before → c < length (fields_at all r) → ¬ IsRefusedFormula sheet.edition (field_at all r c)
+  earlier_kept : (sheet : SheetValue) → HoldsRecords before sheet → sheet.sizes ≡ sizes_of all → (r c : ℕ)
+      → r < length before → c < length (fields_at all r) → ¬ IsRefusedFormula sheet.edition (field_at all r c)
   earlier_kept sheet holds sizes r c less within refused =
       let row_below : r < length all = (let b = below in omega (arith, less, b)) in
       let beside : c < longest all = longest_of all r c row_below within in
@@ -65,8 +71,10 @@ module _ (all before rest : Rows) (fields : List (List ℕ)) (whole : all ≡ (b
       refused_none sheet.edition sheet.labels (field_at before r c) (content_of sheet (cell_there r c)) (subst (IsRefusedFormula sheet.edition) same refused)
       (holds.cells r c (subst (λ (s : Sizes). r < s.rows) (sym sizes) row_below) (subst (λ (s : Sizes). c < s.cols) (sym sizes) beside))
 
-  first_here : (sheet : SheetValue) → HoldsRecords before sheet → sheet.sizes ≡ sizes_of all → (col : ℕ) → col < length fields → IsRefusedFormula sheet.edition (get_or fields col [])
-      → ((c : ℕ) → c < col → ¬ IsRefusedFormula sheet.edition (get_or fields c [])) → IsFirstField (IsRefusedFormula sheet.edition) all (cell_there (length before) col)
+  first_here : (sheet : SheetValue) → HoldsRecords before sheet → sheet.sizes ≡ sizes_of all → (col : ℕ)
+      → col < length fields → IsRefusedFormula sheet.edition (get_or fields col [])
+      → ((c : ℕ) → c < col → ¬ IsRefusedFormula sheet.edition (get_or fields c []))
+      → IsFirstField (IsRefusedFormula sheet.edition) all (cell_there (length before) col)
   first_here sheet holds sizes col within refused clean = record {
     row = length before;
     col = col;
@@ -85,23 +93,35 @@ module _ (all before rest : Rows) (fields : List (List ℕ)) (whole : all ≡ (b
   why_here Why col why =
       let row_is : length before + 1 - 1 ≡ length before = omega arith in
       let col_is : col + 1 - 1 ≡ col = omega arith in
-      subst (λ k. Why (field_at all k (col + 1 - 1))) (sym row_is) (subst (λ k. Why (field_at all (length before) k)) (sym col_is) (subst (λ fs. Why (get_or fs col [])) (sym here) why))
+      subst (λ k. Why (field_at all k (col + 1 - 1))) (sym row_is) (subst (λ k. Why (field_at all (length before) k))
+      (sym col_is) (subst (λ fs. Why (get_or fs col [])) (sym here) why))
 
   -- a record that is refused tells what the text gives
-  pub row_refused : (sheet : SheetValue) → HoldsRecords before sheet → sheet.sizes ≡ sizes_of all → (refused : SheetRefused) → refused ≢ Memory → IsRowRefusal sheet.edition (length before) fields refused → IsGivenByRecords sheet.edition all (Err refused)
+  pub row_refused : (sheet : SheetValue) → HoldsRecords before sheet → sheet.sizes ≡ sizes_of all
+      → (refused : SheetRefused) → refused ≢ Memory → IsRowRefusal sheet.edition (length before) fields refused
+      → IsGivenByRecords sheet.edition all (Err refused)
   row_refused sheet holds sizes (NotUtf8 number) other is = absurd is.why
   row_refused sheet holds sizes (TooManyCells height width) other is = absurd is.why
   row_refused sheet holds sizes (FieldTooLong at) other is = absurd is.why
   row_refused sheet holds sizes (FormulaTooDeep at) other is =
       subst (λ k. IsFirstRefused sheet.edition IsDeepFormula all k) (sym is.why.0)
-      (record { readable = readable; first = first_here sheet holds sizes is.col is.within (inl is.why.1) is.before; why = why_here IsDeepFormula is.col is.why.1 })
+      (record {
+        readable = readable;
+        first = first_here sheet holds sizes is.col is.within (inl is.why.1) is.before;
+        why = why_here IsDeepFormula is.col is.why.1;
+      })
   row_refused sheet holds sizes (TooManyRefs at) other is =
       subst (λ k. IsFirstRefused sheet.edition (HasTooManyRefs sheet.edition) all k) (sym is.why.0)
-      (record { readable = readable; first = first_here sheet holds sizes is.col is.within (inr is.why.1) is.before; why = why_here (HasTooManyRefs sheet.edition) is.col is.why.1 })
+      (record {
+        readable = readable;
+        first = first_here sheet holds sizes is.col is.within (inr is.why.1) is.before;
+        why = why_here (HasTooManyRefs sheet.edition) is.col is.why.1;
+      })
   row_refused sheet holds sizes UnknownEdition other is = absurd is.why
   row_refused sheet holds sizes Memory other is = absurd (other refl)
 
-module _ {R : Type 0} (left : R → Option (List ℕ)) (text : List ℕ) (all : Rows) (has : AreRecords default_config StartRecord text all) (readable : AreReadable all)
+module _ {R : Type 0} (left : R → Option (List ℕ)) (text : List ℕ) (all : Rows)
+    (has : AreRecords default_config StartRecord text all) (readable : AreReadable all)
     (old : SheetValue) (blank : old ≡ blank_sheet old.edition (sizes_of all)) where
   old_sizes : old.sizes ≡ sizes_of all
   old_sizes = ap (λ (s : SheetValue). s.sizes) blank
@@ -153,7 +173,9 @@ module _ {R : Type 0} (left : R → Option (List ℕ)) (text : List ℕ) (all : 
   -- one record more
   pub way_goes : (row : ℕ) (fields : List (List ℕ)) (between new : SheetValue) (reader later : Reader R) → (way : HasFilled left text row old between reader)
       → HasReadRecords left text (way.rows ++ fields ∷ []) later
-      → ((rows : Rows) → length rows ≡ row → HoldsRecords rows between → HoldsRecords (rows ++ fields ∷ []) new) → new.edition ≡ between.edition → new.sizes ≡ between.sizes → length new.labels ≤ (row + 1) * between.sizes.cols
+      → ((rows : Rows) → length rows ≡ row → HoldsRecords rows between → HoldsRecords (rows ++ fields ∷ []) new)
+      → new.edition ≡ between.edition → new.sizes ≡ between.sizes
+      → length new.labels ≤ (row + 1) * between.sizes.cols
       → HasFilled left text (row + 1) old new later
   way_goes row fields between new reader later way read filled edition sizes few = record {
     rows = way.rows ++ fields ∷ [];
@@ -171,13 +193,16 @@ module _ {R : Type 0} (left : R → Option (List ℕ)) (text : List ℕ) (all : 
   way_fits row fields between reader later way read =
       let front = rows_in_front default_config StartRecord text (way.rows ++ fields ∷ []) all later.state read.rest read.reached has in
       let sizes : between.sizes ≡ sizes_of all = way.sizes ∙ old_sizes in
-      let few : length between.labels ≤ length way.rows * between.sizes.cols = subst (λ k. length between.labels ≤ k * between.sizes.cols) (sym way.count) (subst (λ (s : Sizes). length between.labels ≤ row * s.cols) (sym way.sizes) way.few) in
+      let few : length between.labels ≤ length way.rows * between.sizes.cols =
+      subst (λ k. length between.labels ≤ k * between.sizes.cols) (sym way.count)
+      (subst (λ (s : Sizes). length between.labels ≤ row * s.cols) (sym way.sizes) way.few) in
       subst (λ k. IsRecordFor between k fields) way.count
       (record_fits all way.rows front.0 fields front.1 readable between way.holds sizes few)
 
   -- where it is refused, that is what the text gives
   pub way_refused : (row : ℕ) (fields : List (List ℕ)) (between : SheetValue) (reader later : Reader R) → (way : HasFilled left text row old between reader)
-      → HasReadRecords left text (way.rows ++ fields ∷ []) later → (refused : SheetRefused) → refused ≢ Memory → IsRowRefusal between.edition row fields refused → IsGivenByRecords old.edition all (Err refused)
+      → HasReadRecords left text (way.rows ++ fields ∷ []) later → (refused : SheetRefused) → refused ≢ Memory
+      → IsRowRefusal between.edition row fields refused → IsGivenByRecords old.edition all (Err refused)
   way_refused row fields between reader later way read refused other is =
       let front = rows_in_front default_config StartRecord text (way.rows ++ fields ∷ []) all later.state read.rest read.reached has in
       let sizes : between.sizes ≡ sizes_of all = way.sizes ∙ old_sizes in

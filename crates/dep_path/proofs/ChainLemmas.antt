@@ -22,8 +22,10 @@ pub chains_ends : ChainsAreTheirEnds
 chains_ends pairs first cells = (path_of pairs first cells, chain_of pairs first (last_of first cells) cells)
 
 pub shortest_chains : ShortestAreChains
-shortest_chains pairs from to chain shortest =
-    (rw shortest.begins (chain_of pairs from to shortest.cells shortest.path), (shortest.cells, shortest.begins, ends_at pairs from to shortest.cells shortest.path))
+shortest_chains pairs from to chain shortest = (
+  rw shortest.begins (chain_of pairs from to shortest.cells shortest.path),
+  (shortest.cells, shortest.begins, ends_at pairs from to shortest.cells shortest.path),
+)
 
 pub shortest_length : ShortestAreOfOneLength
 shortest_length pairs from to chain shortest cells is ends =
@@ -43,12 +45,14 @@ pub last_more : (first x : Position) (cells : List Position) → last_of first (
 last_more first x [] = refl
 last_more first x (next ∷ cells) = last_more next x cells
 
-pub chain_more : (pairs : List Pair) (first x : Position) (cells : List Position) → IsChain pairs (first ∷ cells) → Step pairs (last_of first cells) x → IsChain pairs (first ∷ (cells ++ x ∷ []))
+pub chain_more : (pairs : List Pair) (first x : Position) (cells : List Position) → IsChain pairs (first ∷ cells)
+    → Step pairs (last_of first cells) x → IsChain pairs (first ∷ (cells ++ x ∷ []))
 chain_more pairs first x [] chain step = (step, tt)
 chain_more pairs first x (next ∷ cells) chain step = (chain.0, chain_more pairs next x cells chain.1 step)
 
 -- in a chain each cell depends on the one before
-pub chain_at : (pairs : List Pair) (first x : Position) (cells : List Position) (place : ℕ) → place < length cells → x ≡ get_or cells place x → IsChain pairs (first ∷ cells)
+pub chain_at : (pairs : List Pair) (first x : Position) (cells : List Position) (place : ℕ) → place < length cells
+    → x ≡ get_or cells place x → IsChain pairs (first ∷ cells)
     → Step pairs (last_of first (take place cells)) x
 chain_at pairs first x [] place below at chain = absurd (omega (arith, below))
 chain_at pairs first x (next ∷ cells) zero below at chain = subst (λ (to : Position). Step pairs first to) (sym at) chain.0

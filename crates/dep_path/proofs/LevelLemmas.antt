@@ -1,5 +1,6 @@
 -- A walk by levels, out from a cell and back to it.
-use Rattle.std.proofs.Common.{◌≡◌, ◌≤◌, ◌<◌, ◌+◌, ◌↔◌, ◌⊎◌, inl, inr, ℕ, zero, suc, List, [], ◌∷◌, ◌++◌, length, map, reverse, get_or, Option, Some, None, refl, sym, ◌∙◌, ap, subst, arith}
+use Rattle.std.proofs.Common.{◌≡◌, ◌≤◌, ◌<◌, ◌+◌, ◌↔◌, ◌⊎◌, inl, inr, ℕ, zero, suc, List, [], ◌∷◌, ◌++◌, length, map}
+use Rattle.std.proofs.Common.{reverse, get_or, Option, Some, None, refl, sym, ◌∙◌, ap, subst, arith}
 use Rattle.std.specs.Option.{option_to_list}
 use Rattle.std.proofs.lemmas.Bool.{cases_lt}
 use Rattle.std.proofs.lemmas.List.{reverse-append, map-append, length_push, get_or_push}
@@ -23,7 +24,11 @@ first_gathered from range old new waited waiting is empty none gathers = record 
   waits = gathers.waits ∙ ap (λ (l : List Corners). l ++ gathers.added) none;
   gained = λ cell. subst (λ (l : List Corners). IsAmong new cell ↔ (IsAmong l cell ⊎ IsAmong gathers.added cell)) empty (gathers.gained cell);
   only = λ cell among. is_itself from cell (subst (IsIn cell) (is ∙ asked_one from) (among_one range cell (gathers.only cell among)));
-  all = λ cell same. gathers.all cell ((among_cons range [] cell).1 (inl (subst (λ (at : Position). IsIn at range) (sym same) (subst (IsIn from) (sym (is ∙ asked_one from)) (in_itself from)))));
+  all =
+      λ cell same. gathers.all cell
+      ((among_cons range [] cell).1
+      (inl (subst (λ (at : Position). IsIn at range) (sym same) (subst (IsIn from) (sym (is ∙ asked_one from))
+      (in_itself from)))));
   fewer = subst (λ (l : List Corners). absent new + length gathers.added ≤ absent l) empty gathers.fewer;
 }
 
@@ -56,7 +61,8 @@ record HasLastStep (step : Position → Position → Type 0) (from to : Position
   steps : length cells ≡ count
   last : step before to
 
-last_step : (step : Position → Position → Type 0) (from to : Position) (cells : List Position) (count : ℕ) → IsPath step from cells to → length cells ≡ suc count → HasLastStep step from to count
+last_step : (step : Position → Position → Type 0) (from to : Position) (cells : List Position) (count : ℕ)
+    → IsPath step from cells to → length cells ≡ suc count → HasLastStep step from to count
 last_step step from to [] count path is = absurd (omega (arith, is))
 last_step step from to (next ∷ []) count path is =
     record { before = from; cells = []; path = refl; steps = omega (arith, is); last = subst (λ (x : Position). step from x) path.1 path.0 }
@@ -66,7 +72,8 @@ last_step step from to (next ∷ after ∷ cells) (suc count) path is =
     record { before = rest.before; cells = next ∷ rest.cells; path = (path.0, rest.path); steps = omega (arith, rest.steps); last = rest.last }
 
 -- the first level
-pub out_first : (pairs : List Pair) (from to : Position) (seen level : List Corners) → Gathers [] seen [] level (λ cell. cell ≡ from) → IsGoingOut pairs from to seen (level ∷ [])
+pub out_first : (pairs : List Pair) (from to : Position) (seen level : List Corners)
+    → Gathers [] seen [] level (λ cell. cell ≡ from) → IsGoingOut pairs from to seen (level ∷ [])
 out_first pairs from to seen level gathers = record {
   lead = λ cell among. gathers.only cell (subst (λ (l : List Corners). IsAmong l cell) gathers.waits among);
   begun = gathers.all from refl;
@@ -151,7 +158,8 @@ pub out_none : (pairs : List Pair) (from to : Position) (seen more last next : L
     → IsGoingOut pairs from to seen (last ∷ levels) → ¬ IsAmong seen to → Gathers seen more [] next (IsDirect pairs last) → next ≡ []
     → ¬ Reach pairs (one_cell from) to
 out_none pairs from to seen more last next levels out unseen gathers empty reach =
-    unseen (path_within (Step pairs) (IsAmong seen) closed reach.from to reach.cells (subst (IsAmong seen) (sym (is_itself from reach.from reach.starts)) out.begun) reach.path)
+    unseen (path_within (Step pairs) (IsAmong seen) closed reach.from to reach.cells
+    (subst (IsAmong seen) (sym (is_itself from reach.from reach.starts)) out.begun) reach.path)
   where
     no_new : (cell : Position) → ¬ IsAmong gathers.added cell
     no_new cell among = none_among cell (subst (λ (l : List Corners). IsAmong l cell) (sym gathers.waits ∙ empty) among)
@@ -171,7 +179,8 @@ out_none pairs from to seen more last next levels out unseen gathers empty reach
         by_part (inr here) = old_only after (gathers.all after (cell, here, step))
 
 -- the levels to the other cell
-pub out_there : (pairs : List Pair) (from to : Position) (seen : List Corners) (levels : List (List Corners)) → IsGoingOut pairs from to seen levels → IsAmong seen to → LeadOut pairs from to levels
+pub out_there : (pairs : List Pair) (from to : Position) (seen : List Corners) (levels : List (List Corners))
+    → IsGoingOut pairs from to seen levels → IsAmong seen to → LeadOut pairs from to levels
 out_there pairs from to seen levels out among = record { lead = out.lead; last = out.ends among; least = out.least }
 
 -- how far the way back has come: from a cell of a level, up to the other one
@@ -184,7 +193,8 @@ pub record IsComingBack (pairs : List Pair) (from to cell : Position) (chain : L
   pub lead : LeadFrom pairs from (level ∷ levels)
   pub least : (others : List Position) → IsPath (Step pairs) from others to → length above + length levels ≤ length others
 
-pub back_first : (pairs : List Pair) (from to : Position) (last : List Corners) (levels : List (List Corners)) → LeadOut pairs from to (last ∷ levels) → IsComingBack pairs from to to (to ∷ []) levels
+pub back_first : (pairs : List Pair) (from to : Position) (last : List Corners) (levels : List (List Corners))
+    → LeadOut pairs from to (last ∷ levels) → IsComingBack pairs from to to (to ∷ []) levels
 back_first pairs from to last levels out = record {
   above = [];
   chain_is = refl;
@@ -212,7 +222,8 @@ back_next pairs from to cell below chain before levels back one = record {
   least = λ others path. omega (arith, back.least others path);
 }
 
-pub back_there : (pairs : List Pair) (from to cell : Position) (chain : List Position) → IsComingBack pairs from to cell chain [] → IsShortest pairs from to chain
+pub back_there : (pairs : List Pair) (from to cell : Position) (chain : List Position)
+    → IsComingBack pairs from to cell chain [] → IsShortest pairs from to chain
 back_there pairs from to cell chain back =
     let is : cell ≡ from = back.lead cell back.among in
     record {
@@ -239,7 +250,8 @@ end_of x (y ∷ ys) =
     record { front = x ∷ rest.front; last = rest.last; split = ap (λ l. x ∷ l) rest.split }
 
 -- the level with the other cell is taken off
-pub back_begun : {X : Type 0} (f : X → List Corners) (pairs : List Pair) (from to : Position) (levels rest : List X) (taken : Option X) → levels ≡ rest ++ option_to_list taken
+pub back_begun : {X : Type 0} (f : X → List Corners) (pairs : List Pair) (from to : Position) (levels rest : List X)
+    (taken : Option X) → levels ≡ rest ++ option_to_list taken
     → (taken ≡ None → levels ≡ []) → LeadOut pairs from to (reverse (map f levels)) → IsComingBack pairs from to to (to ∷ []) (reverse (map f rest))
 back_begun f pairs from to levels rest (Some level) split none out =
     back_first pairs from to (f level) (reverse (map f rest)) (subst (LeadOut pairs from to) (turned f rest levels level split) out)
@@ -250,7 +262,8 @@ pub record HasLast {X : Type 0} (f : X → List Corners) (levels : List X) (leve
   pub before : List (List Corners)
   pub turn : reverse (map f levels) ≡ f level ∷ before
 
-pub last_turned : {X : Type 0} (f : X → List Corners) (pairs : List Pair) (from : Position) (levels : List X) (place : ℕ) (level : X) → LeadFrom pairs from (reverse (map f levels))
+pub last_turned : {X : Type 0} (f : X → List Corners) (pairs : List Pair) (from : Position) (levels : List X)
+    (place : ℕ) (level : X) → LeadFrom pairs from (reverse (map f levels))
     → level ≡ get_or levels place level → length levels ≡ place + 1 → HasLast f levels level
 last_turned f pairs from [] place level lead at last = absurd lead
 last_turned f pairs from (first ∷ levels) place level lead at last =
@@ -259,7 +272,8 @@ last_turned f pairs from (first ∷ levels) place level lead at last =
     let same : level ≡ end.last = at ∙ (ap (λ l. get_or l place level) end.split ∙ get_or_push end.front end.last level place front) in
     record { before = reverse (map f end.front); turn = turned f end.front (first ∷ levels) level (end.split ∙ ap (λ x. end.front ++ x ∷ []) (sym same)) }
 
-pub some_levels : {X : Type 0} (f : X → List Corners) (pairs : List Pair) (from : Position) (levels : List X) → LeadFrom pairs from (reverse (map f levels)) → 1 ≤ length levels
+pub some_levels : {X : Type 0} (f : X → List Corners) (pairs : List Pair) (from : Position) (levels : List X)
+    → LeadFrom pairs from (reverse (map f levels)) → 1 ≤ length levels
 some_levels f pairs from [] lead = absurd lead
 some_levels f pairs from (level ∷ levels) lead = omega arith
 

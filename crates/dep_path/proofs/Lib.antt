@@ -1,3 +1,3 @@
-pub mod ChainLemmas
-pub mod LevelLemmas
-pub mod StepLemmas
+mod ChainLemmas
+mod LevelLemmas
+mod StepLemmas

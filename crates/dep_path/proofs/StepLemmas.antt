@@ -44,7 +44,9 @@ one_more pairs ranges range found more holds adds cell = (there, back)
             (direct.0, (among_append ranges (range ∷ []) direct.0).1 (inr ((among_cons range [] direct.0).1 (inl direct.1))), direct.2)
 
     back : IsDirect pairs (ranges ++ range ∷ []) cell → IsAmong more cell
-    back direct = subst (λ (l : List Corners). IsAmong l cell) (sym adds.whole) ((among_append found adds.added cell).1 (by_part ((among_append ranges (range ∷ []) direct.0).0 direct.1)))
+    back direct =
+        subst (λ (l : List Corners). IsAmong l cell) (sym adds.whole) ((among_append found adds.added cell).1
+        (by_part ((among_append ranges (range ∷ []) direct.0).0 direct.1)))
       where
         by_part : IsAmong ranges direct.0 ⊎ IsAmong (range ∷ []) direct.0 → IsAmong found cell ⊎ IsAmong adds.added cell
         by_part (inl old) = inl ((holds cell).1 (direct.0, old, direct.2))
@@ -76,7 +78,8 @@ take_all (x ∷ xs) zero past = absurd (omega (arith, past))
 take_all (x ∷ xs) (suc k) past = ap (λ l. x ∷ l) (take_all xs k (omega (arith, past)))
 
 -- ranges that share no cell with one more
-pub shares_none_more : (Has : Position → Type 0) (others : List Corners) (k : ℕ) (x : Corners) → k < length others → x ≡ get_or others k x → SharesNone Has (take k others)
+pub shares_none_more : (Has : Position → Type 0) (others : List Corners) (k : ℕ) (x : Corners) → k < length others
+    → x ≡ get_or others k x → SharesNone Has (take k others)
     → ((cell : Position) → Has cell → ¬ IsIn cell x) → SharesNone Has (take (k + 1) others)
 shares_none_more Has others k x below at before here cell has among =
     by_part ((among_append (take k others) (x ∷ []) cell).0 (subst (λ (l : List Corners). IsAmong l cell) (take_more others k x below at) among))
@@ -95,8 +98,14 @@ among_none_more some others k x below at before here cell among other =
     by_part (inr new) = here cell (among_one x cell new) other
 
 -- a range of a list has its cells
-pub among_one_of : (ranges : List Corners) (k : ℕ) (x : Corners) (cell : Position) → k < length ranges → x ≡ get_or ranges k x → IsIn cell x → IsAmong ranges cell
-among_one_of ranges k x cell below at inside = record { range = x; listed = subst (λ (r : Corners). Contains ranges r) (sym at) (Contains-get_or ranges k x below); inside = inside }
+pub among_one_of : (ranges : List Corners) (k : ℕ) (x : Corners) (cell : Position) → k < length ranges
+    → x ≡ get_or ranges k x → IsIn cell x → IsAmong ranges cell
+among_one_of ranges k x cell below at inside =
+    record {
+      range = x;
+      listed = subst (λ (r : Corners). Contains ranges r) (sym at) (Contains-get_or ranges k x below);
+      inside = inside;
+    }
 
 -- the head of a range is one of its cells
 pub head_in : (range : Corners) (cell : Position) → cell ≡ range.head → IsOrdered range.head range.tail → IsIn cell range
@@ -117,7 +126,8 @@ asked_one cell =
 pub precedents_asked : (pairs : List Pair) (cell : Position) (range : Corners) (old found : List Corners) → range ≡ span_of cell cell → old ≡ []
     → AddsDirectPrecedents pairs range old found → (from : Position) → IsAmong found from ↔ Step pairs from cell
 precedents_asked pairs cell range old found is empty adds =
-    precedents_of pairs cell found (subst (λ (l : List Corners). AddsDirectPrecedents pairs (one_cell cell) l found) empty (subst (λ (r : Corners). AddsDirectPrecedents pairs r old found) (is ∙ asked_one cell) adds))
+    precedents_of pairs cell found (subst (λ (l : List Corners). AddsDirectPrecedents pairs (one_cell cell) l found)
+    empty (subst (λ (r : Corners). AddsDirectPrecedents pairs r old found) (is ∙ asked_one cell) adds))
 
 -- whether a cell was found among ranges
 pub found_among : (cell : Position) (range : Corners) (others : List Corners) (result : Option Position) → range ≡ span_of cell cell

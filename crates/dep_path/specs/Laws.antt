@@ -12,7 +12,8 @@ last_of first (next ∷ cells) = last_of next cells
 
 -- a list is a chain where steps lead along it to its last cell
 abbrev pub ChainsAreTheirEnds : Type 0
-ChainsAreTheirEnds = (pairs : List Pair) (first : Position) (cells : List Position) → IsChain pairs (first ∷ cells) ↔ IsPath (Step pairs) first cells (last_of first cells)
+ChainsAreTheirEnds = (pairs : List Pair) (first : Position) (cells : List Position) → IsChain pairs (first ∷ cells)
+    ↔ IsPath (Step pairs) first cells (last_of first cells)
 
 -- a shortest chain is one, with these ends
 abbrev pub ShortestAreChains : Type 0

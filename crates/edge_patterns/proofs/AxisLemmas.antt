@@ -60,7 +60,12 @@ module _ (edge : EdgeValue) (is : IsEdge edge) (axis : Axis) (line : IsLine axis
     where
       either : (axis_of edge.dep ≡ axis) ⊎ (edge.dep.head ≡ edge.dep.tail) → IsPairAlong axis edge range cell
       either (inl same) =
-          subst (λ (direction : Axis). IsPairAlong direction edge range cell) same (record { index = pair.index; within = pair.within; cell_is = pair.cell_is; range_is = pair.range_is })
+          subst (λ (direction : Axis). IsPairAlong direction edge range cell) same (record {
+            index = pair.index;
+            within = pair.within;
+            cell_is = pair.cell_is;
+            range_is = pair.range_is;
+          })
       either (inr cell_alone) =
           let one = count_one (axis_of edge.dep) edge.dep cell_alone in
           let single = one_cell (axis_of edge.dep) edge.pattern edge is.shape one in

@@ -56,11 +56,20 @@ is_chain edge is same =
       some = omega (arith, several);
     }
   where
-    ends : ((along (axis_of edge.dep) edge.prec.head ≡ along (axis_of edge.dep) edge.dep.head + 1) × (along (axis_of edge.dep) edge.prec.tail ≡ along (axis_of edge.dep) edge.dep.tail + 1)) ⊎ ((along (axis_of edge.dep) edge.prec.head + 1 ≡ along (axis_of edge.dep) edge.dep.head) × (along (axis_of edge.dep) edge.prec.tail + 1 ≡ along (axis_of edge.dep) edge.dep.tail)) → along (axis_of edge.dep) edge.dep.head ≤ along (axis_of edge.dep) edge.dep.tail → along (axis_of edge.dep) edge.prec.tail ≡ along (axis_of edge.dep) edge.prec.head + (run_length edge - 1)
+    ends : ((along (axis_of edge.dep) edge.prec.head ≡ along (axis_of edge.dep) edge.dep.head + 1)
+        × (along (axis_of edge.dep) edge.prec.tail ≡ along (axis_of edge.dep) edge.dep.tail + 1))
+        ⊎ ((along (axis_of edge.dep) edge.prec.head + 1 ≡ along (axis_of edge.dep) edge.dep.head)
+        × (along (axis_of edge.dep) edge.prec.tail + 1 ≡ along (axis_of edge.dep) edge.dep.tail))
+        → along (axis_of edge.dep) edge.dep.head ≤ along (axis_of edge.dep) edge.dep.tail
+        → along (axis_of edge.dep) edge.prec.tail ≡ along (axis_of edge.dep) edge.prec.head + (run_length edge - 1)
     ends (inl after) run = omega (arith, after.0, after.1, run)
     ends (inr before) run = omega (arith, before.0, before.1, run)
 
-    moved : ((along (axis_of edge.dep) edge.prec.head ≡ along (axis_of edge.dep) edge.dep.head + 1) × (along (axis_of edge.dep) edge.prec.tail ≡ along (axis_of edge.dep) edge.dep.tail + 1)) ⊎ ((along (axis_of edge.dep) edge.prec.head + 1 ≡ along (axis_of edge.dep) edge.dep.head) × (along (axis_of edge.dep) edge.prec.tail + 1 ≡ along (axis_of edge.dep) edge.dep.tail)) → (prec_head edge ≡ run_head edge + 1) ⊎ (prec_head edge + 1 ≡ run_head edge)
+    moved : ((along (axis_of edge.dep) edge.prec.head ≡ along (axis_of edge.dep) edge.dep.head + 1)
+        × (along (axis_of edge.dep) edge.prec.tail ≡ along (axis_of edge.dep) edge.dep.tail + 1))
+        ⊎ ((along (axis_of edge.dep) edge.prec.head + 1 ≡ along (axis_of edge.dep) edge.dep.head)
+        × (along (axis_of edge.dep) edge.prec.tail + 1 ≡ along (axis_of edge.dep) edge.dep.tail))
+        → (prec_head edge ≡ run_head edge + 1) ⊎ (prec_head edge + 1 ≡ run_head edge)
     moved (inl after) = inl after.0
     moved (inr before) = inr before.0
 
@@ -73,7 +82,8 @@ module _ (edge : EdgeValue) (chain : IsChain edge) where
   last_is index within = rw (chain.pattern, chain.last) (omega (arith, within))
 
   -- a part of the rectangle has the points between its ends
-  ranges_in : (from to : ℕ) (cell : Position) → to < run_length edge → IsIn cell (part_of_prec edge from to) → (index : ℕ) × (from ≤ index) × (index ≤ to) × (cell ≡ point edge (prec_head edge + index))
+  ranges_in : (from to : ℕ) (cell : Position) → to < run_length edge → IsIn cell (part_of_prec edge from to)
+      → (index : ℕ) × (from ≤ index) × (index ≤ to) × (cell ≡ point edge (prec_head edge + index))
   ranges_in from to cell within inside =
       let axis = axis_of edge.dep in
       let (begins, ends, same) = on_line axis edge.prec _ _ cell chain.thin inside in
@@ -86,7 +96,9 @@ module _ (edge : EdgeValue) (chain : IsChain edge) where
   in_ranges : (from to index : ℕ) → to < run_length edge → from ≤ index → index ≤ to → IsIn (point edge (prec_head edge + index)) (part_of_prec edge from to)
   in_ranges from to index within begins ends =
       let axis = axis_of edge.dep in
-      let inside = in_line axis edge.prec (first_along axis edge from) (last_along axis edge to) (prec_head edge + index) chain.thin (rw (first_is from) (omega (arith, begins))) (rw (last_is to within) (omega (arith, ends))) in
+      let inside = in_line axis edge.prec (first_along axis edge from) (last_along axis edge to)
+      (prec_head edge + index) chain.thin (rw (first_is from) (omega (arith, begins)))
+      (rw (last_is to within) (omega (arith, ends))) in
       subst (λ (index_across : ℕ). IsIn (position_at axis (prec_head edge + index) index_across) (part_of_prec edge from to)) chain.line inside
 
   -- the one cell of a cell's range
@@ -110,7 +122,8 @@ module _ (edge : EdgeValue) (chain : IsChain edge) where
   -- where each cell refers to the one before it, the run is reached from the first hit index on
   module _ (query : Corners) (indices : Indices) (meant : AreMeant (run_length edge) (IsHit edge query) indices) where
     module _ (before : prec_head edge + 1 ≡ run_head edge) where
-      onward_in : (cell : Position) → IsSpreadTo edge query cell → (index : ℕ) × (indices.from ≤ index) × (index < run_length edge) × (cell ≡ run_cell edge index)
+      onward_in : (cell : Position) → IsSpreadTo edge query cell → (index : ℕ) × (indices.from ≤ index)
+          × (index < run_length edge) × (cell ≡ run_cell edge index)
       onward_in cell (reach_at_once _ direct) =
           let (index, within, same, hit) = direct_index edge query cell direct in
           (index, ((meant.meant index within).1 hit).0, within, same)
@@ -122,7 +135,9 @@ module _ (edge : EdgeValue) (chain : IsChain edge) where
       onward_from : (count : ℕ) → indices.from + count < run_length edge → IsSpreadTo edge query (run_cell edge (indices.from + count))
       onward_from zero within =
           let at : indices.from + 0 ≡ indices.from = omega arith in
-          rw at (reach_at_once _ (hit_direct edge query indices.from (omega (arith, within)) ((meant.meant indices.from (omega (arith, within))).0 (omega arith, meant.ordered))))
+          rw at
+          (reach_at_once _ (hit_direct edge query indices.from (omega (arith, within))
+          ((meant.meant indices.from (omega (arith, within))).0 (omega arith, meant.ordered))))
       onward_from (suc count) within =
           let less : indices.from + count < run_length edge = omega (arith, within) in
           let coordinate : run_head edge + (indices.from + count) ≡ prec_head edge + (indices.from + suc count) = omega (arith, before) in
@@ -172,18 +187,32 @@ module _ (edge : EdgeValue) (chain : IsChain edge) where
 
   -- the cells of a run that are asked for, and where their ranges lead
   module _ (query : Corners) (indices : Indices) (meant : AreMeant (run_length edge) (IsAsked edge query) indices) where
-    asked_index : (from : Position) (range : Corners) (pair : IsPair edge range from) → IsIn from query → (indices.from ≤ pair.index) × (pair.index ≤ indices.to)
+    asked_index : (from : Position) (range : Corners) (pair : IsPair edge range from) → IsIn from query
+        → (indices.from ≤ pair.index) × (pair.index ≤ indices.to)
     asked_index from range pair asked =
         (meant.meant pair.index pair.within).1 (subst (λ (c : Position). IsIn c query) pair.cell_is asked)
 
-    referred_at : (index : ℕ) → index < run_length edge → indices.from ≤ index → index ≤ indices.to → IsReferred edge query (point edge (prec_head edge + index))
+    referred_at : (index : ℕ) → index < run_length edge → indices.from ≤ index → index ≤ indices.to
+        → IsReferred edge query (point edge (prec_head edge + index))
     referred_at index within begins ends =
-        record { from = run_cell edge index; range = range_at edge index; asked = (meant.meant index within).0 (begins, ends); pair = pair_at index within; inside = in_range index within }
+        record {
+          from = run_cell edge index;
+          range = range_at edge index;
+          asked = (meant.meant index within).0 (
+            begins,
+            ends,
+          );
+          pair = pair_at index within;
+          inside = in_range index within;
+        }
 
     module _ (before : prec_head edge + 1 ≡ run_head edge) where
       led_before_in : (cell : Position) → IsLedTo edge query cell → (index : ℕ) × (index ≤ indices.to) × (cell ≡ point edge (prec_head edge + index))
-      led_before_in cell (led_at_once _ referred) =
-          (referred.pair.index, (asked_index referred.from referred.range referred.pair referred.asked).1, step_in referred.range referred.from cell referred.pair referred.inside)
+      led_before_in cell (led_at_once _ referred) = (
+        referred.pair.index,
+        (asked_index referred.from referred.range referred.pair referred.asked).1,
+        step_in referred.range referred.from cell referred.pair referred.inside,
+      )
       led_before_in cell (led_onward from _ range came pair inside) =
           let (index, ends, same) = led_before_in from came in
           let step = point_along edge (prec_head edge + index) (run_head edge + pair.index) (sym same ∙ pair.cell_is) in
@@ -197,7 +226,8 @@ module _ (edge : EdgeValue) (chain : IsChain edge) where
           let more : suc index + count ≡ indices.to = omega (arith, same) in
           let within : index < run_length edge = omega (arith, same, meant.within) in
           let coordinate : prec_head edge + suc index ≡ run_head edge + index = omega (arith, before) in
-          led_onward (point edge (prec_head edge + suc index)) _ _ (led_before_from count (suc index) more) (rw coordinate (pair_at index within)) (in_range index within)
+          led_onward (point edge (prec_head edge + suc index)) _ _ (led_before_from count (suc index) more)
+          (rw coordinate (pair_at index within)) (in_range index within)
 
       pub led_before : (cell : Position) → IsIn cell (part_of_prec edge 0 indices.to) ↔ IsLedTo edge query cell
       led_before cell = (
@@ -210,9 +240,14 @@ module _ (edge : EdgeValue) (chain : IsChain edge) where
       )
 
     module _ (after : prec_head edge ≡ run_head edge + 1) where
-      led_after_in : (cell : Position) → IsLedTo edge query cell → (index : ℕ) × (indices.from ≤ index) × (index < run_length edge) × (cell ≡ point edge (prec_head edge + index))
-      led_after_in cell (led_at_once _ referred) =
-          (referred.pair.index, (asked_index referred.from referred.range referred.pair referred.asked).0, referred.pair.within, step_in referred.range referred.from cell referred.pair referred.inside)
+      led_after_in : (cell : Position) → IsLedTo edge query cell → (index : ℕ) × (indices.from ≤ index)
+          × (index < run_length edge) × (cell ≡ point edge (prec_head edge + index))
+      led_after_in cell (led_at_once _ referred) = (
+        referred.pair.index,
+        (asked_index referred.from referred.range referred.pair referred.asked).0,
+        referred.pair.within,
+        step_in referred.range referred.from cell referred.pair referred.inside,
+      )
       led_after_in cell (led_onward from _ range came pair inside) =
           let (index, begins, within, same) = led_after_in from came in
           let step = point_along edge (prec_head edge + index) (run_head edge + pair.index) (sym same ∙ pair.cell_is) in
@@ -225,7 +260,8 @@ module _ (edge : EdgeValue) (chain : IsChain edge) where
       led_after_from (suc count) within =
           let less : indices.from + count < run_length edge = omega (arith, within) in
           let coordinate : prec_head edge + (indices.from + count) ≡ run_head edge + (indices.from + suc count) = omega (arith, after) in
-          led_onward (point edge (prec_head edge + (indices.from + count))) _ _ (led_after_from count less) (rw coordinate (pair_at (indices.from + suc count) within)) (in_range (indices.from + suc count) within)
+          led_onward (point edge (prec_head edge + (indices.from + count))) _ _ (led_after_from count less)
+          (rw coordinate (pair_at (indices.from + suc count) within)) (in_range (indices.from + suc count) within)
 
       pub led_after : (cell : Position) → IsIn cell (part_of_prec edge indices.from (run_length edge - 1)) ↔ IsLedTo edge query cell
       led_after cell = (

@@ -47,8 +47,20 @@ crossed Down a b overlap = let is = crossed_from a b overlap in record { begins 
 crossed Right a b overlap = let is = crossed_from a b overlap in record { begins = is.cols; ends = is.cols_back; left = is.rows; right = is.rows_back }
 
 pub overlap : (axis : Axis) (a b : Corners) → IsOrdered a.head a.tail → IsOrdered b.head b.tail → Crossed axis a b → Overlap a b
-overlap Down a b a_ordered b_ordered is = overlap_from a b a_ordered b_ordered (record { rows = is.begins; rows_back = is.ends; cols = is.left; cols_back = is.right })
-overlap Right a b a_ordered b_ordered is = overlap_from a b a_ordered b_ordered (record { rows = is.left; rows_back = is.right; cols = is.begins; cols_back = is.ends })
+overlap Down a b a_ordered b_ordered is =
+    overlap_from a b a_ordered b_ordered (record {
+      rows = is.begins;
+      rows_back = is.ends;
+      cols = is.left;
+      cols_back = is.right;
+    })
+overlap Right a b a_ordered b_ordered is =
+    overlap_from a b a_ordered b_ordered (record {
+      rows = is.left;
+      rows_back = is.right;
+      cols = is.begins;
+      cols_back = is.ends;
+    })
 
 -- the coordinates of a cell that is made of them, and the cell that is made of a cell's
 pub along_of : (axis : Axis) (line index : ℕ) → along axis (position_at axis line index) ≡ line

@@ -14,7 +14,9 @@ use Rattle.edge_patterns.specs.Indices.{IsFirst, IsLast, IsHit}
 use Rattle.edge_patterns.proofs.Crossings.{ordered, is_ordered, Crossed, crossed, overlap}
 
 -- over a run of this shape no range has its head past its tail
-pub ends_ordered : (axis : Axis) (pattern : Pattern) (edge : EdgeValue) → edge.pattern ≡ pattern → IsShapeOf axis pattern edge → along axis edge.prec.head ≤ along axis edge.prec.tail → (index : ℕ) → index < count_along axis edge.dep → first_along axis edge index ≤ last_along axis edge index
+pub ends_ordered : (axis : Axis) (pattern : Pattern) (edge : EdgeValue) → edge.pattern ≡ pattern
+    → IsShapeOf axis pattern edge → along axis edge.prec.head ≤ along axis edge.prec.tail → (index : ℕ)
+    → index < count_along axis edge.dep → first_along axis edge index ≤ last_along axis edge index
 ends_ordered axis Single edge is shape line index within = rw is (omega arith)
 ends_ordered axis Rr edge is shape line index within = rw is (let fits = shape.0.fits in omega arith)
 ends_ordered axis Rf edge is shape line index within = rw is (let fits = shape.fits in omega arith)
@@ -46,7 +48,10 @@ range_ordered edge is index within =
     })
 
 -- a range of an edge overlaps a query exactly where their coordinates cross
-pub hit_from : (edge : EdgeValue) → IsEdge edge → (query : Corners) → IsOrdered query.head query.tail → Crossed (axis_of edge.dep) edge.prec query → (index : ℕ) → index < run_length edge → first_along (axis_of edge.dep) edge index ≤ along (axis_of edge.dep) query.tail → along (axis_of edge.dep) query.head ≤ last_along (axis_of edge.dep) edge index → IsHit edge query index
+pub hit_from : (edge : EdgeValue) → IsEdge edge → (query : Corners) → IsOrdered query.head query.tail
+    → Crossed (axis_of edge.dep) edge.prec query → (index : ℕ) → index < run_length edge
+    → first_along (axis_of edge.dep) edge index ≤ along (axis_of edge.dep) query.tail
+    → along (axis_of edge.dep) query.head ≤ last_along (axis_of edge.dep) edge index → IsHit edge query index
 hit_from edge is query query_ordered wide index within begins ends =
     let axis = axis_of edge.dep in
     let at = spans axis edge index in
@@ -57,7 +62,9 @@ hit_from edge is query query_ordered wide index within begins ends =
       right = rw at.right wide.right;
     })
 
-pub hit_crosses : (edge : EdgeValue) (query : Corners) (index : ℕ) → IsHit edge query index → (first_along (axis_of edge.dep) edge index ≤ along (axis_of edge.dep) query.tail) × (along (axis_of edge.dep) query.head ≤ last_along (axis_of edge.dep) edge index)
+pub hit_crosses : (edge : EdgeValue) (query : Corners) (index : ℕ) → IsHit edge query index
+    → (first_along (axis_of edge.dep) edge index ≤ along (axis_of edge.dep) query.tail)
+    × (along (axis_of edge.dep) query.head ≤ last_along (axis_of edge.dep) edge index)
 hit_crosses edge query index hit =
     let axis = axis_of edge.dep in
     let at = spans axis edge index in
@@ -65,7 +72,8 @@ hit_crosses edge query index hit =
     (rw at.head at is.begins, rw at.tail at is.ends)
 
 -- each range of an edge is within the rectangle
-pub hit_overlaps : (edge : EdgeValue) → IsEdge edge → (query : Corners) → IsOrdered query.head query.tail → (index : ℕ) → index < run_length edge → IsHit edge query index → Overlap edge.prec query
+pub hit_overlaps : (edge : EdgeValue) → IsEdge edge → (query : Corners) → IsOrdered query.head query.tail → (index : ℕ)
+    → index < run_length edge → IsHit edge query index → Overlap edge.prec query
 hit_overlaps edge is query query_ordered index within hit =
     let axis = axis_of edge.dep in
     let at = spans axis edge index in

@@ -18,7 +18,12 @@ same_ranges a b run same index within =
     let length : run_length a ≡ run_length b = ap (λ (dep : Corners). count_along (axis_of dep) dep) run in
     let there : run_cell a index ≡ run_cell b index = ap (λ (dep : Corners). run_cell (edge_of dep a.prec a.pattern) index) run in
     let pair = (same (range_at a index) (run_cell a index)).0 (record { index = index; within = within; cell_is = refl; range_is = refl }) in
-    one_range b (range_at a index) (range_at b index) (run_cell a index) pair (record { index = index; within = omega (arith, length, within); cell_is = there; range_is = refl })
+    one_range b (range_at a index) (range_at b index) (run_cell a index) pair (record {
+      index = index;
+      within = omega (arith, length, within);
+      cell_is = there;
+      range_is = refl;
+    })
 
 pub pairs_tell : (a b : EdgeValue) → IsEdge a → IsEdge b → AlikeInPairs a b → a ≡ b
 pairs_tell a b a_is b_is same =
@@ -33,7 +38,8 @@ pairs_tell a b a_is b_is same =
           let first = same_ranges a b run same 0 (omega (arith, several)) in
           let last = same_ranges a b run same (run_length a - 1) (omega (arith, several)) in
           let b_first : range_along axis b 0 ≡ range_at b 0 = ap (λ (d : Axis). range_along d b 0) direction in
-          let b_last : range_along axis b (run_length a - 1) ≡ range_at b (run_length a - 1) = ap (λ (d : Axis). range_along d b (run_length a - 1)) direction in
+          let b_last : range_along axis b (run_length a - 1) ≡ range_at b (run_length a - 1) =
+          ap (λ (d : Axis). range_along d b (run_length a - 1)) direction in
           ends_tell axis a.dep (range_at a 0) (range_at a (run_length a - 1)) a b a_is.line several
           (record { is_edge = a_is; dep_is = refl; first_is = refl; last_is = refl })
           (record { is_edge = b_is; dep_is = sym run; first_is = b_first ∙ sym first; last_is = b_last ∙ sym last })

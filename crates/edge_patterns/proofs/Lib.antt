@@ -2,16 +2,16 @@ pub mod AxisLemmas
 pub mod ChainLemmas
 pub mod Crossings
 pub mod EdgeLemmas
-pub mod FlipLemmas
+mod FlipLemmas
 pub mod JoinLemmas
 pub mod JoinedLemmas
 pub mod LawLemmas
-pub mod NeighbourLemmas
+mod NeighbourLemmas
 pub mod PartLemmas
-pub mod PartShapes
-pub mod QueryLemmas
+mod PartShapes
+mod QueryLemmas
 pub mod RectangleLemmas
-pub mod ReferredLemmas
-pub mod SplitLemmas
+mod ReferredLemmas
+mod SplitLemmas
 pub mod UnionLemmas
 pub mod WithinLemmas

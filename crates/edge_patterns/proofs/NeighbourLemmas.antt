@@ -47,13 +47,15 @@ chain_refers edge is same = either (is_chain edge is same).beside
         let point = subst (IsPoint edge pair.index) (sym pair.range_is) (chain_point edge (is_chain edge is same) pair.index pair.within) in
         let at = point.at in
         let line : along (axis_of edge.dep) cell ≡ run_head edge + pair.index = ap (along (axis_of edge.dep)) pair.cell_is ∙ cell_line edge pair.index in
-        let index : across (axis_of edge.dep) cell ≡ across (axis_of edge.dep) edge.dep.head = ap (across (axis_of edge.dep)) pair.cell_is ∙ cell_across edge pair.index in
+        let index : across (axis_of edge.dep) cell ≡ across (axis_of edge.dep) edge.dep.head =
+        ap (across (axis_of edge.dep)) pair.cell_is ∙ cell_across edge pair.index in
         (point.one, record { same_line = point.in_line ∙ sym index; one_on = omega (arith, at, line, behind) }))
     either (inr before) = inl (λ range cell pair.
         let point = subst (IsPoint edge pair.index) (sym pair.range_is) (chain_point edge (is_chain edge is same) pair.index pair.within) in
         let at = point.at in
         let line : along (axis_of edge.dep) cell ≡ run_head edge + pair.index = ap (along (axis_of edge.dep)) pair.cell_is ∙ cell_line edge pair.index in
-        let index : across (axis_of edge.dep) cell ≡ across (axis_of edge.dep) edge.dep.head = ap (across (axis_of edge.dep)) pair.cell_is ∙ cell_across edge pair.index in
+        let index : across (axis_of edge.dep) cell ≡ across (axis_of edge.dep) edge.dep.head =
+        ap (across (axis_of edge.dep)) pair.cell_is ∙ cell_across edge pair.index in
         (point.one, record { same_line = index ∙ sym point.in_line; one_on = omega (arith, at, line, before) }))
 
 -- at a index the range is one cell, so many before the cell of the run or so many behind it
@@ -67,7 +69,10 @@ pair_here : (edge : EdgeValue) (index : ℕ) → index < run_length edge → IsP
 pair_here edge index within = record { index = index; within = within; cell_is = refl; range_is = refl }
 
 -- a range of one cell in the line of the run
-near_from : (edge : EdgeValue) (before behind index : ℕ) → (range_at edge index).head ≡ (range_at edge index).tail → along (axis_of edge.dep) (range_at edge index).head + before ≡ along (axis_of edge.dep) (run_cell edge index) + behind → across (axis_of edge.dep) (range_at edge index).head ≡ across (axis_of edge.dep) (run_cell edge index) → Near edge before behind index
+near_from : (edge : EdgeValue) (before behind index : ℕ) → (range_at edge index).head ≡ (range_at edge index).tail
+    → along (axis_of edge.dep) (range_at edge index).head + before ≡ along (axis_of edge.dep)
+    (run_cell edge index) + behind → across (axis_of edge.dep) (range_at edge index).head ≡ across (axis_of edge.dep)
+    (run_cell edge index) → Near edge before behind index
 near_from edge before behind index one at in_line =
     let axis = axis_of edge.dep in
     let range = spans axis edge index in
@@ -93,7 +98,10 @@ near_behind edge refers index within =
     near_from edge 0 1 index one (omega (arith, step)) next.same_line
 
 -- an edge whose first and last ranges are such is a chain, as no other pattern's are
-chain_of : (edge : EdgeValue) → IsEdge edge → (before behind : ℕ) → (before ≡ 1 × behind ≡ 0) ⊎ (before ≡ 0 × behind ≡ 1) → (pattern : Pattern) → edge.pattern ≡ pattern → IsShapeOf (axis_of edge.dep) pattern edge → pattern ≢ Single → Near edge before behind 0 → Near edge before behind (run_length edge - 1) → pattern ≡ Chain
+chain_of : (edge : EdgeValue) → IsEdge edge → (before behind : ℕ) → (before ≡ 1 × behind ≡ 0)
+    ⊎ (before ≡ 0 × behind ≡ 1) → (pattern : Pattern) → edge.pattern ≡ pattern
+    → IsShapeOf (axis_of edge.dep) pattern edge → pattern ≢ Single → Near edge before behind 0
+    → Near edge before behind (run_length edge - 1) → pattern ≡ Chain
 chain_of edge is before behind way Single same shape several first last = absurd (several refl)
 chain_of edge is before behind way Rf same shape several first last =
     let fits = shape.fits in
@@ -122,7 +130,11 @@ chain_of edge is before behind way Rr same shape several first last =
       moved = moved way;
     }))
   where
-    moved : (before ≡ 1 × behind ≡ 0) ⊎ (before ≡ 0 × behind ≡ 1) → ((along (axis_of edge.dep) edge.prec.head ≡ along (axis_of edge.dep) edge.dep.head + 1) × (along (axis_of edge.dep) edge.prec.tail ≡ along (axis_of edge.dep) edge.dep.tail + 1)) ⊎ ((along (axis_of edge.dep) edge.prec.head + 1 ≡ along (axis_of edge.dep) edge.dep.head) × (along (axis_of edge.dep) edge.prec.tail + 1 ≡ along (axis_of edge.dep) edge.dep.tail))
+    moved : (before ≡ 1 × behind ≡ 0) ⊎ (before ≡ 0 × behind ≡ 1)
+        → ((along (axis_of edge.dep) edge.prec.head ≡ along (axis_of edge.dep) edge.dep.head + 1)
+        × (along (axis_of edge.dep) edge.prec.tail ≡ along (axis_of edge.dep) edge.dep.tail + 1))
+        ⊎ ((along (axis_of edge.dep) edge.prec.head + 1 ≡ along (axis_of edge.dep) edge.dep.head)
+        × (along (axis_of edge.dep) edge.prec.tail + 1 ≡ along (axis_of edge.dep) edge.dep.tail))
     moved (inl (b, h)) =
         let fits = shape.0.fits in
         let two = shape.0.several in
@@ -141,8 +153,12 @@ pub refers_chain : (edge : EdgeValue) → IsEdge edge → edge.pattern ≢ Singl
 refers_chain edge is several (inl refers) =
     let run = ordered (axis_of edge.dep) edge.dep is.dep.ordered in
     let line = run.line in
-    chain_of edge is 1 0 (inl (refl, refl)) edge.pattern refl is.shape several (near_before edge refers 0 (omega (arith, line))) (near_before edge refers (run_length edge - 1) (omega (arith, line)))
+    chain_of edge is 1 0 (inl (refl, refl)) edge.pattern refl is.shape several
+    (near_before edge refers 0 (omega (arith, line))) (near_before edge refers (run_length edge - 1)
+    (omega (arith, line)))
 refers_chain edge is several (inr refers) =
     let run = ordered (axis_of edge.dep) edge.dep is.dep.ordered in
     let line = run.line in
-    chain_of edge is 0 1 (inr (refl, refl)) edge.pattern refl is.shape several (near_behind edge refers 0 (omega (arith, line))) (near_behind edge refers (run_length edge - 1) (omega (arith, line)))
+    chain_of edge is 0 1 (inr (refl, refl)) edge.pattern refl is.shape several
+    (near_behind edge refers 0 (omega (arith, line))) (near_behind edge refers (run_length edge - 1)
+    (omega (arith, line)))

@@ -4,7 +4,8 @@ use Rattle.std.specs.Prelude.{Option, Some, None, ◌↔◌, ◌==◌, Bool, tru
 use Rattle.std.proofs.lemmas.Bool.Decides.{nat_tests}
 use Rattle.sheet_refs.specs.Cells.{Position, Corners, IsIn}
 use Rattle.edge_patterns.specs.Axes.{along, IsLine, axis_of, count_along, cell_along}
-use Rattle.edge_patterns.specs.Edges.{EdgeValue, IsEdge, IsPair, run_length, run_cell, range_at, first_along, last_along, range_along, part_of, steps_if, head_moves, tail_moves}
+use Rattle.edge_patterns.specs.Edges.{EdgeValue, IsEdge, IsPair, run_length, run_cell, range_at, first_along}
+use Rattle.edge_patterns.specs.Edges.{last_along, range_along, part_of, steps_if, head_moves, tail_moves}
 use Rattle.edge_patterns.specs.Joins.{IsPart, StandsBefore, IsPartOrNone}
 use Rattle.edge_patterns.specs.Indices.{StandsBetween}
 use Rattle.edge_patterns.proofs.Crossings.{along_of, lies}
@@ -23,7 +24,9 @@ steps_on : (moves : Bool) (first from index : ℕ) → first + steps_if moves fr
 steps_on true first from index = omega arith
 steps_on false first from index = omega arith
 
-steps_left : (moves : Bool) (last count from index to : ℕ) → from + index ≤ to → to < count → last - steps_if moves (count - 1 - to) - steps_if moves (to + 1 - from - 1 - index) ≡ last - steps_if moves (count - 1 - (from + index))
+steps_left : (moves : Bool) (last count from index to : ℕ) → from + index ≤ to → to < count
+    → last - steps_if moves (count - 1 - to) - steps_if moves (to + 1 - from - 1 - index) ≡ last - steps_if moves
+    (count - 1 - (from + index))
 steps_left true last count from index to order within = omega arith
 steps_left false last count from index to order within = omega arith
 
@@ -32,10 +35,12 @@ no_steps true first = omega arith
 no_steps false first = omega arith
 
 module _ (edge : EdgeValue) (is : IsEdge edge) (from to : ℕ) (order : from ≤ to) (within : to < run_length edge) where
-  pub run_cut : Cuts (axis_of edge.dep) edge.dep (along (axis_of edge.dep) edge.dep.head + from) (along (axis_of edge.dep) edge.dep.head + to) (part_of edge from to).dep
+  pub run_cut : Cuts (axis_of edge.dep) edge.dep (along (axis_of edge.dep) edge.dep.head + from)
+      (along (axis_of edge.dep) edge.dep.head + to) (part_of edge from to).dep
   run_cut = cuts (axis_of edge.dep) edge.dep _ _
 
-  pub prec_cut : Cuts (axis_of edge.dep) edge.prec (first_along (axis_of edge.dep) edge from) (last_along (axis_of edge.dep) edge to) (part_of edge from to).prec
+  pub prec_cut : Cuts (axis_of edge.dep) edge.prec (first_along (axis_of edge.dep) edge from)
+      (last_along (axis_of edge.dep) edge to) (part_of edge from to).prec
   prec_cut = cuts (axis_of edge.dep) edge.prec _ _
 
   pub part_line : IsLine (axis_of edge.dep) (part_of edge from to).dep
@@ -50,10 +55,13 @@ module _ (edge : EdgeValue) (is : IsEdge edge) (from to : ℕ) (order : from ≤
       rw (run_cut.head, run_cut.left, same) refl
 
   -- the ends of a part's range are those of the edge's
-  part_first : (index : ℕ) → from + index ≤ to → first_along (axis_of edge.dep) (part_of edge from to) index ≡ first_along (axis_of edge.dep) edge (from + index)
+  part_first : (index : ℕ) → from + index ≤ to
+      → first_along (axis_of edge.dep) (part_of edge from to) index ≡ first_along (axis_of edge.dep) edge (from + index)
   part_first index inside = by_test (from == to) refl
     where
-      by_test : (test : Bool) → (from == to) ≡ test → first_along (axis_of edge.dep) (part_of edge from to) index ≡ first_along (axis_of edge.dep) edge (from + index)
+      by_test : (test : Bool) → (from == to) ≡ test
+          → first_along (axis_of edge.dep) (part_of edge from to) index ≡ first_along (axis_of edge.dep) edge
+          (from + index)
       by_test true same =
           let one : from ≡ to = grind (arith, nat_tests) in
           let none : from + index ≡ from = omega (arith, one, inside) in
@@ -63,19 +71,28 @@ module _ (edge : EdgeValue) (is : IsEdge edge) (from to : ℕ) (order : from ≤
   part_last : (index : ℕ) → from + index ≤ to → last_along (axis_of edge.dep) (part_of edge from to) index ≡ last_along (axis_of edge.dep) edge (from + index)
   part_last index inside = by_test (from == to) refl
     where
-      by_test : (test : Bool) → (from == to) ≡ test → last_along (axis_of edge.dep) (part_of edge from to) index ≡ last_along (axis_of edge.dep) edge (from + index)
+      by_test : (test : Bool) → (from == to) ≡ test
+          → last_along (axis_of edge.dep) (part_of edge from to) index ≡ last_along (axis_of edge.dep) edge
+          (from + index)
       by_test true same =
           let one : from ≡ to = grind (arith, nat_tests) in
           let at : from + index ≡ to = omega (arith, one, inside) in
           rw (same, prec_cut.tail, at) (omega arith)
-      by_test false differs = rw (differs, prec_cut.tail, part_count) (steps_left (tail_moves edge.pattern) (along (axis_of edge.dep) edge.prec.tail) (run_length edge) from index to inside within)
+      by_test false differs =
+          rw (
+            differs,
+            prec_cut.tail,
+            part_count,
+          ) (steps_left (tail_moves edge.pattern) (along (axis_of edge.dep) edge.prec.tail) (run_length edge)
+          from index to inside within)
 
   part_range : (index : ℕ) → from + index ≤ to → range_along (axis_of edge.dep) (part_of edge from to) index ≡ range_at edge (from + index)
   part_range index inside =
       rw (part_first index inside, part_last index inside, prec_cut.left, prec_cut.right) refl
 
   -- a part has the pairs of the edge between its ends
-  pub part_pairs : IsEdge (part_of edge from to) → (range : Corners) (cell : Position) → IsPair (part_of edge from to) range cell ↔ (IsPair edge range cell × StandsBetween edge from (to + 1) cell)
+  pub part_pairs : IsEdge (part_of edge from to) → (range : Corners) (cell : Position)
+      → IsPair (part_of edge from to) range cell ↔ (IsPair edge range cell × StandsBetween edge from (to + 1) cell)
   part_pairs part_is range cell = (
     λ pair.
         let at = to_along (part_of edge from to) part_is (axis_of edge.dep) part_line range cell pair in
@@ -106,7 +123,9 @@ module _ (edge : EdgeValue) (is : IsEdge edge) (from to : ℕ) (order : from ≤
   part_is_part part_is = record { is_edge = part_is; pairs = part_pairs part_is }
 
 -- what is kept can be said in another way
-pub keeps_where : (edge : EdgeValue) (Kept Said : Position → Type 0) → ((range : Corners) (cell : Position) → IsPair edge range cell → Kept cell ↔ Said cell) → (result : Option EdgeValue) → IsPartOrNone result edge Kept → IsPartOrNone result edge Said
+pub keeps_where : (edge : EdgeValue) (Kept Said : Position → Type 0)
+    → ((range : Corners) (cell : Position) → IsPair edge range cell → Kept cell ↔ Said cell)
+    → (result : Option EdgeValue) → IsPartOrNone result edge Kept → IsPartOrNone result edge Said
 keeps_where edge Kept Said same None none = λ range cell pair said. none range cell pair ((same range cell pair).1 said)
 keeps_where edge Kept Said same (Some part) is = record {
   is_edge = is.is_edge;
@@ -117,7 +136,10 @@ keeps_where edge Kept Said same (Some part) is = record {
 }
 
 -- the number of a cell that lies in the run
-pub index_in_run : (edge : EdgeValue) → IsEdge edge → (cell : Position) → IsIn cell edge.dep → (along (axis_of edge.dep) cell ≡ along (axis_of edge.dep) edge.dep.head + (along (axis_of edge.dep) cell - along (axis_of edge.dep) edge.dep.head)) × (along (axis_of edge.dep) cell - along (axis_of edge.dep) edge.dep.head < run_length edge)
+pub index_in_run : (edge : EdgeValue) → IsEdge edge → (cell : Position) → IsIn cell edge.dep
+    → (along (axis_of edge.dep) cell ≡ along (axis_of edge.dep) edge.dep.head + (along (axis_of edge.dep) cell - along
+    (axis_of edge.dep) edge.dep.head))
+    × (along (axis_of edge.dep) cell - along (axis_of edge.dep) edge.dep.head < run_length edge)
 index_in_run edge is cell inside =
     let at = lies (axis_of edge.dep) cell edge.dep inside in
     let from = at.from in
@@ -137,7 +159,8 @@ module _ (edge : EdgeValue) (cell : Position) (index : ℕ) (coordinate : along 
         λ less. record { index = pair.index; begins = omega arith; ends = omega (arith, at, coordinate, less); cell_is = pair.cell_is },
       )
 
-  pub after_is : (range : Corners) (other : Position) → IsPair edge range other → StandsBetween edge (index + 1) (run_length edge) other ↔ StandsBefore edge cell other
+  pub after_is : (range : Corners) (other : Position) → IsPair edge range other
+      → StandsBetween edge (index + 1) (run_length edge) other ↔ StandsBefore edge cell other
   after_is range other pair =
       let axis = axis_of edge.dep in
       let at : along axis other ≡ along axis edge.dep.head + pair.index = ap (along axis) pair.cell_is ∙ along_of axis _ _ in (

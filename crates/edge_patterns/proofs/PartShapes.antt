@@ -39,8 +39,11 @@ record Bounds (axis : Axis) (edge : EdgeValue) (from to : ℕ) : Type 0 where
   mid : first_along axis edge from ≤ last_along axis edge to
   high : last_along axis edge to ≤ along axis edge.prec.tail
 
-bounds : (axis : Axis) (pattern : Pattern) (edge : EdgeValue) (from to : ℕ) → edge.pattern ≡ pattern → IsShapeOf axis pattern edge → along axis edge.prec.head ≤ along axis edge.prec.tail → from ≤ to → to < count_along axis edge.dep → Bounds axis edge from to
-bounds axis Single edge from to same shape line order within = record { low = rw same (omega arith); mid = rw same (omega (arith, line)); high = rw same (omega arith) }
+bounds : (axis : Axis) (pattern : Pattern) (edge : EdgeValue) (from to : ℕ) → edge.pattern ≡ pattern
+    → IsShapeOf axis pattern edge → along axis edge.prec.head ≤ along axis edge.prec.tail → from ≤ to
+    → to < count_along axis edge.dep → Bounds axis edge from to
+bounds axis Single edge from to same shape line order within =
+    record { low = rw same (omega arith); mid = rw same (omega (arith, line)); high = rw same (omega arith) }
 bounds axis Rr edge from to same shape line order within =
     let fits = shape.0.fits in
     record { low = rw same (omega arith); mid = rw same (omega (arith, fits, order, within)); high = rw same (omega arith) }
@@ -50,7 +53,8 @@ bounds axis Rf edge from to same shape line order within =
 bounds axis Fr edge from to same shape line order within =
     let fits = shape.fits in
     record { low = rw same (omega arith); mid = rw same (omega (arith, fits, order, within)); high = rw same (omega arith) }
-bounds axis Ff edge from to same shape line order within = record { low = rw same (omega arith); mid = rw same (omega (arith, line)); high = rw same (omega arith) }
+bounds axis Ff edge from to same shape line order within =
+    record { low = rw same (omega arith); mid = rw same (omega (arith, line)); high = rw same (omega arith) }
 bounds axis Chain edge from to same shape line order within =
     let fits = shape.0.fits in
     record { low = rw same (omega arith); mid = rw same (omega (arith, fits, order, within)); high = rw same (omega arith) }
@@ -76,7 +80,9 @@ module _ (axis : Axis) (edge part : EdgeValue) (from to : ℕ) (cut : Cut axis e
       omega (arith, a, b)
 
   -- what moves with the cell is beside the part exactly where it is beside the whole
-  module _ (fits : along axis edge.prec.head + (count_along axis edge.dep - 1) ≤ along axis edge.prec.tail) (head : along axis part.prec.head ≡ along axis edge.prec.head + from) (tail : along axis part.prec.tail ≡ along axis edge.prec.tail - (count_along axis edge.dep - 1 - to)) where
+  module _ (fits : along axis edge.prec.head + (count_along axis edge.dep - 1) ≤ along axis edge.prec.tail)
+      (head : along axis part.prec.head ≡ along axis edge.prec.head + from) (tail : along axis part.prec.tail ≡ along
+      axis edge.prec.tail - (count_along axis edge.dep - 1 - to)) where
     beside_part : IsBeside axis edge.dep edge.prec → IsBeside axis part.dep part.prec
     beside_part is =
         let a = cut.run_head in
@@ -161,8 +167,18 @@ module _ (edge : EdgeValue) (is : IsEdge edge) (from to : ℕ) (order : from ≤
       let right = cut.right in
       let one = is.line in
       inner_range edge.dep (part_of edge from to).dep is.dep
-      (is_in (axis_of edge.dep) _ edge.dep (record { from = omega (arith, head); to = omega (arith, head, order, within); left = omega (arith, left); right = omega (arith, left, one) }))
-      (is_in (axis_of edge.dep) _ edge.dep (record { from = omega (arith, tail); to = omega (arith, tail, within); left = omega (arith, right, one); right = omega (arith, right) }))
+      (is_in (axis_of edge.dep) _ edge.dep (record {
+        from = omega (arith, head);
+        to = omega (arith, head, order, within);
+        left = omega (arith, left);
+        right = omega (arith, left, one);
+      }))
+      (is_in (axis_of edge.dep) _ edge.dep (record {
+        from = omega (arith, tail);
+        to = omega (arith, tail, within);
+        left = omega (arith, right, one);
+        right = omega (arith, right);
+      }))
       (is_ordered (axis_of edge.dep) _ (record { line = omega (arith, head, tail, order); width = omega (arith, left, right, one) }))
 
   prec_is : IsRange (part_of edge from to).prec
@@ -179,11 +195,22 @@ module _ (edge : EdgeValue) (is : IsEdge edge) (from to : ℕ) (order : from ≤
       let high = b.high in
       let wide = at.width in
       inner_range edge.prec (part_of edge from to).prec is.prec
-      (is_in (axis_of edge.dep) _ edge.prec (record { from = omega (arith, head, low); to = omega (arith, head, mid, high); left = omega (arith, left); right = omega (arith, left, wide) }))
-      (is_in (axis_of edge.dep) _ edge.prec (record { from = omega (arith, tail, low, mid); to = omega (arith, tail, high); left = omega (arith, right, wide); right = omega (arith, right) }))
+      (is_in (axis_of edge.dep) _ edge.prec (record {
+        from = omega (arith, head, low);
+        to = omega (arith, head, mid, high);
+        left = omega (arith, left);
+        right = omega (arith, left, wide);
+      }))
+      (is_in (axis_of edge.dep) _ edge.prec (record {
+        from = omega (arith, tail, low, mid);
+        to = omega (arith, tail, high);
+        left = omega (arith, right, wide);
+        right = omega (arith, right);
+      }))
       (is_ordered (axis_of edge.dep) _ (record { line = omega (arith, head, tail, mid); width = omega (arith, left, right, wide) }))
 
-  line_is : (axis : Axis) → (axis ≡ axis_of edge.dep) ⊎ ((part_of edge from to).dep.head ≡ (part_of edge from to).dep.tail) → IsLine axis (part_of edge from to).dep
+  line_is : (axis : Axis) → (axis ≡ axis_of edge.dep)
+      ⊎ ((part_of edge from to).dep.head ≡ (part_of edge from to).dep.tail) → IsLine axis (part_of edge from to).dep
   line_is axis (inl same) = subst (λ (x : Axis). IsLine x (part_of edge from to).dep) (sym same) (part_line edge is from to order within)
   line_is axis (inr alone) = ap (across axis) alone
 
@@ -204,7 +231,9 @@ module _ (edge : EdgeValue) (is : IsEdge edge) (from to : ℕ) (order : from ≤
         prec_right = prec.right;
       }
 
-  one_or_several : (test : Bool) → (from == to) ≡ test → (axis_of (part_of edge from to).dep ≡ axis_of edge.dep) ⊎ ((part_of edge from to).dep.head ≡ (part_of edge from to).dep.tail) → IsShapeOf (axis_of (part_of edge from to).dep) (part_of edge from to).pattern (part_of edge from to)
+  one_or_several : (test : Bool) → (from == to) ≡ test → (axis_of (part_of edge from to).dep ≡ axis_of edge.dep)
+      ⊎ ((part_of edge from to).dep.head ≡ (part_of edge from to).dep.tail)
+      → IsShapeOf (axis_of (part_of edge from to).dep) (part_of edge from to).pattern (part_of edge from to)
   one_or_several true same (inr alone) = rw same (count_one (axis_of (part_of edge from to).dep) (part_of edge from to).dep alone)
   one_or_several false differ (inr alone) =
       let one = count_one (axis_of edge.dep) (part_of edge from to).dep alone in

@@ -5,7 +5,8 @@ use Rattle.sheet_refs.specs.Cells.{Position, Corners, IsIn, IsOrdered}
 use Rattle.sheet_refs.specs.Rectangles.{Overlap}
 use Rattle.edge_patterns.specs.declared.queries.Indices.{Indices}
 use Rattle.edge_patterns.specs.Axes.{along, axis_of}
-use Rattle.edge_patterns.specs.Edges.{EdgeValue, IsEdge, IsPair, run_length, run_cell, range_at, first_along, last_along, part_of_prec, steps_if, head_moves, tail_moves, single_edge}
+use Rattle.edge_patterns.specs.Edges.{EdgeValue, IsEdge, IsPair, run_length, run_cell, range_at, first_along}
+use Rattle.edge_patterns.specs.Edges.{last_along, part_of_prec, steps_if, head_moves, tail_moves, single_edge}
 use Rattle.edge_patterns.specs.Indices.{AreMeant, IsAsked, IsHit}
 use Rattle.edge_patterns.specs.Queries.{IsReferred}
 use Rattle.edge_patterns.proofs.Crossings.{ordered, cell_again}
@@ -28,7 +29,8 @@ whole_prec : (edge : EdgeValue) → part_of_prec edge 0 (run_length edge - 1) �
 whole_prec edge =
     let axis = axis_of edge.dep in
     let head : first_along axis edge 0 ≡ along axis edge.prec.head = no_steps (head_moves edge.pattern) (along axis edge.prec.head) in
-    let tail : last_along axis edge (run_length edge - 1) ≡ along axis edge.prec.tail = no_steps_left (tail_moves edge.pattern) (along axis edge.prec.tail) (run_length edge) in
+    let tail : last_along axis edge (run_length edge - 1) ≡ along axis edge.prec.tail =
+    no_steps_left (tail_moves edge.pattern) (along axis edge.prec.tail) (run_length edge) in
     rw (head, tail, cell_again axis edge.prec.head, cell_again axis edge.prec.tail) refl
 
 all_asked : (edge : EdgeValue) → IsEdge edge → AreMeant (run_length edge) (IsAsked edge edge.dep) (record { from = 0; to = run_length edge - 1 })
@@ -44,7 +46,8 @@ all_asked edge is =
       );
     }
 
-pub rectangle_has : (edge : EdgeValue) → IsEdge edge → (cell : Position) → IsIn cell edge.prec ↔ ((from : Position) × (range : Corners) × IsPair edge range from × IsIn cell range)
+pub rectangle_has : (edge : EdgeValue) → IsEdge edge → (cell : Position) → IsIn cell edge.prec
+    ↔ ((from : Position) × (range : Corners) × IsPair edge range from × IsIn cell range)
 rectangle_has edge is cell =
     let covers = referred_covers edge is edge.dep (record { from = 0; to = run_length edge - 1 }) (all_asked edge is) cell in (
       λ inside.
@@ -53,7 +56,8 @@ rectangle_has edge is cell =
       λ has.
           let (from, range, pair, inside) = has in
           let asked = (run_has_ranges edge is from).1 (range, pair) in
-          subst (λ (r : Corners). IsIn cell r) (whole_prec edge) (covers.1 (record { from = from; range = range; asked = asked; pair = pair; inside = inside })),
+          subst (λ (r : Corners). IsIn cell r) (whole_prec edge)
+          (covers.1 (record { from = from; range = range; asked = asked; pair = pair; inside = inside })),
     )
 
 pub run_asked : (edge : EdgeValue) → IsEdge edge → (query : Corners) → ((cell : Position) × IsReferred edge query cell) ↔ Overlap query edge.dep
@@ -70,31 +74,42 @@ run_asked edge is query = (
 )
 
 -- a query asks for a cell of the run exactly where it shares one with it
-pub asked_overlap : (edge : EdgeValue) → IsEdge edge → (query : Corners) (indices : Indices) → AreMeant (run_length edge) (IsAsked edge query) indices → Overlap query edge.dep
+pub asked_overlap : (edge : EdgeValue) → IsEdge edge → (query : Corners) (indices : Indices)
+    → AreMeant (run_length edge) (IsAsked edge query) indices → Overlap query edge.dep
 asked_overlap edge is query indices meant =
     let order = meant.ordered in
     let below = meant.within in
     let within : indices.from < run_length edge = omega (arith, order, below) in
-    let pair : IsPair edge (range_at edge indices.from) (run_cell edge indices.from) = record { index = indices.from; within = within; cell_is = refl; range_is = refl } in
-    (run_cell edge indices.from, record { first = (meant.meant indices.from within).0 (omega arith, order); second = (run_has_ranges edge is (run_cell edge indices.from)).1 (range_at edge indices.from, pair) })
+    let pair : IsPair edge (range_at edge indices.from) (run_cell edge indices.from) =
+    record { index = indices.from; within = within; cell_is = refl; range_is = refl } in (
+      run_cell edge indices.from,
+      record {
+        first = (meant.meant indices.from within).0 (omega arith, order);
+        second = (run_has_ranges edge is (run_cell edge indices.from)).1 (range_at edge indices.from, pair);
+      },
+    )
 
-pub none_asked : (edge : EdgeValue) → IsEdge edge → (query : Corners) → ((index : ℕ) → index < run_length edge → ¬ IsAsked edge query index) → ¬ Overlap query edge.dep
+pub none_asked : (edge : EdgeValue) → IsEdge edge → (query : Corners) → ((index : ℕ) → index < run_length edge
+    → ¬ IsAsked edge query index) → ¬ Overlap query edge.dep
 none_asked edge is query none shared =
     let (cell, both) = shared in
     let (range, pair) = (run_has_ranges edge is cell).0 both.second in
     none pair.index pair.within (subst (λ (c : Position). IsIn c query) pair.cell_is both.first)
 
 -- and hits a range exactly where it shares a cell with the rectangle
-pub hit_overlap : (edge : EdgeValue) → IsEdge edge → (query : Corners) (indices : Indices) → AreMeant (run_length edge) (IsHit edge query) indices → Overlap edge.prec query
+pub hit_overlap : (edge : EdgeValue) → IsEdge edge → (query : Corners) (indices : Indices)
+    → AreMeant (run_length edge) (IsHit edge query) indices → Overlap edge.prec query
 hit_overlap edge is query indices meant =
     let order = meant.ordered in
     let below = meant.within in
     let within : indices.from < run_length edge = omega (arith, order, below) in
     let (cell, both) = (meant.meant indices.from within).0 (omega arith, order) in
-    let pair : IsPair edge (range_at edge indices.from) (run_cell edge indices.from) = record { index = indices.from; within = within; cell_is = refl; range_is = refl } in
+    let pair : IsPair edge (range_at edge indices.from) (run_cell edge indices.from) =
+    record { index = indices.from; within = within; cell_is = refl; range_is = refl } in
     (cell, record { first = (rectangle_has edge is cell).1 (run_cell edge indices.from, range_at edge indices.from, pair, both.first); second = both.second })
 
-pub none_hit : (edge : EdgeValue) → IsEdge edge → (query : Corners) → ((index : ℕ) → index < run_length edge → ¬ IsHit edge query index) → ¬ Overlap edge.prec query
+pub none_hit : (edge : EdgeValue) → IsEdge edge → (query : Corners) → ((index : ℕ) → index < run_length edge
+    → ¬ IsHit edge query index) → ¬ Overlap edge.prec query
 none_hit edge is query none shared =
     let (cell, both) = shared in
     let (from, range, pair, inside) = (rectangle_has edge is cell).0 both.first in

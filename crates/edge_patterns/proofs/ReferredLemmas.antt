@@ -16,7 +16,8 @@ use Rattle.edge_patterns.proofs.EdgeLemmas.{spans}
 use Rattle.edge_patterns.proofs.QueryLemmas.{cuts}
 
 -- between the first index and the last, ranges begin no earlier than the first one and end no later than the last one
-begins_later : (axis : Axis) (pattern : Pattern) (edge : EdgeValue) → edge.pattern ≡ pattern → (from index : ℕ) → from ≤ index → first_along axis edge from ≤ first_along axis edge index
+begins_later : (axis : Axis) (pattern : Pattern) (edge : EdgeValue) → edge.pattern ≡ pattern → (from index : ℕ)
+    → from ≤ index → first_along axis edge from ≤ first_along axis edge index
 begins_later axis Single edge is from index later = rw is (omega arith)
 begins_later axis Rr edge is from index later = rw is (omega arith)
 begins_later axis Rf edge is from index later = rw is (omega arith)
@@ -24,7 +25,8 @@ begins_later axis Fr edge is from index later = rw is (omega arith)
 begins_later axis Ff edge is from index later = rw is (omega arith)
 begins_later axis Chain edge is from index later = rw is (omega arith)
 
-ends_earlier : (axis : Axis) (pattern : Pattern) (edge : EdgeValue) → edge.pattern ≡ pattern → (index to : ℕ) → index ≤ to → last_along axis edge index ≤ last_along axis edge to
+ends_earlier : (axis : Axis) (pattern : Pattern) (edge : EdgeValue) → edge.pattern ≡ pattern → (index to : ℕ)
+    → index ≤ to → last_along axis edge index ≤ last_along axis edge to
 ends_earlier axis Single edge is index to earlier = rw is (omega arith)
 ends_earlier axis Rr edge is index to earlier = rw is (omega arith)
 ends_earlier axis Rf edge is index to earlier = rw is (omega arith)
@@ -37,7 +39,11 @@ abbrev Holds : Axis → EdgeValue → ℕ → ℕ → Type 0
 Holds axis edge coordinate index = (first_along axis edge index ≤ coordinate) × (coordinate ≤ last_along axis edge index)
 
 -- past the end of the first range, the range that ends at the coordinate holds it
-ends_at : (axis : Axis) (pattern : Pattern) (edge : EdgeValue) → edge.pattern ≡ pattern → IsShapeOf axis pattern edge → along axis edge.prec.head ≤ along axis edge.prec.tail → (from to coordinate : ℕ) → from ≤ to → to < count_along axis edge.dep → last_along axis edge from < coordinate → coordinate ≤ last_along axis edge to → (from + (coordinate - last_along axis edge from) ≤ to) × Holds axis edge coordinate (from + (coordinate - last_along axis edge from))
+ends_at : (axis : Axis) (pattern : Pattern) (edge : EdgeValue) → edge.pattern ≡ pattern → IsShapeOf axis pattern edge
+    → along axis edge.prec.head ≤ along axis edge.prec.tail → (from to coordinate : ℕ) → from ≤ to
+    → to < count_along axis edge.dep → last_along axis edge from < coordinate → coordinate ≤ last_along axis edge to
+    → (from + (coordinate - last_along axis edge from) ≤ to)
+    × Holds axis edge coordinate (from + (coordinate - last_along axis edge from))
 ends_at axis Single edge is shape line from to coordinate begins within past ends =
     let e : last_along axis edge from ≡ last_along axis edge to = rw is refl in absurd (omega (arith, e, past, ends))
 ends_at axis Rf edge is shape line from to coordinate begins within past ends =
@@ -61,7 +67,10 @@ ends_at axis Chain edge is shape line from to coordinate begins within past ends
     rw is (omega (arith, fits, past_at, ends_to), (omega (arith, fits, past_at, ends_to), omega (arith, fits, past_at, ends_to)))
 
 -- each coordinate from the start of the first range to the end of the last one is in some range between
-held : (axis : Axis) (edge : EdgeValue) → IsShapeOf axis edge.pattern edge → along axis edge.prec.head ≤ along axis edge.prec.tail → (from to coordinate : ℕ) → from ≤ to → to < count_along axis edge.dep → first_along axis edge from ≤ coordinate → coordinate ≤ last_along axis edge to → (index : ℕ) × (from ≤ index) × (index ≤ to) × Holds axis edge coordinate index
+held : (axis : Axis) (edge : EdgeValue) → IsShapeOf axis edge.pattern edge
+    → along axis edge.prec.head ≤ along axis edge.prec.tail → (from to coordinate : ℕ) → from ≤ to
+    → to < count_along axis edge.dep → first_along axis edge from ≤ coordinate → coordinate ≤ last_along axis edge to
+    → (index : ℕ) × (from ≤ index) × (index ≤ to) × Holds axis edge coordinate index
 held axis edge shape line from to coordinate ordered_indices within begins ends =
     elim (cases_lt (last_along axis edge from) coordinate) [
       | inl past ↦
@@ -70,7 +79,9 @@ held axis edge shape line from to coordinate ordered_indices within begins ends 
       | inr early ↦ (from, omega arith, ordered_indices, (begins, early))
     ]
 
-pub referred_covers : (edge : EdgeValue) → IsEdge edge → (query : Corners) (indices : Indices) → AreMeant (run_length edge) (IsAsked edge query) indices → (cell : Position) → IsIn cell (part_of_prec edge indices.from indices.to) ↔ IsReferred edge query cell
+pub referred_covers : (edge : EdgeValue) → IsEdge edge → (query : Corners) (indices : Indices)
+    → AreMeant (run_length edge) (IsAsked edge query) indices → (cell : Position)
+    → IsIn cell (part_of_prec edge indices.from indices.to) ↔ IsReferred edge query cell
 referred_covers edge is query indices meant cell =
     let axis = axis_of edge.dep in
     let prec = ordered axis edge.prec is.prec.ordered in

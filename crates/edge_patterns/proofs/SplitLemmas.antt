@@ -9,12 +9,14 @@ use Rattle.edge_patterns.specs.Joins.{StandsBefore, IsPartOrNone, HasPair, Leave
 use Rattle.edge_patterns.proofs.Crossings.{lies, cell_again}
 use Rattle.edge_patterns.proofs.UnionLemmas.{run_has_ranges}
 
-kept_pairs : (edge : EdgeValue) (Kept : Position → Type 0) (part : Option EdgeValue) → IsPartOrNone part edge Kept → (range : Corners) (cell : Position) → HasPair part range cell ↔ (IsPair edge range cell × Kept cell)
+kept_pairs : (edge : EdgeValue) (Kept : Position → Type 0) (part : Option EdgeValue) → IsPartOrNone part edge Kept
+    → (range : Corners) (cell : Position) → HasPair part range cell ↔ (IsPair edge range cell × Kept cell)
 kept_pairs edge Kept None none range cell = (λ no. absurd no, λ both. none range cell both.0 both.1)
 kept_pairs edge Kept (Some part) is range cell = is.pairs range cell
 
 -- cells of the run with the same coordinate are the same
-same_cell : (edge : EdgeValue) → IsEdge edge → (a b : Position) → IsIn a edge.dep → IsIn b edge.dep → along (axis_of edge.dep) a ≡ along (axis_of edge.dep) b → a ≡ b
+same_cell : (edge : EdgeValue) → IsEdge edge → (a b : Position) → IsIn a edge.dep → IsIn b edge.dep
+    → along (axis_of edge.dep) a ≡ along (axis_of edge.dep) b → a ≡ b
 same_cell edge is a b a_in b_in same =
     let axis = axis_of edge.dep in
     let line = is.line in
@@ -27,7 +29,9 @@ same_cell edge is a b a_in b_in same =
     let width : across axis a ≡ across axis b = omega (arith, left_a, right_a, left_b, right_b, line) in
     sym (cell_again axis a) ∙ ap (λ (k : ℕ). position_at axis k (across axis a)) same ∙ ap (position_at axis (along axis b)) width ∙ cell_again axis b
 
-pub leave_out : (edge : EdgeValue) → IsEdge edge → (out : Position) → IsIn out edge.dep → (before after : Option EdgeValue) → IsPartOrNone before edge (λ other. StandsBefore edge other out) → IsPartOrNone after edge (λ other. StandsBefore edge out other) → LeaveOut before after edge out
+pub leave_out : (edge : EdgeValue) → IsEdge edge → (out : Position) → IsIn out edge.dep
+    → (before after : Option EdgeValue) → IsPartOrNone before edge (λ other. StandsBefore edge other out)
+    → IsPartOrNone after edge (λ other. StandsBefore edge out other) → LeaveOut before after edge out
 leave_out edge is out out_in before after kept_before kept_after range cell = (to, from)
   where
     to : HasPair before range cell ⊎ HasPair after range cell → IsPair edge range cell × (cell ≢ out)

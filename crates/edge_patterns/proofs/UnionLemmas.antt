@@ -16,20 +16,31 @@ abbrev pub AlikeInPairs : EdgeValue → EdgeValue → Type 0
 AlikeInPairs a b = (range : Corners) (cell : Position) → IsPair a range cell ↔ IsPair b range cell
 
 -- coordinates that move alike and agree at two indices agree between them
-heads_agree : (m k : Bool) (first other offset count index : ℕ) → first + steps_if m offset ≡ other + steps_if k 0 → first + steps_if m (offset + (count - 1)) ≡ other + steps_if k (count - 1) → index < count → first + steps_if m (offset + index) ≡ other + steps_if k index
+heads_agree : (m k : Bool) (first other offset count index : ℕ) → first + steps_if m offset ≡ other + steps_if k 0
+    → first + steps_if m (offset + (count - 1)) ≡ other + steps_if k (count - 1) → index < count
+    → first + steps_if m (offset + index) ≡ other + steps_if k index
 heads_agree true true first other offset count index start end within = omega (arith, start, end, within)
 heads_agree true false first other offset count index start end within = omega (arith, start, end, within)
 heads_agree false true first other offset count index start end within = omega (arith, start, end, within)
 heads_agree false false first other offset count index start end within = omega (arith, start, end, within)
 
-tails_agree : (m k : Bool) (last other whole offset count index : ℕ) → offset + count ≤ whole → steps_if m (whole - 1) ≤ last → steps_if k (count - 1) ≤ other → last - steps_if m (whole - 1 - offset) ≡ other - steps_if k (count - 1 - 0) → last - steps_if m (whole - 1 - (offset + (count - 1))) ≡ other - steps_if k (count - 1 - (count - 1)) → index < count → last - steps_if m (whole - 1 - (offset + index)) ≡ other - steps_if k (count - 1 - index)
+tails_agree : (m k : Bool) (last other whole offset count index : ℕ) → offset + count ≤ whole
+    → steps_if m (whole - 1) ≤ last → steps_if k (count - 1) ≤ other
+    → last - steps_if m (whole - 1 - offset) ≡ other - steps_if k (count - 1 - 0)
+    → last - steps_if m (whole - 1 - (offset + (count - 1))) ≡ other - steps_if k (count - 1 - (count - 1))
+    → index < count → last - steps_if m (whole - 1 - (offset + index)) ≡ other - steps_if k (count - 1 - index)
 tails_agree true true last other whole offset count index fits room other_room start end within = omega (arith, fits, room, other_room, start, end, within)
 tails_agree true false last other whole offset count index fits room other_room start end within = omega (arith, fits, room, other_room, start, end, within)
 tails_agree false true last other whole offset count index fits room other_room start end within = omega (arith, fits, room, other_room, start, end, within)
 tails_agree false false last other whole offset count index fits room other_room start end within = omega (arith, fits, room, other_room, start, end, within)
 
 -- and so do the ranges of two edges
-pub agree : (axis : Axis) (edge part : EdgeValue) → IsShapeOf axis edge.pattern edge → IsShapeOf axis part.pattern part → (offset : ℕ) → offset + count_along axis part.dep ≤ count_along axis edge.dep → range_along axis edge offset ≡ range_along axis part 0 → range_along axis edge (offset + (count_along axis part.dep - 1)) ≡ range_along axis part (count_along axis part.dep - 1) → (index : ℕ) → index < count_along axis part.dep → range_along axis edge (offset + index) ≡ range_along axis part index
+pub agree : (axis : Axis) (edge part : EdgeValue) → IsShapeOf axis edge.pattern edge → IsShapeOf axis part.pattern part
+    → (offset : ℕ) → offset + count_along axis part.dep ≤ count_along axis edge.dep
+    → range_along axis edge offset ≡ range_along axis part 0
+    → range_along axis edge (offset + (count_along axis part.dep - 1)) ≡ range_along axis part
+    (count_along axis part.dep - 1) → (index : ℕ) → index < count_along axis part.dep
+    → range_along axis edge (offset + index) ≡ range_along axis part index
 agree axis edge part shape part_shape offset fits start end index within =
     let count = count_along axis part.dep in
     let head = λ (r : Corners). along axis r.head in
@@ -44,7 +55,9 @@ agree axis edge part shape part_shape offset fits start end index within =
     let right = sym (spans axis edge offset).right ∙ ap (λ (r : Corners). across axis r.tail) start ∙ (spans axis part 0).right in
     same_range axis (range_along axis edge (offset + index)) (range_along axis part index)
     (at.head ∙ heads_agree (head_moves edge.pattern) (head_moves part.pattern) _ _ offset count index first last within ∙ sym there.head)
-    (at.tail ∙ tails_agree (tail_moves edge.pattern) (tail_moves part.pattern) _ _ (count_along axis edge.dep) offset count index fits (tail_room axis edge.pattern edge shape) (tail_room axis part.pattern part part_shape) first_tail last_tail within ∙ sym there.tail)
+    (at.tail ∙ tails_agree (tail_moves edge.pattern) (tail_moves part.pattern) _ _ (count_along axis edge.dep) offset
+    count index fits (tail_room axis edge.pattern edge shape) (tail_room axis part.pattern part part_shape)
+    first_tail last_tail within ∙ sym there.tail)
     (at.left ∙ left ∙ sym there.left)
     (at.right ∙ right ∙ sym there.right)
 
@@ -77,14 +90,21 @@ run_has_ranges edge is cell =
           let number = index_in_run edge is cell inside in
           let width : across axis cell ≡ across axis edge.dep.head = omega (arith, left, right, line) in
           let index = along axis cell - along axis edge.dep.head in
-          let here : cell ≡ run_cell edge index = sym (cell_again axis cell) ∙ ap (λ (k : ℕ). position_at axis k (across axis cell)) number.0 ∙ ap (position_at axis (along axis edge.dep.head + index)) width in
+          let here : cell ≡ run_cell edge index = sym (cell_again axis cell)
+          ∙ ap (λ (k : ℕ). position_at axis k (across axis cell)) number.0
+          ∙ ap (position_at axis (along axis edge.dep.head + index)) width in
           (range_at edge index, record { index = index; within = number.1; cell_is = here; range_is = refl }),
       λ has.
           let pair = has.1 in
           let within = pair.within in
           let coordinate : along axis cell ≡ along axis edge.dep.head + pair.index = ap (along axis) pair.cell_is ∙ along_of axis _ _ in
           let width : across axis cell ≡ across axis edge.dep.head = ap (across axis) pair.cell_is ∙ across_of axis _ _ in
-          is_in axis cell edge.dep (record { from = omega (arith, coordinate); to = omega (arith, coordinate, within); left = omega (arith, width); right = omega (arith, width, line) }),
+          is_in axis cell edge.dep (record {
+            from = omega (arith, coordinate);
+            to = omega (arith, coordinate, within);
+            left = omega (arith, width);
+            right = omega (arith, width, line);
+          }),
     )
 
 -- a cell has one range

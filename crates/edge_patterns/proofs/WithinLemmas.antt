@@ -25,12 +25,14 @@ pub last_in : (run : Corners) → IsOrdered run.head run.tail → IsIn run.tail 
 last_in run order = record { row_from = order.rows; row_to = omega arith; col_from = order.cols; col_to = omega arith }
 
 -- a pair of the edge whose cell lies in a part's run is a pair of the part
-pub pair_of_part : (edge part : EdgeValue) → IsEdge part → PairsAreOf part edge → (range : Corners) (cell : Position) → IsPair edge range cell → IsIn cell part.dep → IsPair part range cell
+pub pair_of_part : (edge part : EdgeValue) → IsEdge part → PairsAreOf part edge → (range : Corners) (cell : Position)
+    → IsPair edge range cell → IsIn cell part.dep → IsPair part range cell
 pair_of_part edge part part_is within range cell pair inside =
     let has = (run_has_ranges part part_is cell).0 inside in
     subst (λ (r : Corners). IsPair part r cell) (one_range edge has.0 range cell (within has.0 cell has.1) pair) has.1
 
-module _ (edge a b : EdgeValue) (edge_is : IsEdge edge) (a_is : IsEdge a) (b_is : IsEdge b) (a_in : PairsAreOf a edge) (b_in : PairsAreOf b edge) (follows : Follows (axis_of edge.dep) a.dep b.dep) where
+module _ (edge a b : EdgeValue) (edge_is : IsEdge edge) (a_is : IsEdge a) (b_is : IsEdge b) (a_in : PairsAreOf a edge)
+    (b_in : PairsAreOf b edge) (follows : Follows (axis_of edge.dep) a.dep b.dep) where
   abbrev axis : Axis
   axis = axis_of edge.dep
 
@@ -64,7 +66,8 @@ module _ (edge a b : EdgeValue) (edge_is : IsEdge edge) (a_is : IsEdge a) (b_is 
   at : (range : Corners) (cell : Position) → (pair : IsPair edge range cell) → along axis cell ≡ along axis edge.dep.head + pair.index
   at range cell pair = ap (along axis) pair.cell_is ∙ along_of axis _ _
 
-  stands : (range : Corners) (cell : Position) → IsPair edge range cell → along axis a.dep.head ≤ along axis cell → along axis cell ≤ along axis b.dep.tail → StandsBetween edge from (to + 1) cell
+  stands : (range : Corners) (cell : Position) → IsPair edge range cell → along axis a.dep.head ≤ along axis cell
+      → along axis cell ≤ along axis b.dep.tail → StandsBetween edge from (to + 1) cell
   stands range cell pair low high = record {
     index = pair.index;
     begins = omega (arith, at range cell pair, low, a_first.from);
@@ -78,8 +81,10 @@ module _ (edge a b : EdgeValue) (edge_is : IsEdge edge) (a_is : IsEdge a) (b_is 
       -- across the direction all cells of the three runs have one coordinate
       wide : (cell : Position) → IsIn cell edge.dep → (across axis cell ≡ across axis a.dep.head) × (across axis cell ≡ across axis b.dep.head)
       wide cell here =
-          let c = lies axis cell edge.dep here in
-          (omega (arith, c.left, c.right, a_first.left, a_first.right, edge_is.line), omega (arith, c.left, c.right, a_first.left, a_first.right, edge_is.line, follows.same_line))
+          let c = lies axis cell edge.dep here in (
+            omega (arith, c.left, c.right, a_first.left, a_first.right, edge_is.line),
+            omega (arith, c.left, c.right, a_first.left, a_first.right, edge_is.line, follows.same_line),
+          )
 
       split_up : (range : Corners) (cell : Position) → IsPair (part_of edge from to) range cell → IsPair a range cell ⊎ IsPair b range cell
       split_up range cell pair =
@@ -105,27 +110,36 @@ module _ (edge a b : EdgeValue) (edge_is : IsEdge edge) (a_is : IsEdge a) (b_is 
       put_together range cell (inl pair) =
           let of_edge = a_in range cell pair in
           let c = lies axis cell a.dep ((run_has_ranges a a_is cell).1 (range, pair)) in
-          (part_pairs edge edge_is from to in_order inside part range cell).1 (of_edge, stands range cell of_edge c.from (omega (arith, c.to, follows.next, b_line)))
+          (part_pairs edge edge_is from to in_order inside part range cell).1 (
+            of_edge,
+            stands range cell of_edge c.from (omega (arith, c.to, follows.next, b_line)),
+          )
       put_together range cell (inr pair) =
           let of_edge = b_in range cell pair in
           let c = lies axis cell b.dep ((run_has_ranges b b_is cell).1 (range, pair)) in
-          (part_pairs edge edge_is from to in_order inside part range cell).1 (of_edge, stands range cell of_edge (omega (arith, c.from, follows.next, a_line)) c.to)
+          (part_pairs edge edge_is from to in_order inside part range cell).1 (
+            of_edge,
+            stands range cell of_edge (omega (arith, c.from, follows.next, a_line)) c.to,
+          )
 
 -- the direction of two neighbours within an edge is the edge's
-axis_within : (axis : Axis) (edge a b : EdgeValue) → IsEdge edge → IsEdge a → IsEdge b → PairsAreOf a edge → PairsAreOf b edge → Follows axis a.dep b.dep → axis_of edge.dep ≡ axis
+axis_within : (axis : Axis) (edge a b : EdgeValue) → IsEdge edge → IsEdge a → IsEdge b → PairsAreOf a edge
+    → PairsAreOf b edge → Follows axis a.dep b.dep → axis_of edge.dep ≡ axis
 axis_within axis edge a b edge_is a_is b_is a_in b_in follows =
     by_axis (axis_of edge.dep) axis edge_is.line
     (lies (axis_of edge.dep) a.dep.tail edge.dep (run_within edge a edge_is a_is a_in a.dep.tail (last_in a.dep a_is.dep.ordered)))
     (lies (axis_of edge.dep) b.dep.head edge.dep (run_within edge b edge_is b_is b_in b.dep.head (first_in b.dep b_is.dep.ordered))) follows.next
   where
-    by_axis : (own other : Axis) → IsLine own edge.dep → Lies own a.dep.tail edge.dep → Lies own b.dep.head edge.dep → along other a.dep.tail + 1 ≡ along other b.dep.head → own ≡ other
+    by_axis : (own other : Axis) → IsLine own edge.dep → Lies own a.dep.tail edge.dep → Lies own b.dep.head edge.dep
+        → along other a.dep.tail + 1 ≡ along other b.dep.head → own ≡ other
     by_axis Down Down line one two next = refl
     by_axis Right Right line one two next = refl
     by_axis Down Right line one two next = absurd (omega (arith, line, one.left, one.right, two.left, two.right, next))
     by_axis Right Down line one two next = absurd (omega (arith, line, one.left, one.right, two.left, two.right, next))
 
 -- so they can be joined
-pub joins_before : (axis : Axis) (edge a b : EdgeValue) → IsEdge edge → IsEdge a → IsEdge b → PairsAreOf a edge → PairsAreOf b edge → Follows axis a.dep b.dep → CanBeJoined a b
+pub joins_before : (axis : Axis) (edge a b : EdgeValue) → IsEdge edge → IsEdge a → IsEdge b → PairsAreOf a edge
+    → PairsAreOf b edge → Follows axis a.dep b.dep → CanBeJoined a b
 joins_before axis edge a b edge_is a_is b_is a_in b_in follows =
     let own = subst (λ (x : Axis). Follows x a.dep b.dep) (sym (axis_within axis edge a b edge_is a_is b_is a_in b_in follows)) follows in
     (part_of edge _ _, record { neighbours = (axis, inl follows); union = both edge a b edge_is a_is b_is a_in b_in own })
@@ -147,6 +161,7 @@ joins_flipped a b (joined, join) = (
 )
 
 -- two neighbours within one edge can be joined
-pub joins_within : (edge a b : EdgeValue) → IsEdge edge → IsEdge a → IsEdge b → PairsAreOf a edge → PairsAreOf b edge → AreNeighbours a.dep b.dep → CanBeJoined a b
+pub joins_within : (edge a b : EdgeValue) → IsEdge edge → IsEdge a → IsEdge b → PairsAreOf a edge → PairsAreOf b edge
+    → AreNeighbours a.dep b.dep → CanBeJoined a b
 joins_within edge a b edge_is a_is b_is a_in b_in (axis, inl follows) = joins_before axis edge a b edge_is a_is b_is a_in b_in follows
 joins_within edge a b edge_is a_is b_is a_in b_in (axis, inr follows) = joins_flipped b a (joins_before axis edge b a edge_is b_is a_is b_in a_in follows)

@@ -80,7 +80,8 @@ pub record IsPair (edge : EdgeValue) (range : Corners) (cell : Position) : Type 
 pub record IsBeside (axis : Axis) (run range : Corners) : Type 0 where
   pub head : across axis range.head ≡ across axis run.head
   pub tail : across axis range.tail ≡ across axis run.tail
-  pub moved : ((along axis range.head ≡ along axis run.head + 1) × (along axis range.tail ≡ along axis run.tail + 1)) ⊎ ((along axis range.head + 1 ≡ along axis run.head) × (along axis range.tail + 1 ≡ along axis run.tail))
+  pub moved : ((along axis range.head ≡ along axis run.head + 1) × (along axis range.tail ≡ along axis run.tail + 1))
+      ⊎ ((along axis range.head + 1 ≡ along axis run.head) × (along axis range.tail + 1 ≡ along axis run.tail))
 
 -- a run of at least two cells, over which a head or a tail that moves doesn't make a range whose head is past its tail
 pub record HasRoomToMove (axis : Axis) (edge : EdgeValue) : Type 0 where

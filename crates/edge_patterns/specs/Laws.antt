@@ -30,7 +30,8 @@ RangesAreOrdered =
 -- the rectangle has exactly the cells of the ranges, so it is the smallest that has them all
 abbrev pub RectanglesHaveTheRanges : Type 0
 RectanglesHaveTheRanges =
-    (edge : EdgeValue) (cell : Position) → IsEdge edge → IsIn cell edge.prec ↔ ((from : Position) × (range : Corners) × IsPair edge range from × IsIn cell range)
+    (edge : EdgeValue) (cell : Position) → IsEdge edge → IsIn cell edge.prec ↔ ((from : Position) × (range : Corners)
+    × IsPair edge range from × IsIn cell range)
 
 -- a query refers to some cell exactly where it shares one with the run
 abbrev pub RunsAreAsked : Type 0

@@ -11,7 +11,8 @@ use Rattle.sheet_model.proofs.LogLemmas.{after-more, after-sheet}
 use Rattle.edit_log.specs.Books.{BookValue, IsBookOf, HasApplied, ComesByEdits}
 
 -- the sheet after one more entry
-one_edit : {G : Type 0} (entry : Entry) (old new : BookValue G) → HasApplied entry old new → old.sheet ≡ after old.opening old.log → new.sheet ≡ after new.opening new.log
+one_edit : {G : Type 0} (entry : Entry) (old new : BookValue G) → HasApplied entry old new
+    → old.sheet ≡ after old.opening old.log → new.sheet ≡ after new.opening new.log
 one_edit entry old new applied replayed =
     applied.sheet
     ∙ ap (λ s. after_edit s entry.edit) replayed
@@ -33,6 +34,7 @@ edits_log {G} (entry ∷ entries) old new (between, applied, rest) replayed =
       sheet ∙ ap (λ (o : SheetValue). after o new.log) applied.opening,
     )
 
-pub earlier_sheets : (opening sheet : SheetValue) (log : List Entry) (pairs : List Pair) → IsBookOf opening sheet log pairs → (k : ℕ) → IsSheet (after opening (take k log))
+pub earlier_sheets : (opening sheet : SheetValue) (log : List Entry) (pairs : List Pair)
+    → IsBookOf opening sheet log pairs → (k : ℕ) → IsSheet (after opening (take k log))
 earlier_sheets opening sheet log pairs is k =
     after-sheet opening (take k log) is.opened (All-take (λ (entry : Entry). AreHeldBeside (length opening.labels) entry.edit) k log is.held)

@@ -25,7 +25,9 @@ use Rattle.edit_log.proofs.PairLemmas.{pair_inside}
 use Rattle.edit_log.proofs.TouchLemmas.{one_cell, in_one_cell}
 
 -- a cell of the sheet in a range to which a content refers is an input of the cell in which it stands
-input_in : (sheet : SheetValue) (cell input : Position) (content : ContentValue) (range : Corners) → content_of sheet cell ≡ content → IsTrue (is_inside sheet.sizes input) → Contains (ranges_in content) range → IsIn input range → IsInput sheet cell input
+input_in : (sheet : SheetValue) (cell input : Position) (content : ContentValue) (range : Corners)
+    → content_of sheet cell ≡ content → IsTrue (is_inside sheet.sizes input) → Contains (ranges_in content) range
+    → IsIn input range → IsInput sheet cell input
 input_in sheet cell input (Constant value) range stands inside there within = absurd (no_member range there)
 input_in sheet cell input (Computed tree) range stands inside there within =
     let (through, (k, below, at), same) = mapped_from corners_of (references_of tree) range there in
@@ -60,7 +62,13 @@ module _ (sheet : SheetValue) (pairs : List Pair) (are : ArePairsOf sheet pairs)
   step_inside : (from to : Position) → Step pairs from to → IsTrue (is_inside sheet.sizes to)
   step_inside from to one =
       let at = pair_inside sheet one.pair ((are one.pair).0 one.listed) in
-      let there : IsTrue (is_inside sheet.sizes one.pair.cell) = inside_from sheet.sizes one.pair.cell (record { row_from = at.row_from; row_to = at.row_to; col_from = at.col_from; col_to = at.col_to }) in
+      let there : IsTrue (is_inside sheet.sizes one.pair.cell) =
+      inside_from sheet.sizes one.pair.cell (record {
+        row_from = at.row_from;
+        row_to = at.row_to;
+        col_from = at.col_from;
+        col_to = at.col_to;
+      }) in
       subst (λ (c : Position). IsTrue (is_inside sheet.sizes c)) one.cell_is there
 
   input_of : (from to : Position) → IsTrue (is_inside sheet.sizes from) → Step pairs from to → IsInput sheet to from
@@ -70,8 +78,10 @@ module _ (sheet : SheetValue) (pairs : List Pair) (are : ArePairsOf sheet pairs)
   step_of cell input is = (depends_step sheet pairs input cell are).0 (input_step sheet cell input is)
 
   -- a path of steps from a cell of the sheet, taken back, is one of inputs
-  path_leads : (from next to : Position) (cells : List Position) → IsTrue (is_inside sheet.sizes from) → Step pairs from next → IsPath (Step pairs) next cells to → Leads (IsInput sheet) to from
-  path_leads from next to [] inside first path = subst (λ (c : Position). Leads (IsInput sheet) c from) path (one_step next from (input_of from next inside first))
+  path_leads : (from next to : Position) (cells : List Position) → IsTrue (is_inside sheet.sizes from)
+      → Step pairs from next → IsPath (Step pairs) next cells to → Leads (IsInput sheet) to from
+  path_leads from next to [] inside first path =
+      subst (λ (c : Position). Leads (IsInput sheet) c from) path (one_step next from (input_of from next inside first))
   path_leads from next to (further ∷ cells) inside first path =
       leads_on to next from (path_leads next further to cells (step_inside from next first) path.0 path.1) (input_of from next inside first)
 
@@ -109,7 +119,8 @@ module _ (sheet : SheetValue) (pairs : List Pair) (are : ArePairsOf sheet pairs)
       starts = in_one_cell leads.turn
 
       either : (cell ≡ leads.turn) ⊎ Leads (IsInput sheet) cell leads.turn → Reach pairs (span_of leads.turn leads.turn) cell
-      either (inl same) = reached_start (Step pairs) (λ from. IsIn from (span_of leads.turn leads.turn)) cell (subst (λ (c : Position). IsIn c (span_of leads.turn leads.turn)) (sym same) starts)
+      either (inl same) = reached_start (Step pairs) (λ from. IsIn from (span_of leads.turn leads.turn)) cell
+          (subst (λ (c : Position). IsIn c (span_of leads.turn leads.turn)) (sym same) starts)
       either (inr there) =
           reached_on (Step pairs) (λ from. IsIn from (span_of leads.turn leads.turn)) leads.turn cell
           (reached_start (Step pairs) (λ from. IsIn from (span_of leads.turn leads.turn)) leads.turn starts) (leads_path cell leads.turn there)

@@ -1,9 +1,9 @@
-pub mod BookLemmas
+mod BookLemmas
 pub mod InputLemmas
 pub mod PairLemmas
 pub mod PlaceLemmas
-pub mod RefusalLemmas
-pub mod ReplaceLemmas
-pub mod RowLemmas
-pub mod Sent
+mod RefusalLemmas
+mod ReplaceLemmas
+mod RowLemmas
+mod Sent
 pub mod TouchLemmas

@@ -48,7 +48,8 @@ none_before sheet pairs none pair = (λ there. absurd (none pair there), λ at. 
     outside (inr above) is = omega (arith, above.1, is.row_from)
 
 -- past the last row of a column the next one begins
-pub column_ends : (sheet : SheetValue) (col row : ℕ) (pairs : List Pair) → sheet.sizes.rows < row → HasPairsBefore sheet col row pairs → HasPairsBefore sheet (col + 1) 1 pairs
+pub column_ends : (sheet : SheetValue) (col row : ℕ) (pairs : List Pair) → sheet.sizes.rows < row
+    → HasPairsBefore sheet col row pairs → HasPairsBefore sheet (col + 1) 1 pairs
 column_ends sheet col row pairs past before pair =
     (λ there. let at = (before pair).0 there in (onward at.0, at.1), λ at. (before pair).1 (backward at.0 (pair_inside sheet pair at.1), at.1))
   where
@@ -92,23 +93,33 @@ at_row : (cell : Position) → IsBeforeRow cell.col (cell.row + 1) cell
 at_row cell = inr (refl, omega arith)
 
 -- a cell without a formula has no pairs
-pub without_formula : (sheet : SheetValue) (cell : Position) (pairs : List Pair) → ranges_in (content_of sheet cell) ≡ [] → HasPairsBefore sheet cell.col cell.row pairs → HasPairsBefore sheet cell.col (cell.row + 1) pairs
-without_formula sheet cell pairs none before pair =
-    (λ there. let at = (before pair).0 there in ((row_on cell pair.cell at.0).0, at.1), λ at. (before pair).1 (earlier (row_ends cell pair.cell at.0) at.1, at.1))
+pub without_formula : (sheet : SheetValue) (cell : Position) (pairs : List Pair)
+    → ranges_in (content_of sheet cell) ≡ [] → HasPairsBefore sheet cell.col cell.row pairs
+    → HasPairsBefore sheet cell.col (cell.row + 1) pairs
+without_formula sheet cell pairs none before pair = (
+  λ there. let at = (before pair).0 there in ((row_on cell pair.cell at.0).0, at.1),
+  λ at. (before pair).1 (earlier (row_ends cell pair.cell at.0) at.1, at.1),
+)
   where
     earlier : IsBeforeRow cell.col cell.row pair.cell ⊎ (pair.cell ≡ cell) → IsPairOf sheet pair → IsBeforeRow cell.col cell.row pair.cell
     earlier (inl above) is = above
-    earlier (inr same) is = absurd (no_element pair.range (subst (λ (l : List Corners). Contains l pair.range) (ap (λ (c : Position). ranges_in (content_of sheet c)) same ∙ none) is))
+    earlier (inr same) is =
+        absurd
+        (no_element pair.range (subst (λ (l : List Corners). Contains l pair.range)
+        (ap (λ (c : Position). ranges_in (content_of sheet c)) same ∙ none) is))
 
 -- a cell with a formula has the pairs that it is given
-pub with_formula : (sheet : SheetValue) (cell : Position) (old kept new : List Pair) (refs : List Corners) → IsOnceEach (ranges_in (content_of sheet cell)) refs → HasPairsBefore sheet cell.col cell.row old → SamePairs old kept → Replaces kept new cell refs → HasPairsBefore sheet cell.col (cell.row + 1) new
+pub with_formula : (sheet : SheetValue) (cell : Position) (old kept new : List Pair) (refs : List Corners)
+    → IsOnceEach (ranges_in (content_of sheet cell)) refs → HasPairsBefore sheet cell.col cell.row old
+    → SamePairs old kept → Replaces kept new cell refs → HasPairsBefore sheet cell.col (cell.row + 1) new
 with_formula sheet cell old kept new refs once before same replaced pair =
     (λ there. from_new ((replaced pair).0 there), λ at. (replaced pair).1 (to_new (row_ends cell pair.cell at.0) at.1))
   where
     ranges_at : Position → List Corners
     ranges_at c = ranges_in (content_of sheet c)
 
-    from_new : ((pair.cell ≡ cell) × Contains refs pair.range) ⊎ ((pair.cell ≢ cell) × Contains kept pair) → IsBeforeRow cell.col (cell.row + 1) pair.cell × IsPairOf sheet pair
+    from_new : ((pair.cell ≡ cell) × Contains refs pair.range) ⊎ ((pair.cell ≢ cell) × Contains kept pair)
+        → IsBeforeRow cell.col (cell.row + 1) pair.cell × IsPairOf sheet pair
     from_new (inl own) = (
       subst (λ (c : Position). IsBeforeRow cell.col (cell.row + 1) c) (sym own.0) (at_row cell),
       subst (λ (c : Position). Contains (ranges_at c) pair.range) (sym own.0) (once_back (ranges_at cell) refs pair.range once own.1),
@@ -117,7 +128,8 @@ with_formula sheet cell old kept new refs once before same replaced pair =
         let at = (before pair).0 ((same pair).0 other.1) in
         ((row_on cell pair.cell at.0).0, at.1)
 
-    to_new : IsBeforeRow cell.col cell.row pair.cell ⊎ (pair.cell ≡ cell) → IsPairOf sheet pair → ((pair.cell ≡ cell) × Contains refs pair.range) ⊎ ((pair.cell ≢ cell) × Contains kept pair)
+    to_new : IsBeforeRow cell.col cell.row pair.cell ⊎ (pair.cell ≡ cell) → IsPairOf sheet pair
+        → ((pair.cell ≡ cell) × Contains refs pair.range) ⊎ ((pair.cell ≢ cell) × Contains kept pair)
     to_new (inl above) is = inr ((row_on cell pair.cell above).1, (same pair).1 ((before pair).1 (above, is)))
     to_new (inr own) is = inl (own, once_all (ranges_at cell) refs pair.range once (subst (λ (c : Position). Contains (ranges_at c) pair.range) own is))
 

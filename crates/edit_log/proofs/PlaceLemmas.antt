@@ -1,5 +1,6 @@
 -- The places of the cells that an entry touches, and that these have one list.
-use Rattle.std.proofs.Common.{◌≡◌, ◌↔◌, ◌⊎◌, inl, inr, ℕ, suc, ◌+◌, ◌-◌, ◌*◌, ◌/◌, ◌%◌, ◌<◌, List, [], ◌∷◌, map, All, IsTrue, Contains, arith, refl, sym, ap, subst, ◌∙◌}
+use Rattle.std.proofs.Common.{◌≡◌, ◌↔◌, ◌⊎◌, inl, inr, ℕ, suc, ◌+◌, ◌-◌, ◌*◌, ◌/◌, ◌%◌, ◌<◌, List, [], ◌∷◌, map, All}
+use Rattle.std.proofs.Common.{IsTrue, Contains, arith, refl, sym, ap, subst, ◌∙◌}
 use Rattle.std.specs.Prelude.{AllPairs}
 use Rattle.std.proofs.lemmas.List.Kept.{AllPairs-from_increasing}
 use Rattle.sheet_refs.specs.Cells.{Position}
@@ -45,13 +46,15 @@ module _ {A : Type 0} (f : A → ℕ) where
   one_list [] (y ∷ ys) up_x up_y forth back = absurd (no_member y (back y (first_member y ys)))
   one_list (x ∷ xs) [] up_x up_y forth back = absurd (no_member x (forth x (first_member x xs)))
   one_list (x ∷ xs) (y ∷ ys) up_x up_y forth back =
-      let heads : x ≡ y = same_head x y xs ys up_x up_y (first_or_later x y ys (forth x (first_member x xs))) (first_or_later y x xs (back y (first_member y ys))) in
+      let heads : x ≡ y = same_head x y xs ys up_x up_y (first_or_later x y ys (forth x (first_member x xs)))
+      (first_or_later y x xs (back y (first_member y ys))) in
       let tails : xs ≡ ys = one_list xs ys (tail_rises x xs up_x) (tail_rises y ys up_y)
       (λ z there. later_too x y z xs ys heads up_x there (first_or_later z y ys (forth z (later_member x z xs there))))
       (λ z there. later_too y x z ys xs (sym heads) up_y there (first_or_later z x xs (back z (later_member y z ys there)))) in
       λ i. heads i ∷ tails i
 
-pub one_touched_list : (opening : SheetValue) (log : List Entry) (entry : Entry) (a b : List Position) → AreTouched opening log entry a → AreTouched opening log entry b → a ≡ b
+pub one_touched_list : (opening : SheetValue) (log : List Entry) (entry : Entry) (a b : List Position)
+    → AreTouched opening log entry a → AreTouched opening log entry b → a ≡ b
 one_touched_list opening log entry a b a_is b_is =
     one_list (place_of opening.sizes) a b
     (AllPairs-from_increasing (map (place_of opening.sizes) a) a_is.order)
@@ -60,16 +63,22 @@ one_touched_list opening log entry a b a_is b_is =
     (λ cell there. (a_is.exact cell).1 ((b_is.exact cell).0 there))
 
 -- the cells that an entry of the sheet touches lie in it
-pub touches_inside : (opening : SheetValue) (log : List Entry) (entry : Entry) (cell : Position) → AreInSheet opening entry.edit → Touches opening log entry cell → IsTrue (is_inside opening.sizes cell)
+pub touches_inside : (opening : SheetValue) (log : List Entry) (entry : Entry) (cell : Position)
+    → AreInSheet opening entry.edit → Touches opening log entry cell → IsTrue (is_inside opening.sizes cell)
 touches_inside opening log entry cell inside touches =
     let sizes = after-sizes opening log in
     subst (λ (s : Sizes). IsTrue (is_inside s cell)) sizes
-    (depends_inside (after opening log) entry.edit (subst (λ (s : Sizes). All (λ (c : ChangeValue). IsTrue (is_inside s c.cell)) entry.edit) (sym sizes) inside) cell touches)
+    (depends_inside (after opening log) entry.edit
+    (subst (λ (s : Sizes). All (λ (c : ChangeValue). IsTrue (is_inside s c.cell)) entry.edit) (sym sizes) inside)
+    cell touches)
 
-pub places_of_cells : (sizes : Sizes) (place : ℕ) → place < cell_count sizes → IsTrue (is_inside sizes (cell_at sizes place)) × (place_of sizes (cell_at sizes place) ≡ place)
+pub places_of_cells : (sizes : Sizes) (place : ℕ) → place < cell_count sizes
+    → IsTrue (is_inside sizes (cell_at sizes place)) × (place_of sizes (cell_at sizes place) ≡ place)
 places_of_cells sizes place below = (cell_at-inside sizes place below, cell_at-place_of sizes place below)
 
-pub touched_place : (opening : SheetValue) (log : List Entry) (entry : Entry) (cell : Position) → IsTrue (is_inside opening.sizes cell) → TouchesPlace opening log entry (place_of opening.sizes cell) ↔ Touches opening log entry cell
+pub touched_place : (opening : SheetValue) (log : List Entry) (entry : Entry) (cell : Position)
+    → IsTrue (is_inside opening.sizes cell) → TouchesPlace opening log entry (place_of opening.sizes cell)
+    ↔ Touches opening log entry cell
 touched_place opening log entry cell inside =
     let there : cell_at opening.sizes (place_of opening.sizes cell) ≡ cell = cell_at-place opening.sizes cell inside in
     (λ touches. subst (Touches opening log entry) there touches, λ touches. subst (Touches opening log entry) (sym there) touches)
@@ -85,7 +94,8 @@ cell_at-back sizes place inside = back place sizes.cols (cell_count sizes) (plac
         let here : place / cols * cols + place % cols < count = rw (row, col) at below in
         grind (arith, here)
 
-module _ (opening : SheetValue) (log : List Entry) (entry : Entry) (cells : List Position) (inside : AreInSheet opening entry.edit) (are : AreTouched opening log entry cells) (place : ℕ) where
+module _ (opening : SheetValue) (log : List Entry) (entry : Entry) (cells : List Position)
+    (inside : AreInSheet opening entry.edit) (are : AreTouched opening log entry cells) (place : ℕ) where
   there : TouchesPlace opening log entry place → IsTrue (is_inside opening.sizes (cell_at opening.sizes place))
   there touches = touches_inside opening log entry (cell_at opening.sizes place) inside touches
 
@@ -101,8 +111,10 @@ module _ (opening : SheetValue) (log : List Entry) (entry : Entry) (cells : List
   from_list member =
       let (cell, stands, at) = mapped_from (place_of opening.sizes) cells place member in
       let touches : Touches opening log entry cell = (are.exact cell).0 stands in
-      let is_place : TouchesPlace opening log entry (place_of opening.sizes cell) = (touched_place opening log entry cell (touches_inside opening log entry cell inside touches)).1 touches in
+      let is_place : TouchesPlace opening log entry (place_of opening.sizes cell) =
+      (touched_place opening log entry cell (touches_inside opening log entry cell inside touches)).1 touches in
       subst (TouchesPlace opening log entry) at is_place
 
-  pub touched_places : (TouchesPlace opening log entry place ↔ Contains (map (place_of opening.sizes) cells) place) × (TouchesPlace opening log entry place → place < cell_count opening.sizes)
+  pub touched_places : (TouchesPlace opening log entry place ↔ Contains (map (place_of opening.sizes) cells) place)
+      × (TouchesPlace opening log entry place → place < cell_count opening.sizes)
   touched_places = ((listed, from_list), below)

@@ -19,11 +19,14 @@ none_outside sheet edit cell inside first =
     let within = slice_get_within edit first.place first.change first.stands in
     let at : get_or edit first.place first.change ≡ first.change = get_or_from_slice_get edit first.place first.change first.change first.stands in
     both (is_inside sheet.sizes cell)
-    (subst (λ (p : Position). IsTrue (is_inside sheet.sizes p)) first.cell_is (subst (λ (c : ChangeValue). IsTrue (is_inside sheet.sizes c.cell)) at (inside first.place first.change within)))
+    (subst (λ (p : Position). IsTrue (is_inside sheet.sizes p)) first.cell_is
+    (subst (λ (c : ChangeValue). IsTrue (is_inside sheet.sizes c.cell)) at
+    (inside first.place first.change within)))
     first.outside
 
 -- a cell outside doesn't stand before the first one
-not_before : (sheet : SheetValue) (edit : EditValue) (a b : Position) (one : IsFirstOutside sheet edit a) (other : IsFirstOutside sheet edit b) → one.place < other.place → ⊥
+not_before : (sheet : SheetValue) (edit : EditValue) (a b : Position) (one : IsFirstOutside sheet edit a)
+    (other : IsFirstOutside sheet edit b) → one.place < other.place → ⊥
 not_before sheet edit a b one other before =
     let within = slice_get_within edit one.place one.change one.stands in
     let lengths = length-take other.place edit in
@@ -31,7 +34,9 @@ not_before sheet edit a b one other before =
     let at : get_or (take other.place edit) one.place one.change ≡ one.change =
     get_or-take other.place edit one.place one.change before ∙ get_or_from_slice_get edit one.place one.change one.change one.stands in
     both (is_inside sheet.sizes a)
-    (subst (λ (p : Position). IsTrue (is_inside sheet.sizes p)) one.cell_is (subst (λ (c : ChangeValue). IsTrue (is_inside sheet.sizes c.cell)) at (other.first one.place one.change taken)))
+    (subst (λ (p : Position). IsTrue (is_inside sheet.sizes p)) one.cell_is
+    (subst (λ (c : ChangeValue). IsTrue (is_inside sheet.sizes c.cell)) at
+    (other.first one.place one.change taken)))
     one.outside
 
 -- so there is one first cell outside

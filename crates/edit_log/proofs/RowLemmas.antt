@@ -1,5 +1,7 @@
 -- The cells of vertical runs as places of a rectangle: each once, and in order when they are sorted.
-use Rattle.std.proofs.Common.{◌≡◌, ◌≢◌, inl, inr, ℕ, suc, ◌+◌, ◌*◌, ◌/◌, ◌%◌, ◌<◌, List, [], ◌∷◌, ◌++◌, map, take, length, get_or, slice_get, Some, option_map, IsTrue, Contains, All, eqb, arith, refl, sym, ap, subst, ◌∙◌}
+use Rattle.std.proofs.Common.{◌≡◌, ◌≢◌, inl, inr, ℕ, suc, ◌+◌, ◌*◌, ◌/◌, ◌%◌, ◌<◌, List, [], ◌∷◌, ◌++◌, map, take}
+use Rattle.std.proofs.Common.{length, get_or, slice_get, Some, option_map, IsTrue, Contains, All, eqb, arith, refl, sym}
+use Rattle.std.proofs.Common.{ap, subst, ◌∙◌}
 use Rattle.std.specs.Prelude.{AllPairs, flat_map}
 use Rattle.std.specs.List.{IsDistinct}
 use Rattle.std.specs.List.Sorted.{IsPermutation, IsSorted, IsStrictlyIncreasing}
@@ -23,17 +25,25 @@ use Rattle.edit_log.specs.Touches.{ListsRowByRow}
 use Rattle.sheet_model.proofs.ListMembers.{all_from, first_member, later_member, mapped_from, mapped_to, joined_from, joined_to, pairs_append}
 
 -- one place more
-pub places_more : (sizes : Sizes) (cells : List Position) (k : ℕ) (cell : Position) (old now : List ℕ) (place : ℕ) → now ≡ old ++ map (place_of sizes) (take k cells) → slice_get cells k ≡ Some cell → place ≡ place_of sizes cell → now ++ place ∷ [] ≡ old ++ map (place_of sizes) (take (k + 1) cells)
+pub places_more : (sizes : Sizes) (cells : List Position) (k : ℕ) (cell : Position) (old now : List ℕ) (place : ℕ)
+    → now ≡ old ++ map (place_of sizes) (take k cells) → slice_get cells k ≡ Some cell → place ≡ place_of sizes cell
+    → now ++ place ∷ [] ≡ old ++ map (place_of sizes) (take (k + 1) cells)
 places_more sizes cells k cell old now place so_far at is =
     let more : k + 1 ≡ suc k = omega arith in
     let here : get_or cells k cell ≡ cell = get_or_from_slice_get cells k cell cell at in
     ap (λ ps. ps ++ place ∷ []) so_far
     ∙ append_assoc old (map (place_of sizes) (take k cells)) (place ∷ [])
     ∙ ap (λ p. old ++ (map (place_of sizes) (take k cells) ++ p ∷ [])) is
-    ∙ ap (λ ps. old ++ ps) (sym (rw (more, take-suc cells k cell (slice_get_within cells k cell at), here) (map-append (place_of sizes) (take k cells) (cell ∷ []))))
+    ∙ ap (λ ps. old ++ ps) (sym (rw (
+      more,
+      take-suc cells k cell (slice_get_within cells k cell at),
+      here,
+    ) (map-append (place_of sizes) (take k cells) (cell ∷ []))))
 
 -- one cell more
-pub cells_more : (sizes : Sizes) (places : List ℕ) (k d : ℕ) (cells : List Position) (cell : Position) → AreCellsAt sizes (take k places) cells → k < length places → place_of sizes cell ≡ get_or places k d → IsTrue (is_inside sizes cell) → AreCellsAt sizes (take (k + 1) places) (cells ++ cell ∷ [])
+pub cells_more : (sizes : Sizes) (places : List ℕ) (k d : ℕ) (cells : List Position) (cell : Position)
+    → AreCellsAt sizes (take k places) cells → k < length places → place_of sizes cell ≡ get_or places k d
+    → IsTrue (is_inside sizes cell) → AreCellsAt sizes (take (k + 1) places) (cells ++ cell ∷ [])
 cells_more sizes places k d cells cell so_far below is inside =
     let more : k + 1 ≡ suc k = omega arith in
     record {
@@ -46,7 +56,8 @@ cells_more sizes places k d cells cell so_far below is inside =
     }
 
 -- one run more
-pub runs_more : {A B : Type 0} (f : A → List B) (xs : List A) (k : ℕ) (x : A) (now : List B) → now ≡ flat_map f (take k xs) → k < length xs → x ≡ get_or xs k x → now ++ f x ≡ flat_map f (take (k + 1) xs)
+pub runs_more : {A B : Type 0} (f : A → List B) (xs : List A) (k : ℕ) (x : A) (now : List B)
+    → now ≡ flat_map f (take k xs) → k < length xs → x ≡ get_or xs k x → now ++ f x ≡ flat_map f (take (k + 1) xs)
 runs_more {A} {B} f xs k x now so_far below at =
     let more : k + 1 ≡ suc k = omega arith in
     ap (λ ys. ys ++ f x) so_far ∙ sym (rw (more, take-suc xs k x below, ← at) (joined (take k xs)))
@@ -79,17 +90,21 @@ run_differs sizes run vertical inside i j d lt within =
     let at_i : get_or (run_places sizes run) i d ≡ place_of sizes (cell_of_place run i) = number_at i (range_place run i i_lt).cell in
     let at_j : get_or (run_places sizes run) j d ≡ place_of sizes (cell_of_place run j) = number_at j (range_place run j j_lt).cell in
     λ same.
-    let cells = place_same sizes (cell_of_place run i) (cell_of_place run j) (inside (cell_of_place run i) (place_inside run i ordered i_lt)) (inside (cell_of_place run j) (place_inside run j ordered j_lt)) (sym at_i ∙ same ∙ at_j) in
+    let cells = place_same sizes (cell_of_place run i) (cell_of_place run j)
+    (inside (cell_of_place run i) (place_inside run i ordered i_lt))
+    (inside (cell_of_place run j) (place_inside run j ordered j_lt)) (sym at_i ∙ same ∙ at_j) in
     let rows : run.head.row + i / width run ≡ run.head.row + j / width run = ap (λ (c : Position). c.row) cells in
     let cols : run.head.col + i % width run ≡ run.head.col + j % width run = ap (λ (c : Position). c.col) cells in
     let one : i ≡ j = same_index (width run) i j (omega (arith, rows)) (omega (arith, cols)) in
     absurd (omega (arith, lt, one))
   where
     number_at : (k : ℕ) → slice_get (cells_of run) k ≡ Some (cell_of_place run k) → get_or (run_places sizes run) k d ≡ place_of sizes (cell_of_place run k)
-    number_at k at = get_or_from_slice_get (run_places sizes run) k (place_of sizes (cell_of_place run k)) d (slice_get-map (place_of sizes) (cells_of run) k ∙ ap (option_map (place_of sizes)) at)
+    number_at k at = get_or_from_slice_get (run_places sizes run) k (place_of sizes (cell_of_place run k)) d
+        (slice_get-map (place_of sizes) (cells_of run) k ∙ ap (option_map (place_of sizes)) at)
 
 -- a place of a run is that of one of its cells
-cell_there : (sizes : Sizes) (run : Corners) (place : ℕ) → IsVertical run → Contains (run_places sizes run) place → (cell : Position) × IsIn cell run × (place_of sizes cell ≡ place)
+cell_there : (sizes : Sizes) (run : Corners) (place : ℕ) → IsVertical run → Contains (run_places sizes run) place
+    → (cell : Position) × IsIn cell run × (place_of sizes cell ≡ place)
 cell_there sizes run place vertical there =
     let from = mapped_from (place_of sizes) (cells_of run) place there in
     (from.0, (cells_listed run (ordered_run run vertical) from.0).0 from.1, from.2)
@@ -100,7 +115,8 @@ apart a b cell a_is b_is (inl left) in_a in_b = absurd (omega (arith, left, in_a
 apart a b cell a_is b_is (inr above) in_a in_b = absurd (omega (arith, above.1, in_a.row_to, in_b.row_from))
 
 -- the places of all runs differ
-pub runs_differ : (sizes : Sizes) (runs : List Corners) → AreMaximalRuns runs → AreInside sizes runs → AllPairs (λ a b. a ≢ b) (flat_map (run_places sizes) runs)
+pub runs_differ : (sizes : Sizes) (runs : List Corners) → AreMaximalRuns runs → AreInside sizes runs
+    → AllPairs (λ a b. a ≢ b) (flat_map (run_places sizes) runs)
 runs_differ sizes [] are inside = λ i j d lt within. absurd (omega (arith, within))
 runs_differ sizes (run ∷ runs) are inside =
     pairs_append (λ a b. a ≢ b) (run_places sizes run) (flat_map (run_places sizes) runs)
@@ -132,7 +148,8 @@ runs_differ sizes (run ∷ runs) are inside =
         apart run later.0 b.0 first_vertical vertical before (subst (λ (c : Position). IsIn c run) one a.1) b.1
 
 -- and are places of the rectangle
-pub places_within : (sizes : Sizes) (runs : List Corners) → AreMaximalRuns runs → AreInside sizes runs → All (λ place. place < cell_count sizes) (flat_map (run_places sizes) runs)
+pub places_within : (sizes : Sizes) (runs : List Corners) → AreMaximalRuns runs → AreInside sizes runs
+    → All (λ place. place < cell_count sizes) (flat_map (run_places sizes) runs)
 places_within sizes runs are inside = all_from (λ place. place < cell_count sizes) (flat_map (run_places sizes) runs) within
   where
     within : (place : ℕ) → Contains (flat_map (run_places sizes) runs) place → place < cell_count sizes
@@ -144,7 +161,10 @@ places_within sizes runs are inside = all_from (λ place. place < cell_count siz
         subst (λ p. p < cell_count sizes) cell.2 (place-lt sizes cell.0 (inside cell.0 (record { range = run.0; listed = run.1; inside = cell.1 })))
 
 -- the cells at the sorted places of the runs are those of the runs, row by row
-pub listed_rows : (sizes : Sizes) (runs : List Corners) (places sorted : List ℕ) (cells : List Position) → AreMaximalRuns runs → AreInside sizes runs → places ≡ flat_map (run_places sizes) runs → IsPermutation places sorted → IsSorted nat_cmp sorted → AreCellsAt sizes sorted cells → ListsRowByRow sizes cells (IsAmong runs)
+pub listed_rows : (sizes : Sizes) (runs : List Corners) (places sorted : List ℕ) (cells : List Position)
+    → AreMaximalRuns runs → AreInside sizes runs → places ≡ flat_map (run_places sizes) runs
+    → IsPermutation places sorted → IsSorted nat_cmp sorted → AreCellsAt sizes sorted cells
+    → ListsRowByRow sizes cells (IsAmong runs)
 listed_rows sizes runs places sorted cells are inside places_are moved is_sorted cells_are = record {
   exact = λ cell. (from_list cell, to_list cell);
   order = subst IsStrictlyIncreasing (sym cells_are.places_are) rising;
@@ -154,7 +174,8 @@ listed_rows sizes runs places sorted cells are inside places_are moved is_sorted
     distinct = IsDistinct-from_AllPairs Decides-eqb places (subst (AllPairs (λ a b. a ≢ b)) (sym places_are) (runs_differ sizes runs are inside))
 
     rising : IsStrictlyIncreasing sorted
-    rising = IsStrictlyIncreasing-from_distinct sorted (IsNonDecreasingBy-from_sort (λ x. x) sorted is_sorted) (IsDistinct-IsPermutation eqb (λ x y. flips x y) places sorted moved distinct)
+    rising = IsStrictlyIncreasing-from_distinct sorted (IsNonDecreasingBy-from_sort (λ x. x) sorted is_sorted)
+        (IsDistinct-IsPermutation eqb (λ x y. flips x y) places sorted moved distinct)
       where
         flips : (x y : ℕ) → eqb x y ≡ eqb y x
         flips x y = grind (arith, nat_tests)
@@ -167,8 +188,13 @@ listed_rows sizes runs places sorted cells are inside places_are moved is_sorted
 
     from_list : (cell : Position) → Contains cells cell → IsAmong runs cell
     from_list cell there =
-        let in_sorted : Contains sorted (place_of sizes cell) = subst (λ (ps : List ℕ). Contains ps (place_of sizes cell)) cells_are.places_are (mapped_to (place_of sizes) cells cell there) in
-        let in_places : Contains (flat_map (run_places sizes) runs) (place_of sizes cell) = subst (λ (ps : List ℕ). Contains ps (place_of sizes cell)) places_are (Contains-permutation sorted places (place_of sizes cell) (IsPermutation-sym places sorted moved) in_sorted) in
+        let in_sorted : Contains sorted (place_of sizes cell) =
+        subst (λ (ps : List ℕ). Contains ps (place_of sizes cell)) cells_are.places_are
+        (mapped_to (place_of sizes) cells cell there) in
+        let in_places : Contains (flat_map (run_places sizes) runs) (place_of sizes cell) =
+        subst (λ (ps : List ℕ). Contains ps (place_of sizes cell)) places_are
+        (Contains-permutation sorted places (place_of sizes cell) (IsPermutation-sym places sorted moved) in_sorted)
+        in
         let run = joined_from (run_places sizes) runs (place_of sizes cell) in_places in
         let found = cell_there sizes run.0 (place_of sizes cell) (vertical_at run.0 run.1) run.2 in
         let found_inside = inside found.0 (record { range = run.0; listed = run.1; inside = found.1 }) in
@@ -177,9 +203,16 @@ listed_rows sizes runs places sorted cells are inside places_are moved is_sorted
 
     to_list : (cell : Position) → IsAmong runs cell → Contains cells cell
     to_list cell among =
-        let in_run : Contains (cells_of among.range) cell = (cells_listed among.range (ordered_run among.range (vertical_at among.range among.listed)) cell).1 among.inside in
-        let in_places : Contains places (place_of sizes cell) = subst (λ (ps : List ℕ). Contains ps (place_of sizes cell)) (sym places_are) (joined_to (run_places sizes) runs among.range (place_of sizes cell) among.listed (mapped_to (place_of sizes) (cells_of among.range) cell in_run)) in
-        let in_sorted : Contains (map (place_of sizes) cells) (place_of sizes cell) = subst (λ (ps : List ℕ). Contains ps (place_of sizes cell)) (sym cells_are.places_are) (Contains-permutation places sorted (place_of sizes cell) moved in_places) in
+        let in_run : Contains (cells_of among.range) cell =
+        (cells_listed among.range (ordered_run among.range (vertical_at among.range among.listed)) cell).1
+        among.inside in
+        let in_places : Contains places (place_of sizes cell) =
+        subst (λ (ps : List ℕ). Contains ps (place_of sizes cell)) (sym places_are)
+        (joined_to (run_places sizes) runs among.range (place_of sizes cell) among.listed
+        (mapped_to (place_of sizes) (cells_of among.range) cell in_run)) in
+        let in_sorted : Contains (map (place_of sizes) cells) (place_of sizes cell) =
+        subst (λ (ps : List ℕ). Contains ps (place_of sizes cell)) (sym cells_are.places_are)
+        (Contains-permutation places sorted (place_of sizes cell) moved in_places) in
         let found = mapped_from (place_of sizes) cells (place_of sizes cell) in_sorted in
         let one : found.0 ≡ cell = place_same sizes found.0 cell (cell_inside found.0 found.1) (inside cell among) found.2 in
         subst (λ (c : Position). Contains cells c) one found.1

@@ -11,9 +11,15 @@ use Rattle.std.specs.contracts.impls.GlobalAllocator.TheImpl as impl
 use Rattle.edit_log.specs.contracts.book.Book.{the_row}
 use Rattle.edit_log.specs.contracts.book.Book.TheInside as inside
 
-module _ (G : RattleType) (g : Ghosts G.Denot) (of_sheet : IsSend sheet.the_row) (of_log : IsSend (vec.the_row entry.the_row global.the_row impl.ghosts)) (of_graph : IsSend G) where
+module _ (G : RattleType) (g : Ghosts G.Denot) (of_sheet : IsSend sheet.the_row)
+    (of_log : IsSend (vec.the_row entry.the_row global.the_row impl.ghosts)) (of_graph : IsSend G) where
   fields_send : IsSend (inside.the_row G g)
-  fields_send = recorded_send (inside.the_field G g).row _ _ (inside.the_type G g).to_one (struct_send (shape (inside.the_type G g)) (search sendable, (of_sheet, (search sendable, (of_log, (search sendable, tt))))))
+  fields_send =
+      recorded_send (inside.the_field G g).row _ _ (inside.the_type G g).to_one
+      (struct_send (shape (inside.the_type G g)) (
+        search sendable,
+        (of_sheet, (search sendable, (of_log, (search sendable, tt)))),
+      ))
 
   pub book_send : IsSend (the_row G g)
   book_send = view_send (inside.the_row G g) _ _ _ _ fields_send

@@ -1,5 +1,6 @@
 -- The cells that depend on a cell by the pairs of a graph are those that an entry touches, and all lie in the sheet.
-use Rattle.std.proofs.Common.{◌≡◌, ◌≢◌, ◌↔◌, ◌⊎◌, inl, inr, ℕ, zero, suc, ◌+◌, ◌*◌, ◌<◌, ◌≤◌, length, length-append, List, ◌∷◌, [], ◌++◌, All, IsTrue, Contains, arith, refl, sym, ap, subst, ◌∙◌}
+use Rattle.std.proofs.Common.{◌≡◌, ◌≢◌, ◌↔◌, ◌⊎◌, inl, inr, ℕ, zero, suc, ◌+◌, ◌*◌, ◌<◌, ◌≤◌, length, length-append}
+use Rattle.std.proofs.Common.{List, ◌∷◌, [], ◌++◌, All, IsTrue, Contains, arith, refl, sym, ap, subst, ◌∙◌}
 use Rattle.std.proofs.lemmas.List.Elements.{All-push}
 use Rattle.sheet_refs.specs.Cells.{Position, Corners, IsIn, span_of}
 use Rattle.sheet_refs.specs.Rectangles.{IsAmong}
@@ -50,35 +51,61 @@ changed_among edit cell (change, there, is) = record {
 }
 
 -- what a graph reaches from the changed cells are the cells that depend on them
-pub reach_depends : (sheet : SheetValue) (pairs : List Pair) (edit : EditValue) → ArePairsOf sheet pairs → (cell : Position) → ReachOfAll pairs (cell_ranges edit) cell ↔ Depends sheet edit cell
+pub reach_depends : (sheet : SheetValue) (pairs : List Pair) (edit : EditValue) → ArePairsOf sheet pairs
+    → (cell : Position) → ReachOfAll pairs (cell_ranges edit) cell ↔ Depends sheet edit cell
 reach_depends sheet pairs edit are cell = (
   reached_within (Step pairs) (IsAmong (cell_ranges edit)) (Depends sheet edit)
       (λ c among. reached_start (DependsDirectly sheet) (IsChangedBy edit) c (among_changed edit c among))
-      (λ from to one depends. reached_step (DependsDirectly sheet) (IsChangedBy edit) from to depends (record { pair = one.pair; of_sheet = (are one.pair).0 one.listed; inside = one.inside; cell_is = one.cell_is }))
+      (λ from to one depends. reached_step (DependsDirectly sheet) (IsChangedBy edit) from to depends
+      (record {
+        pair = one.pair;
+        of_sheet = (are one.pair).0 one.listed;
+        inside = one.inside;
+        cell_is = one.cell_is;
+      }))
       cell,
   reached_within (DependsDirectly sheet) (IsChangedBy edit) (ReachOfAll pairs (cell_ranges edit))
       (λ c is. reached_start (Step pairs) (IsAmong (cell_ranges edit)) c (changed_among edit c is))
-      (λ from to one reached. reached_step (Step pairs) (IsAmong (cell_ranges edit)) from to reached (record { pair = one.pair; listed = (are one.pair).1 one.of_sheet; inside = one.inside; cell_is = one.cell_is }))
+      (λ from to one reached. reached_step (Step pairs) (IsAmong (cell_ranges edit)) from to reached
+      (record {
+        pair = one.pair;
+        listed = (are one.pair).1 one.of_sheet;
+        inside = one.inside;
+        cell_is = one.cell_is;
+      }))
       cell,
 )
 
 -- the cells that depend on cells of the sheet lie in it
-pub depends_inside : (sheet : SheetValue) (edit : EditValue) → AreInSheet sheet edit → (cell : Position) → Depends sheet edit cell → IsTrue (is_inside sheet.sizes cell)
+pub depends_inside : (sheet : SheetValue) (edit : EditValue) → AreInSheet sheet edit → (cell : Position)
+    → Depends sheet edit cell → IsTrue (is_inside sheet.sizes cell)
 depends_inside sheet edit inside = reached_within (DependsDirectly sheet) (IsChangedBy edit) (λ c. IsTrue (is_inside sheet.sizes c))
-    (λ c (change, there, is). subst (λ (p : Position). IsTrue (is_inside sheet.sizes p)) (sym is) (of_each (λ (x : ChangeValue). IsTrue (is_inside sheet.sizes x.cell)) edit change inside there))
+    (λ c (change, there, is). subst (λ (p : Position). IsTrue (is_inside sheet.sizes p)) (sym is)
+    (of_each (λ (x : ChangeValue). IsTrue (is_inside sheet.sizes x.cell)) edit change inside there))
     (λ from to one from_in.
     let at = pair_inside sheet one.pair one.of_sheet in
-    let there : IsTrue (is_inside sheet.sizes one.pair.cell) = inside_from sheet.sizes one.pair.cell (record { row_from = at.row_from; row_to = at.row_to; col_from = at.col_from; col_to = at.col_to }) in
+    let there : IsTrue (is_inside sheet.sizes one.pair.cell) =
+    inside_from sheet.sizes one.pair.cell (record {
+      row_from = at.row_from;
+      row_to = at.row_to;
+      col_from = at.col_from;
+      col_to = at.col_to;
+    }) in
     subst (λ (p : Position). IsTrue (is_inside sheet.sizes p)) one.cell_is there)
 
-pub reach_inside : (sheet : SheetValue) (pairs : List Pair) (edit : EditValue) → ArePairsOf sheet pairs → AreInSheet sheet edit → IsReachInside sheet.sizes pairs (cell_ranges edit)
+pub reach_inside : (sheet : SheetValue) (pairs : List Pair) (edit : EditValue) → ArePairsOf sheet pairs
+    → AreInSheet sheet edit → IsReachInside sheet.sizes pairs (cell_ranges edit)
 reach_inside sheet pairs edit are inside cell reached = depends_inside sheet edit inside cell ((reach_depends sheet pairs edit are cell).0 reached)
 
 -- the runs of a set that holds what is reached
-pub runs_inside : (sizes : Sizes) (pairs : List Pair) (ranges set runs : List Corners) → runs ≡ set → HoldsReachOfAll pairs ranges set → IsReachInside sizes pairs ranges → (cell : Position) → IsAmong runs cell → IsTrue (is_inside sizes cell)
+pub runs_inside : (sizes : Sizes) (pairs : List Pair) (ranges set runs : List Corners) → runs ≡ set
+    → HoldsReachOfAll pairs ranges set → IsReachInside sizes pairs ranges → (cell : Position) → IsAmong runs cell
+    → IsTrue (is_inside sizes cell)
 runs_inside sizes pairs ranges set runs same holds inside cell among = inside cell ((holds cell).0 (subst (λ (rs : List Corners). IsAmong rs cell) same among))
 
-pub rows_of_reach : (sizes : Sizes) (pairs : List Pair) (ranges set runs : List Corners) (cells : List Position) → runs ≡ set → HoldsReachOfAll pairs ranges set → ListsRowByRow sizes cells (IsAmong runs) → ListsRowByRow sizes cells (ReachOfAll pairs ranges)
+pub rows_of_reach : (sizes : Sizes) (pairs : List Pair) (ranges set runs : List Corners) (cells : List Position)
+    → runs ≡ set → HoldsReachOfAll pairs ranges set → ListsRowByRow sizes cells (IsAmong runs)
+    → ListsRowByRow sizes cells (ReachOfAll pairs ranges)
 rows_of_reach sizes pairs ranges set runs cells same holds rows = record {
   exact = λ cell. (
     λ there. (holds cell).0 (subst (λ (rs : List Corners). IsAmong rs cell) same ((rows.exact cell).0 there)),
@@ -88,7 +115,9 @@ rows_of_reach sizes pairs ranges set runs cells same holds rows = record {
 }
 
 -- what is reached from the cells that an entry changes is what the entry touches
-pub touched_cells : (opening sheet : SheetValue) (log : List Entry) (pairs : List Pair) (entry : Entry) (cells : List Position) → IsBookOf opening sheet log pairs → ListsRowByRow sheet.sizes cells (ReachOfAll pairs (cell_ranges entry.edit)) → AreTouched opening log entry cells
+pub touched_cells : (opening sheet : SheetValue) (log : List Entry) (pairs : List Pair) (entry : Entry)
+    (cells : List Position) → IsBookOf opening sheet log pairs
+    → ListsRowByRow sheet.sizes cells (ReachOfAll pairs (cell_ranges entry.edit)) → AreTouched opening log entry cells
 touched_cells opening sheet log pairs entry cells is rows =
     let ranges : List Corners = cell_ranges entry.edit in
     let sizes : sheet.sizes ≡ opening.sizes = ap (λ (s : SheetValue). s.sizes) is.replayed ∙ after-sizes opening log in
@@ -100,7 +129,8 @@ touched_cells opening sheet log pairs entry cells is rows =
     })
 
 -- an entry touches the cells that it changes, and what each of its changes would touch alone
-pub changed_touched : (opening : SheetValue) (log : List Entry) (entry : Entry) (change : ChangeValue) → Contains entry.edit change → Touches opening log entry change.cell
+pub changed_touched : (opening : SheetValue) (log : List Entry) (entry : Entry) (change : ChangeValue)
+    → Contains entry.edit change → Touches opening log entry change.cell
 changed_touched opening log entry change there = reached_start (DependsDirectly (after opening log)) (IsChangedBy entry.edit) change.cell (change, there, refl)
 
 -- an edit of one change changes one cell
@@ -110,17 +140,29 @@ sole_change change cell (only, listed, is) = elim (first_or_later only change []
   | inr later ↦ absurd (no_member only later)
 ]
 
-pub touched_by_one : (opening : SheetValue) (log : List Entry) (entry : Entry) (cell : Position) → Touches opening log entry cell ↔ ((change : ChangeValue) × Contains entry.edit change × Touches opening log (of_change entry change) cell)
+pub touched_by_one : (opening : SheetValue) (log : List Entry) (entry : Entry) (cell : Position)
+    → Touches opening log entry cell ↔ ((change : ChangeValue) × Contains entry.edit change
+    × Touches opening log (of_change entry change) cell)
 touched_by_one opening log entry cell = (
   λ touches.
       (let (change, there, is) = touches.starts in
       (change, there, record { from = touches.from; starts = (change, first_member change [], is); cells = touches.cells; path = touches.path })),
-  λ (change, there, touches). record { from = touches.from; starts = (change, there, sole_change change touches.from touches.starts); cells = touches.cells; path = touches.path },
+  λ (change, there, touches). record {
+    from = touches.from;
+    starts = (change, there, sole_change change touches.from touches.starts);
+    cells = touches.cells;
+    path = touches.path;
+  },
 )
 
 -- the pairs after a change, where the graph was given the ranges of the new content
-pub pairs_after : (sheet : SheetValue) (change : ChangeValue) (old new : List Pair) (refs : List Corners) → IsFilled sheet → IsTrue (is_inside sheet.sizes change.cell) → IsOnceEach (ranges_in change.content) refs → ArePairsOf sheet old → Replaces old new change.cell refs → ArePairsOf (after_change sheet change) new
-pairs_after sheet change old new refs filled inside once are replaced pair = (λ there. from_new ((replaced pair).0 there), λ is_pair. (replaced pair).1 (to_new (one_or_two pair.cell change.cell) is_pair))
+pub pairs_after : (sheet : SheetValue) (change : ChangeValue) (old new : List Pair) (refs : List Corners)
+    → IsFilled sheet → IsTrue (is_inside sheet.sizes change.cell) → IsOnceEach (ranges_in change.content) refs
+    → ArePairsOf sheet old → Replaces old new change.cell refs → ArePairsOf (after_change sheet change) new
+pairs_after sheet change old new refs filled inside once are replaced pair = (
+  λ there. from_new ((replaced pair).0 there),
+  λ is_pair. (replaced pair).1 (to_new (one_or_two pair.cell change.cell) is_pair),
+)
   where
     ranges_at : Position → List Corners
     ranges_at cell = ranges_in (content_of (after_change sheet change) cell)
@@ -128,13 +170,29 @@ pairs_after sheet change old new refs filled inside once are replaced pair = (λ
     own : pair.cell ≡ change.cell → ranges_at pair.cell ≡ ranges_in change.content
     own same = ap ranges_at same ∙ ap ranges_in (change-fills sheet change filled inside)
 
-    from_new : ((pair.cell ≡ change.cell) × Contains refs pair.range) ⊎ ((pair.cell ≢ change.cell) × Contains old pair) → IsPairOf (after_change sheet change) pair
-    from_new (inl new_one) = subst (λ (rs : List Corners). Contains rs pair.range) (sym (own new_one.0)) (once_back (ranges_in change.content) refs pair.range once new_one.1)
-    from_new (inr old_one) = subst (λ (content : ContentValue). Contains (ranges_in content) pair.range) (sym (change-others sheet change pair.cell old_one.0)) ((are pair).0 old_one.1)
+    from_new : ((pair.cell ≡ change.cell) × Contains refs pair.range) ⊎ ((pair.cell ≢ change.cell) × Contains old pair)
+        → IsPairOf (after_change sheet change) pair
+    from_new (inl new_one) =
+        subst (λ (rs : List Corners). Contains rs pair.range) (sym (own new_one.0))
+        (once_back (ranges_in change.content) refs pair.range once new_one.1)
+    from_new (inr old_one) =
+        subst (λ (content : ContentValue). Contains (ranges_in content) pair.range)
+        (sym (change-others sheet change pair.cell old_one.0)) ((are pair).0 old_one.1)
 
-    to_new : (pair.cell ≡ change.cell) ⊎ (pair.cell ≢ change.cell) → IsPairOf (after_change sheet change) pair → ((pair.cell ≡ change.cell) × Contains refs pair.range) ⊎ ((pair.cell ≢ change.cell) × Contains old pair)
-    to_new (inl same) is_pair = inl (same, once_all (ranges_in change.content) refs pair.range once (subst (λ (rs : List Corners). Contains rs pair.range) (own same) is_pair))
-    to_new (inr differs) is_pair = inr (differs, (are pair).1 (subst (λ (content : ContentValue). Contains (ranges_in content) pair.range) (change-others sheet change pair.cell differs) is_pair))
+    to_new : (pair.cell ≡ change.cell) ⊎ (pair.cell ≢ change.cell) → IsPairOf (after_change sheet change) pair
+        → ((pair.cell ≡ change.cell) × Contains refs pair.range) ⊎ ((pair.cell ≢ change.cell) × Contains old pair)
+    to_new (inl same) is_pair =
+        inl (
+          same,
+          once_all (ranges_in change.content) refs pair.range once (subst (λ (rs : List Corners). Contains rs pair.range)
+              (own same) is_pair),
+        )
+    to_new (inr differs) is_pair =
+        inr (
+          differs,
+          (are pair).1 (subst (λ (content : ContentValue). Contains (ranges_in content) pair.range)
+              (change-others sheet change pair.cell differs) is_pair),
+        )
 
 -- what a book keeps after a prepared edit was made
 pub applied_book : (opening sheet new_sheet : SheetValue) (log new_log : List Entry) (pairs new_pairs : List Pair) (entry : Entry) (edit : EditValue)
@@ -142,11 +200,14 @@ pub applied_book : (opening sheet new_sheet : SheetValue) (log new_log : List En
     → new_sheet ≡ after_edit sheet edit → new_log ≡ log ++ entry ∷ [] → ArePairsOf (after_edit sheet edit) new_pairs
     → IsBookOf opening new_sheet new_log new_pairs
 applied_book opening sheet new_sheet log new_log pairs new_pairs entry edit is same is_edit held room placed logged made =
-    let edited : after_edit sheet edit ≡ after_edit (after opening log) entry.edit = ap (λ s. after_edit s edit) is.replayed ∙ ap (after_edit (after opening log)) same in
+    let edited : after_edit sheet edit ≡ after_edit (after opening log) entry.edit =
+    ap (λ s. after_edit s edit) is.replayed ∙ ap (after_edit (after opening log)) same in
     let count : length new_log ≡ length log + 1 = ap length logged ∙ length-append log (entry ∷ []) in
     record {
       opened = is.opened;
-      held = subst (AreHeld (length opening.labels)) (sym logged) (All-push (λ (e : Entry). AreHeldBeside (length opening.labels) e.edit) log entry is.held held);
+      held =
+          subst (AreHeld (length opening.labels)) (sym logged)
+          (All-push (λ (e : Entry). AreHeldBeside (length opening.labels) e.edit) log entry is.held held);
       edits = subst (All (λ (e : Entry). IsEdit e.edit)) (sym logged) (All-push (λ (e : Entry). IsEdit e.edit) log entry is.edits is_edit);
       replayed = placed ∙ edited ∙ sym (after-more opening log entry) ∙ ap (after opening) (sym logged);
       pairs_are = subst (λ (s : SheetValue). ArePairsOf s new_pairs) (sym placed) made;
@@ -184,7 +245,8 @@ prepared_for opening sheet log pairs entry number touched is is_edit written ins
 }
 
 -- other ways to keep the same pairs and the same log
-pub same_book : (opening sheet : SheetValue) (log same_log : List Entry) (old new : List Pair) → IsBookOf opening sheet log old → SamePairs old new → same_log ≡ log → IsBookOf opening sheet same_log new
+pub same_book : (opening sheet : SheetValue) (log same_log : List Entry) (old new : List Pair)
+    → IsBookOf opening sheet log old → SamePairs old new → same_log ≡ log → IsBookOf opening sheet same_log new
 same_book opening sheet log same_log old new is same logged = record {
   opened = is.opened;
   held = subst (AreHeld (length opening.labels)) (sym logged) is.held;
@@ -194,7 +256,8 @@ same_book opening sheet log same_log old new is same logged = record {
   few = subst (λ (l : List Entry). length l ≤ 1048576) (sym logged) is.few;
 }
 
-pub unchanged : {G : Type 0} (pairs_of : G → List Pair) (now : BookValue G) (opening sheet : SheetValue) (graph same_graph : G) (log same_log : List Entry) (spare other_spare : ℕ)
+pub unchanged : {G : Type 0} (pairs_of : G → List Pair) (now : BookValue G) (opening sheet : SheetValue)
+    (graph same_graph : G) (log same_log : List Entry) (spare other_spare : ℕ)
     → record { opening = opening; sheet = sheet; graph = graph; log = log; spare = spare } ≡ now
     → SamePairs (pairs_of graph) (pairs_of same_graph) → same_log ≡ log
     → IsUnchanged pairs_of now (record { opening = opening; sheet = sheet; graph = same_graph; log = same_log; spare = other_spare })
@@ -203,10 +266,16 @@ unchanged {G} pairs_of now opening sheet graph same_graph log same_log spare oth
     subst (λ (b : BookValue G). IsUnchanged pairs_of b after_it) view (record { opening = refl; sheet = refl; log = logged; pairs = same })
 
 -- a prepared edit is for the sheet of its book
-pub ready_for : (opening sheet : SheetValue) (log : List Entry) (pairs : List Pair) (prepared : PreparedValue) (edit : EditValue) → IsBookOf opening sheet log pairs → IsPreparedFor opening log prepared → edit ≡ prepared.entry.edit → IsFor sheet edit
+pub ready_for : (opening sheet : SheetValue) (log : List Entry) (pairs : List Pair) (prepared : PreparedValue)
+    (edit : EditValue) → IsBookOf opening sheet log pairs → IsPreparedFor opening log prepared
+    → edit ≡ prepared.entry.edit → IsFor sheet edit
 ready_for opening sheet log pairs prepared edit is ready same =
-    let inside : AreInSheet sheet prepared.entry.edit = subst (λ (s : Sizes). All (λ (c : ChangeValue). IsTrue (is_inside s c.cell)) prepared.entry.edit) (sym (book_sizes opening sheet log pairs is)) ready.inside in
-    let held : AreHeldBeside (length sheet.labels) prepared.entry.edit = subst (λ (ls : List (List ℕ)). AreHeldBeside (length ls) prepared.entry.edit) (sym (book_labels opening sheet log pairs is)) ready.held in
+    let inside : AreInSheet sheet prepared.entry.edit =
+    subst (λ (s : Sizes). All (λ (c : ChangeValue). IsTrue (is_inside s c.cell)) prepared.entry.edit)
+    (sym (book_sizes opening sheet log pairs is)) ready.inside in
+    let held : AreHeldBeside (length sheet.labels) prepared.entry.edit =
+    subst (λ (ls : List (List ℕ)). AreHeldBeside (length ls) prepared.entry.edit)
+    (sym (book_labels opening sheet log pairs is)) ready.held in
     subst (IsFor sheet) (sym same) (λ k d within. record { inside = inside k d within; label = (held k d within).label })
 
 -- the cells of a sheet have names

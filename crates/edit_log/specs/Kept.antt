@@ -1,5 +1,6 @@
 -- Which cells an entry touches, and that all others keep their values: proofs that the subject of a sheet needs for its laws.
-use Rattle.std.proofs.Common.{◌≡◌, ◌↔◌, inl, inr, ℕ, zero, suc, ◌+◌, ◌-◌, ◌*◌, ◌/◌, ◌%◌, ◌<◌, List, [], ◌∷◌, ◌++◌, map, slice_get, Some, IsTrue, Contains, arith, refl, sym, ap, subst, ◌∙◌}
+use Rattle.std.proofs.Common.{◌≡◌, ◌↔◌, inl, inr, ℕ, zero, suc, ◌+◌, ◌-◌, ◌*◌, ◌/◌, ◌%◌, ◌<◌, List, [], ◌∷◌, ◌++◌, map}
+use Rattle.std.proofs.Common.{slice_get, Some, IsTrue, Contains, arith, refl, sym, ap, subst, ◌∙◌}
 use Rattle.sheet_refs.specs.Cells.{Position}
 use Rattle.sheet_refs.specs.Ends.{Reference, corners_of}
 use Rattle.sheet_refs.specs.Sizes.{is_inside, place_of, cell_count}
@@ -29,7 +30,8 @@ mapped_member f (y ∷ ys) zero x at = (0, omega arith, (let is : y ≡ x = cc i
 mapped_member f (y ∷ ys) (suc i) x at = let rest = mapped_member f ys i x at in (suc rest.0, omega (arith, rest.1), rest.2)
 
 -- a cell that a content names is in a range to which it refers
-named_listed : (content : ContentValue) (through : Reference) (place : ℕ) → slice_get (content_references content) place ≡ Some through → Contains (ranges_in content) (corners_of through)
+named_listed : (content : ContentValue) (through : Reference) (place : ℕ)
+    → slice_get (content_references content) place ≡ Some through → Contains (ranges_in content) (corners_of through)
 named_listed (Constant value) through place at = absurd (nothing place through at)
   where
     nothing : (i : ℕ) (x : Reference) → slice_get [] i ≡ Some x → ⊥
@@ -41,7 +43,8 @@ abbrev pub Depends : SheetValue → EditValue → Position → Type 0
 Depends sheet edit cell = IsReached (DependsDirectly sheet) (IsChangedBy edit) cell
 
 -- an edit of other cells leaves what stands in a cell
-pub content-kept : (sheet : SheetValue) (edit : EditValue) (cell : Position) → ¬ IsChangedBy edit cell → content_of (after_edit sheet edit) cell ≡ content_of sheet cell
+pub content-kept : (sheet : SheetValue) (edit : EditValue) (cell : Position) → ¬ IsChangedBy edit cell
+    → content_of (after_edit sheet edit) cell ≡ content_of sheet cell
 content-kept sheet edit cell differs = edit-others sheet edit cell (λ change there same. differs (change, there, same))
 
 -- an input of a cell leads to it by a step
@@ -68,7 +71,8 @@ module _ (sheet : SheetValue) (edit : EditValue) where
   inputs-kept : (cell input : Position) → Kept cell → IsInput sheet cell input → Kept input
   inputs-kept cell input kept is depends = kept (reached_step (DependsDirectly sheet) (IsChangedBy edit) input cell depends (input_step sheet cell input is))
 
-  same-kept : (cell : Position) (f g : Position → Value) → Kept cell → ((input : Position) → IsInput sheet cell input → f input ≡ g input) → step (after_edit sheet edit) cell f ≡ step sheet cell g
+  same-kept : (cell : Position) (f g : Position → Value) → Kept cell → ((input : Position) → IsInput sheet cell input
+      → f input ≡ g input) → step (after_edit sheet edit) cell f ≡ step sheet cell g
   same-kept cell f g kept same = step-kept cell f kept ∙ step_local sheet cell f g same
 
   -- a cell that doesn't depend on a changed one keeps its value
@@ -78,35 +82,42 @@ module _ (sheet : SheetValue) (edit : EditValue) where
       ap (λ s. budget_value (after_edit sheet edit) (suc (cell_count s)) cell) (edit-sizes sheet edit)
       ∙ agree_on (IsInput sheet) circular_value Kept (step (after_edit sheet edit)) (step sheet) inputs-kept same-kept (suc (cell_count sheet.sizes)) cell kept
 
-pub untouched : (opening : SheetValue) (log : List Entry) (entry : Entry) (cell : Position) → ¬ Touches opening log entry cell → value_of (after opening (log ++ entry ∷ [])) cell ≡ value_of (after opening log) cell
+pub untouched : (opening : SheetValue) (log : List Entry) (entry : Entry) (cell : Position)
+    → ¬ Touches opening log entry cell → value_of (after opening (log ++ entry ∷ [])) cell ≡ value_of
+    (after opening log) cell
 untouched opening log entry cell spared =
     ap (λ s. value_of s cell) (after-more opening log entry) ∙ value-kept (after opening log) entry.edit cell spared
 
 -- where two sheets differ in changed cells alone, the same cells depend on these
-pub depends-same : (a b : SheetValue) (edit : EditValue) → ((cell : Position) → ¬ IsChangedBy edit cell → content_of a cell ≡ content_of b cell) → (cell : Position) → Depends a edit cell → Depends b edit cell
+pub depends-same : (a b : SheetValue) (edit : EditValue) → ((cell : Position) → ¬ IsChangedBy edit cell
+    → content_of a cell ≡ content_of b cell) → (cell : Position) → Depends a edit cell → Depends b edit cell
 depends-same a b edit same = reached_within (DependsDirectly a) (IsChangedBy edit) (Depends b edit)
     (λ cell is. reached_start (DependsDirectly b) (IsChangedBy edit) cell is)
     (λ from to one depends. elim (changed_or_not edit to) [
       | inl is ↦ reached_start (DependsDirectly b) (IsChangedBy edit) to is
-      | inr differs ↦ reached_step (DependsDirectly b) (IsChangedBy edit) from to depends (step_in from to one (λ changed. differs changed.0 changed.1 changed.2))
+      | inr differs ↦ reached_step (DependsDirectly b) (IsChangedBy edit) from to depends
+          (step_in from to one (λ changed. differs changed.0 changed.1 changed.2))
     ])
   where
     step_in : (from to : Position) → DependsDirectly a from to → ¬ IsChangedBy edit to → DependsDirectly b from to
     step_in from to one differs = record {
       pair = one.pair;
-      of_sheet = subst (λ (content : ContentValue). Contains (ranges_in content) one.pair.range) (same one.pair.cell (λ changed. differs (subst (IsChangedBy edit) one.cell_is changed))) one.of_sheet;
+      of_sheet = subst (λ (content : ContentValue). Contains (ranges_in content) one.pair.range)
+          (same one.pair.cell (λ changed. differs (subst (IsChangedBy edit) one.cell_is changed))) one.of_sheet;
       inside = one.inside;
       cell_is = one.cell_is;
     }
 
 -- an entry touches the same cells by the formulas before it and after it
-pub before_after : (opening : SheetValue) (log : List Entry) (entry : Entry) (cell : Position) → Touches opening log entry cell ↔ Touches opening (log ++ entry ∷ []) entry cell
+pub before_after : (opening : SheetValue) (log : List Entry) (entry : Entry) (cell : Position)
+    → Touches opening log entry cell ↔ Touches opening (log ++ entry ∷ []) entry cell
 before_after opening log entry cell =
     let before : SheetValue = after opening log in
     let edit : EditValue = entry.edit in
     let P : SheetValue → Type 0 = λ s. Depends s edit cell in
     let kept = content-kept before edit in (
-      λ depends. subst P (sym (after-more opening log entry)) (depends-same before (after_edit before edit) edit (λ c differs. sym (kept c differs)) cell depends),
+      λ depends. subst P (sym (after-more opening log entry)) (depends-same before (after_edit before edit) edit
+          (λ c differs. sym (kept c differs)) cell depends),
       λ depends. depends-same (after_edit before edit) before edit kept cell (subst P (after-more opening log entry) depends),
     )
 
@@ -119,7 +130,12 @@ cell_at-inside sizes place below =
     let parts = split_place sizes.cols sizes.rows place below in
     let row = parts.0 in
     let col = parts.1 in
-    inside_from sizes (cell_at sizes place) (record { row_from = omega arith; row_to = omega (arith, row); col_from = omega arith; col_to = omega (arith, col) })
+    inside_from sizes (cell_at sizes place) (record {
+      row_from = omega arith;
+      row_to = omega (arith, row);
+      col_from = omega arith;
+      col_to = omega (arith, col);
+    })
 
 pub cell_at-place_of : (sizes : Sizes) (place : ℕ) → place < cell_count sizes → place_of sizes (cell_at sizes place) ≡ place
 cell_at-place_of sizes place below =
@@ -131,10 +147,13 @@ cell_at-place_of sizes place below =
 pub cell_at-place : (sizes : Sizes) (cell : Position) → IsTrue (is_inside sizes cell) → cell_at sizes (place_of sizes cell) ≡ cell
 cell_at-place sizes cell inside =
     let below = place-lt sizes cell inside in
-    place_same sizes (cell_at sizes (place_of sizes cell)) cell (cell_at-inside sizes (place_of sizes cell) below) inside (cell_at-place_of sizes (place_of sizes cell) below)
+    place_same sizes (cell_at sizes (place_of sizes cell)) cell (cell_at-inside sizes (place_of sizes cell) below)
+    inside (cell_at-place_of sizes (place_of sizes cell) below)
 
 -- what the marks over a sheet rest on
-pub place_untouched : (opening : SheetValue) (log : List Entry) (entry : Entry) (place : ℕ) → ¬ TouchesPlace opening log entry place → place_worth opening (log ++ entry ∷ []) place ≡ place_worth opening log place
+pub place_untouched : (opening : SheetValue) (log : List Entry) (entry : Entry) (place : ℕ)
+    → ¬ TouchesPlace opening log entry place → place_worth opening (log ++ entry ∷ []) place ≡ place_worth opening log
+    place
 place_untouched opening log entry place spared = ap code_of (untouched opening log entry (cell_at opening.sizes place) spared)
 
 pub over_sheet : (opening : SheetValue) → IsOfSheet opening (cell_count opening.sizes) (place_worth opening)

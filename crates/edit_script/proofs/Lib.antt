@@ -1,15 +1,15 @@
-pub mod BatchLemmas
-pub mod FindLemmas
+mod BatchLemmas
+mod FindLemmas
 pub mod LineLemmas
 pub mod NameLemmas
-pub mod OneFault
+mod OneFault
 pub mod OneLine
 pub mod OneResult
 pub mod OneScript
 pub mod OrderLemmas
-pub mod ReadLemmas
+mod ReadLemmas
 pub mod SpaceLemmas
-pub mod StateLemmas
-pub mod TableLemmas
+mod StateLemmas
+mod TableLemmas
 pub mod TakeLemmas
-pub mod WayLemmas
+mod WayLemmas

@@ -1,5 +1,6 @@
 -- Lines of a word and something behind it, and lines that say nothing.
-use Rattle.std.proofs.Common.{◌≡◌, ◌≢◌, ◌⊎◌, ◌<◌, ◌≤◌, ℕ, zero, suc, true, nat_le, List, [], ◌∷◌, ◌++◌, length, get_or, All, refl, sym, ap, subst, ◌∙◌, arith, inl, inr, ⊎_elim, length-append}
+use Rattle.std.proofs.Common.{◌≡◌, ◌≢◌, ◌⊎◌, ◌<◌, ◌≤◌, ℕ, zero, suc, true, nat_le, List, [], ◌∷◌, ◌++◌, length, get_or}
+use Rattle.std.proofs.Common.{All, refl, sym, ap, subst, ◌∙◌, arith, inl, inr, ⊎_elim, length-append}
 use Rattle.std.specs.Prelude.{IsUtf8, codes}
 use Rattle.std.proofs.Math.Seq.{get_or-append_seam}
 use Rattle.std.specs.List.{list_all}
@@ -60,7 +61,9 @@ digit_small : (byte : ℕ) → IsDigit byte → byte < 128
 digit_small byte digit = omega (arith, digit.1)
 
 name_small : (byte : ℕ) → IsNameByte byte → byte < 128
-name_small byte name = ⊎_elim (letter_small byte) (λ other. ⊎_elim (digit_small byte) (λ sign. ⊎_elim (λ low. omega (arith, low)) (λ dash. omega (arith, dash)) sign) other) name
+name_small byte name =
+    ⊎_elim (letter_small byte) (λ other. ⊎_elim (digit_small byte) (λ sign. ⊎_elim (λ low. omega (arith, low))
+    (λ dash. omega (arith, dash)) sign) other) name
 
 cell_ascii : (name : List ℕ) (cell : Position) → IsCellName name cell → All (λ b. b < 128) name
 cell_ascii name cell is =
@@ -80,7 +83,8 @@ range_ascii : (name : List ℕ) (range : Corners) → IsRangeName name range →
 range_ascii _ _ (one name cell is) = ascii name (cell_ascii name cell is)
 range_ascii _ _ (two name first second a b text_is is_a is_b) =
     subst IsUtf8 (sym text_is)
-    (IsUtf8-append first (58 ∷ second) (ascii first (cell_ascii first a is_a)) (IsUtf8-append (58 ∷ []) second (ascii (58 ∷ []) one_colon) (ascii second (cell_ascii second b is_b))))
+    (IsUtf8-append first (58 ∷ second) (ascii first (cell_ascii first a is_a))
+    (IsUtf8-append (58 ∷ []) second (ascii (58 ∷ []) one_colon) (ascii second (cell_ascii second b is_b))))
   where
     one_colon : All (λ b. b < 128) (58 ∷ [])
     one_colon zero d within = omega arith
@@ -88,7 +92,9 @@ range_ascii _ _ (two name first second a b text_is is_a is_b) =
 
 behind_utf8 : (word behind : List ℕ) (value : LineValue) → IsOrder word behind value → IsUtf8 behind
 behind_utf8 word _ _ (client _ name w is_name) = ascii name (All-weaker IsNameByte (λ b. b < 128) name_small name is_name.bytes)
-behind_utf8 word _ _ (set _ text content cell w sets) = subst IsUtf8 (sym sets.text_is) (spaced sets.name content (ascii sets.name (cell_ascii sets.name cell sets.names)) sets.utf8)
+behind_utf8 word _ _ (set _ text content cell w sets) =
+    subst IsUtf8 (sym sets.text_is) (spaced sets.name content (ascii sets.name (cell_ascii sets.name cell sets.names))
+    sets.utf8)
 behind_utf8 word _ _ (clear _ name cell w is_name) = ascii name (cell_ascii name cell is_name)
 behind_utf8 word _ _ (look _ name range w is_name) = range_ascii name range is_name
 behind_utf8 word _ _ (firm _ name range w is_name) = range_ascii name range is_name
@@ -96,7 +102,8 @@ behind_utf8 word _ _ (work _ digits turns w is_turns) = ascii digits (All-weaker
 
 order_utf8 : (word behind : List ℕ) (value : LineValue) → IsOrder word behind value → IsUtf8 (word ++ 32 ∷ behind)
 order_utf8 word behind value is =
-    spaced word behind (ascii word (λ k d within. let lower = lower_letters word behind value is k d within in omega (arith, lower.1))) (behind_utf8 word behind value is)
+    spaced word behind (ascii word (λ k d within. let lower = lower_letters word behind value is k d within in
+    omega (arith, lower.1))) (behind_utf8 word behind value is)
 
 -- a line that says something is a word, a space and what stands behind it
 pub record IsOrderLine (line : List ℕ) (value : LineValue) : Type 0 where
@@ -107,7 +114,8 @@ pub record IsOrderLine (line : List ℕ) (value : LineValue) : Type 0 where
   pub space : HasNoSpace word
   pub utf8 : IsUtf8 line
 
-pub order_line : (line : List ℕ) (value : LineValue) → line ≢ [] → ((rest : List ℕ) → line ≢ 35 ∷ rest) → line ≢ codes "batch" → line ≢ codes "end" → IsLineOf line value → IsOrderLine line value
+pub order_line : (line : List ℕ) (value : LineValue) → line ≢ [] → ((rest : List ℕ) → line ≢ 35 ∷ rest)
+    → line ≢ codes "batch" → line ≢ codes "end" → IsLineOf line value → IsOrderLine line value
 order_line line _ some no_hash no_batch no_end (empty _ none) = absurd (some none)
 order_line line _ some no_hash no_batch no_end (comment _ rest is) = absurd (no_hash rest is)
 order_line line _ some no_hash no_batch no_end (begins _ is) = absurd (no_batch is)
@@ -123,10 +131,14 @@ order_line line value some no_hash no_batch no_end (order _ word behind _ text_i
 
 -- the words that stand alone
 small_text : (text : List ℕ) → list_all (λ b. nat_le b 127) text ≡ true → IsUtf8 text
-small_text text small = ascii text (λ k d within. let least = leb-true (get_or text k d) 127 (AllPass-from_list_all (λ b. nat_le b 127) text small k d within) in omega (arith, least))
+small_text text small =
+    ascii text (λ k d within. let least = leb-true (get_or text k d) 127 (AllPass-from_list_all (λ b. nat_le b 127) text
+    small k d within) in omega (arith, least))
 
 large_text : (text : List ℕ) → list_all (nat_le 33) text ≡ true → HasNoSpace text
-large_text text large i within = let least = leb-true 33 (get_or text i 0) (AllPass-from_list_all (nat_le 33) text large i 0 within) in λ same. omega (arith, least, same)
+large_text text large i within =
+    let least = leb-true 33 (get_or text i 0) (AllPass-from_list_all (nat_le 33) text large i 0 within) in
+    λ same. omega (arith, least, same)
 
 pub batch_space : HasNoSpace (codes "batch")
 batch_space = large_text (codes "batch") refl

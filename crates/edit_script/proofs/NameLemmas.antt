@@ -1,5 +1,6 @@
 -- Names of clients, and whether one is among them.
-use Rattle.std.proofs.Common.{◌≡◌, ◌≢◌, ◌∙◌, ◌+◌, ◌<◌, ◌≤◌, ℕ, Bool, true, false, List, [], ◌∷◌, ◌++◌, length, get_or, map, Some, ◌⊎◌, refl, sym, ap, subst, arith, true≢false, ⊎_elim}
+use Rattle.std.proofs.Common.{◌≡◌, ◌≢◌, ◌∙◌, ◌+◌, ◌<◌, ◌≤◌, ℕ, Bool, true, false, List, [], ◌∷◌, ◌++◌, length, get_or}
+use Rattle.std.proofs.Common.{map, Some, ◌⊎◌, refl, sym, ap, subst, arith, true≢false, ⊎_elim}
 use Rattle.std.specs.Prelude.{slice_get, Contains, if◌then◌else◌, Result, Ok, Err, IfOk, OnOk}
 use Rattle.std.specs.List.{list_any}
 use Rattle.std.specs.Str.{bytes_eq}
@@ -33,7 +34,8 @@ name_new names name absent = go (list_any (bytes_eq name) names) refl
 
 module _ {K : Type 0} (f : K → List ℕ) where
   -- a stored name that is the one that is looked for
-  pub name_at : (ks : List K) (place : ℕ) (k : K) (name : List ℕ) → place < length ks → k ≡ get_or ks place k → f k ≡ name → slice_get (map f ks) place ≡ Some name
+  pub name_at : (ks : List K) (place : ℕ) (k : K) (name : List ℕ) → place < length ks → k ≡ get_or ks place k
+      → f k ≡ name → slice_get (map f ks) place ≡ Some name
   name_at ks place k name within is same =
       slice_get-map f ks place ∙ ap (option_map f) (slice_get-get_or ks place k within ∙ ap Some (sym is)) ∙ ap Some same
 
@@ -48,7 +50,8 @@ module _ {K : Type 0} (f : K → List ℕ) where
       (eq-or-lt_of_le up_to)
 
 -- names none of which is the one that is looked for
-pub no_name : (names : List (List ℕ)) (count : ℕ) (name : List ℕ) → ((i : ℕ) → i < count → get_or names i [] ≢ name) → length names ≤ count → ¬ Contains names name
+pub no_name : (names : List (List ℕ)) (count : ℕ) (name : List ℕ) → ((i : ℕ) → i < count → get_or names i [] ≢ name)
+    → length names ≤ count → ¬ Contains names name
 no_name names count name none all there =
     let within : there.0 < length names = there.1 in
     none there.0 (omega (arith, within, all)) (get_or_default names there.0 [] name within ∙ there.2)
@@ -84,6 +87,7 @@ added_at (Ok place) old new name count long at added =
     subst (λ l. slice_get l place ≡ Some name) (sym added) (subst (λ p. slice_get (old ++ name ∷ []) p ≡ Some name) (long ∙ sym at) (slice_get-push old name))
 added_at (Err e) old new name count long at added = tt
 
-pub added_names : {E : Type 0} (r : Result ℕ E) (old new : List (List ℕ)) (name : List ℕ) → ¬ Contains old name → OnOk r (new ≡ old ++ name ∷ []) → OnOk r (new ≡ with_label old name)
+pub added_names : {E : Type 0} (r : Result ℕ E) (old new : List (List ℕ)) (name : List ℕ) → ¬ Contains old name
+    → OnOk r (new ≡ old ++ name ∷ []) → OnOk r (new ≡ with_label old name)
 added_names (Ok place) old new name absent added = added ∙ sym (name_new old name absent)
 added_names (Err e) old new name absent added = tt

@@ -4,9 +4,13 @@ use Rattle.std.specs.Prelude.{if◌then◌else◌}
 use Rattle.std.proofs.lemmas.Bool.{cases_order}
 use Rattle.edit_script.specs.Lines.{LineValue, Says}
 use Rattle.edit_script.specs.Progress.{IsPlainlyAllowed}
-use Rattle.edit_script.specs.Scripts.{Ground, Brought, HasCause, HasManyRefs, IsAllowed, IsCellTwice, IsChangeTooMany, IsClientTooMany, IsDeepEdit, IsEditTooMany, IsFault, IsFaultyLine, IsLineFault, IsMisplaced, IsWindowTooLarge, LeavesSheet, line_number, place_in_order}
+use Rattle.edit_script.specs.Scripts.{Ground, Brought, HasCause, HasManyRefs, IsAllowed, IsCellTwice, IsChangeTooMany}
+use Rattle.edit_script.specs.Scripts.{IsClientTooMany, IsDeepEdit, IsEditTooMany, IsFault, IsFaultyLine, IsLineFault}
+use Rattle.edit_script.specs.Scripts.{IsMisplaced, IsWindowTooLarge, LeavesSheet, line_number, place_in_order}
 use Rattle.edit_script.specs.declared.refused.ScriptRefused.{ScriptRefused}
-use Rattle.edit_script.specs.declared.refused.ScriptRefused.TheVariants.{BadLine, OutOfSheet, CellTwice, BatchTooLarge, TooManyClients, WindowTooLarge, TooManyEdits, FormulaTooDeep, TooManyRefs, Memory}
+use Rattle.edit_script.specs.declared.refused.ScriptRefused.TheVariants.{BadLine, OutOfSheet, CellTwice, BatchTooLarge}
+use Rattle.edit_script.specs.declared.refused.ScriptRefused.TheVariants.{TooManyClients, WindowTooLarge, TooManyEdits}
+use Rattle.edit_script.specs.declared.refused.ScriptRefused.TheVariants.{FormulaTooDeep, TooManyRefs, Memory}
 use Rattle.edit_script.specs.declared.script.Mode.{Mode}
 use Rattle.edit_script.proofs.OneLine.{one_saying}
 
@@ -51,7 +55,12 @@ module _ (ground : Ground) (now : Brought) (line : LineValue) where
   ]
 
   -- no earlier cause holds
-  pub none_before : (place : ℕ) → (0 < place → ¬ IsMisplaced now line) → (1 < place → ¬ LeavesSheet ground.sizes line) → (2 < place → ¬ IsCellTwice now line) → (3 < place → ¬ IsChangeTooMany now line) → (4 < place → ¬ IsClientTooMany now line) → (5 < place → ¬ IsWindowTooLarge now line) → (6 < place → ¬ IsEditTooMany now line) → (7 < place → ¬ IsDeepEdit line) → (8 < place → ¬ HasManyRefs ground.edition line) → (earlier : ScriptRefused) → place_in_order earlier < place → ¬ HasCause ground now line earlier
+  pub none_before : (place : ℕ) → (0 < place → ¬ IsMisplaced now line) → (1 < place → ¬ LeavesSheet ground.sizes line)
+      → (2 < place → ¬ IsCellTwice now line) → (3 < place → ¬ IsChangeTooMany now line)
+      → (4 < place → ¬ IsClientTooMany now line) → (5 < place → ¬ IsWindowTooLarge now line)
+      → (6 < place → ¬ IsEditTooMany now line) → (7 < place → ¬ IsDeepEdit line)
+      → (8 < place → ¬ HasManyRefs ground.edition line) → (earlier : ScriptRefused) → place_in_order earlier < place
+      → ¬ HasCause ground now line earlier
   none_before place m o t l c w e d r (BadLine number) before = m before
   none_before place m o t l c w e d r (OutOfSheet number) before = o before
   none_before place m o t l c w e d r (CellTwice number) before = t before
@@ -64,9 +73,12 @@ module _ (ground : Ground) (now : Brought) (line : LineValue) where
   none_before place m o t l c w e d r Memory before = λ never. never
 
   -- no cause holds but those of formulas
-  pub plainly : ¬ IsMisplaced now line → ¬ LeavesSheet ground.sizes line → ¬ IsCellTwice now line → ¬ IsChangeTooMany now line → ¬ IsClientTooMany now line → ¬ IsWindowTooLarge now line → ¬ IsEditTooMany now line → IsPlainlyAllowed ground now line
+  pub plainly : ¬ IsMisplaced now line → ¬ LeavesSheet ground.sizes line → ¬ IsCellTwice now line
+      → ¬ IsChangeTooMany now line → ¬ IsClientTooMany now line → ¬ IsWindowTooLarge now line → ¬ IsEditTooMany now line
+      → IsPlainlyAllowed ground now line
   plainly m o t l c w e why early =
-      none_before 7 (λ _. m) (λ _. o) (λ _. t) (λ _. l) (λ _. c) (λ _. w) (λ _. e) (λ late. absurd (omega (arith, late))) (λ late. absurd (omega (arith, late))) why (omega (arith, early))
+      none_before 7 (λ _. m) (λ _. o) (λ _. t) (λ _. l) (λ _. c) (λ _. w) (λ _. e)
+      (λ late. absurd (omega (arith, late))) (λ late. absurd (omega (arith, late))) why (omega (arith, early))
 
   -- nor those
   pub allowed : IsPlainlyAllowed ground now line → ¬ IsDeepEdit line → ¬ HasManyRefs ground.edition line → IsAllowed ground now line

@@ -1,5 +1,6 @@
 -- Lines are taken in one way, and give one list of steps.
-use Rattle.std.proofs.Common.{◌≡◌, ◌≢◌, ◌∙◌, ◌⊎◌, inl, inr, ℕ, zero, suc, List, [], ◌∷◌, ◌++◌, length, Option, Some, None, ◌+◌, Contains, refl, sym, ap, subst, arith, append_assoc, length-append}
+use Rattle.std.proofs.Common.{◌≡◌, ◌≢◌, ◌∙◌, ◌⊎◌, inl, inr, ℕ, zero, suc, List, [], ◌∷◌, ◌++◌, length, Option, Some}
+use Rattle.std.proofs.Common.{None, ◌+◌, Contains, refl, sym, ap, subst, arith, append_assoc, length-append}
 use Rattle.std.specs.Prelude.{slice_get, fold, AllPairs}
 use Rattle.std.proofs.lemmas.Bool.{cases_order}
 use Rattle.std.proofs.lemmas.List.Elements.{Contains-append_left, Contains-append_right}
@@ -15,7 +16,8 @@ use Rattle.sheet_model.proofs.LabelLemmas.{distinct-with_label}
 use Rattle.sheet_model.proofs.ListMembers.{first_member}
 use Rattle.formula_syntax.specs.declared.edition.Edition.{Edition}
 use Rattle.edit_script.specs.Lines.{LineValue, Skip, Client, Set, Clear, Look, Firm, Work, Batch, End, Says}
-use Rattle.edit_script.specs.Scripts.{Ground, AddsCommand, AreLines, AreSteps, Brought, GoesOn, IsAllowed, IsBegun, IsFault, MakesChange, brought_by, change_of, nothing_yet, with_change, with_line}
+use Rattle.edit_script.specs.Scripts.{Ground, AddsCommand, AreLines, AreSteps, Brought, GoesOn, IsAllowed, IsBegun}
+use Rattle.edit_script.specs.Scripts.{IsFault, MakesChange, brought_by, change_of, nothing_yet, with_change, with_line}
 use Rattle.edit_script.specs.Scripts.AreLines.{none as no_lines, more}
 use Rattle.edit_script.specs.Scripts.AreSteps.{none as no_steps, more as step_more}
 use Rattle.edit_script.specs.declared.refused.ScriptRefused.{ScriptRefused}
@@ -30,8 +32,10 @@ module _ {A : Type 0} where
   -- a list with a last element has one
   pub one_last : (a b : List A) (x y : A) → a ++ x ∷ [] ≡ b ++ y ∷ [] → (a ≡ b) × (x ≡ y)
   one_last [] [] x y same = (refl, cc)
-  one_last [] (z ∷ b) x y same = (let long : suc zero ≡ suc (length (b ++ y ∷ [])) = ap length same in let end = length-append b (y ∷ []) in absurd (omega (arith, long, end)))
-  one_last (z ∷ a) [] x y same = (let long : suc (length (a ++ x ∷ [])) ≡ suc zero = ap length same in let end = length-append a (x ∷ []) in absurd (omega (arith, long, end)))
+  one_last [] (z ∷ b) x y same = (let long : suc zero ≡ suc (length (b ++ y ∷ [])) = ap length same in
+      let end = length-append b (y ∷ []) in absurd (omega (arith, long, end)))
+  one_last (z ∷ a) [] x y same = (let long : suc (length (a ++ x ∷ [])) ≡ suc zero = ap length same in
+      let end = length-append a (x ∷ []) in absurd (omega (arith, long, end)))
   one_last (z ∷ a) (w ∷ b) x y same =
       let first : z ≡ w = cc in
       let others : a ++ x ∷ [] ≡ b ++ y ∷ [] = cc in
@@ -88,20 +92,25 @@ module _ (mode : Mode) (ground : Ground) where
   -- no line is refused among those that are taken
   pub none_refused : (all before rest : List (List ℕ)) (text : List ℕ) (some known : List LineValue) (why : ScriptRefused)
       → AreLines mode ground all known → AreLines mode ground before some → IsFault mode ground (brought_by some) text why → all ≢ before ++ text ∷ rest
-  none_refused _ before rest text some _ why no_lines front fault split = (let end = length-append before (text ∷ rest) in let long : 0 ≡ length (before ++ text ∷ rest) = ap length split in omega (arith, end, long))
+  none_refused _ before rest text some _ why no_lines front fault split =
+      (let end = length-append before (text ∷ rest) in
+      let long : 0 ≡ length (before ++ text ∷ rest) = ap length split in omega (arith, end, long))
   none_refused _ before rest text some _ why (more texts _ last lines _ line are says allowed split is) front fault place = elim (by_last rest) [
     | inl none ↦ (
         let ends = one_last texts before last text (sym split ∙ place ∙ ap (λ r. before ++ text ∷ r) none) in
         let same : lines ≡ some = one_lines before lines some (subst (λ t. AreLines mode ground t lines) ends.0 are) front in
-        none_wrong mode ground (brought_by some) text line why (subst (λ t. Says mode t line) ends.1 says) (subst (λ l. IsAllowed ground (brought_by l) line) same allowed) fault)
+        none_wrong mode ground (brought_by some) text line why (subst (λ t. Says mode t line) ends.1 says)
+        (subst (λ l. IsAllowed ground (brought_by l) line) same allowed) fault)
     | inr behind ↦ (
-        let longer : before ++ text ∷ (behind.0 ++ behind.1 ∷ []) ≡ (before ++ text ∷ behind.0) ++ behind.1 ∷ [] = sym (append_assoc before (text ∷ behind.0) (behind.1 ∷ [])) in
+        let longer : before ++ text ∷ (behind.0 ++ behind.1 ∷ []) ≡ (before ++ text ∷ behind.0) ++ behind.1
+        ∷ [] = sym (append_assoc before (text ∷ behind.0) (behind.1 ∷ [])) in
         let ends = one_last texts (before ++ text ∷ behind.0) last behind.1 (sym split ∙ place ∙ ap (λ r. before ++ text ∷ r) behind.2 ∙ longer) in
         none_refused texts before behind.0 text some lines why are front fault ends.0)
   ]
 
 -- the clients of lines have names apart
-change_apart : (batch : Option (List Position)) (now : Brought) (cell : Position) → AllPairs (λ a b. a ≢ b) now.names → AllPairs (λ a b. a ≢ b) (with_change batch now cell).names
+change_apart : (batch : Option (List Position)) (now : Brought) (cell : Position) → AllPairs (λ a b. a ≢ b) now.names
+    → AllPairs (λ a b. a ≢ b) (with_change batch now cell).names
 change_apart None now cell apart = distinct-with_label now.names now.client apart
 change_apart (Some cells) now cell apart = apart
 
@@ -118,23 +127,31 @@ names_apart now (Batch ∷ rest) apart = names_apart (with_line now Batch) rest 
 names_apart now (End ∷ rest) apart = names_apart (with_line now End) rest (distinct-with_label now.names now.client apart)
 
 -- a name stands at one place
-one_place : (names : List (List ℕ)) (name : List ℕ) (a b : ℕ) → AllPairs (λ x y. x ≢ y) names → slice_get names a ≡ Some name → slice_get names b ≡ Some name → a ≡ b
+one_place : (names : List (List ℕ)) (name : List ℕ) (a b : ℕ) → AllPairs (λ x y. x ≢ y) names
+    → slice_get names a ≡ Some name → slice_get names b ≡ Some name → a ≡ b
 one_place names name a b apart x y = elim (cases_order a b) [
   | inl same ↦ same
   | inr other ↦ elim other [
-    | inl before ↦ absurd (apart a b name before (slice_get_within names b name y) (get_or_from_slice_get names a name name x ∙ sym (get_or_from_slice_get names b name name y)))
-    | inr after ↦ absurd (apart b a name after (slice_get_within names a name x) (get_or_from_slice_get names b name name y ∙ sym (get_or_from_slice_get names a name name x)))
+    | inl before ↦
+        absurd (apart a b name before (slice_get_within names b name y) (get_or_from_slice_get names a name name x
+        ∙ sym (get_or_from_slice_get names b name name y)))
+    | inr after ↦
+        absurd (apart b a name after (slice_get_within names a name x) (get_or_from_slice_get names b name name y
+        ∙ sym (get_or_from_slice_get names a name name x)))
   ]
 ]
 
 -- a command of the client whose commands follow is one step
-one_added : (now : Brought) (command : Command) (old a b : List Step) → AllPairs (λ x y. x ≢ y) now.names → AddsCommand command now old a → AddsCommand command now old b → a ≡ b
+one_added : (now : Brought) (command : Command) (old a b : List Step) → AllPairs (λ x y. x ≢ y) now.names
+    → AddsCommand command now old a → AddsCommand command now old b → a ≡ b
 one_added now command old a b apart x y =
     let client = one_place now.names now.client x.client y.client apart x.place y.place in
     x.added ∙ ap (λ c. old ++ record { client = c; command = command } ∷ []) client ∙ sym y.added
 
 -- what a change does is one thing
-one_made : (now : Brought) (change other : ChangeValue) (before a b : Option EditValue) (old x y : List Step) → AllPairs (λ x y. x ≢ y) now.names → change ≡ other → MakesChange now change before a old x → MakesChange now other before b old y → (a ≡ b) × (x ≡ y)
+one_made : (now : Brought) (change other : ChangeValue) (before a b : Option EditValue) (old x y : List Step)
+    → AllPairs (λ x y. x ≢ y) now.names → change ≡ other → MakesChange now change before a old x
+    → MakesChange now other before b old y → (a ≡ b) × (x ≡ y)
 one_made now change other None a b old x y apart same (a_is, adds) (b_is, adds') =
     (a_is ∙ sym b_is, one_added now (asks.Put (change ∷ [])) old x y apart adds (subst (λ c. AddsCommand (asks.Put (c ∷ [])) now old y) (sym same) adds'))
 one_made now change other (Some changes) a b old x y apart same (a_is, x_is) (b_is, y_is) =
@@ -142,12 +159,17 @@ one_made now change other (Some changes) a b old x y apart same (a_is, x_is) (b_
 
 module _ (edition : Edition) (labels : List (List ℕ)) (table : IsTable labels) where
   -- what a line does is one thing
-  one_going : (now : Brought) (line : LineValue) (before a b : Option EditValue) (old x y : List Step) → AllPairs (λ x y. x ≢ y) now.names → GoesOn edition labels now line before a old x → GoesOn edition labels now line before b old y → (a ≡ b) × (x ≡ y)
+  one_going : (now : Brought) (line : LineValue) (before a b : Option EditValue) (old x y : List Step)
+      → AllPairs (λ x y. x ≢ y) now.names → GoesOn edition labels now line before a old x
+      → GoesOn edition labels now line before b old y → (a ≡ b) × (x ≡ y)
   one_going now Skip before a b old x y apart (a_is, x_is) (b_is, y_is) = (a_is ∙ sym b_is, x_is ∙ sym y_is)
   one_going now (Client name) before a b old x y apart (a_is, x_is) (b_is, y_is) = (a_is ∙ sym b_is, x_is ∙ sym y_is)
   one_going now (Set cell text) before a b old x y apart (content, writes, makes) (other, writes', makes') =
-      one_made now (change_of cell content) (change_of cell other) before a b old x y apart (ap (change_of cell) (one_content edition labels text content other table writes writes')) makes makes'
-  one_going now (Clear cell) before a b old x y apart makes makes' = one_made now (change_of cell (Constant Empty)) (change_of cell (Constant Empty)) before a b old x y apart refl makes makes'
+      one_made now (change_of cell content) (change_of cell other) before a b old x y apart
+      (ap (change_of cell) (one_content edition labels text content other table writes writes')) makes makes'
+  one_going now (Clear cell) before a b old x y apart makes makes' =
+      one_made now (change_of cell (Constant Empty)) (change_of cell (Constant Empty)) before a b old x y apart refl
+      makes makes'
   one_going now (Look range) before a b old x y apart (a_is, adds) (b_is, adds') = (a_is ∙ sym b_is, one_added now (asks.Look range) old x y apart adds adds')
   one_going now (Firm range) before a b old x y apart (a_is, adds) (b_is, adds') = (a_is ∙ sym b_is, one_added now (asks.Firm range) old x y apart adds adds')
   one_going now (Work turns) before a b old x y apart (a_is, adds) (b_is, adds') = (a_is ∙ sym b_is, one_added now (asks.Work turns) old x y apart adds adds')
@@ -158,7 +180,8 @@ module _ (edition : Edition) (labels : List (List ℕ)) (table : IsTable labels)
       (a_is ∙ sym b_is, one_added now (asks.Put changes) old x y apart adds (subst (λ c. AddsCommand (asks.Put c) now old y) (sym same) adds'))
 
   -- and lines give one list of steps
-  pub one_steps : (lines : List LineValue) (p q : Option EditValue) (a b : List Step) → AreSteps edition labels lines p a → AreSteps edition labels lines q b → (p ≡ q) × (a ≡ b)
+  pub one_steps : (lines : List LineValue) (p q : Option EditValue) (a b : List Step)
+      → AreSteps edition labels lines p a → AreSteps edition labels lines q b → (p ≡ q) × (a ≡ b)
   one_steps _ _ _ _ _ no_steps no_steps = (refl, refl)
   one_steps _ _ _ _ _ no_steps (step_more lines _ line before after some all are goes split) = absurd (none_last lines line (sym split))
   one_steps _ _ _ _ _ (step_more lines _ line before after some all are goes split) no_steps = absurd (none_last lines line (sym split))
@@ -167,19 +190,26 @@ module _ (edition : Edition) (labels : List (List ℕ)) (table : IsTable labels)
       let first = one_steps lines before before' some some' are (subst (λ l. AreSteps edition labels l before' some') ends.0 are') in
       let again : GoesOn edition labels (brought_by known) line before after' some all' =
       subst (λ b. GoesOn edition labels (brought_by known) line b after' some all') (sym first.0)
-      (subst (λ s. GoesOn edition labels (brought_by known) line before' after' s all') (sym first.1) (subst (λ l. GoesOn edition labels (brought_by known) l before' after' some' all') ends.1 goes')) in
-      one_going (brought_by known) line before after after' some all all' (names_apart nothing_yet known (λ i j d less within same. omega (arith, within, less))) goes again
+      (subst (λ s. GoesOn edition labels (brought_by known) line before' after' s all') (sym first.1)
+      (subst (λ l. GoesOn edition labels (brought_by known) l before' after' some' all') ends.1 goes')) in
+      one_going (brought_by known) line before after after' some all all'
+      (names_apart nothing_yet known (λ i j d less within same. omega (arith, within, less))) goes again
 
 -- a line closes no batch but by its end
-closes_change : (now : Brought) (change : ChangeValue) (before after : Option EditValue) (some all : List Step) → MakesChange now change before after some all → after ≡ None → before ≡ None
+closes_change : (now : Brought) (change : ChangeValue) (before after : Option EditValue) (some all : List Step)
+    → MakesChange now change before after some all → after ≡ None → before ≡ None
 closes_change now change None after some all makes closed = refl
 closes_change now change (Some changes) after some all (is, same) closed = absurd (none-some (changes ++ change ∷ []) (sym closed ∙ is))
 
-closes : (edition : Edition) (labels : List (List ℕ)) (now : Brought) (line : LineValue) (before after : Option EditValue) (some all : List Step) → GoesOn edition labels now line before after some all → after ≡ None → line ≢ End → before ≡ None
+closes : (edition : Edition) (labels : List (List ℕ)) (now : Brought) (line : LineValue)
+    (before after : Option EditValue) (some all : List Step) → GoesOn edition labels now line before after some all
+    → after ≡ None → line ≢ End → before ≡ None
 closes edition labels now Skip before after some all goes closed other = sym goes.0 ∙ closed
 closes edition labels now (Client name) before after some all goes closed other = sym goes.0 ∙ closed
-closes edition labels now (Set cell text) before after some all (content, writes, makes) closed other = closes_change now (change_of cell content) before after some all makes closed
-closes edition labels now (Clear cell) before after some all makes closed other = closes_change now (change_of cell (Constant Empty)) before after some all makes closed
+closes edition labels now (Set cell text) before after some all (content, writes, makes) closed other =
+    closes_change now (change_of cell content) before after some all makes closed
+closes edition labels now (Clear cell) before after some all makes closed other =
+    closes_change now (change_of cell (Constant Empty)) before after some all makes closed
 closes edition labels now (Look range) before after some all goes closed other = sym goes.0 ∙ closed
 closes edition labels now (Firm range) before after some all goes closed other = sym goes.0 ∙ closed
 closes edition labels now (Work turns) before after some all goes closed other = sym goes.0 ∙ closed
@@ -187,22 +217,32 @@ closes edition labels now Batch before after some all goes closed other = absurd
 closes edition labels now End before after some all goes closed other = absurd (other refl)
 
 -- so where none is open, none has begun that isn't ended
-none_open : (edition : Edition) (labels : List (List ℕ)) (lines : List LineValue) (after : Option EditValue) (all : List Step) (before behind : List LineValue) → AreSteps edition labels lines after all → lines ≡ before ++ Batch ∷ behind → ¬ Contains behind End → after ≡ None → ⊥
-none_open edition labels _ _ _ before behind no_steps split no_end closed = (let end = length-append before (Batch ∷ behind) in let long : 0 ≡ length (before ++ Batch ∷ behind) = ap length split in omega (arith, end, long))
+none_open : (edition : Edition) (labels : List (List ℕ)) (lines : List LineValue) (after : Option EditValue)
+    (all : List Step) (before behind : List LineValue) → AreSteps edition labels lines after all → lines ≡ before
+    ++ Batch ∷ behind → ¬ Contains behind End → after ≡ None → ⊥
+none_open edition labels _ _ _ before behind no_steps split no_end closed =
+    (let end = length-append before (Batch ∷ behind) in
+    let long : 0 ≡ length (before ++ Batch ∷ behind) = ap length split in omega (arith, end, long))
 none_open edition labels _ after all before behind (step_more lines known line was _ some _ are goes is) split no_end closed = elim (by_last behind) [
   | inl none ↦ (
       let ends = one_last lines before line Batch (sym is ∙ split ∙ ap (λ b. before ++ Batch ∷ b) none) in
-      let begins : GoesOn edition labels (brought_by known) Batch was after some all = subst (λ l. GoesOn edition labels (brought_by known) l was after some all) ends.1 goes in
+      let begins : GoesOn edition labels (brought_by known) Batch was after some all =
+      subst (λ l. GoesOn edition labels (brought_by known) l was after some all) ends.1 goes in
       none-some [] (sym closed ∙ begins.0))
   | inr last ↦ (
-      let longer : before ++ Batch ∷ (last.0 ++ last.1 ∷ []) ≡ (before ++ Batch ∷ last.0) ++ last.1 ∷ [] = sym (append_assoc before (Batch ∷ last.0) (last.1 ∷ [])) in
+      let longer : before ++ Batch ∷ (last.0 ++ last.1 ∷ []) ≡ (before ++ Batch ∷ last.0) ++ last.1
+      ∷ [] = sym (append_assoc before (Batch ∷ last.0) (last.1 ∷ [])) in
       let ends = one_last lines (before ++ Batch ∷ last.0) line last.1 (sym is ∙ split ∙ ap (λ b. before ++ Batch ∷ b) last.2 ∙ longer) in
-      let other : line ≢ End = λ same. no_end (subst (λ b. Contains b End) (sym last.2) (Contains-append_right last.0 (last.1 ∷ []) End (subst (λ l. Contains (last.1 ∷ []) l) (sym ends.1 ∙ same) (first_member last.1 [])))) in
+      let other : line ≢ End =
+      λ same. no_end (subst (λ b. Contains b End) (sym last.2) (Contains-append_right last.0 (last.1
+      ∷ []) End (subst (λ l. Contains (last.1 ∷ []) l) (sym ends.1 ∙ same) (first_member last.1 [])))) in
       let earlier : ¬ Contains last.0 End = λ there. no_end (subst (λ b. Contains b End) (sym last.2) (Contains-append_left last.0 (last.1 ∷ []) End there)) in
-      none_open edition labels lines was some before last.0 are ends.0 earlier (closes edition labels (brought_by known) line was after some all goes closed other))
+      none_open edition labels lines was some before last.0 are ends.0 earlier (closes edition labels (brought_by known)
+      line was after some all goes closed other))
 ]
 
-pub none_begun : (edition : Edition) (labels : List (List ℕ)) (lines : List LineValue) (all : List Step) (number : ℕ) → AreSteps edition labels lines None all → ¬ IsBegun lines number
+pub none_begun : (edition : Edition) (labels : List (List ℕ)) (lines : List LineValue) (all : List Step) (number : ℕ)
+    → AreSteps edition labels lines None all → ¬ IsBegun lines number
 none_begun edition labels lines all number are begun = none_open edition labels lines None all begun.before begun.behind are begun.split begun.no_end refl
 
 -- a batch begins at one line
@@ -216,9 +256,11 @@ one_begun lines a b x y = elim (in_order x.before y.before Batch Batch x.behind 
 ]
   where
     -- a batch behind the last one
-    later : (front back behind rest between : List LineValue) → ¬ Contains behind Batch → back ≡ front ++ Batch ∷ between → front ++ Batch ∷ behind ≡ back ++ Batch ∷ rest → ⊥
+    later : (front back behind rest between : List LineValue) → ¬ Contains behind Batch → back ≡ front ++ Batch
+        ∷ between → front ++ Batch ∷ behind ≡ back ++ Batch ∷ rest → ⊥
     later front back behind rest between none back_is same =
-        let whole : front ++ Batch ∷ behind ≡ front ++ Batch ∷ (between ++ Batch ∷ rest) = same ∙ ap (λ l. l ++ Batch ∷ rest) back_is ∙ append_assoc front (Batch ∷ between) (Batch ∷ rest) in
+        let whole : front ++ Batch ∷ behind ≡ front ++ Batch ∷ (between ++ Batch ∷ rest) = same
+        ∙ ap (λ l. l ++ Batch ∷ rest) back_is ∙ append_assoc front (Batch ∷ between) (Batch ∷ rest) in
         let tails : Batch ∷ behind ≡ Batch ∷ (between ++ Batch ∷ rest) = same_tail front (Batch ∷ behind) (Batch ∷ (between ++ Batch ∷ rest)) whole in
         let behind_is : behind ≡ between ++ Batch ∷ rest = cc in
         none (subst (λ l. Contains l Batch) (sym behind_is) (Contains-append_right between (Batch ∷ rest) Batch (first_member Batch rest)))

@@ -10,7 +10,8 @@ use Rattle.edit_script.specs.Lines.{LineValue, Skip, Client, Set, Clear, Look, F
 use Rattle.edit_script.specs.Lines.IsLineOf.{empty, comment, begins, ends, order}
 use Rattle.edit_script.specs.Lines.IsOrder.{client, set, clear, look, firm, work}
 use Rattle.edit_script.specs.Progress.{brought, Extends, HoldsShortText, IsReading, IsWithinLimits, Takes, names_of}
-use Rattle.edit_script.specs.Scripts.{Ground, AreLines, AreSteps, Brought, IsBegun, IsFault, IsFirstFault, IsScript, IsUnended, ScriptValue, line_number, nothing_yet, set_text}
+use Rattle.edit_script.specs.Scripts.{Ground, AreLines, AreSteps, Brought, IsBegun, IsFault, IsFirstFault, IsScript}
+use Rattle.edit_script.specs.Scripts.{IsUnended, ScriptValue, line_number, nothing_yet, set_text}
 use Rattle.edit_script.specs.declared.refused.ScriptRefused.{ScriptRefused}
 use Rattle.edit_script.proofs.OneScript.{none_begun}
 use Rattle.edit_script.proofs.WayLemmas.{way_begins, way_goes}
@@ -48,7 +49,8 @@ module _ (mode : Mode) (ground : Ground) (old : List (List ℕ)) (text : List �
 
   -- and behind each
   pub reading_goes : (between new : List (List ℕ)) (number : ℕ) (left rest : List (List ℕ)) (one : List ℕ) (line : LineValue) (progress after : Progress)
-      → IsReading mode ground old between text number left progress → left ≡ one ∷ rest → Says mode one line → Takes ground line (number + 1) between progress new after
+      → IsReading mode ground old between text number left progress → left ≡ one ∷ rest → Says mode one line
+      → Takes ground line (number + 1) between progress new after
       → IsReading mode ground old new text (number + 1) rest after
   reading_goes between new number left rest one line progress after reading left_is says takes =
       let grows = adds_few (set_text line) between new takes.labels in
@@ -79,9 +81,12 @@ module _ (mode : Mode) (ground : Ground) (old : List (List ℕ)) (text : List �
 pub grows_twice : (old between new : List (List ℕ)) → Extends old between → Extends between new → Extends old new
 grows_twice old between new first second = (first.0 ++ second.0, second.1 ∙ ap (λ t. t ++ second.0) first.1 ∙ append_assoc old first.0 second.0)
 
-module _ (mode : Mode) (ground : Ground) (old new : List (List ℕ)) (text : List ℕ) (number : ℕ) (left : List (List ℕ)) (progress : Progress) (reading : IsReading mode ground old new text number left progress) where
+module _ (mode : Mode) (ground : Ground) (old new : List (List ℕ)) (text : List ℕ) (number : ℕ) (left : List (List ℕ))
+    (progress : Progress) (reading : IsReading mode ground old new text number left progress) where
   -- the next line is refused: it says nothing, or something with a fault
-  pub reading_stops : (one : List ℕ) (rest : List (List ℕ)) (why : ScriptRefused) → left ≡ one ∷ rest → line_number why ≡ number + 1 → IsFault mode ground (brought progress) one why → IsFirstFault mode ground old new text why
+  pub reading_stops : (one : List ℕ) (rest : List (List ℕ)) (why : ScriptRefused) → left ≡ one ∷ rest
+      → line_number why ≡ number + 1 → IsFault mode ground (brought progress) one why
+      → IsFirstFault mode ground old new text why
   reading_stops one rest why left_is at fault = record {
     before = reading.taken;
     line = one;
@@ -106,15 +111,20 @@ module _ (mode : Mode) (ground : Ground) (old new : List (List ℕ)) (text : Lis
     labels = reading.way.labels;
   }
     where
-      is_open : (batch : Option EditValue) → IsSome batch → MatchOption batch (Unit {0}) (λ _. IsBegun reading.way.lines progress.begun) → IsBegun reading.way.lines progress.begun
+      is_open : (batch : Option EditValue) → IsSome batch
+          → MatchOption batch (Unit {0}) (λ _. IsBegun reading.way.lines progress.begun)
+          → IsBegun reading.way.lines progress.begun
       is_open None has since = absurd (cc)
       is_open (Some changes) has since = since
 
   -- or none is
-  pub reading_ends : (script : ScriptValue) → left ≡ [] → progress.batch ≡ None → script.names ≡ names_of progress → script.steps ≡ progress.steps.items → IsScript mode ground old new text script
+  pub reading_ends : (script : ScriptValue) → left ≡ [] → progress.batch ≡ None → script.names ≡ names_of progress
+      → script.steps ≡ progress.steps.items → IsScript mode ground old new text script
   reading_ends script none closed names steps =
       let are : AreSteps ground.edition new reading.way.lines None script.steps =
-      subst (λ s. AreSteps ground.edition new reading.way.lines None s) (sym steps) (subst (λ b. AreSteps ground.edition new reading.way.lines b progress.steps.items) closed reading.way.steps) in
+      subst (λ s. AreSteps ground.edition new reading.way.lines None s) (sym steps)
+      (subst (λ b. AreSteps ground.edition new reading.way.lines b progress.steps.items) closed reading.way.steps)
+      in
       record {
         lines = reading.way.lines;
         said = subst (λ texts. AreLines mode ground texts reading.way.lines) (all_taken none) reading.way.said;

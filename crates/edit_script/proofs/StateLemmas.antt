@@ -13,7 +13,8 @@ use Rattle.edit_script.specs.Batches.{changed_cells}
 use Rattle.edit_script.specs.Scripts.{with_client}
 use Rattle.edit_script.proofs.NameLemmas.{client_at, client_there, few_names}
 
-pub follow_brought : (old new : Progress) (name : List ℕ) (place : ℕ) → names_of new ≡ with_label (names_of old) name → slice_get (names_of new) place ≡ Some name
+pub follow_brought : (old new : Progress) (name : List ℕ) (place : ℕ) → names_of new ≡ with_label (names_of old) name
+    → slice_get (names_of new) place ≡ Some name
     → new ≡ record old { names = new.names } → brought (record new { client = Some place }) ≡ with_client (brought old) name
 follow_brought old new name place names at rest =
     let who : client_named (names_of new) (Some place) ≡ name = client_at (names_of new) place name at in
@@ -30,7 +31,8 @@ follow_sound old new name place sound room names at rest =
     let was = length-map old.names.items string_bytes in
     let old_few : length (names_of old) ≤ 32 = rw was sound.few in
     let few : length (names_of new) ≤ 32 = subst (λ l. length l ≤ 32) (sym names) (few_names (names_of old) name old_few room) in
-    let grows : length (names_of old) ≤ length (names_of new) = subst (λ l. length (names_of old) ≤ length l) (sym names) (length-with_label (names_of old) name).0 in
+    let grows : length (names_of old) ≤ length (names_of new) =
+    subst (λ l. length (names_of old) ≤ length l) (sym names) (length-with_label (names_of old) name).0 in
     let steps : new.steps ≡ old.steps = ap (λ (p : Progress). p.steps) rest in
     let cells : new.cells ≡ old.cells = ap (λ (p : Progress). p.cells) rest in
     let edits : new.edits ≡ old.edits = ap (λ (p : Progress). p.edits) rest in
@@ -52,6 +54,15 @@ pub stays_brought : (old : Progress) (place : ℕ) → old.client ≡ Some place
 stays_brought old place is sound =
     let inside : place < length old.names.items = subst (IsPlace (length old.names.items)) is sound.client in
     let long = length-map old.names.items string_bytes in
-    let there : with_label (names_of old) (client_named (names_of old) (Some place)) ≡ names_of old = client_there (names_of old) place (omega (arith, inside, long)) in
-    let names : names_of old ≡ with_label (names_of old) (client_named (names_of old) old.client) = subst (λ who. names_of old ≡ with_label (names_of old) (client_named (names_of old) who)) (sym is) (sym there) in
-    ap (λ (n : List (List ℕ)). record { client = client_named (names_of old) old.client; names = n; cells = old.cells; edits = old.edits; batch = option_map changed_cells old.batch }) names
+    let there : with_label (names_of old) (client_named (names_of old) (Some place)) ≡ names_of old =
+    client_there (names_of old) place (omega (arith, inside, long)) in
+    let names : names_of old ≡ with_label (names_of old) (client_named (names_of old) old.client) =
+    subst (λ who. names_of old ≡ with_label (names_of old) (client_named (names_of old) who)) (sym is) (sym there)
+    in
+    ap (λ (n : List (List ℕ)). record {
+      client = client_named (names_of old) old.client;
+      names = n;
+      cells = old.cells;
+      edits = old.edits;
+      batch = option_map changed_cells old.batch;
+    }) names

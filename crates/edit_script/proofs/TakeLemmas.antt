@@ -1,5 +1,6 @@
 -- Each kind of line that is taken.
-use Rattle.std.proofs.Common.{◌≡◌, ◌≢◌, ◌∙◌, ◌⊎◌, ◌<◌, ◌≤◌, ◌+◌, ℕ, Bool, true, false, Option, Some, None, List, [], ◌∷◌, length, refl, sym, subst, inl, inr, ⊎_elim, nat_lt, get_or, arith, true≢false}
+use Rattle.std.proofs.Common.{◌≡◌, ◌≢◌, ◌∙◌, ◌⊎◌, ◌<◌, ◌≤◌, ◌+◌, ℕ, Bool, true, false, Option, Some, None, List, []}
+use Rattle.std.proofs.Common.{◌∷◌, length, refl, sym, subst, inl, inr, ⊎_elim, nat_lt, get_or, arith, true≢false}
 use Rattle.std.specs.Prelude.{Contains, MatchOption, Result, Ok, Err, IfErr, OnOk, option_map}
 use Rattle.std.specs.List.{list_any}
 use Rattle.std.specs.Str.{bytes_eq}
@@ -15,13 +16,17 @@ use Rattle.sheet_model.proofs.ContentLemmas.{refused_none}
 use Rattle.sheet_model.specs.Tables.AddsLabels.{done, next}
 use Rattle.edit_script.specs.declared.progress.Progress.{Progress}
 use Rattle.edit_script.specs.declared.refused.ScriptRefused.{ScriptRefused}
-use Rattle.edit_script.specs.declared.refused.ScriptRefused.TheVariants.{BadLine, OutOfSheet, CellTwice, BatchTooLarge, TooManyClients, WindowTooLarge, TooManyEdits, FormulaTooDeep, TooManyRefs, Memory}
+use Rattle.edit_script.specs.declared.refused.ScriptRefused.TheVariants.{BadLine, OutOfSheet, CellTwice, BatchTooLarge}
+use Rattle.edit_script.specs.declared.refused.ScriptRefused.TheVariants.{TooManyClients, WindowTooLarge, TooManyEdits}
+use Rattle.edit_script.specs.declared.refused.ScriptRefused.TheVariants.{FormulaTooDeep, TooManyRefs, Memory}
 use Rattle.edit_script.specs.declared.script.Command.TheVariants as asks
 use Rattle.edit_script.specs.declared.script.Step.{Step}
 use Rattle.edit_script.specs.Batches.{changed_cells}
 use Rattle.edit_script.specs.Lines.{LineValue, Clear, Client, Set}
 use Rattle.edit_script.specs.Progress.{BeginsAt, IsPlainlyAllowed, IsTextFault, IsWithinLimits, MayChange, Takes, brought}
-use Rattle.edit_script.specs.Scripts.{Ground, AddsCommand, Brought, GoesOn, HasCause, HasManyRefs, IsDeepEdit, IsLargeWindow, IsLineFault, line_number, place_in_order, set_text, window_cells, with_line}
+use Rattle.edit_script.specs.Scripts.{Ground, AddsCommand, Brought, GoesOn, HasCause, HasManyRefs, IsDeepEdit}
+use Rattle.edit_script.specs.Scripts.{IsLargeWindow, IsLineFault, line_number, place_in_order, set_text, window_cells}
+use Rattle.edit_script.specs.Scripts.{with_line}
 use Rattle.edit_script.proofs.OneFault.{allowed}
 
 module _ (ground : Ground) (labels : List (List ℕ)) (number : ℕ) (old new : Progress) where
@@ -40,17 +45,21 @@ module _ (ground : Ground) (labels : List (List ℕ)) (number : ℕ) (old new : 
   }
 
 module _ {T E : Type 0} (ground : Ground) (labels : List (List ℕ)) (number : ℕ) (old new : Progress) where
-  pub line_taken : (r : Result T E) (line : LineValue) → IsPlainlyAllowed ground (brought old) line → ¬ IsDeepEdit line → ¬ HasManyRefs ground.edition line → set_text line ≡ []
+  pub line_taken : (r : Result T E) (line : LineValue) → IsPlainlyAllowed ground (brought old) line → ¬ IsDeepEdit line
+      → ¬ HasManyRefs ground.edition line → set_text line ≡ []
       → OnOk r (IsWithinLimits new) → OnOk r (brought new ≡ with_line (brought old) line)
-      → OnOk r (GoesOn ground.edition labels (brought new) line old.batch new.batch old.steps.items new.steps.items) → OnOk r (BeginsAt line number old.begun new.begun)
+      → OnOk r (GoesOn ground.edition labels (brought new) line old.batch new.batch old.steps.items new.steps.items)
+      → OnOk r (BeginsAt line number old.begun new.begun)
       → OnOk r (Takes ground line number labels old labels new)
-  line_taken (Ok x) line plain shallow few none sound brought_is goes begun = line_takes ground labels number old new line plain shallow few none sound brought_is goes begun
+  line_taken (Ok x) line plain shallow few none sound brought_is goes begun =
+      line_takes ground labels number old new line plain shallow few none sound brought_is goes begun
   line_taken (Err e) line plain shallow few none sound brought_is goes begun = tt
 
   -- and one by which a cell is to hold what a text writes
   pub set_taken : (r : Result T E) (after : List (List ℕ)) (cell : Position) (text : List ℕ) → IsPlainlyAllowed ground (brought old) (Set cell text)
       → OnOk r (IsWithinLimits new) → OnOk r (brought new ≡ with_line (brought old) (Set cell text))
-      → OnOk r (GoesOn ground.edition after (brought new) (Set cell text) old.batch new.batch old.steps.items new.steps.items) → OnOk r (IsTableAfter text labels after)
+      → OnOk r (GoesOn ground.edition after (brought new) (Set cell text) old.batch new.batch old.steps.items
+      new.steps.items) → OnOk r (IsTableAfter text labels after)
       → OnOk r (new.begun ≡ old.begun) → OnOk r (Takes ground (Set cell text) number labels old after new)
   set_taken (Ok x) after cell text plain sound brought_is goes table begun = record {
     allowed = allowed ground (brought old) (Set cell text) plain
@@ -65,7 +74,8 @@ module _ {T E : Type 0} (ground : Ground) (labels : List (List ℕ)) (number : �
   set_taken (Err e) after cell text plain sound brought_is goes table begun = tt
 
 -- a text that is refused refuses the line
-pub set_fault : {T : Type 0} (r : Result T ScriptRefused) (ground : Ground) (now : Brought) (cell : Position) (text : List ℕ) (number : ℕ) → IsPlainlyAllowed ground now (Set cell text)
+pub set_fault : {T : Type 0} (r : Result T ScriptRefused) (ground : Ground) (now : Brought) (cell : Position)
+    (text : List ℕ) (number : ℕ) → IsPlainlyAllowed ground now (Set cell text)
     → IfErr r (λ why. why ≢ Memory → IsTextFault ground.edition text number why)
     → IfErr r (λ why. why ≢ Memory → (line_number why ≡ number) × IsLineFault ground now (Set cell text) why)
 set_fault (Ok x) ground now cell text number plain fault = tt
@@ -93,7 +103,8 @@ list_any_there : (name : List ℕ) (names : List (List ℕ)) → Contains names 
 list_any_there name names there = list_any_at (bytes_eq name) names there.0 name there.1 ((bytes_eq-Decides name (get_or names there.0 name)).1 (sym there.2))
 
 -- a client for whom there is room, or who is there
-pub client_room : (ground : Ground) (now : Brought) (name : List ℕ) → IsPlainlyAllowed ground now (Client name) → (length now.names < 32) ⊎ Contains now.names name
+pub client_room : (ground : Ground) (now : Brought) (name : List ℕ) → IsPlainlyAllowed ground now (Client name)
+    → (length now.names < 32) ⊎ Contains now.names name
 client_room ground now name plain = by_length (nat_lt (length now.names) 32) refl
   where
     by_any : (b : Bool) → list_any (bytes_eq name) now.names ≡ b → (32 ≤ length now.names) → (length now.names < 32) ⊎ Contains now.names name
@@ -106,10 +117,20 @@ client_room ground now name plain = by_length (nat_lt (length now.names) 32) ref
 
 -- what may be done where nothing is wrong with a line but for a formula
 pub may_set : (ground : Ground) (now : Brought) (cell : Position) (text : List ℕ) → IsPlainlyAllowed ground now (Set cell text) → MayChange now cell
-may_set ground now cell text plain = record { once = plain (CellTwice 0) (omega arith); room = plain (BatchTooLarge 0) (omega arith); edits = plain (TooManyEdits 0) (omega arith) }
+may_set ground now cell text plain =
+    record {
+      once = plain (CellTwice 0) (omega arith);
+      room = plain (BatchTooLarge 0) (omega arith);
+      edits = plain (TooManyEdits 0) (omega arith);
+    }
 
 pub may_clear : (ground : Ground) (now : Brought) (cell : Position) → IsPlainlyAllowed ground now (Clear cell) → MayChange now cell
-may_clear ground now cell plain = record { once = plain (CellTwice 0) (omega arith); room = plain (BatchTooLarge 0) (omega arith); edits = plain (TooManyEdits 0) (omega arith) }
+may_clear ground now cell plain =
+    record {
+      once = plain (CellTwice 0) (omega arith);
+      room = plain (BatchTooLarge 0) (omega arith);
+      edits = plain (TooManyEdits 0) (omega arith);
+    }
 
 pub window_room : (now : Brought) (range : Corners) → ¬ IsLargeWindow now range → now.cells + window_cells range ≤ 4194304
 window_room now range small = let fits : (4194304 < now.cells + window_cells range) → ⊥ = λ many. small (inr many) in omega (arith, fits)
@@ -117,13 +138,15 @@ window_room now range small = let fits : (4194304 < now.cells + window_cells ran
 pub edit_room : (edits : ℕ) → ¬ (1048576 ≤ edits) → edits < 1048576
 edit_room edits few = omega (arith, few)
 
-pub end_some : (batch : Option EditValue) → ¬ MatchOption (option_map changed_cells batch) (Unit {0}) (λ cells. cells ≡ []) → MatchOption batch ⊥ (λ (changes : EditValue). 1 ≤ length changes)
+pub end_some : (batch : Option EditValue) → ¬ MatchOption (option_map changed_cells batch) (Unit {0})
+    (λ cells. cells ≡ []) → MatchOption batch ⊥ (λ (changes : EditValue). 1 ≤ length changes)
 end_some None placed = placed tt
 end_some (Some []) placed = absurd (placed refl)
 end_some (Some (change ∷ changes)) placed = omega arith
 
 -- the end of a batch
-pub end_goes : {T E : Type 0} (r : Result T E) (now : Brought) (batch after : Option EditValue) (old new : List Step) → OnOk r (MatchOption batch ⊥ (λ changes. AddsCommand (asks.Put changes) now old new)) → OnOk r (after ≡ None)
+pub end_goes : {T E : Type 0} (r : Result T E) (now : Brought) (batch after : Option EditValue) (old new : List Step)
+    → OnOk r (MatchOption batch ⊥ (λ changes. AddsCommand (asks.Put changes) now old new)) → OnOk r (after ≡ None)
     → OnOk r ((changes : EditValue) × (batch ≡ Some changes) × (after ≡ None) × AddsCommand (asks.Put changes) now old new)
 end_goes (Ok x) now None after old new adds closed = absurd adds
 end_goes (Ok x) now (Some changes) after old new adds closed = (changes, refl, closed, adds)

@@ -1,5 +1,7 @@
 -- What is kept of the lines so far.
-use Rattle.std.specs.Prelude.{◌≡◌, ◌≢◌, ◌⊎◌, ℕ, ◌+◌, ◌<◌, ◌≤◌, List, [], ◌++◌, length, map, slice_index_or, string_bytes, codes, All, AllPairs, Option, Some, None, MatchOption, Contains, IsTrue, option_map}
+use Rattle.std.specs.Prelude.{◌≡◌, ◌≢◌, ◌⊎◌, ℕ, ◌+◌, ◌<◌, ◌≤◌, List, [], ◌++◌, length, map, slice_index_or}
+use Rattle.std.specs.Prelude.{string_bytes, codes, All, AllPairs, Option, Some, None, MatchOption, Contains, IsTrue}
+use Rattle.std.specs.Prelude.{option_map}
 use Rattle.sheet_refs.specs.Cells.{Position, Corners}
 use Rattle.sheet_refs.specs.Sizes.{is_inside}
 use Rattle.sheet_refs.specs.declared.sizes.Sizes.{Sizes}
@@ -10,9 +12,13 @@ use Rattle.sheet_model.specs.Tables.{AddsLabels}
 use Rattle.sheet_model.specs.Edits.{EditValue}
 use Rattle.edit_script.specs.Batches.{changed_cells}
 use Rattle.edit_script.specs.Lines.{LineValue, Set, Batch, script_lines}
-use Rattle.edit_script.specs.Scripts.{AreLines, AreSteps, Brought, GoesOn, Ground, HasCause, IsAllowed, IsBatchFull, IsBegun, IsChangeEditTooMany, IsInBatch, IsLargeWindow, IsPartOutside, brought_by, place_in_order, set_text, set_texts, with_line}
+use Rattle.edit_script.specs.Scripts.{AreLines, AreSteps, Brought, GoesOn, Ground, HasCause, IsAllowed, IsBatchFull}
+use Rattle.edit_script.specs.Scripts.{IsBegun, IsChangeEditTooMany, IsInBatch, IsLargeWindow, IsPartOutside, brought_by}
+use Rattle.edit_script.specs.Scripts.{place_in_order, set_text, set_texts, with_line}
 use Rattle.edit_script.specs.declared.refused.ScriptRefused.{ScriptRefused}
-use Rattle.edit_script.specs.declared.refused.ScriptRefused.TheVariants.{OutOfSheet, CellTwice, BatchTooLarge, WindowTooLarge, TooManyEdits, FormulaTooDeep, TooManyRefs}
+use Rattle.edit_script.specs.declared.refused.ScriptRefused.TheVariants.{OutOfSheet, CellTwice, BatchTooLarge}
+use Rattle.edit_script.specs.declared.refused.ScriptRefused.TheVariants.{WindowTooLarge, TooManyEdits, FormulaTooDeep}
+use Rattle.edit_script.specs.declared.refused.ScriptRefused.TheVariants.{TooManyRefs}
 use Rattle.edit_script.specs.declared.progress.Progress.{Progress}
 use Rattle.edit_script.specs.declared.script.Mode.{Mode}
 
@@ -72,7 +78,8 @@ pub data IsChangeFault (sizes : Sizes) (now : Brought) (cell : Position) (number
   outside : why ≡ OutOfSheet number → ¬ IsTrue (is_inside sizes cell) → IsChangeFault sizes now cell number why
   twice : why ≡ CellTwice number → IsTrue (is_inside sizes cell) → IsInBatch now cell → IsChangeFault sizes now cell number why
   large : why ≡ BatchTooLarge number → IsTrue (is_inside sizes cell) → ¬ IsInBatch now cell → IsBatchFull now → IsChangeFault sizes now cell number why
-  edits : why ≡ TooManyEdits number → IsTrue (is_inside sizes cell) → ¬ IsInBatch now cell → ¬ IsBatchFull now → IsChangeEditTooMany now → IsChangeFault sizes now cell number why
+  edits : why ≡ TooManyEdits number → IsTrue (is_inside sizes cell) → ¬ IsInBatch now cell → ¬ IsBatchFull now
+      → IsChangeEditTooMany now → IsChangeFault sizes now cell number why
 
 -- the same of the changes of a batch alone
 abbrev pub IsBatchFault : EditValue → Position → ℕ → ScriptRefused → Type 0
@@ -97,7 +104,8 @@ BeginsAt Batch number old new = new ≡ number
 BeginsAt _ number old new = new ≡ old
 
 -- the line was taken
-pub record Takes (ground : Ground) (line : LineValue) (number : ℕ) (old_labels : List (List ℕ)) (old : Progress) (new_labels : List (List ℕ)) (new : Progress) : Type 0 where
+pub record Takes (ground : Ground) (line : LineValue) (number : ℕ) (old_labels : List (List ℕ)) (old : Progress)
+    (new_labels : List (List ℕ)) (new : Progress) : Type 0 where
   pub allowed : IsAllowed ground (brought old) line
   pub brought_is : brought new ≡ with_line (brought old) line
   pub sound : IsWithinLimits new
@@ -117,7 +125,8 @@ pub record HasTakenLines (mode : Mode) (ground : Ground) (old new : List (List �
   pub sound : IsWithinLimits progress
 
 -- so many lines of a text were taken, and these are left; each may have added a label
-pub record IsReading (mode : Mode) (ground : Ground) (old new : List (List ℕ)) (text : List ℕ) (number : ℕ) (left : List (List ℕ)) (progress : Progress) : Type 0 where
+pub record IsReading (mode : Mode) (ground : Ground) (old new : List (List ℕ)) (text : List ℕ) (number : ℕ)
+    (left : List (List ℕ)) (progress : Progress) : Type 0 where
   pub taken : List (List ℕ)
   pub all : script_lines text ≡ taken ++ left
   pub count : number ≡ length taken

@@ -1,5 +1,7 @@
 -- What a script is, and why a text is none.
-use Rattle.std.specs.Prelude.{◌≡◌, ◌⊎◌, ℕ, ◌+◌, ◌*◌, ◌<◌, ◌≤◌, List, [], ◌∷◌, ◌++◌, length, slice_get, Option, Some, None, MatchOption, All, AllPairs, ◌≢◌, fold, flat_map, codes, Contains, IsTrue, Result, Ok, Err}
+use Rattle.std.specs.Prelude.{◌≡◌, ◌⊎◌, ℕ, ◌+◌, ◌*◌, ◌<◌, ◌≤◌, List, [], ◌∷◌, ◌++◌, length, slice_get, Option, Some}
+use Rattle.std.specs.Prelude.{None, MatchOption, All, AllPairs, ◌≢◌, fold, flat_map, codes, Contains, IsTrue, Result}
+use Rattle.std.specs.Prelude.{Ok, Err}
 use Rattle.std.specs.Fmt.{decimal}
 use Rattle.sheet_refs.specs.Cells.{Position, Corners, IsIn, height, width}
 use Rattle.sheet_refs.specs.declared.sizes.Sizes.{Sizes}
@@ -19,7 +21,9 @@ use Rattle.edit_script.specs.declared.script.Step.{Step}
 use Rattle.edit_script.specs.declared.script.Command.{Command}
 use Rattle.edit_script.specs.declared.script.Command.TheVariants as asks
 use Rattle.edit_script.specs.declared.refused.ScriptRefused.{ScriptRefused}
-use Rattle.edit_script.specs.declared.refused.ScriptRefused.TheVariants.{BadLine, OutOfSheet, CellTwice, BatchTooLarge, TooManyClients, WindowTooLarge, TooManyEdits, FormulaTooDeep, TooManyRefs, Memory}
+use Rattle.edit_script.specs.declared.refused.ScriptRefused.TheVariants.{BadLine, OutOfSheet, CellTwice, BatchTooLarge}
+use Rattle.edit_script.specs.declared.refused.ScriptRefused.TheVariants.{TooManyClients, WindowTooLarge, TooManyEdits}
+use Rattle.edit_script.specs.declared.refused.ScriptRefused.TheVariants.{FormulaTooDeep, TooManyRefs, Memory}
 
 -- of a sheet what the meaning of a script depends on beside its labels: its sizes, and the edition of its functions
 pub record Ground : Type 0 where
@@ -254,13 +258,15 @@ MakesChange now change (Some changes) after old new = (after ≡ Some (changes +
 abbrev pub GoesOn : Edition → List (List ℕ) → Brought → LineValue → Option EditValue → Option EditValue → List Step → List Step → Type 0
 GoesOn edition labels now Skip before after old new = (after ≡ before) × (new ≡ old)
 GoesOn edition labels now (Client name) before after old new = (after ≡ before) × (new ≡ old)
-GoesOn edition labels now (Set cell text) before after old new = (content : ContentValue) × IsContent edition labels text content × MakesChange now (change_of cell content) before after old new
+GoesOn edition labels now (Set cell text) before after old new = (content : ContentValue)
+    × IsContent edition labels text content × MakesChange now (change_of cell content) before after old new
 GoesOn edition labels now (Clear cell) before after old new = MakesChange now (change_of cell (Constant Empty)) before after old new
 GoesOn edition labels now (Look range) before after old new = (after ≡ before) × AddsCommand (asks.Look range) now old new
 GoesOn edition labels now (Firm range) before after old new = (after ≡ before) × AddsCommand (asks.Firm range) now old new
 GoesOn edition labels now (Work turns) before after old new = (after ≡ before) × AddsCommand (asks.Work turns) now old new
 GoesOn edition labels now Batch before after old new = (after ≡ Some []) × (new ≡ old)
-GoesOn edition labels now End before after old new = (changes : EditValue) × (before ≡ Some changes) × (after ≡ None) × AddsCommand (asks.Put changes) now old new
+GoesOn edition labels now End before after old new = (changes : EditValue) × (before ≡ Some changes) × (after ≡ None)
+    × AddsCommand (asks.Put changes) now old new
 
 -- the steps of lines, in order, and the changes of the batch that is open behind them
 pub data AreSteps (edition : Edition) (labels : List (List ℕ)) : List LineValue → Option EditValue → List Step → Type 0 where

@@ -16,13 +16,22 @@ use Rattle.value_core.specs.Conversions.{as_number, as_truth, truth_number, in_r
 use Rattle.value_core.specs.Operators.{on_numbers, unordered_value, by_kind, beside, comparison, calculation, is_comparison, binary_of, negation, prefix_of}
 use Rattle.value_core.specs.Powers.{power}
 use Rattle.formula_syntax.specs.declared.functions.Function.{Function}
-use Rattle.formula_syntax.specs.declared.functions.Function.TheVariants.{Sum, Product, Min, Max, Count, Counta, Countblank, If, Iferror, And, Or, Not, Abs, Sign, Mod, Quotient, Iserror, Isnumber, Islogical, Istext, Isblank, Na, Countif, Sumif, Match}
+use Rattle.formula_syntax.specs.declared.functions.Function.TheVariants.{Sum, Product, Min, Max, Count, Counta}
+use Rattle.formula_syntax.specs.declared.functions.Function.TheVariants.{Countblank, If, Iferror, And, Or, Not, Abs}
+use Rattle.formula_syntax.specs.declared.functions.Function.TheVariants.{Sign, Mod, Quotient, Iserror, Isnumber}
+use Rattle.formula_syntax.specs.declared.functions.Function.TheVariants.{Islogical, Istext, Isblank, Na, Countif, Sumif}
+use Rattle.formula_syntax.specs.declared.functions.Function.TheVariants.{Match}
 use Rattle.formula_syntax.specs.declared.functions.Place.{Place}
 use Rattle.formula_syntax.specs.declared.functions.Place.TheVariants.{Sequence, Scalar, Ranges}
 use Rattle.formula_syntax.specs.Functions.{shape_of}
 use Rattle.formula_eval.specs.declared.items.Item.{Item}
 use Rattle.formula_eval.specs.declared.items.Item.TheVariants.{Cell, Alone}
-use Rattle.formula_eval.specs.Functions.{Contribution, some_of, number_in, truth_in, count_in, if_number, contribution, add_contribution, contributions, truth_of_some, total_of, or_error, sequence_value, empty_cells, blank_count, on_both, choice, unless_error, division_value, floor_remainder, scalar_value, scalar_at, equals, count_of, selected, sum_of, summed, have_same_sizes, sum_where, place_from, place_in, match_of, ranged_value, by_place, function_value}
+use Rattle.formula_eval.specs.Functions.{Contribution, some_of, number_in, truth_in, count_in, if_number, contribution}
+use Rattle.formula_eval.specs.Functions.{add_contribution, contributions, truth_of_some, total_of, or_error}
+use Rattle.formula_eval.specs.Functions.{sequence_value, empty_cells, blank_count, on_both, choice, unless_error}
+use Rattle.formula_eval.specs.Functions.{division_value, floor_remainder, scalar_value, scalar_at, equals, count_of}
+use Rattle.formula_eval.specs.Functions.{selected, sum_of, summed, have_same_sizes, sum_where, place_from, place_in}
+use Rattle.formula_eval.specs.Functions.{match_of, ranged_value, by_place, function_value}
 use Rattle.formula_eval.specs.Items.{Parameter, is_filled, items_of_cells, items_among, items_of_parameter, items_of, cells_at}
 use Rattle.formula_eval.specs.Meaning.{is_circular}
 
@@ -54,7 +63,9 @@ on_numbers_plain : (op : BinaryOp) (m n : ℤ) → is_circular (on_numbers op m 
 on_numbers_plain Add m n = in_range_plain (m +ℤ n)
 on_numbers_plain Sub m n = in_range_plain (m -ℤ n)
 on_numbers_plain Mul m n = in_range_plain (m *ℤ n)
-on_numbers_plain Div m n = cond_plain (int_eq n _) (Error error.Div0) _ refl (cond_plain _ (in_range (int_div m n)) (Error error.Num) (in_range_plain (int_div m n)) refl)
+on_numbers_plain Div m n =
+    cond_plain (int_eq n _) (Error error.Div0) _ refl (cond_plain _ (in_range (int_div m n)) (Error error.Num)
+    (in_range_plain (int_div m n)) refl)
 on_numbers_plain Power m n = cond_plain (int_lt n _) (Error error.Num) (in_range (power m (nat_abs n))) refl (in_range_plain (power m (nat_abs n)))
 on_numbers_plain Equal m n = refl
 on_numbers_plain Unequal m n = refl
@@ -146,7 +157,9 @@ calculation_plain op (Ok m) (Err kind) h k = k
 calculation_plain op (Ok m) (Ok n) h k = on_numbers_plain op m n
 
 pub binary_plain : (op : BinaryOp) (a b : Value) → is_circular a ≡ false → is_circular b ≡ false → is_circular (binary_of op a b) ≡ false
-binary_plain op a b h k = cond_plain (is_comparison op) (comparison op a b) (calculation op (as_number a) (as_number b)) (comparison_plain op a b h k) (calculation_plain op (as_number a) (as_number b) (as_number_plain a h) (as_number_plain b k))
+binary_plain op a b h k = cond_plain (is_comparison op) (comparison op a b) (calculation op (as_number a) (as_number b))
+    (comparison_plain op a b h k) (calculation_plain op (as_number a) (as_number b) (as_number_plain a h)
+    (as_number_plain b k))
 
 pub never_empty_plain : (a : Value) → is_circular a ≡ false → is_circular (never_empty a) ≡ false
 never_empty_plain Empty h = refl
@@ -226,7 +239,8 @@ contribution_plain Countif item h = number_in_plain item h
 contribution_plain Sumif item h = number_in_plain item h
 contribution_plain Match item h = number_in_plain item h
 
-added_plain : (first : Contribution) (rest : Result (List ℤ) ErrorKind) → circular_error first ≡ false → circular_error rest ≡ false → circular_error (add_contribution first rest) ≡ false
+added_plain : (first : Contribution) (rest : Result (List ℤ) ErrorKind) → circular_error first ≡ false
+    → circular_error rest ≡ false → circular_error (add_contribution first rest) ≡ false
 added_plain (Err kind) rest h k = h
 added_plain (Ok n) (Err kind) h k = k
 added_plain (Ok None) (Ok numbers) h k = refl
@@ -235,7 +249,9 @@ added_plain (Ok (Some n)) (Ok numbers) h k = refl
 contributions_plain : (f : Function) (items : List Item) → list_any circular_item items ≡ false → circular_error (contributions f items) ≡ false
 contributions_plain f [] h = refl
 contributions_plain f (item ∷ rest) h =
-    added_plain (contribution f item) (contributions f rest) (contribution_plain f item (first_plain (circular_item item) (list_any circular_item rest) h)) (contributions_plain f rest (second_plain (circular_item item) (list_any circular_item rest) h))
+    added_plain (contribution f item) (contributions f rest)
+    (contribution_plain f item (first_plain (circular_item item) (list_any circular_item rest) h))
+    (contributions_plain f rest (second_plain (circular_item item) (list_any circular_item rest) h))
 
 truth_of_some_plain : (numbers : List ℤ) (n : ℤ) → is_circular (truth_of_some numbers n) ≡ false
 truth_of_some_plain [] n = refl
@@ -268,7 +284,8 @@ total_plain Countif numbers = refl
 total_plain Sumif numbers = refl
 total_plain Match numbers = refl
 
-or_error_plain : {A : Type 0} (r : Result A ErrorKind) (f : A → Value) → circular_error r ≡ false → ((a : A) → is_circular (f a) ≡ false) → is_circular (or_error r f) ≡ false
+or_error_plain : {A : Type 0} (r : Result A ErrorKind) (f : A → Value) → circular_error r ≡ false
+    → ((a : A) → is_circular (f a) ≡ false) → is_circular (or_error r f) ≡ false
 or_error_plain (Err kind) f h k = h
 or_error_plain (Ok a) f h k = k a
 
@@ -283,16 +300,20 @@ circular_cells (Some cells) = list_any is_circular cells
 abbrev pub circular_parameter : Parameter → Bool
 circular_parameter p = is_circular p.scalar || circular_cells p.cells
 
-filled_plain : (b : Bool) (v : Value) (rest : List Value) → is_circular v ≡ false → list_any circular_item (map Cell rest) ≡ false → list_any circular_item (map Cell (cond b (v ∷ rest) rest)) ≡ false
+filled_plain : (b : Bool) (v : Value) (rest : List Value) → is_circular v ≡ false
+    → list_any circular_item (map Cell rest) ≡ false
+    → list_any circular_item (map Cell (cond b (v ∷ rest) rest)) ≡ false
 filled_plain true v rest h k = either_plain (is_circular v) (list_any circular_item (map Cell rest)) h k
 filled_plain false v rest h k = k
 
 cells_plain : (cells : List Value) → list_any is_circular cells ≡ false → list_any circular_item (items_of_cells cells) ≡ false
 cells_plain [] h = refl
 cells_plain (v ∷ rest) h =
-    filled_plain (is_filled v) v (filter is_filled rest) (first_plain (is_circular v) (list_any is_circular rest) h) (cells_plain rest (second_plain (is_circular v) (list_any is_circular rest) h))
+    filled_plain (is_filled v) v (filter is_filled rest) (first_plain (is_circular v) (list_any is_circular rest) h)
+    (cells_plain rest (second_plain (is_circular v) (list_any is_circular rest) h))
 
-among_plain : (scalar : Value) (cells : Option (List Value)) → is_circular scalar ≡ false → circular_cells cells ≡ false → list_any circular_item (items_among scalar cells) ≡ false
+among_plain : (scalar : Value) (cells : Option (List Value)) → is_circular scalar ≡ false → circular_cells cells ≡ false
+    → list_any circular_item (items_among scalar cells) ≡ false
 among_plain scalar None h k = either_plain (is_circular scalar) false h refl
 among_plain scalar (Some cells) h k = cells_plain cells k
 
@@ -302,12 +323,15 @@ items_plain (p ∷ rest) h =
     let here = first_plain (circular_parameter p) (list_any circular_parameter rest) h in
     list_any-append circular_item (items_of_parameter p) (items_of rest)
     ∙ either_plain (list_any circular_item (items_of_parameter p)) (list_any circular_item (items_of rest))
-    (among_plain p.scalar p.cells (first_plain (is_circular p.scalar) (circular_cells p.cells) here) (second_plain (is_circular p.scalar) (circular_cells p.cells) here))
+    (among_plain p.scalar p.cells (first_plain (is_circular p.scalar) (circular_cells p.cells) here)
+    (second_plain (is_circular p.scalar) (circular_cells p.cells) here))
     (items_plain rest (second_plain (circular_parameter p) (list_any circular_parameter rest) h))
 
 scalar_at_plain : (parameters : List Parameter) (i : ℕ) → list_any circular_parameter parameters ≡ false → is_circular (scalar_at parameters i) ≡ false
 scalar_at_plain [] i h = refl
-scalar_at_plain (p ∷ rest) zero h = first_plain (is_circular p.scalar) (circular_cells p.cells) (first_plain (circular_parameter p) (list_any circular_parameter rest) h)
+scalar_at_plain (p ∷ rest) zero h =
+    first_plain (is_circular p.scalar) (circular_cells p.cells)
+    (first_plain (circular_parameter p) (list_any circular_parameter rest) h)
 scalar_at_plain (p ∷ rest) (suc i) h = scalar_at_plain rest i (second_plain (circular_parameter p) (list_any circular_parameter rest) h)
 
 empty_cells_plain : (cells : Option (List Value)) → is_circular (empty_cells cells) ≡ false
@@ -318,7 +342,8 @@ blank_plain : (parameters : List Parameter) → is_circular (blank_count paramet
 blank_plain [] = refl
 blank_plain (p ∷ rest) = empty_cells_plain p.cells
 
-on_both_plain : (a b : Result ℤ ErrorKind) (f : ℤ → ℤ → Value) → circular_error a ≡ false → circular_error b ≡ false → ((m n : ℤ) → is_circular (f m n) ≡ false) → is_circular (on_both a b f) ≡ false
+on_both_plain : (a b : Result ℤ ErrorKind) (f : ℤ → ℤ → Value) → circular_error a ≡ false → circular_error b ≡ false
+    → ((m n : ℤ) → is_circular (f m n) ≡ false) → is_circular (on_both a b f) ≡ false
 on_both_plain (Err kind) b f h k fs = h
 on_both_plain (Ok m) (Err kind) f h k fs = k
 on_both_plain (Ok m) (Ok n) f h k fs = fs m n
@@ -337,7 +362,8 @@ unless_error_plain (Truth t) b k = refl
 unless_error_plain (Error kind) b k = k
 unless_error_plain (Label place) b k = refl
 
-scalar_plain : (f : Function) (a b c : Value) → is_circular a ≡ false → is_circular b ≡ false → is_circular c ≡ false → is_circular (scalar_value f a b c) ≡ false
+scalar_plain : (f : Function) (a b c : Value) → is_circular a ≡ false → is_circular b ≡ false → is_circular c ≡ false
+    → is_circular (scalar_value f a b c) ≡ false
 scalar_plain Sum a b c h k l = refl
 scalar_plain Product a b c h k l = refl
 scalar_plain Min a b c h k l = refl
@@ -367,14 +393,17 @@ scalar_plain Match a b c h k l = refl
 -- functions of ranges
 cells_at_plain : (parameters : List Parameter) (i : ℕ) → list_any circular_parameter parameters ≡ false → circular_cells (cells_at parameters i) ≡ false
 cells_at_plain [] i h = refl
-cells_at_plain (p ∷ rest) zero h = second_plain (is_circular p.scalar) (circular_cells p.cells) (first_plain (circular_parameter p) (list_any circular_parameter rest) h)
+cells_at_plain (p ∷ rest) zero h =
+    second_plain (is_circular p.scalar) (circular_cells p.cells)
+    (first_plain (circular_parameter p) (list_any circular_parameter rest) h)
 cells_at_plain (p ∷ rest) (suc i) h = cells_at_plain rest i (second_plain (circular_parameter p) (list_any circular_parameter rest) h)
 
 count_plain : (n : ℤ) (cells : Option (List Value)) → is_circular (count_of n cells) ≡ false
 count_plain n None = refl
 count_plain n (Some cells) = refl
 
-taken_plain : (b : Bool) (v : Value) (rest : List Value) → is_circular v ≡ false → list_any is_circular rest ≡ false → list_any is_circular (cond b (v ∷ rest) rest) ≡ false
+taken_plain : (b : Bool) (v : Value) (rest : List Value) → is_circular v ≡ false → list_any is_circular rest ≡ false
+    → list_any is_circular (cond b (v ∷ rest) rest) ≡ false
 taken_plain true v rest h k = either_plain (is_circular v) (list_any is_circular rest) h k
 taken_plain false v rest h k = k
 
@@ -382,13 +411,16 @@ selected_plain : (n : ℤ) (from to : List Value) → list_any is_circular to �
 selected_plain n [] to h = refl
 selected_plain n (v ∷ vs) [] h = refl
 selected_plain n (v ∷ vs) (w ∷ ws) h =
-    taken_plain (equals n v) w (selected n vs ws) (first_plain (is_circular w) (list_any is_circular ws) h) (selected_plain n vs ws (second_plain (is_circular w) (list_any is_circular ws) h))
+    taken_plain (equals n v) w (selected n vs ws) (first_plain (is_circular w) (list_any is_circular ws) h)
+    (selected_plain n vs ws (second_plain (is_circular w) (list_any is_circular ws) h))
 
 sum_plain : (n : ℤ) (same : Bool) (from to : Option (List Value)) → circular_cells to ≡ false → is_circular (sum_of n same from to) ≡ false
 sum_plain n same None to h = refl
 sum_plain n same (Some from) None h = refl
 sum_plain n false (Some from) (Some to) h = refl
-sum_plain n true (Some from) (Some to) h = sequence_plain Sum (items_of_cells (selected n from to)) (cells_plain (selected n from to) (selected_plain n from to h))
+sum_plain n true (Some from) (Some to) h =
+    sequence_plain Sum (items_of_cells (selected n from to))
+    (cells_plain (selected n from to) (selected_plain n from to h))
 
 place_from_plain : (place : ℕ) (n : ℤ) (cells : List Value) → is_circular (place_from place n cells) ≡ false
 place_from_plain place n [] = refl
@@ -400,15 +432,22 @@ place_in_plain n (Some cells) = place_from_plain 1 n cells
 
 match_plain : (parameters : List Parameter) (n kind : ℤ) → is_circular (match_of parameters n kind) ≡ false
 match_plain parameters n kind =
-    cond_plain (int_eq kind (pos 0)) _ (Error error.Value) (cond_plain _ (Error error.Na) (place_in n (cells_at parameters 1)) refl (place_in_plain n (cells_at parameters 1))) refl
+    cond_plain (int_eq kind (pos 0)) _ (Error error.Value)
+    (cond_plain _ (Error error.Na) (place_in n (cells_at parameters 1)) refl
+    (place_in_plain n (cells_at parameters 1))) refl
 
-ranged_plain : (f : Function) (a b c : Value) (parameters : List Parameter) → is_circular a ≡ false → is_circular b ≡ false → is_circular c ≡ false → list_any circular_parameter parameters ≡ false → is_circular (ranged_value f a b c parameters) ≡ false
+ranged_plain : (f : Function) (a b c : Value) (parameters : List Parameter) → is_circular a ≡ false
+    → is_circular b ≡ false → is_circular c ≡ false → list_any circular_parameter parameters ≡ false
+    → is_circular (ranged_value f a b c parameters) ≡ false
 ranged_plain Countblank a b c parameters h k l all = blank_plain parameters
 ranged_plain Countif a b c parameters h k l all = or_error_plain (as_number b) _ (as_number_plain b k) (λ n. count_plain n (cells_at parameters 0))
 ranged_plain Sumif a b c parameters h k l all =
     or_error_plain (as_number b) (sum_where parameters) (as_number_plain b k)
-    (λ n. sum_plain n (have_same_sizes parameters 0 (summed parameters)) (cells_at parameters 0) (cells_at parameters (summed parameters)) (cells_at_plain parameters (summed parameters) all))
-ranged_plain Match a b c parameters h k l all = on_both_plain (as_number a) (as_number c) (match_of parameters) (as_number_plain a h) (as_number_plain c l) (match_plain parameters)
+    (λ n. sum_plain n (have_same_sizes parameters 0 (summed parameters)) (cells_at parameters 0)
+    (cells_at parameters (summed parameters)) (cells_at_plain parameters (summed parameters) all))
+ranged_plain Match a b c parameters h k l all =
+    on_both_plain (as_number a) (as_number c) (match_of parameters) (as_number_plain a h) (as_number_plain c l)
+    (match_plain parameters)
 ranged_plain Sum a b c parameters h k l all = refl
 ranged_plain Product a b c parameters h k l all = refl
 ranged_plain Min a b c parameters h k l all = refl
@@ -431,11 +470,14 @@ ranged_plain Istext a b c parameters h k l all = refl
 ranged_plain Isblank a b c parameters h k l all = refl
 ranged_plain Na a b c parameters h k l all = refl
 
-place_plain : (place : Place) (f : Function) (parameters : List Parameter) → list_any circular_parameter parameters ≡ false → is_circular (by_place place f parameters) ≡ false
+place_plain : (place : Place) (f : Function) (parameters : List Parameter)
+    → list_any circular_parameter parameters ≡ false → is_circular (by_place place f parameters) ≡ false
 place_plain Sequence f parameters h = sequence_plain f (items_of parameters) (items_plain parameters h)
 place_plain Ranges f parameters h =
-    ranged_plain f (scalar_at parameters 0) (scalar_at parameters 1) (scalar_at parameters 2) parameters (scalar_at_plain parameters 0 h) (scalar_at_plain parameters 1 h) (scalar_at_plain parameters 2 h) h
+    ranged_plain f (scalar_at parameters 0) (scalar_at parameters 1) (scalar_at parameters 2) parameters
+    (scalar_at_plain parameters 0 h) (scalar_at_plain parameters 1 h) (scalar_at_plain parameters 2 h) h
 place_plain Scalar f parameters h = scalar_plain f _ _ _ (scalar_at_plain parameters 0 h) (scalar_at_plain parameters 1 h) (scalar_at_plain parameters 2 h)
 
-pub function_plain : (f : Function) (parameters : List Parameter) → list_any circular_parameter parameters ≡ false → is_circular (function_value f parameters) ≡ false
+pub function_plain : (f : Function) (parameters : List Parameter) → list_any circular_parameter parameters ≡ false
+    → is_circular (function_value f parameters) ≡ false
 function_plain f parameters h = place_plain (shape_of f).place f parameters h

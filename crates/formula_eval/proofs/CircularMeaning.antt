@@ -9,10 +9,13 @@ use Rattle.value_core.specs.declared.value.ErrorKind.TheVariants as error
 use Rattle.value_core.specs.declared.value.Value.{Value}
 use Rattle.value_core.specs.declared.value.Value.TheVariants.{Error}
 use Rattle.value_core.specs.Conversions.{never_empty}
-use Rattle.formula_syntax.specs.Tree.{Tree, Trees, number, truth, error as error_tree, reference, prefix, binary, call, no_trees, and_trees, references_of, all_references, IsFitting, AreFitting}
+use Rattle.formula_syntax.specs.Tree.{Tree, Trees, number, truth, error as error_tree, reference, prefix, binary, call}
+use Rattle.formula_syntax.specs.Tree.{no_trees, and_trees, references_of, all_references, IsFitting, AreFitting}
 use Rattle.formula_eval.specs.Functions.{function_value}
 use Rattle.formula_eval.specs.Meaning.{is_circular, is_one_cell, scalar_of_range, cells_of_tree, meaning, parameter_values, has_circular}
-use Rattle.formula_eval.proofs.CircularFunctions.{either_plain, first_plain, second_plain, circular_cells, circular_parameter, never_empty_plain, binary_plain, prefix_plain, function_plain}
+use Rattle.formula_eval.proofs.CircularFunctions.{either_plain, first_plain, second_plain, circular_cells}
+use Rattle.formula_eval.proofs.CircularFunctions.{circular_parameter, never_empty_plain, binary_plain, prefix_plain}
+use Rattle.formula_eval.proofs.CircularFunctions.{function_plain}
 use Rattle.formula_eval.proofs.MeaningLemmas.{cell_any, head_in}
 
 not_plain : (b c : Bool) → c ≡ false → (b ≡ true → c ≡ true) → b ≡ false
@@ -29,9 +32,12 @@ module _ (values : Position → Value) where
   map_plain : (cells : List Position) → list_any circular_at cells ≡ false → list_any is_circular (map values cells) ≡ false
   map_plain [] h = refl
   map_plain (cell ∷ rest) h =
-      either_plain (circular_at cell) (list_any is_circular (map values rest)) (first_plain (circular_at cell) (list_any circular_at rest) h) (map_plain rest (second_plain (circular_at cell) (list_any circular_at rest) h))
+      either_plain (circular_at cell) (list_any is_circular (map values rest))
+      (first_plain (circular_at cell) (list_any circular_at rest) h)
+      (map_plain rest (second_plain (circular_at cell) (list_any circular_at rest) h))
 
-  range_plain : (range : Corners) (one : Bool) → is_one_cell range ≡ one → list_any circular_at (cells_of range) ≡ false → is_circular (scalar_of_range values range) ≡ false
+  range_plain : (range : Corners) (one : Bool) → is_one_cell range ≡ one → list_any circular_at (cells_of range) ≡ false
+      → is_circular (scalar_of_range values range) ≡ false
   range_plain range true one h =
       rw one (not_plain (circular_at range.head) (list_any circular_at (cells_of range)) h (cell_any circular_at range range.head (head_in range one)))
   range_plain range false one h = rw one refl
@@ -74,14 +80,18 @@ module _ (values : Position → Value) where
         (meaning_plain left fits.0 (left_plain (references_of left) (references_of right) h))
         (meaning_plain right fits.1 (right_plain (references_of left) (references_of right) h))
     meaning_plain (call f parameters) fits h =
-        never_empty_plain (function_value f (parameter_values values parameters)) (function_plain f (parameter_values values parameters) (parameters_plain parameters fits.1 h))
+        never_empty_plain (function_value f (parameter_values values parameters))
+        (function_plain f (parameter_values values parameters) (parameters_plain parameters fits.1 h))
 
-    parameters_plain : (trees : Trees) → AreFitting trees → has_circular values (all_references trees) ≡ false → list_any circular_parameter (parameter_values values trees) ≡ false
+    parameters_plain : (trees : Trees) → AreFitting trees → has_circular values (all_references trees) ≡ false
+        → list_any circular_parameter (parameter_values values trees) ≡ false
     parameters_plain no_trees fits h = refl
     parameters_plain (and_trees tree rest) fits h =
         let here = left_plain (references_of tree) (all_references rest) h in
-        either_plain (is_circular (meaning values tree) || circular_cells (cells_of_tree values tree)) (list_any circular_parameter (parameter_values values rest))
-        (either_plain (is_circular (meaning values tree)) (circular_cells (cells_of_tree values tree)) (meaning_plain tree fits.0 here) (cells_of_tree_plain tree here))
+        either_plain (is_circular (meaning values tree) || circular_cells (cells_of_tree values tree))
+        (list_any circular_parameter (parameter_values values rest))
+        (either_plain (is_circular (meaning values tree)) (circular_cells (cells_of_tree values tree))
+        (meaning_plain tree fits.0 here) (cells_of_tree_plain tree here))
         (parameters_plain rest fits.1 (right_plain (references_of tree) (all_references rest) h))
 
   pub value_plain : (tree : Tree) → IsFitting tree → has_circular values (references_of tree) ≡ false → is_circular (never_empty (meaning values tree)) ≡ false

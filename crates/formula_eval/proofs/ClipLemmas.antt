@@ -1,5 +1,7 @@
 -- Cells past the rectangle add nothing to a sequence.
-use Rattle.std.proofs.Common.{◌≡◌, ℕ, zero, suc, ◌+◌, ◌-◌, ◌<◌, ◌≤◌, List, [], ◌∷◌, ◌++◌, map, filter, length, take, drop, slice_get, append_assoc, Bool, true, false, cond, Option, Some, IsTrue, refl, sym, ◌∙◌, ap, ap₂, arith}
+use Rattle.std.proofs.Common.{◌≡◌, ℕ, zero, suc, ◌+◌, ◌-◌, ◌<◌, ◌≤◌, List, [], ◌∷◌, ◌++◌, map, filter, length, take}
+use Rattle.std.proofs.Common.{drop, slice_get, append_assoc, Bool, true, false, cond, Option, Some, IsTrue, refl, sym}
+use Rattle.std.proofs.Common.{◌∙◌, ap, ap₂, arith}
 use Rattle.std.specs.List.{range_with_len, flat_map}
 use Rattle.std.proofs.lemmas.Bool.Decides.{nat_tests}
 use Rattle.std.proofs.lemmas.List.{take-append-drop}
@@ -44,23 +46,31 @@ module _ (h : Position → Value) where
   outside_cols : (row first count : ℕ) → ((col : ℕ) → first ≤ col → col < first + count → h (at row col) ≡ Empty) → shown h (cols row first count) ≡ []
   outside_cols row first zero out = refl
   outside_cols row first (suc count) out =
-      shown-empty (at row first) (cols row (first + 1) count) (out first (omega arith) (omega arith)) ∙ outside_cols row (first + 1) count (λ col less more. out col (omega arith) (omega arith))
+      shown-empty (at row first) (cols row (first + 1) count) (out first (omega arith) (omega arith))
+      ∙ outside_cols row (first + 1) count (λ col less more. out col (omega arith) (omega arith))
 
-  outside_block : (left wide top high : ℕ) → ((row col : ℕ) → top ≤ row → row < top + high → left ≤ col → col < left + wide → h (at row col) ≡ Empty) → shown h (block left wide top high) ≡ []
+  outside_block : (left wide top high : ℕ) → ((row col : ℕ) → top ≤ row → row < top + high → left ≤ col
+      → col < left + wide → h (at row col) ≡ Empty) → shown h (block left wide top high) ≡ []
   outside_block left wide top zero out = refl
   outside_block left wide top (suc high) out =
       shown-append (cols top left wide) (block left wide (top + 1) high)
-      ∙ ap₂ ◌++◌ (outside_cols top left wide (λ col less more. out top col (omega arith) (omega arith) less more)) (outside_block left wide (top + 1) high (λ row col less more. out row col (omega arith) (omega arith)))
+      ∙ ap₂ ◌++◌ (outside_cols top left wide (λ col less more. out top col (omega arith) (omega arith) less more))
+      (outside_block left wide (top + 1) high (λ row col less more. out row col (omega arith) (omega arith)))
 
-  cut_cols : (row first inner outer : ℕ) → ((col : ℕ) → first + inner ≤ col → col < first + (inner + outer) → h (at row col) ≡ Empty) → shown h (cols row first (inner + outer)) ≡ shown h (cols row first inner)
+  cut_cols : (row first inner outer : ℕ) → ((col : ℕ) → first + inner ≤ col → col < first + (inner + outer)
+      → h (at row col) ≡ Empty) → shown h (cols row first (inner + outer)) ≡ shown h (cols row first inner)
   cut_cols row first zero outer out =
       let none : 0 + outer ≡ outer = omega arith in
       rw none (outside_cols row first outer (λ col less more. out col (omega arith) (omega arith)))
   cut_cols row first (suc inner) outer out =
       let more : suc inner + outer ≡ suc (inner + outer) = omega arith in
-      rw more (shown-cons (at row first) (cols row (first + 1) (inner + outer)) (cols row (first + 1) inner) (cut_cols row (first + 1) inner outer (λ col less most. out col (omega arith) (omega arith))))
+      rw more (shown-cons (at row first) (cols row (first + 1) (inner + outer)) (cols row (first + 1) inner)
+      (cut_cols row (first + 1) inner outer (λ col less most. out col (omega arith) (omega arith))))
 
-  cut_block : (left wide_in wide_out top high_in high_out : ℕ) → ((row col : ℕ) → left + wide_in ≤ col → col < left + (wide_in + wide_out) → h (at row col) ≡ Empty) → ((row col : ℕ) → top + high_in ≤ row → row < top + (high_in + high_out) → h (at row col) ≡ Empty) → shown h (block left (wide_in + wide_out) top (high_in + high_out)) ≡ shown h (block left wide_in top high_in)
+  cut_block : (left wide_in wide_out top high_in high_out : ℕ) → ((row col : ℕ) → left + wide_in ≤ col
+      → col < left + (wide_in + wide_out) → h (at row col) ≡ Empty)
+      → ((row col : ℕ) → top + high_in ≤ row → row < top + (high_in + high_out) → h (at row col) ≡ Empty)
+      → shown h (block left (wide_in + wide_out) top (high_in + high_out)) ≡ shown h (block left wide_in top high_in)
   cut_block left wide_in wide_out top zero high_out right below =
       let none : 0 + high_out ≡ high_out = omega arith in
       rw none (outside_block left (wide_in + wide_out) top high_out (λ row col less most from to. below row col (omega arith) (omega arith)))
@@ -68,7 +78,8 @@ module _ (h : Position → Value) where
       let more : suc high_in + high_out ≡ suc (high_in + high_out) = omega arith in
       rw more
       (shown-append (cols top left (wide_in + wide_out)) (block left (wide_in + wide_out) (top + 1) (high_in + high_out))
-      ∙ ap₂ ◌++◌ (cut_cols top left wide_in wide_out (right top)) (cut_block left wide_in wide_out (top + 1) high_in high_out right (λ row col less most. below row col (omega arith) (omega arith)))
+      ∙ ap₂ ◌++◌ (cut_cols top left wide_in wide_out (right top)) (cut_block left wide_in wide_out (top + 1) high_in
+      high_out right (λ row col less most. below row col (omega arith) (omega arith)))
       ∙ sym (shown-append (cols top left wide_in) (block left wide_in (top + 1) high_in)))
 
 seen_outside : (sizes : Sizes) (codes : Position → Option ℕ) (cell : Position) → (is_inside sizes cell ≡ false) → seen_values sizes codes cell ≡ Empty
@@ -88,7 +99,8 @@ pub seen_empty : (sizes : Sizes) (codes : Position → Option ℕ) → IsEmptyOu
 seen_empty sizes codes cell outside = seen_outside sizes codes cell outside
 
 -- a range that begins in the rectangle shows no more than its part there
-pub part_shows : (sizes : Sizes) (h : Position → Value) (range : Corners) → IsEmptyOutside sizes h → IsTrue (is_inside sizes range.head) → shown h (cells_of range) ≡ shown h (cells_of (part_inside sizes range))
+pub part_shows : (sizes : Sizes) (h : Position → Value) (range : Corners) → IsEmptyOutside sizes h
+    → IsTrue (is_inside sizes range.head) → shown h (cells_of range) ≡ shown h (cells_of (part_inside sizes range))
 part_shows sizes h range out inside =
     let bounds = inside_bounds sizes range.head inside in
     let part = part_inside sizes range in
@@ -100,10 +112,17 @@ part_shows sizes h range out inside =
     ap₂ (λ w n. shown h (block range.head.col w range.head.row n)) wide high ∙ cut
 
 -- a range none of whose cells lies in the rectangle shows nothing
-pub past_shows : (sizes : Sizes) (h : Position → Value) (range : Corners) → IsEmptyOutside sizes h → ((cell : Position) → IsIn cell range → is_inside sizes cell ≡ false) → shown h (cells_of range) ≡ []
+pub past_shows : (sizes : Sizes) (h : Position → Value) (range : Corners) → IsEmptyOutside sizes h
+    → ((cell : Position) → IsIn cell range → is_inside sizes cell ≡ false) → shown h (cells_of range) ≡ []
 past_shows sizes h range out outside =
     outside_block h range.head.col (width range) range.head.row (height range)
-    (λ row col from to left right. out (at row col) (outside (at row col) (record { row_from = from; row_to = omega arith; col_from = left; col_to = omega arith })))
+    (λ row col from to left right. out (at row col)
+    (outside (at row col) (record {
+      row_from = from;
+      row_to = omega arith;
+      col_from = left;
+      col_to = omega arith;
+    })))
 
 pub map-joined : {A B : Type 0} (f : A → B) (xs ys : List A) → map f (xs ++ ys) ≡ map f xs ++ map f ys
 map-joined f [] ys = refl
@@ -115,16 +134,21 @@ take_more (y ∷ ys) zero x at = let same : y ≡ x = cc in rw same refl
 take_more (y ∷ ys) (suc k) x at = let more : suc k + 1 ≡ suc (k + 1) = omega arith in rw more (ap (λ rest. y ∷ rest) (take_more ys k x at))
 
 -- the items of one more cell
-pub items_step : (h : Position → Value) (cells : List Position) (k : ℕ) (cell : Position) (v : Value) → slice_get cells k ≡ Some cell → v ≡ h cell → items_of_cells (map h (take (k + 1) cells)) ≡ items_of_cells (map h (take k cells)) ++ items_of_cells (v ∷ [])
+pub items_step : (h : Position → Value) (cells : List Position) (k : ℕ) (cell : Position) (v : Value)
+    → slice_get cells k ≡ Some cell → v ≡ h cell → items_of_cells (map h (take (k + 1) cells)) ≡ items_of_cells
+    (map h (take k cells)) ++ items_of_cells (v ∷ [])
 items_step h cells k cell v at is =
     rw (take_more cells k cell at, is)
     (ap (map Cell) (shown-append h (take k cells) (cell ∷ [])) ∙ map-joined Cell (shown h (take k cells)) (shown h (cell ∷ [])))
 
 -- all items: those of the cells before one, its own, and those after it
-pub items_split : (h : Position → Value) (cells : List Position) (k : ℕ) (cell : Position) (v : Value) → slice_get cells k ≡ Some cell → v ≡ h cell → items_of_cells (map h cells) ≡ items_of_cells (map h (take k cells)) ++ (items_of_cells (v ∷ []) ++ items_of_cells (map h (drop (k + 1) cells)))
+pub items_split : (h : Position → Value) (cells : List Position) (k : ℕ) (cell : Position) (v : Value)
+    → slice_get cells k ≡ Some cell → v ≡ h cell → items_of_cells (map h cells) ≡ items_of_cells (map h (take k cells))
+    ++ (items_of_cells (v ∷ []) ++ items_of_cells (map h (drop (k + 1) cells)))
 items_split h cells k cell v at is =
     let whole = sym (take-append-drop (k + 1) cells) in
-    let parts = ap (map Cell) (shown-append h (take (k + 1) cells) (drop (k + 1) cells)) ∙ map-joined Cell (shown h (take (k + 1) cells)) (shown h (drop (k + 1) cells)) in
+    let parts = ap (map Cell) (shown-append h (take (k + 1) cells) (drop (k + 1) cells))
+    ∙ map-joined Cell (shown h (take (k + 1) cells)) (shown h (drop (k + 1) cells)) in
     ap (λ cs. items_of_cells (map h cs)) whole ∙ parts ∙ ap (λ front. front ++ items_of_cells (map h (drop (k + 1) cells))) (items_step h cells k cell v at is)
     ∙ append_assoc (items_of_cells (map h (take k cells))) (items_of_cells (v ∷ [])) (items_of_cells (map h (drop (k + 1) cells)))
 

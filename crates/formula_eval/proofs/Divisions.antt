@@ -1,5 +1,6 @@
 -- MOD and QUOTIENT by the equations that define them, and how COUNTA and COUNTBLANK share the cells of a range.
-use Rattle.std.proofs.Common.{◌≡◌, ◌≢◌, ℕ, zero, suc, ◌+◌, ◌*◌, ◌/◌, ◌%◌, ◌<◌, ◌≤◌, ℤ, pos, negsuc, nat_abs, ◌+ℤ◌, ◌*ℤ◌, ◌≤ℤ◌, Bool, true, false, map, length, filter, refl, sym, ◌∙◌, ap, arith, inl, inr}
+use Rattle.std.proofs.Common.{◌≡◌, ◌≢◌, ℕ, zero, suc, ◌+◌, ◌*◌, ◌/◌, ◌%◌, ◌<◌, ◌≤◌, ℤ, pos, negsuc, nat_abs, ◌+ℤ◌, ◌*ℤ◌}
+use Rattle.std.proofs.Common.{◌≤ℤ◌, Bool, true, false, map, length, filter, refl, sym, ◌∙◌, ap, arith, inl, inr}
 use Rattle.std.specs.Prelude.{neg_ℤ, int_lt, int_div, int_rem}
 use Rattle.std.specs.Int.{int_rem_euclid}
 use Rattle.std.specs.Ordering.{int_eq}
@@ -94,8 +95,11 @@ rem_below (pos (suc a)) n h = absurd (omega (arith, ints, h))
 rem_below (negsuc a) n h = omega (arith, ints)
 
 pub quotient_law : GivesOfTwo Quotient IsCutQuotient
-quotient_law values a b m n first second left right some =
-    (int_div m n, rw (first, second) (divided int_div m n some (whole_quotient m n left)), (int_rem m n, quot-rem m n, rem_size m n some, rem_above m n, rem_below m n))
+quotient_law values a b m n first second left right some = (
+  int_div m n,
+  rw (first, second) (divided int_div m n some (whole_quotient m n left)),
+  (int_rem m n, quot-rem m n, rem_size m n some, rem_above m n, rem_below m n),
+)
 
 pub quotient_zero : RefusesZero Quotient
 quotient_zero values a b m first second = rw (first, second) refl

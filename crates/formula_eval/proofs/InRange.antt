@@ -1,5 +1,6 @@
 -- A function of values has a value, where it has no more items than can be counted.
-use Rattle.std.proofs.Common.{◌≡◌, ℕ, zero, suc, ◌+◌, ◌≤◌, ℤ, pos, nat_abs, ◌+ℤ◌, ◌*ℤ◌, Bool, true, false, List, [], ◌∷◌, map, length, Option, Some, None, Result, Ok, Err, refl, arith, cond}
+use Rattle.std.proofs.Common.{◌≡◌, ℕ, zero, suc, ◌+◌, ◌≤◌, ℤ, pos, nat_abs, ◌+ℤ◌, ◌*ℤ◌, Bool, true, false, List, []}
+use Rattle.std.proofs.Common.{◌∷◌, map, length, Option, Some, None, Result, Ok, Err, refl, arith, cond}
 use Rattle.std.specs.Prelude.{int_lt, int_div, neg_ℤ, not, filter, fold, slice_index_or}
 use Rattle.std.specs.Int.{int_min, int_max}
 use Rattle.std.specs.Ordering.{int_eq}
@@ -16,13 +17,22 @@ use Rattle.value_core.specs.Wholes.{IsWhole}
 use Rattle.value_core.proofs.ArithmeticLemmas.{whole_by_size, size_of_whole}
 use Rattle.value_core.proofs.InRange.{value_result, in_range_result, IsWholeOrNone, as_number_whole, whole_truth}
 use Rattle.formula_syntax.specs.declared.functions.Function.{Function}
-use Rattle.formula_syntax.specs.declared.functions.Function.TheVariants.{Sum, Product, Min, Max, Count, Counta, Countblank, If, Iferror, And, Or, Not, Abs, Sign, Mod, Quotient, Iserror, Isnumber, Islogical, Istext, Isblank, Na, Countif, Sumif, Match}
+use Rattle.formula_syntax.specs.declared.functions.Function.TheVariants.{Sum, Product, Min, Max, Count, Counta}
+use Rattle.formula_syntax.specs.declared.functions.Function.TheVariants.{Countblank, If, Iferror, And, Or, Not, Abs}
+use Rattle.formula_syntax.specs.declared.functions.Function.TheVariants.{Sign, Mod, Quotient, Iserror, Isnumber}
+use Rattle.formula_syntax.specs.declared.functions.Function.TheVariants.{Islogical, Istext, Isblank, Na, Countif, Sumif}
+use Rattle.formula_syntax.specs.declared.functions.Function.TheVariants.{Match}
 use Rattle.formula_syntax.specs.declared.functions.Place.{Place}
 use Rattle.formula_syntax.specs.declared.functions.Place.TheVariants.{Sequence, Scalar, Ranges}
 use Rattle.formula_syntax.specs.Functions.{shape_of}
 use Rattle.formula_eval.specs.declared.items.Item.{Item}
 use Rattle.formula_eval.specs.declared.items.Item.TheVariants.{Cell, Alone}
-use Rattle.formula_eval.specs.Functions.{Contribution, some_of, number_in, truth_in, if_number, count_in, contribution, add_contribution, contributions, least, greatest, truth_of_some, total_of, or_error, empty_cells, blank_count, on_both, choice, unless_error, sign_number, floor_remainder, division_value, scalar_value, scalar_at, equals, equal_count, count_of, selected, sum_of, summed, have_same_sizes, sum_where, place_from, place_in, match_of, ranged_value, by_place, function_value}
+use Rattle.formula_eval.specs.Functions.{Contribution, some_of, number_in, truth_in, if_number, count_in, contribution}
+use Rattle.formula_eval.specs.Functions.{add_contribution, contributions, least, greatest, truth_of_some, total_of}
+use Rattle.formula_eval.specs.Functions.{or_error, empty_cells, blank_count, on_both, choice, unless_error, sign_number}
+use Rattle.formula_eval.specs.Functions.{floor_remainder, division_value, scalar_value, scalar_at, equals, equal_count}
+use Rattle.formula_eval.specs.Functions.{count_of, selected, sum_of, summed, have_same_sizes, sum_where, place_from}
+use Rattle.formula_eval.specs.Functions.{place_in, match_of, ranged_value, by_place, function_value}
 use Rattle.formula_eval.specs.Items.{Parameter, is_empty, is_filled, items_of, items_of_cells, cells_at}
 
 range_value : (z : ℤ) → IsValue (in_range z)
@@ -100,7 +110,8 @@ contribution_whole And item h = truth_whole item
 contribution_whole Or item h = truth_whole item
 contribution_whole _ item h = number_whole item h
 
-one_more : (c : Contribution) (rest : Result (List ℤ) ErrorKind) (count : ℕ) → GivesWhole c → GiveWhole count rest → GiveWhole (suc count) (add_contribution c rest)
+one_more : (c : Contribution) (rest : Result (List ℤ) ErrorKind) (count : ℕ) → GivesWhole c → GiveWhole count rest
+    → GiveWhole (suc count) (add_contribution c rest)
 one_more (Err kind) rest count h k = tt
 one_more (Ok number) (Err kind) count h k = tt
 one_more (Ok None) (Ok numbers) count h k = (k.0, omega (arith, k.1))
@@ -108,7 +119,9 @@ one_more (Ok (Some n)) (Ok numbers) count h k = ((h, k.0), omega (arith, k.1))
 
 pub contributions_whole : (f : Function) (items : List Item) → AreValueItems items → GiveWhole (length items) (contributions f items)
 contributions_whole f [] h = (tt, omega arith)
-contributions_whole f (item ∷ items) h = one_more (contribution f item) (contributions f items) (length items) (contribution_whole f item h.0) (contributions_whole f items h.1)
+contributions_whole f (item ∷ items) h =
+    one_more (contribution f item) (contributions f items) (length items) (contribution_whole f item h.0)
+    (contributions_whole f items h.1)
 
 pub zero_whole : IsWhole (pos 0)
 zero_whole = record { least = omega (arith, ints); most = omega (arith, ints) }
@@ -145,7 +158,8 @@ total_value And ns h few = truth_value ns (least ns)
 total_value Or ns h few = truth_value ns (greatest ns)
 total_value _ ns h few = count_value (length ns) few
 
-pub sequence_total : (f : Function) (items : List Item) (r : Result (List ℤ) ErrorKind) → GiveWhole (length items) r → length items ≤ 9007199254740991 → IsValue (or_error r (total_of f))
+pub sequence_total : (f : Function) (items : List Item) (r : Result (List ℤ) ErrorKind) → GiveWhole (length items) r
+    → length items ≤ 9007199254740991 → IsValue (or_error r (total_of f))
 sequence_total f items (Err kind) h few = tt
 sequence_total f items (Ok ns) h few = total_value f ns h.0 (omega (arith, h.1, few))
 
@@ -237,7 +251,13 @@ cells_few (parameter ∷ rest) (suc i) few = cells_few rest i few.1
 
 counted_value : (n : ℤ) (cells : Option (List Value)) → CellsAreFew cells → IsValue (count_of n cells)
 counted_value n None few = zero_whole
-counted_value n (Some cells) few = count_value (equal_count n cells) (omega (arith, length-filter_both (equals n) (λ v. not (equals n v)) (λ v. refl) cells, few))
+counted_value n (Some cells) few =
+    count_value (equal_count n cells) (omega (
+      arith,
+      length-filter_both (equals n) (λ v. not (equals n v)) (λ v. refl)
+          cells,
+      few,
+    ))
 
 sum_in_range : (r : Result (List ℤ) ErrorKind) → IsValue (or_error r (total_of Sum))
 sum_in_range (Err kind) = tt
@@ -252,7 +272,8 @@ summed_value n true (Some from) (Some to) = sum_in_range (contributions Sum (ite
 place_value : (place : ℕ) (n : ℤ) (cells : List Value) → place + length cells ≤ 9007199254740992 → IsValue (place_from place n cells)
 place_value place n [] few = tt
 place_value place n (v ∷ rest) few =
-    either (equals n v) (Number (pos place)) (place_from (place + 1) n rest) (count_value place (omega (arith, few))) (place_value (place + 1) n rest (omega (arith, few)))
+    either (equals n v) (Number (pos place)) (place_from (place + 1) n rest) (count_value place (omega (arith, few)))
+    (place_value (place + 1) n rest (omega (arith, few)))
 
 found_value : (n : ℤ) (cells : Option (List Value)) → CellsAreFew cells → IsValue (place_in n cells)
 found_value n None few = tt
@@ -260,7 +281,8 @@ found_value n (Some cells) few = place_value 1 n cells (omega (arith, few))
 
 match_value : (parameters : List Parameter) (n kind : ℤ) → AllAreFew parameters → IsValue (match_of parameters n kind)
 match_value parameters n kind few =
-    either (int_eq kind (pos 0)) _ (Error error.Value) (either _ (Error error.Na) (place_in n (cells_at parameters 1)) tt (found_value n (cells_at parameters 1) (cells_few parameters 1 few))) tt
+    either (int_eq kind (pos 0)) _ (Error error.Value) (either _ (Error error.Na) (place_in n (cells_at parameters 1))
+    tt (found_value n (cells_at parameters 1) (cells_few parameters 1 few))) tt
 
 any_or_error : (r : Result ℤ ErrorKind) (value : ℤ → Value) → ((n : ℤ) → IsValue (value n)) → IsValue (or_error r value)
 any_or_error (Ok n) value h = h n
@@ -270,7 +292,9 @@ ranged_in_range : (f : Function) (a b c : Value) (parameters : List Parameter) �
 ranged_in_range Countblank a b c parameters few = blank_value parameters few
 ranged_in_range Countif a b c parameters few = any_or_error (as_number b) _ (λ n. counted_value n (cells_at parameters 0) (cells_few parameters 0 few))
 ranged_in_range Sumif a b c parameters few =
-    any_or_error (as_number b) (sum_where parameters) (λ n. summed_value n (have_same_sizes parameters 0 (summed parameters)) (cells_at parameters 0) (cells_at parameters (summed parameters)))
+    any_or_error (as_number b) (sum_where parameters)
+    (λ n. summed_value n (have_same_sizes parameters 0 (summed parameters)) (cells_at parameters 0)
+    (cells_at parameters (summed parameters)))
 ranged_in_range Match a b c parameters few = both_or_error (as_number a) (as_number c) (match_of parameters) (λ n kind. match_value parameters n kind few)
 ranged_in_range Sum a b c parameters few = zero_whole
 ranged_in_range Product a b c parameters few = zero_whole
@@ -297,9 +321,12 @@ ranged_in_range Na a b c parameters few = zero_whole
 abbrev pub scalars_of : List Parameter → List Value
 scalars_of parameters = map (λ (p : Parameter). p.scalar) parameters
 
-module _ (f : Function) (parameters : List Parameter) (scalars : AreValues (scalars_of parameters)) (items : AreValueItems (items_of parameters)) (few : length (items_of parameters) ≤ 9007199254740991) (cells : AllAreFew parameters) where
+module _ (f : Function) (parameters : List Parameter) (scalars : AreValues (scalars_of parameters))
+    (items : AreValueItems (items_of parameters)) (few : length (items_of parameters) ≤ 9007199254740991)
+    (cells : AllAreFew parameters) where
   by_place_value : (place : Place) → IsValue (by_place place f parameters)
-  by_place_value Sequence = sequence_total f (items_of parameters) (contributions f (items_of parameters)) (contributions_whole f (items_of parameters) items) few
+  by_place_value Sequence = sequence_total f (items_of parameters) (contributions f (items_of parameters))
+      (contributions_whole f (items_of parameters) items) few
   by_place_value Ranges = ranged_in_range f (scalar_at parameters 0) (scalar_at parameters 1) (scalar_at parameters 2) parameters cells
   by_place_value Scalar =
       scalar_in_range f (scalar_at parameters 0) (scalar_at parameters 1) (scalar_at parameters 2)

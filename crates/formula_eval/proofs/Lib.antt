@@ -1,15 +1,15 @@
-pub mod CircularFunctions
+mod CircularFunctions
 pub mod CircularMeaning
-pub mod ClipLemmas
-pub mod Divisions
+mod ClipLemmas
+mod Divisions
 pub mod FormulaInRange
-pub mod InRange
-pub mod MachineLemmas
+mod InRange
+mod MachineLemmas
 pub mod MeaningLemmas
-pub mod Named
+mod Named
 pub mod NodeLemmas
-pub mod PendingLemmas
-pub mod ScanLemmas
-pub mod TallyLemmas
-pub mod ViewLemmas
-pub mod RangeLemmas
+mod PendingLemmas
+mod ScanLemmas
+mod TallyLemmas
+mod ViewLemmas
+mod RangeLemmas

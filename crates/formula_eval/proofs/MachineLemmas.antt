@@ -1,5 +1,6 @@
 -- A tree on the way down its left operands, and the parameters of calls.
-use Rattle.std.proofs.Common.{◌≡◌, ℕ, zero, suc, ◌+◌, ◌<◌, ◌≤◌, List, [], ◌∷◌, ◌++◌, length, take, drop, map, filter, pos, get_or, Option, false, refl, sym, ◌∙◌, ap, arith, append_assoc, length-append}
+use Rattle.std.proofs.Common.{◌≡◌, ℕ, zero, suc, ◌+◌, ◌<◌, ◌≤◌, List, [], ◌∷◌, ◌++◌, length, take, drop, map, filter}
+use Rattle.std.proofs.Common.{pos, get_or, Option, false, refl, sym, ◌∙◌, ap, arith, append_assoc, length-append}
 use Rattle.std.proofs.Math.Seq.{take-suc, drop-cons}
 use Rattle.std.proofs.lemmas.List.{append-nil, take-append-drop}
 use Rattle.sheet_refs.specs.Cells.{Position, cells_of}
@@ -14,7 +15,8 @@ use Rattle.formula_eval.specs.Functions.{scalar_at, blank_count, empty_cells}
 use Rattle.formula_eval.specs.Items.{Parameter, is_empty, items_of, items_of_parameter}
 use Rattle.formula_eval.proofs.NodeLemmas.{references_split, all_left, all_right}
 use Rattle.formula_syntax.specs.declared.tree.Node.{Node}
-use Rattle.formula_syntax.specs.Tree.{Tree, number, truth, error, reference, prefix, binary, call, tree_of, trees_of, references_of, all_references, node_count, all_nodes}
+use Rattle.formula_syntax.specs.Tree.{Tree, number, truth, error, reference, prefix, binary, call, tree_of, trees_of}
+use Rattle.formula_syntax.specs.Tree.{references_of, all_references, node_count, all_nodes}
 use Rattle.formula_eval.specs.declared.machine.Pending.{Pending}
 use Rattle.formula_eval.specs.declared.machine.Pending.TheVariants as pending
 use Rattle.formula_eval.specs.Inputs.{ArePlain, IsPlainRange, seen_values}
@@ -34,7 +36,8 @@ module _ (sizes : Sizes) (codes : Position → Option ℕ) (whole : Tree) (old n
   pub left_start : ArePlain sizes codes (references_of whole) → HasLeft sizes codes whole whole old old
   left_start plain = record { waiting = []; items = sym (append-nil old); means = refl; plain = plain; count = omega arith }
 
-  pub left_prefix : (op : PrefixOp) (operand : Tree) → HasLeft sizes codes whole (prefix op operand) old now → HasLeft sizes codes whole operand old (now ++ pending.Prefix op ∷ [])
+  pub left_prefix : (op : PrefixOp) (operand : Tree) → HasLeft sizes codes whole (prefix op operand) old now
+      → HasLeft sizes codes whole operand old (now ++ pending.Prefix op ∷ [])
   left_prefix op operand left = record {
     waiting = left.waiting ++ pending.Prefix op ∷ [];
     items = ap (λ xs. xs ++ pending.Prefix op ∷ []) left.items ∙ append_assoc old left.waiting (pending.Prefix op ∷ []);
@@ -43,17 +46,26 @@ module _ (sizes : Sizes) (codes : Position → Option ℕ) (whole : Tree) (old n
     count = (let h = left.count in omega (arith, length-append left.waiting (pending.Prefix op ∷ [])));
   }
 
-  pub left_binary : (op : BinaryOp) (first second : Tree) (value : Value) → value ≡ meaning (seen_values sizes codes) second → HasLeft sizes codes whole (binary op first second) old now → ArePlain sizes codes (references_of first) → HasLeft sizes codes whole first old (now ++ pending.Binary op value ∷ [])
+  pub left_binary : (op : BinaryOp) (first second : Tree) (value : Value)
+      → value ≡ meaning (seen_values sizes codes) second → HasLeft sizes codes whole (binary op first second) old now
+      → ArePlain sizes codes (references_of first) → HasLeft sizes codes whole first old (now ++ pending.Binary op value
+      ∷ [])
   left_binary op first second value is left plain = record {
     waiting = left.waiting ++ pending.Binary op value ∷ [];
     items = ap (λ xs. xs ++ pending.Binary op value ∷ []) left.items ∙ append_assoc old left.waiting (pending.Binary op value ∷ []);
-    means = left.means ∙ ap (λ v. value_of_all left.waiting (value_of_one (pending.Binary op v) (meaning (seen_values sizes codes) first))) (sym is) ∙ sym (value_of_all-push left.waiting (pending.Binary op value) (meaning (seen_values sizes codes) first));
+    means =
+        left.means
+        ∙ ap (λ v. value_of_all left.waiting
+        (value_of_one (pending.Binary op v) (meaning (seen_values sizes codes) first))) (sym is)
+        ∙ sym (value_of_all-push left.waiting (pending.Binary op value) (meaning (seen_values sizes codes) first));
     plain = plain;
     count = (let h = left.count in omega (arith, length-append left.waiting (pending.Binary op value ∷ [])));
   }
 
 -- room for one more operator
-pub left_room : (sizes : Sizes) (codes : Position → Option ℕ) (whole part : Tree) (old now : List Pending) (capacity : ℕ) → HasLeft sizes codes whole part old now → length old + node_count whole ≤ capacity → (length now + node_count part ≤ capacity) × (node_count part ≤ node_count whole)
+pub left_room : (sizes : Sizes) (codes : Position → Option ℕ) (whole part : Tree) (old now : List Pending)
+    (capacity : ℕ) → HasLeft sizes codes whole part old now → length old + node_count whole ≤ capacity
+    → (length now + node_count part ≤ capacity) × (node_count part ≤ node_count whole)
 left_room sizes codes whole part old now capacity left room =
     let count = ap length left.items ∙ length-append old left.waiting in
     (omega (arith, count, left.count), omega (arith, left.count))
@@ -69,7 +81,9 @@ pub plain_one_range : (sizes : Sizes) (codes : Position → Option ℕ) (r : Ref
 plain_one_range sizes codes r plain = plain 0 r (omega arith)
 
 -- the references of one node of a list
-pub plain_among : (sizes : Sizes) (codes : Position → Option ℕ) (xs : List Node) (i : ℕ) (x : Node) → i < length xs → x ≡ get_or xs i x → ArePlain sizes codes (all_references (trees_of xs)) → ArePlain sizes codes (references_of (tree_of x))
+pub plain_among : (sizes : Sizes) (codes : Position → Option ℕ) (xs : List Node) (i : ℕ) (x : Node) → i < length xs
+    → x ≡ get_or xs i x → ArePlain sizes codes (all_references (trees_of xs))
+    → ArePlain sizes codes (references_of (tree_of x))
 plain_among sizes codes xs i x below at plain =
     let before = all_references (trees_of (take i xs)) in
     let here = references_of (tree_of x) in
@@ -77,13 +91,15 @@ plain_among sizes codes xs i x below at plain =
     plain_left sizes codes here after (plain_right sizes codes before (here ++ after) (rw (references_split xs i x below at) at plain))
 
 -- the values of parameters, one by one
-pub values_append : (h : Position → Value) (xs ys : List Node) → parameter_values h (trees_of (xs ++ ys)) ≡ parameter_values h (trees_of xs) ++ parameter_values h (trees_of ys)
+pub values_append : (h : Position → Value) (xs ys : List Node)
+    → parameter_values h (trees_of (xs ++ ys)) ≡ parameter_values h (trees_of xs) ++ parameter_values h (trees_of ys)
 values_append h [] ys = refl
 values_append h (x ∷ xs) ys = ap (λ rest. parameter_value h (tree_of x) ∷ rest) (values_append h xs ys)
 
 items_joined : (xs ys : List Parameter) → items_of (xs ++ ys) ≡ items_of xs ++ items_of ys
 items_joined [] ys = refl
-items_joined (x ∷ xs) ys = ap (λ rest. items_of_parameter x ++ rest) (items_joined xs ys) ∙ sym (append_assoc (items_of_parameter x) (items_of xs) (items_of ys))
+items_joined (x ∷ xs) ys = ap (λ rest. items_of_parameter x ++ rest) (items_joined xs ys)
+    ∙ sym (append_assoc (items_of_parameter x) (items_of xs) (items_of ys))
 
 abbrev items_at : (Position → Value) → List Node → List Item
 items_at h nodes = items_of (parameter_values h (trees_of nodes))
@@ -92,20 +108,27 @@ items_nodes : (h : Position → Value) (xs ys : List Node) → items_at h (xs ++
 items_nodes h xs ys = ap items_of (values_append h xs ys) ∙ items_joined (parameter_values h (trees_of xs)) (parameter_values h (trees_of ys))
 
 -- the items of one more parameter
-pub parameters_more : (h : Position → Value) (xs : List Node) (i : ℕ) (x : Node) → i < length xs → x ≡ get_or xs i x → items_of (parameter_values h (trees_of (take (i + 1) xs))) ≡ items_of (parameter_values h (trees_of (take i xs))) ++ items_of_parameter (parameter_value h (tree_of x))
+pub parameters_more : (h : Position → Value) (xs : List Node) (i : ℕ) (x : Node) → i < length xs → x ≡ get_or xs i x
+    → items_of (parameter_values h (trees_of (take (i + 1) xs))) ≡ items_of (parameter_values h (trees_of (take i xs)))
+    ++ items_of_parameter (parameter_value h (tree_of x))
 parameters_more h xs i x below at =
     let more : i + 1 ≡ suc i = omega arith in
-    rw (more, take-suc xs i x below, ← at) (items_nodes h (take i xs) (x ∷ []) ∙ ap (λ rest. items_at h (take i xs) ++ rest) (append-nil (items_of_parameter (parameter_value h (tree_of x)))))
+    rw (more, take-suc xs i x below, ← at) (items_nodes h (take i xs) (x ∷ [])
+    ∙ ap (λ rest. items_at h (take i xs) ++ rest) (append-nil (items_of_parameter (parameter_value h (tree_of x)))))
 
 -- all items: those of the parameters before one, its own, and those after it
-pub parameters_split : (h : Position → Value) (xs : List Node) (i : ℕ) (x : Node) → i < length xs → x ≡ get_or xs i x → items_of (parameter_values h (trees_of xs)) ≡ items_of (parameter_values h (trees_of (take i xs))) ++ (items_of_parameter (parameter_value h (tree_of x)) ++ items_of (parameter_values h (trees_of (drop (i + 1) xs))))
+pub parameters_split : (h : Position → Value) (xs : List Node) (i : ℕ) (x : Node) → i < length xs → x ≡ get_or xs i x
+    → items_of (parameter_values h (trees_of xs)) ≡ items_of (parameter_values h (trees_of (take i xs)))
+    ++ (items_of_parameter (parameter_value h (tree_of x))
+    ++ items_of (parameter_values h (trees_of (drop (i + 1) xs))))
 parameters_split h xs i x below at =
     let more : i + 1 ≡ suc i = omega arith in
     let cut : xs ≡ take i xs ++ (x ∷ drop (suc i) xs) = sym (take-append-drop i xs) ∙ ap (λ ys. take i xs ++ ys) (rw (← at) at (drop-cons xs i x below)) in
     rw more (ap (items_at h) cut ∙ items_nodes h (take i xs) (x ∷ drop (suc i) xs))
 
 -- the scalar value of a parameter, and FALSE past the last one
-pub scalar_here : (h : Position → Value) (xs : List Node) (i : ℕ) (x : Node) → i < length xs → x ≡ get_or xs i x → scalar_at (parameter_values h (trees_of xs)) i ≡ meaning h (tree_of x)
+pub scalar_here : (h : Position → Value) (xs : List Node) (i : ℕ) (x : Node) → i < length xs → x ≡ get_or xs i x
+    → scalar_at (parameter_values h (trees_of xs)) i ≡ meaning h (tree_of x)
 scalar_here h [] i x below at = absurd (omega arith)
 scalar_here h (y ∷ ys) zero x below at = ap (λ z. meaning h (tree_of z)) (sym at)
 scalar_here h (y ∷ ys) (suc i) x below at = scalar_here h ys i x (omega arith) at
@@ -131,10 +154,14 @@ nodes_many [] = omega arith
 nodes_many (x ∷ xs) = let rest = nodes_many xs in omega (arith, one_node (tree_of x))
 
 -- the empty cells of the first parameter
-pub blank_here : (h : Position → Value) (xs : List Node) (x : Node) (r : Reference) → 0 < length xs → x ≡ get_or xs 0 x → tree_of x ≡ reference r → blank_count (parameter_values h (trees_of xs)) ≡ Number (pos (length (filter is_empty (map h (cells_of (corners_of r))))))
+pub blank_here : (h : Position → Value) (xs : List Node) (x : Node) (r : Reference) → 0 < length xs → x ≡ get_or xs 0 x
+    → tree_of x ≡ reference r
+    → blank_count (parameter_values h (trees_of xs)) ≡ Number
+    (pos (length (filter is_empty (map h (cells_of (corners_of r))))))
 blank_here h [] x r some at is = absurd (omega arith)
 blank_here h (y ∷ ys) x r some at is = ap (λ tree. empty_cells (cells_of_tree h tree)) (ap tree_of (sym at) ∙ is)
 
-pub blank_none : (h : Position → Value) (xs : List Node) (x : Node) → 0 < length xs → x ≡ get_or xs 0 x → IsNoReference (tree_of x) → blank_count (parameter_values h (trees_of xs)) ≡ Number (pos 0)
+pub blank_none : (h : Position → Value) (xs : List Node) (x : Node) → 0 < length xs → x ≡ get_or xs 0 x
+    → IsNoReference (tree_of x) → blank_count (parameter_values h (trees_of xs)) ≡ Number (pos 0)
 blank_none h [] x some at none = refl
 blank_none h (y ∷ ys) x some at none = ap empty_cells (ap (λ z. cells_of_tree h (tree_of z)) (sym at) ∙ none h)

@@ -22,8 +22,14 @@ named_in references cell (r, (k, below, is), inside) = record {
 }
 
 pub referenced_law : ReferencedByRanges
-referenced_law tree cell =
-    ((λ (named : IsReferenced tree cell). (named.through, contained (references_of tree) named.place named.through named.listed, named.inside)), named_in (references_of tree) cell)
+referenced_law tree cell = (
+  (λ (named : IsReferenced tree cell). (
+    named.through,
+    contained (references_of tree) named.place named.through named.listed,
+    named.inside,
+  )),
+  named_in (references_of tree) cell,
+)
 
 pub known_law : KnownWhereAllAreHeld
 known_law sizes codes tree held cell named inside = held cell inside

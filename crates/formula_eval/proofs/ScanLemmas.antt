@@ -1,5 +1,6 @@
 -- What is known of the cells of a range after a look at each.
-use Rattle.std.proofs.Common.{◌≡◌, ℕ, ◌<◌, ◌≤◌, ◌++◌, Option, Some, List, length, slice_get, IsTrue, ◌↔◌, [], ◌∷◌, sym, refl, ◌∙◌, arith, append_assoc, Result, Ok, Err, IfErr}
+use Rattle.std.proofs.Common.{◌≡◌, ℕ, ◌<◌, ◌≤◌, ◌++◌, Option, Some, List, length, slice_get, IsTrue, ◌↔◌, [], ◌∷◌, sym}
+use Rattle.std.proofs.Common.{refl, ◌∙◌, arith, append_assoc, Result, Ok, Err, IfErr}
 use Rattle.std.specs.List.{Contains}
 use Rattle.std.proofs.lemmas.Option.{slice_get_read}
 use Rattle.sheet_refs.specs.Cells.{Position, Corners, IsIn, cells_of}
@@ -18,7 +19,10 @@ use Rattle.formula_eval.proofs.NodeLemmas.{named_within}
 abbrev pub PlainBelow : (Position → Option ℕ) → Corners → ℕ → Type 0
 PlainBelow codes part count = (k : ℕ) (cell : Position) → k < count → slice_get (cells_of part) k ≡ Some cell → IsKnownPlain codes cell
 
-pub plain_range : (sizes : Sizes) (codes : Position → Option ℕ) (range part : Corners) (count : ℕ) → ((cell : Position) → IsIn cell part ↔ (IsIn cell range × IsTrue (is_inside sizes cell))) → ((cell : Position) → Contains (cells_of part) cell ↔ IsIn cell part) → count ≡ length (cells_of part) → PlainBelow codes part count → IsPlainRange sizes codes range
+pub plain_range : (sizes : Sizes) (codes : Position → Option ℕ) (range part : Corners) (count : ℕ)
+    → ((cell : Position) → IsIn cell part ↔ (IsIn cell range × IsTrue (is_inside sizes cell)))
+    → ((cell : Position) → Contains (cells_of part) cell ↔ IsIn cell part) → count ≡ length (cells_of part)
+    → PlainBelow codes part count → IsPlainRange sizes codes range
 plain_range sizes codes range part count same listed all below = record {
   plain = λ cell inside held.
       let found = (listed cell).1 ((same cell).1 (inside, held)) in
@@ -39,7 +43,8 @@ module _ (sizes : Sizes) (codes : Position → Option ℕ) where
       (All-append (λ (r : Reference). IsPlainRange sizes codes (corners_of r)) (references_of part) has.rest plain has.plain)
 
   -- a look at a right operand
-  pub rest_right : (whole left right : Tree) (op : BinaryOp) → HasRest sizes codes whole (binary op left right) → ArePlain sizes codes (references_of right) → HasRest sizes codes whole left
+  pub rest_right : (whole left right : Tree) (op : BinaryOp) → HasRest sizes codes whole (binary op left right)
+      → ArePlain sizes codes (references_of right) → HasRest sizes codes whole left
   rest_right whole left right op has plain = record {
     rest = references_of right ++ has.rest;
     references = has.references ∙ append_assoc (references_of left) (references_of right) has.rest;
@@ -49,21 +54,28 @@ module _ (sizes : Sizes) (codes : Position → Option ℕ) where
 
   -- one reference
   pub plain_one : (r : Reference) → IsPlainRange sizes codes (corners_of r) → ArePlain sizes codes (r ∷ [])
-  plain_one r plain = All-cons (λ (r : Reference). IsPlainRange sizes codes (corners_of r)) r [] plain (All-nil (λ (r : Reference). IsPlainRange sizes codes (corners_of r)))
+  plain_one r plain = All-cons (λ (r : Reference). IsPlainRange sizes codes (corners_of r)) r [] plain
+      (All-nil (λ (r : Reference). IsPlainRange sizes codes (corners_of r)))
 
   pub stops_at_one : (r : Reference) (stop : Stop) → StopsIn sizes codes (corners_of r) stop → StopsAt sizes codes (r ∷ []) stop
   stops_at_one r stop stops = record { is_stop = stops.is_stop; named = record { through = r; place = 0; listed = refl; inside = stops.within } }
 
   -- what stops at a part of some references stops at all of them
-  pub stops_within : (all before part after : List Reference) (stop : Stop) → all ≡ before ++ (part ++ after) → StopsAt sizes codes part stop → StopsAt sizes codes all stop
-  stops_within all before part after stop is stops = record { is_stop = stops.is_stop; named = named_within all before part after (stop_cell stop) is stops.named }
+  pub stops_within : (all before part after : List Reference) (stop : Stop) → all ≡ before ++ (part ++ after)
+      → StopsAt sizes codes part stop → StopsAt sizes codes all stop
+  stops_within all before part after stop is stops =
+      record { is_stop = stops.is_stop; named = named_within all before part after (stop_cell stop) is stops.named }
 
-  pub rest_stops : (whole part : Tree) (stop : Stop) → HasRest sizes codes whole part → StopsAt sizes codes (references_of part) stop → StopsAt sizes codes (references_of whole) stop
+  pub rest_stops : (whole part : Tree) (stop : Stop) → HasRest sizes codes whole part
+      → StopsAt sizes codes (references_of part) stop → StopsAt sizes codes (references_of whole) stop
   rest_stops whole part stop has stops = stops_within (references_of whole) [] (references_of part) has.rest stop has.references stops
 
-  pub right_stops : (whole left right : Tree) (op : BinaryOp) (stop : Stop) → HasRest sizes codes whole (binary op left right) → StopsAt sizes codes (references_of right) stop → StopsAt sizes codes (references_of whole) stop
+  pub right_stops : (whole left right : Tree) (op : BinaryOp) (stop : Stop)
+      → HasRest sizes codes whole (binary op left right) → StopsAt sizes codes (references_of right) stop
+      → StopsAt sizes codes (references_of whole) stop
   right_stops whole left right op stop has stops =
-      stops_within (references_of whole) (references_of left) (references_of right) has.rest stop (has.references ∙ append_assoc (references_of left) (references_of right) has.rest) stops
+      stops_within (references_of whole) (references_of left) (references_of right) has.rest stop (has.references
+      ∙ append_assoc (references_of left) (references_of right) has.rest) stops
 
 -- what follows from the error of a result
 pub if_err_weaker : {T E : Type 0} {P Q : E → Type 0} (r : Result T E) → ((e : E) → P e → Q e) → IfErr r P → IfErr r Q

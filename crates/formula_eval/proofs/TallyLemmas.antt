@@ -1,5 +1,6 @@
 -- Sequences of items, joined.
-use Rattle.std.proofs.Common.{◌≡◌, ℤ, pos, ◌+◌, List, [], ◌∷◌, ◌++◌, length, Some, None, Result, Ok, Err, OnOk, IfErr, refl, ◌∙◌, ap, arith, append_assoc, length-append}
+use Rattle.std.proofs.Common.{◌≡◌, ℤ, pos, ◌+◌, List, [], ◌∷◌, ◌++◌, length, Some, None, Result, Ok, Err, OnOk, IfErr}
+use Rattle.std.proofs.Common.{refl, ◌∙◌, ap, arith, append_assoc, length-append}
 use Rattle.std.proofs.lemmas.List.{append-nil}
 use Rattle.value_core.specs.declared.value.ErrorKind.{ErrorKind}
 use Rattle.formula_syntax.specs.declared.functions.Function.{Function}
@@ -9,7 +10,8 @@ use Rattle.formula_eval.specs.declared.tally.Tally.{Tally}
 use Rattle.formula_eval.specs.Functions.{Contribution, contribution, contributions, add_contribution}
 use Rattle.formula_eval.specs.Tallies.{Tallies, AddsItems, IsBounded}
 
-added_ok : (c : Contribution) (r t : Result (List ℤ) ErrorKind) (ms ns : List ℤ) → add_contribution c r ≡ Ok ms → ((front : List ℤ) → r ≡ Ok front → t ≡ Ok (front ++ ns)) → add_contribution c t ≡ Ok (ms ++ ns)
+added_ok : (c : Contribution) (r t : Result (List ℤ) ErrorKind) (ms ns : List ℤ) → add_contribution c r ≡ Ok ms
+    → ((front : List ℤ) → r ≡ Ok front → t ≡ Ok (front ++ ns)) → add_contribution c t ≡ Ok (ms ++ ns)
 added_ok (Err kind) r t ms ns is go = absurd (cc)
 added_ok (Ok None) (Err kind) t ms ns is go = absurd (cc)
 added_ok (Ok (Some n)) (Err kind) t ms ns is go = absurd (cc)
@@ -20,14 +22,16 @@ added_ok (Ok (Some n)) (Ok front) t ms ns is go =
     let same : n ∷ front ≡ ms = cc in
     rw (go front refl) (ap (λ xs. Ok (xs ++ ns)) same)
 
-added_err : (c : Contribution) (r t : Result (List ℤ) ErrorKind) (ms : List ℤ) (kind : ErrorKind) → add_contribution c r ≡ Ok ms → ((front : List ℤ) → r ≡ Ok front → t ≡ Err kind) → add_contribution c t ≡ Err kind
+added_err : (c : Contribution) (r t : Result (List ℤ) ErrorKind) (ms : List ℤ) (kind : ErrorKind)
+    → add_contribution c r ≡ Ok ms → ((front : List ℤ) → r ≡ Ok front → t ≡ Err kind) → add_contribution c t ≡ Err kind
 added_err (Err k) r t ms kind is go = absurd (cc)
 added_err (Ok None) (Err k) t ms kind is go = absurd (cc)
 added_err (Ok (Some n)) (Err k) t ms kind is go = absurd (cc)
 added_err (Ok None) (Ok front) t ms kind is go = rw (go front refl) refl
 added_err (Ok (Some n)) (Ok front) t ms kind is go = rw (go front refl) refl
 
-added_first : (c : Contribution) (r t : Result (List ℤ) ErrorKind) (kind : ErrorKind) → add_contribution c r ≡ Err kind → (r ≡ Err kind → t ≡ Err kind) → add_contribution c t ≡ Err kind
+added_first : (c : Contribution) (r t : Result (List ℤ) ErrorKind) (kind : ErrorKind) → add_contribution c r ≡ Err kind
+    → (r ≡ Err kind → t ≡ Err kind) → add_contribution c t ≡ Err kind
 added_first (Err k) r t kind is go = is
 added_first (Ok None) (Err k) t kind is go = rw (go is) refl
 added_first (Ok (Some n)) (Err k) t kind is go = rw (go is) refl
@@ -35,12 +39,14 @@ added_first (Ok None) (Ok front) t kind is go = absurd (cc)
 added_first (Ok (Some n)) (Ok front) t kind is go = absurd (cc)
 
 -- what two sequences add, one after the other
-pub append_ok : (f : Function) (xs ys : List Item) (ms ns : List ℤ) → contributions f xs ≡ Ok ms → contributions f ys ≡ Ok ns → contributions f (xs ++ ys) ≡ Ok (ms ++ ns)
+pub append_ok : (f : Function) (xs ys : List Item) (ms ns : List ℤ) → contributions f xs ≡ Ok ms
+    → contributions f ys ≡ Ok ns → contributions f (xs ++ ys) ≡ Ok (ms ++ ns)
 append_ok f [] ys ms ns first second = let none : [] ≡ ms = cc in rw (← none) second
 append_ok f (x ∷ xs) ys ms ns first second =
     added_ok (contribution f x) (contributions f xs) (contributions f (xs ++ ys)) ms ns first (λ front is. append_ok f xs ys front ns is second)
 
-pub append_err : (f : Function) (xs ys : List Item) (ms : List ℤ) (kind : ErrorKind) → contributions f xs ≡ Ok ms → contributions f ys ≡ Err kind → contributions f (xs ++ ys) ≡ Err kind
+pub append_err : (f : Function) (xs ys : List Item) (ms : List ℤ) (kind : ErrorKind) → contributions f xs ≡ Ok ms
+    → contributions f ys ≡ Err kind → contributions f (xs ++ ys) ≡ Err kind
 append_err f [] ys ms kind first second = second
 append_err f (x ∷ xs) ys ms kind first second =
     added_err (contribution f x) (contributions f xs) (contributions f (xs ++ ys)) ms kind first (λ front is. append_err f xs ys front kind is second)
@@ -67,7 +73,9 @@ adds_both f a b c xs ys first second = record {
   count = omega (arith, first.count, second.count, length-append xs ys);
 }
 
-pub adds_one : (f : Function) (old new : Tally) (item : Item) (number : ℤ) → contribution f item ≡ Ok (Some number) → ((before : List ℤ) → Tallies f old before → Tallies f new (before ++ number ∷ [])) → IsBounded new → new.count ≡ old.count + 1 → AddsItems f old new (item ∷ [])
+pub adds_one : (f : Function) (old new : Tally) (item : Item) (number : ℤ) → contribution f item ≡ Ok (Some number)
+    → ((before : List ℤ) → Tallies f old before → Tallies f new (before ++ number ∷ [])) → IsBounded new
+    → new.count ≡ old.count + 1 → AddsItems f old new (item ∷ [])
 adds_one f old new item number is tallied bounded count = record {
   numbers = number ∷ [];
   given = rw is refl;
@@ -102,5 +110,9 @@ pub when_ok : {T E P : Type 0} {Q : E → Type 0} (r : Result T E) → OnOk r P 
 when_ok (Ok x) ok err never = ok
 when_ok (Err e) ok err never = absurd (never e err)
 
-pub counta_here : (old new : Tally) (items : List Item) (r : Result (Unit {0}) ErrorKind) → OnOk r (AddsItems Counta old new items) → IfErr r (λ kind. contributions Counta items ≡ Err kind) → Tallies Counta old [] → new.count ≡ length items
-counta_here old new items r ok err start = counta_count old new items start (when_ok {Q = λ kind. contributions Counta items ≡ Err kind} r ok err (λ kind is. counta_err items kind is))
+pub counta_here : (old new : Tally) (items : List Item) (r : Result (Unit {0}) ErrorKind)
+    → OnOk r (AddsItems Counta old new items) → IfErr r (λ kind. contributions Counta items ≡ Err kind)
+    → Tallies Counta old [] → new.count ≡ length items
+counta_here old new items r ok err start =
+    counta_count old new items start (when_ok {Q = λ kind. contributions Counta items ≡ Err kind} r ok err
+    (λ kind is. counta_err items kind is))

@@ -1,5 +1,7 @@
 -- What the functions mean, over the values of their parameters. The names are those of OpenFormula; where the meanings differ from it, these hold.
-use Rattle.std.specs.Prelude.{ℕ, ◌+◌, ◌==◌, ◌&&◌, nat_lt, ℤ, pos, neg_ℤ, ◌+ℤ◌, ◌*ℤ◌, int_lt, int_div, nat_abs, Bool, true, false, not, if◌then◌else◌, List, [], ◌∷◌, map, filter, fold, length, slice_index_or, Option, Some, None, Result, Ok, Err}
+use Rattle.std.specs.Prelude.{ℕ, ◌+◌, ◌==◌, ◌&&◌, nat_lt, ℤ, pos, neg_ℤ, ◌+ℤ◌, ◌*ℤ◌, int_lt, int_div, nat_abs, Bool}
+use Rattle.std.specs.Prelude.{true, false, not, if◌then◌else◌, List, [], ◌∷◌, map, filter, fold, length, slice_index_or}
+use Rattle.std.specs.Prelude.{Option, Some, None, Result, Ok, Err}
 use Rattle.std.specs.Int.{int_min, int_max, int_rem_euclid}
 use Rattle.std.specs.Ordering.{int_eq}
 use Rattle.value_core.specs.declared.value.ErrorKind.{ErrorKind}
@@ -8,7 +10,11 @@ use Rattle.value_core.specs.declared.value.Value.{Value}
 use Rattle.value_core.specs.declared.value.Value.TheVariants.{Empty, Number, Truth, Error, Label}
 use Rattle.value_core.specs.Conversions.{as_number, as_truth, truth_number, in_range}
 use Rattle.formula_syntax.specs.declared.functions.Function.{Function}
-use Rattle.formula_syntax.specs.declared.functions.Function.TheVariants.{Sum, Product, Min, Max, Count, Counta, Countblank, If, Iferror, And, Or, Not, Abs, Sign, Mod, Quotient, Iserror, Isnumber, Islogical, Istext, Isblank, Na, Countif, Sumif, Match}
+use Rattle.formula_syntax.specs.declared.functions.Function.TheVariants.{Sum, Product, Min, Max, Count, Counta}
+use Rattle.formula_syntax.specs.declared.functions.Function.TheVariants.{Countblank, If, Iferror, And, Or, Not, Abs}
+use Rattle.formula_syntax.specs.declared.functions.Function.TheVariants.{Sign, Mod, Quotient, Iserror, Isnumber}
+use Rattle.formula_syntax.specs.declared.functions.Function.TheVariants.{Islogical, Istext, Isblank, Na, Countif, Sumif}
+use Rattle.formula_syntax.specs.declared.functions.Function.TheVariants.{Match}
 use Rattle.formula_syntax.specs.declared.functions.Place.{Place}
 use Rattle.formula_syntax.specs.declared.functions.Place.TheVariants.{Sequence, Scalar, Ranges}
 use Rattle.formula_syntax.specs.Functions.{shape_of}
@@ -267,7 +273,8 @@ place_in n (Some cells) = place_from 1 n cells
 -- MATCH: its third parameter has to be 0, and its range one row or one column
 abbrev pub match_of : List Parameter → ℤ → ℤ → Value
 match_of parameters n kind =
-    if int_eq kind (pos 0) then (if nat_lt 1 (rows_at parameters 1) && nat_lt 1 (cols_at parameters 1) then Error error.Na else place_in n (cells_at parameters 1)) else Error error.Value
+    if int_eq kind (pos 0) then (if nat_lt 1 (rows_at parameters 1) && nat_lt 1 (cols_at parameters 1) then Error
+    error.Na else place_in n (cells_at parameters 1)) else Error error.Value
 
 -- the result of a function of ranges, by what its parameters are as scalars and as ranges; the last lines are of functions that take none
 abbrev pub ranged_value : Function → Value → Value → Value → List Parameter → Value

@@ -21,7 +21,8 @@ HasValues sizes tree values = (cell : Position) → IsTrue (is_inside sizes cell
 
 -- over such cells a formula has a value in range
 abbrev pub FormulasGiveValues : Type 0
-FormulasGiveValues = (sizes : Sizes) (tree : Tree) (values : Position → Value) → IsFormula tree → HasValues sizes tree values → IsValue (formula_value sizes tree values)
+FormulasGiveValues = (sizes : Sizes) (tree : Tree) (values : Position → Value) → IsFormula tree
+    → HasValues sizes tree values → IsValue (formula_value sizes tree values)
 
 -- over any cells, none is empty
 abbrev pub FormulasAreFilled : Type 0
@@ -37,16 +38,21 @@ of_two f a b = call f (and_trees a (and_trees b no_trees))
 -- the cells of a range are those that COUNTA counts and those that COUNTBLANK counts
 abbrev pub CountsAreAllCells : Type 0
 CountsAreAllCells =
-    (values : Position → Value) (r : Reference) → (filled : ℕ) × (blank : ℕ) × (meaning values (of_range Counta r) ≡ Number (pos filled)) × (meaning values (of_range Countblank r) ≡ Number (pos blank)) × (filled + blank ≡ length (cells_of (corners_of r)))
+    (values : Position → Value) (r : Reference) → (filled : ℕ) × (blank : ℕ)
+    × (meaning values (of_range Counta r) ≡ Number (pos filled))
+    × (meaning values (of_range Countblank r) ≡ Number (pos blank))
+    × (filled + blank ≡ length (cells_of (corners_of r)))
 
 -- a function of two numbers in range, of which the second isn't 0, gives a number that is so
 abbrev pub GivesOfTwo : Function → (ℤ → ℤ → ℤ → Type 0) → Type 0
 GivesOfTwo f Is =
-    (values : Position → Value) (a b : Tree) (m n : ℤ) → meaning values a ≡ Number m → meaning values b ≡ Number n → IsWhole m → IsWhole n → n ≢ pos 0 → (z : ℤ) × (meaning values (of_two f a b) ≡ Number z) × Is m n z
+    (values : Position → Value) (a b : Tree) (m n : ℤ) → meaning values a ≡ Number m → meaning values b ≡ Number n
+    → IsWhole m → IsWhole n → n ≢ pos 0 → (z : ℤ) × (meaning values (of_two f a b) ≡ Number z) × Is m n z
 
 -- and #DIV/0! where the second is 0
 abbrev pub RefusesZero : Function → Type 0
-RefusesZero f = (values : Position → Value) (a b : Tree) (m : ℤ) → meaning values a ≡ Number m → meaning values b ≡ Number (pos 0) → meaning values (of_two f a b) ≡ Error Div0
+RefusesZero f = (values : Position → Value) (a b : Tree) (m : ℤ) → meaning values a ≡ Number m
+    → meaning values b ≡ Number (pos 0) → meaning values (of_two f a b) ≡ Error Div0
 
 -- from 0 on and below a number, or up to 0 and above it
 abbrev pub IsBetweenZeroAnd : ℤ → ℤ → Type 0
@@ -79,4 +85,5 @@ ReferencedByRanges = (tree : Tree) (cell : Position) → IsReferenced tree cell 
 
 -- where something is held of all cells of the rectangle, all that a formula needs is known
 abbrev pub KnownWhereAllAreHeld : Type 0
-KnownWhereAllAreHeld = (sizes : Sizes) (codes : Position → Option ℕ) (tree : Tree) → ((cell : Position) → IsTrue (is_inside sizes cell) → IsSome (codes cell)) → IsKnown sizes codes tree
+KnownWhereAllAreHeld = (sizes : Sizes) (codes : Position → Option ℕ) (tree : Tree)
+    → ((cell : Position) → IsTrue (is_inside sizes cell) → IsSome (codes cell)) → IsKnown sizes codes tree

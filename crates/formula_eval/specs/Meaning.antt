@@ -51,7 +51,13 @@ abbrev mutual
 
   pub parameter_values : (Position → Value) → Trees → List Parameter
   parameter_values values no_trees = []
-  parameter_values values (and_trees tree rest) = record { scalar = meaning values tree; cells = cells_of_tree values tree; rows = rows_of_tree tree; cols = cols_of_tree tree } ∷ parameter_values values rest
+  parameter_values values (and_trees tree rest) =
+      record {
+        scalar = meaning values tree;
+        cells = cells_of_tree values tree;
+        rows = rows_of_tree tree;
+        cols = cols_of_tree tree;
+      } ∷ parameter_values values rest
 
 -- one parameter of a call
 abbrev pub parameter_value : (Position → Value) → Tree → Parameter
@@ -92,7 +98,8 @@ IsKnown sizes codes tree = (cell : Position) → IsReferenced tree cell → IsTr
 
 -- values that have the codes which are held of cells of the rectangle that a formula names
 abbrev pub Agrees : Sizes → (Position → Option ℕ) → Tree → (Position → Value) → Type 0
-Agrees sizes codes tree values = (cell : Position) (word : ℕ) → IsReferenced tree cell → IsTrue (is_inside sizes cell) → codes cell ≡ Some word → IsValue (values cell) × (code_of (values cell) ≡ word)
+Agrees sizes codes tree values = (cell : Position) (word : ℕ) → IsReferenced tree cell → IsTrue (is_inside sizes cell)
+    → codes cell ≡ Some word → IsValue (values cell) × (code_of (values cell) ≡ word)
 
 -- a value that a formula has over all values that agree
 abbrev pub IsFormulaValue : Sizes → (Position → Option ℕ) → Tree → Value → Type 0

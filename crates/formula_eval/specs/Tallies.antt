@@ -1,5 +1,6 @@
 -- What a tally keeps of the numbers of a sequence.
-use Rattle.std.specs.Prelude.{◌≡◌, ◌⊎◌, ℕ, ℤ, pos, ◌+ℤ◌, ◌*ℤ◌, nat_abs, ◌+◌, ◌*◌, ◌^◌, ◌≤◌, Bool, true, false, List, [], ◌∷◌, ◌++◌, length, fold, Option, Some, None, Ok}
+use Rattle.std.specs.Prelude.{◌≡◌, ◌⊎◌, ℕ, ℤ, pos, ◌+ℤ◌, ◌*ℤ◌, nat_abs, ◌+◌, ◌*◌, ◌^◌, ◌≤◌, Bool, true, false, List, []}
+use Rattle.std.specs.Prelude.{◌∷◌, ◌++◌, length, fold, Option, Some, None, Ok}
 use Rattle.value_core.specs.Wholes.{IsWhole}
 use Rattle.value_core.specs.declared.value.Value.{Value}
 use Rattle.formula_syntax.specs.declared.functions.Function.{Function}

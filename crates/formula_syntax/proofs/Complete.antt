@@ -1,5 +1,6 @@
 -- What tokens derive is read from the left, whatever looser follows.
-use Rattle.std.proofs.Common.{◌≡◌, ◌≢◌, ℕ, zero, suc, ◌+◌, ◌<◌, ◌≤◌, Bool, true, false, List, [], ◌∷◌, ◌++◌, refl, sym, ap, ◌∙◌, append_assoc, arith, subst, inl, inr}
+use Rattle.std.proofs.Common.{◌≡◌, ◌≢◌, ℕ, zero, suc, ◌+◌, ◌<◌, ◌≤◌, Bool, true, false, List, [], ◌∷◌, ◌++◌, refl, sym}
+use Rattle.std.proofs.Common.{ap, ◌∙◌, append_assoc, arith, subst, inl, inr}
 use Rattle.std.specs.Prelude.{Some, None, option_and_then, nat_eq, nat_lt}
 use Rattle.std.proofs.lemmas.Bool.Decides.{nat_tests}
 use Rattle.std.proofs.lemmas.Bool.{cases_lt}
@@ -17,7 +18,8 @@ use Rattle.formula_syntax.specs.Grammar.{level_of, sign_written, Derives, AreDer
 use Rattle.formula_syntax.specs.Grammar.Derives.{tighter, operator, sign, a_number, a_truth, an_error, a_reference, parentheses, a_call, a_truth_call}
 use Rattle.formula_syntax.specs.Grammar.AreDerived.{none, some}
 use Rattle.formula_syntax.specs.Grammar.AreSome.{one, more}
-use Rattle.formula_syntax.specs.Reading.{Read, ReadAll, after_signs, with_signs, after_truth, called, parameters_by, next_by, primary_by, is_fitting, under, HasNone, read, go, several}
+use Rattle.formula_syntax.specs.Reading.{Read, ReadAll, after_signs, with_signs, after_truth, called, parameters_by}
+use Rattle.formula_syntax.specs.Reading.{next_by, primary_by, is_fitting, under, HasNone, read, go, several}
 use Rattle.formula_syntax.proofs.Fitting.{fits_test, trees_back}
 
 -- what follows doesn't go on with an operand of a level: no operator that binds tighter, and no call
@@ -85,14 +87,17 @@ go_stops m level t (token.Close ∷ ts) h = refl
 go_stops m level t (token.Separator ∷ ts) h = refl
 
 -- an operator of the level at the front, and the operand behind it
-pub go_on : (m : ℕ) (op : BinaryOp) (left right : Tree) (ts rest : List Token) → read m (suc (level_of op)) ts ≡ Some (right, rest) → go (suc m) (level_of op) left (token.Operator op ∷ ts) ≡ go m (level_of op) (binary op left right) rest
+pub go_on : (m : ℕ) (op : BinaryOp) (left right : Tree) (ts rest : List Token)
+    → read m (suc (level_of op)) ts ≡ Some (right, rest) → go (suc m) (level_of op) left (token.Operator op
+    ∷ ts) ≡ go m (level_of op) (binary op left right) rest
 unfolding read go several
 go_on m op left right ts rest e =
     let test : nat_eq (level_of op) (level_of op) ≡ true = grind (arith, nat_tests) in
     rw test (rw e refl)
 
 -- the steps of reading
-pub read_chain : (n level : ℕ) (ts rest : List Token) (t : Tree) → level < 4 → read n (suc level) ts ≡ Some (t, rest) → read (suc n) level ts ≡ go n level t rest
+pub read_chain : (n level : ℕ) (ts rest : List Token) (t : Tree) → level < 4 → read n (suc level) ts ≡ Some (t, rest)
+    → read (suc n) level ts ≡ go n level t rest
 unfolding read go several
 read_chain n level ts rest t h e =
     let test : nat_lt level 4 ≡ true = grind (arith, nat_tests) in
@@ -106,7 +111,9 @@ pub read_primary : (n : ℕ) (ts : List Token) → read (suc n) 5 ts ≡ primary
 unfolding read go several
 read_primary n ts = refl
 
-pub read_several : (n : ℕ) (done : List Tree) (ts : List Token) → several (suc n) done ts ≡ option_and_then (λ p. next_by (λ all rest. several n all rest) (done ++ p.0 ∷ []) p.1) (read n 0 ts)
+pub read_several : (n : ℕ) (done : List Tree) (ts : List Token)
+    → several (suc n) done ts ≡ option_and_then (λ p. next_by (λ all rest. several n all rest) (done ++ p.0 ∷ []) p.1)
+    (read n 0 ts)
 unfolding read go several
 read_several n done ts = refl
 
@@ -138,7 +145,8 @@ settled : (level : ℕ) (ts : List Token) (t : Tree) (rest : List Token) (left :
 settled level ts t rest left high (k, f) = (k, λ n h. (suc left, omega arith, f n h ∙ sym (go_stops left level t rest (tight_none level rest high))))
 
 -- where nothing that derives begins with a sign
-no_sign : (level : ℕ) (ts : List Token) (t : Tree) → 5 ≤ level → Derives level ts t → (rest : List Token) → (after_signs (ts ++ rest) ≡ ts ++ rest) × (with_signs (ts ++ rest) t ≡ t)
+no_sign : (level : ℕ) (ts : List Token) (t : Tree) → 5 ≤ level → Derives level ts t → (rest : List Token)
+    → (after_signs (ts ++ rest) ≡ ts ++ rest) × (with_signs (ts ++ rest) t ≡ t)
 no_sign _ _ _ high (tighter level ts t small d) rest = absurd (omega (arith, high, small))
 no_sign _ _ _ high (operator op front last left right d e) rest = absurd (omega (arith, high, level_small op))
 no_sign _ _ _ high (sign op ts t d) rest = absurd (omega (arith, high))
@@ -161,7 +169,8 @@ unsigned ts t rest d (k, f) = (suc k, step)
         read_signed n (ts ++ rest) ∙ (rw e (rw with refl))
 
 -- a tree under one more sign
-one_more : (o : Read) (f g : Tree → Tree) (t : Tree) (rest : List Token) → option_and_then (under f) o ≡ Some (t, rest) → option_and_then (under (λ u. g (f u))) o ≡ Some (g t, rest)
+one_more : (o : Read) (f g : Tree → Tree) (t : Tree) (rest : List Token) → option_and_then (under f) o ≡ Some (t, rest)
+    → option_and_then (under (λ u. g (f u))) o ≡ Some (g t, rest)
 one_more None f g t rest e = absurd (cc)
 one_more (Some p) f g t rest e =
     let pair = same_Some (f p.0, p.1) (t, rest) e in
@@ -172,16 +181,23 @@ one_more (Some p) f g t rest e =
 signed : (op : PrefixOp) (ts : List Token) (t : Tree) (rest : List Token) → Ends 4 ts t rest → Ends 4 (token.Operator (sign_written op) ∷ ts) (prefix op t) rest
 signed op ts t rest (k, f) = (suc k, step)
   where
-    by_op : (o : PrefixOp) (n : ℕ) → read (suc n) 4 (ts ++ rest) ≡ Some (t, rest) → read (suc n) 4 (token.Operator (sign_written o) ∷ (ts ++ rest)) ≡ Some (prefix o t, rest)
-    by_op Plus n e = read_signed n (token.Operator Add ∷ (ts ++ rest)) ∙ one_more (read n 5 (after_signs (ts ++ rest))) (with_signs (ts ++ rest)) (prefix Plus) t rest (sym (read_signed n (ts ++ rest)) ∙ e)
-    by_op Minus n e = read_signed n (token.Operator Sub ∷ (ts ++ rest)) ∙ one_more (read n 5 (after_signs (ts ++ rest))) (with_signs (ts ++ rest)) (prefix Minus) t rest (sym (read_signed n (ts ++ rest)) ∙ e)
+    by_op : (o : PrefixOp) (n : ℕ) → read (suc n) 4 (ts ++ rest) ≡ Some (t, rest)
+        → read (suc n) 4 (token.Operator (sign_written o) ∷ (ts ++ rest)) ≡ Some (prefix o t, rest)
+    by_op Plus n e = read_signed n (token.Operator Add ∷ (ts ++ rest))
+        ∙ one_more (read n 5 (after_signs (ts ++ rest))) (with_signs (ts ++ rest)) (prefix Plus) t rest
+        (sym (read_signed n (ts ++ rest)) ∙ e)
+    by_op Minus n e = read_signed n (token.Operator Sub ∷ (ts ++ rest))
+        ∙ one_more (read n 5 (after_signs (ts ++ rest))) (with_signs (ts ++ rest)) (prefix Minus) t rest
+        (sym (read_signed n (ts ++ rest)) ∙ e)
 
     step : (n : ℕ) → suc k ≤ n → read n 4 (token.Operator (sign_written op) ∷ (ts ++ rest)) ≡ Some (prefix op t, rest)
     step zero h = absurd (omega (arith, h))
     step (suc n) h = by_op op n (f (suc n) (omega (arith, h)))
 
 -- one step of reading what has no operator outside parentheses
-primary : (ts : List Token) (t : Tree) (rest : List Token) (k : ℕ) → ((n : ℕ) → k ≤ n → primary_by (λ more. read n 0 more) (λ more. several n [] more) (ts ++ rest) ≡ Some (t, rest)) → Ends 5 ts t rest
+primary : (ts : List Token) (t : Tree) (rest : List Token) (k : ℕ)
+    → ((n : ℕ) → k ≤ n → primary_by (λ more. read n 0 more) (λ more. several n [] more) (ts ++ rest) ≡ Some (t, rest))
+    → Ends 5 ts t rest
 primary ts t rest k f = (suc k, step)
   where
     step : (n : ℕ) → suc k ≤ n → read n 5 (ts ++ rest) ≡ Some (t, rest)
@@ -201,7 +217,8 @@ truth_alone level b (token.Close ∷ ts) h = refl
 truth_alone level b (token.Separator ∷ ts) h = refl
 
 -- what derives has a first token, and it closes nothing
-opens : (s : List Token → ReadAll) (level : ℕ) (ts : List Token) (t : Tree) → Derives level ts t → (rest : List Token) → parameters_by s (ts ++ rest) ≡ s (ts ++ rest)
+opens : (s : List Token → ReadAll) (level : ℕ) (ts : List Token) (t : Tree) → Derives level ts t → (rest : List Token)
+    → parameters_by s (ts ++ rest) ≡ s (ts ++ rest)
 opens s _ _ _ (tighter level ts t small d) rest = opens s (suc level) ts t d rest
 opens s _ _ _ (operator op front last left right d e) rest =
     rw (append_assoc front (token.Operator op ∷ last) rest) (opens s (level_of op) front left d (token.Operator op ∷ (last ++ rest)))
@@ -230,7 +247,9 @@ last_parameter ts t rest (k, f) done = (suc k, step)
     step zero h = absurd (omega (arith, h))
     step (suc n) h = read_several n done (ts ++ token.Close ∷ rest) ∙ rw (f n (omega (arith, h))) refl
 
-one_more_parameter : (first others : List Token) (t : Tree) (all : Trees) (rest : List Token) → Ends 0 first t (token.Separator ∷ (others ++ token.Close ∷ rest)) → EndsAll others all rest → EndsAll (first ++ token.Separator ∷ others) (and_trees t all) rest
+one_more_parameter : (first others : List Token) (t : Tree) (all : Trees) (rest : List Token)
+    → Ends 0 first t (token.Separator ∷ (others ++ token.Close ∷ rest)) → EndsAll others all rest
+    → EndsAll (first ++ token.Separator ∷ others) (and_trees t all) rest
 one_more_parameter first others t all rest (k, f) next done = (suc (k + j.0), step)
   where
     j : (k : ℕ) × ((n : ℕ) → k ≤ n → several n (done ++ t ∷ []) (others ++ token.Close ∷ rest) ≡ Some ((done ++ t ∷ []) ++ tree_list all, rest))
@@ -240,30 +259,45 @@ one_more_parameter first others t all rest (k, f) next done = (suc (k + j.0), st
     step zero h = absurd (omega (arith, h))
     step (suc n) h =
         let shape = append_assoc first (token.Separator ∷ others) (token.Close ∷ rest) in
-        let now : read n 0 ((first ++ token.Separator ∷ others) ++ token.Close ∷ rest) ≡ Some (t, token.Separator ∷ (others ++ token.Close ∷ rest)) = rw shape (f n (omega (arith, h))) in
+        let now : read n 0 ((first ++ token.Separator ∷ others) ++ token.Close ∷ rest) ≡ Some (
+          t,
+          token.Separator
+              ∷ (others ++ token.Close ∷ rest),
+        ) = rw shape (f n (omega (arith, h))) in
         let behind = j.1 n (omega (arith, h)) in
-        read_several n done ((first ++ token.Separator ∷ others) ++ token.Close ∷ rest) ∙ (rw now (behind ∙ rw (append_assoc done (t ∷ []) (tree_list all)) refl))
+        read_several n done ((first ++ token.Separator ∷ others) ++ token.Close ∷ rest)
+        ∙ (rw now (behind ∙ rw (append_assoc done (t ∷ []) (tree_list all)) refl))
 
-called_back : (f : _) (all : Trees) (rest : List Token) → is_fitting (shape_of f) (tree_list all) ≡ true → called f (tree_list all, rest) ≡ Some (call f all, rest)
+called_back : (f : _) (all : Trees) (rest : List Token) → is_fitting (shape_of f) (tree_list all) ≡ true
+    → called f (tree_list all, rest) ≡ Some (call f all, rest)
 called_back f all rest fits = rw fits (rw (trees_back all) refl)
 
 closing : (ts : List Token) (t : Tree) (rest : List Token) → Ends 0 ts t (token.Close ∷ rest) → Ends 5 (token.Open ∷ (ts ++ token.Close ∷ [])) t rest
 closing ts t rest (k, f) = primary (token.Open ∷ (ts ++ token.Close ∷ [])) t rest k (λ n h. rw (append_assoc ts (token.Close ∷ []) rest) (rw (f n h) refl))
 
-operated : (op : BinaryOp) (front last : List Token) (l r : Tree) (rest : List Token) (left : ℕ) → Ends (suc (level_of op)) last r rest → ((j : ℕ) → Comes (level_of op) front l (token.Operator op ∷ (last ++ rest)) j) → Comes (level_of op) (front ++ token.Operator op ∷ last) (binary op l r) rest left
+operated : (op : BinaryOp) (front last : List Token) (l r : Tree) (rest : List Token) (left : ℕ)
+    → Ends (suc (level_of op)) last r rest
+    → ((j : ℕ) → Comes (level_of op) front l (token.Operator op ∷ (last ++ rest)) j)
+    → Comes (level_of op) (front ++ token.Operator op ∷ last) (binary op l r) rest left
 operated op front last l r rest left (k, f) from = (c.0, step)
   where
     c : Comes (level_of op) front l (token.Operator op ∷ (last ++ rest)) (suc (k + left))
     c = from (suc (k + left))
 
-    on : (n : ℕ) → (m : ℕ) × (suc (k + left) ≤ m) × (read n (level_of op) (front ++ (token.Operator op ∷ (last ++ rest))) ≡ go m (level_of op) l (token.Operator op ∷ (last ++ rest))) → (m : ℕ) × (left ≤ m) × (read n (level_of op) (front ++ (token.Operator op ∷ (last ++ rest))) ≡ go m (level_of op) (binary op l r) rest)
+    on : (n : ℕ) → (m : ℕ) × (suc (k + left) ≤ m)
+        × (read n (level_of op) (front ++ (token.Operator op ∷ (last ++ rest))) ≡ go m (level_of op) l
+        (token.Operator op ∷ (last ++ rest))) → (m : ℕ) × (left ≤ m)
+        × (read n (level_of op) (front ++ (token.Operator op ∷ (last ++ rest))) ≡ go m (level_of op) (binary op l r)
+        rest)
     on n (zero, small, e) = absurd (omega (arith, small))
     on n (suc m, small, e) = (m, omega (arith, small), e ∙ go_on m op l r (last ++ rest) rest (f m (omega (arith, small))))
 
-    step : (n : ℕ) → c.0 ≤ n → (m : ℕ) × (left ≤ m) × (read n (level_of op) ((front ++ token.Operator op ∷ last) ++ rest) ≡ go m (level_of op) (binary op l r) rest)
+    step : (n : ℕ) → c.0 ≤ n → (m : ℕ) × (left ≤ m)
+        × (read n (level_of op) ((front ++ token.Operator op ∷ last) ++ rest) ≡ go m (level_of op) (binary op l r) rest)
     step n h = rw (append_assoc front (token.Operator op ∷ last) rest) (on n (c.1 n h))
 
-by_level : (level : ℕ) (ts : List Token) (t : Tree) → level < 5 → Derives (suc level) ts t → (rest : List Token) → IsLooser level rest → (left : ℕ) → Comes (suc level) ts t rest 1 → Comes level ts t rest left
+by_level : (level : ℕ) (ts : List Token) (t : Tree) → level < 5 → Derives (suc level) ts t → (rest : List Token)
+    → IsLooser level rest → (left : ℕ) → Comes (suc level) ts t rest 1 → Comes level ts t rest left
 by_level level ts t small d rest loose left c = elim (cases_lt level 4) [
   | inl below ↦ chained level ts t rest left below (ends_from (suc level) ts t rest (looser_none level rest loose) c)
   | inr from ↦ subst (λ (l : ℕ). Derives (suc l) ts t → Comes (suc l) ts t rest 1 → Comes l ts t rest left) (same from) at_four d c
@@ -275,7 +309,9 @@ by_level level ts t small d rest loose left c = elim (cases_lt level 4) [
     at_four : Derives 5 ts t → Comes 5 ts t rest 1 → Comes 4 ts t rest left
     at_four d c = settled 4 ts t rest left (omega arith) (unsigned ts t rest d (ends_from 5 ts t rest (tight_none 5 rest (omega arith)) c))
 
-simple : (ts : List Token) (t : Tree) (rest : List Token) (left : ℕ) → ((n : ℕ) → 0 ≤ n → primary_by (λ more. read n 0 more) (λ more. several n [] more) (ts ++ rest) ≡ Some (t, rest)) → Comes 5 ts t rest left
+simple : (ts : List Token) (t : Tree) (rest : List Token) (left : ℕ)
+    → ((n : ℕ) → 0 ≤ n → primary_by (λ more. read n 0 more) (λ more. several n [] more) (ts ++ rest) ≡ Some (t, rest))
+    → Comes 5 ts t rest left
 simple ts t rest left f = settled 5 ts t rest left (omega arith) (primary ts t rest 0 f)
 
 no_close : (level : ℕ) (rest : List Token) → HasNone level (token.Close ∷ rest)
@@ -284,39 +320,58 @@ no_close level rest op ts e = absurd (cc)
 no_separator : (level : ℕ) (rest : List Token) → HasNone level (token.Separator ∷ rest)
 no_separator level rest op ts e = absurd (cc)
 
-calling : (f : _) (ts : List Token) (all : Trees) (rest : List Token) → is_fitting (shape_of f) (tree_list all) ≡ true → (k : ℕ) × ((n : ℕ) → k ≤ n → parameters_by (λ more. several n [] more) (ts ++ token.Close ∷ rest) ≡ Some (tree_list all, rest)) → Ends 5 (token.Function f ∷ token.Open ∷ (ts ++ token.Close ∷ [])) (call f all) rest
-calling f ts all rest fits (k, g) = primary (token.Function f ∷ token.Open ∷ (ts ++ token.Close ∷ [])) (call f all) rest k (λ n h. rw (append_assoc ts (token.Close ∷ []) rest) (rw (g n h) (called_back f all rest fits)))
+calling : (f : _) (ts : List Token) (all : Trees) (rest : List Token) → is_fitting (shape_of f) (tree_list all) ≡ true
+    → (k : ℕ) × ((n : ℕ) → k ≤ n → parameters_by (λ more. several n [] more) (ts ++ token.Close
+    ∷ rest) ≡ Some (tree_list all, rest)) → Ends 5 (token.Function f ∷ token.Open ∷ (ts ++ token.Close ∷ []))
+    (call f all) rest
+calling f ts all rest fits (k, g) = primary (token.Function f ∷ token.Open ∷ (ts ++ token.Close ∷ [])) (call f all) rest
+    k (λ n h. rw (append_assoc ts (token.Close ∷ []) rest) (rw (g n h) (called_back f all rest fits)))
 
 mutual
-  pub comes : (level : ℕ) (ts : List Token) (t : Tree) → Derives level ts t → (rest : List Token) → IsLooser level rest → (left : ℕ) → Comes level ts t rest left
-  comes _ _ _ (tighter level ts t small d) rest loose left = by_level level ts t small d rest loose left (comes (suc level) ts t d rest (looser_more level rest loose) 1)
+  pub comes : (level : ℕ) (ts : List Token) (t : Tree) → Derives level ts t → (rest : List Token) → IsLooser level rest
+      → (left : ℕ) → Comes level ts t rest left
+  comes _ _ _ (tighter level ts t small d) rest loose left =
+      by_level level ts t small d rest loose left (comes (suc level) ts t d rest (looser_more level rest loose) 1)
   comes _ _ _ (operator op front last l r d e) rest loose left =
       operated op front last l r rest left
-      (ends_from (suc (level_of op)) last r rest (looser_none (level_of op) rest loose) (comes (suc (level_of op)) last r e rest (looser_more (level_of op) rest loose) 1))
+      (ends_from (suc (level_of op)) last r rest (looser_none (level_of op) rest loose)
+      (comes (suc (level_of op)) last r e rest (looser_more (level_of op) rest loose) 1))
       (λ j. comes (level_of op) front l d (token.Operator op ∷ (last ++ rest)) (omega arith) j)
   comes _ _ _ (sign op ts t d) rest loose left =
-      settled 4 (token.Operator (sign_written op) ∷ ts) (prefix op t) rest left (omega arith) (signed op ts t rest (ends_from 4 ts t rest (tight_none 4 rest (omega arith)) (comes 4 ts t d rest loose 1)))
+      settled 4 (token.Operator (sign_written op) ∷ ts) (prefix op t) rest left (omega arith)
+      (signed op ts t rest (ends_from 4 ts t rest (tight_none 4 rest (omega arith)) (comes 4 ts t d rest loose 1)))
   comes _ _ _ (a_number n) rest loose left = simple (token.Number n ∷ []) (number n) rest left (λ n h. refl)
   comes _ _ _ (a_truth b) rest loose left = simple (token.Truth b ∷ []) (truth b) rest left (λ n h. truth_alone 5 b rest loose)
   comes _ _ _ (an_error kind) rest loose left = simple (token.Error kind ∷ []) (error kind) rest left (λ n h. refl)
   comes _ _ _ (a_reference r) rest loose left = simple (token.Reference r ∷ []) (reference r) rest left (λ n h. refl)
   comes _ _ _ (parentheses ts t d) rest loose left =
-      settled 5 (token.Open ∷ (ts ++ token.Close ∷ [])) t rest left (omega arith) (closing ts t rest (ends_from 0 ts t (token.Close ∷ rest) (no_close 0 rest) (comes 0 ts t d (token.Close ∷ rest) tt 1)))
+      settled 5 (token.Open ∷ (ts ++ token.Close ∷ [])) t rest left (omega arith)
+      (closing ts t rest (ends_from 0 ts t (token.Close ∷ rest) (no_close 0 rest) (comes 0 ts t d (token.Close
+      ∷ rest) tt 1)))
   comes _ _ _ (a_call f ts parameters d fits) rest loose left =
-      settled 5 (token.Function f ∷ token.Open ∷ (ts ++ token.Close ∷ [])) (call f parameters) rest left (omega arith) (calling f ts parameters rest (fits_test (shape_of f) (tree_list parameters) fits) (all_come ts parameters d rest))
+      settled 5 (token.Function f ∷ token.Open ∷ (ts ++ token.Close ∷ [])) (call f parameters) rest left (omega arith)
+      (calling f ts parameters rest (fits_test (shape_of f) (tree_list parameters) fits)
+      (all_come ts parameters d rest))
   comes _ _ _ (a_truth_call b) rest loose left = simple (token.Truth b ∷ token.Open ∷ token.Close ∷ []) (truth b) rest left (λ n h. refl)
 
-  all_come : (ts : List Token) (all : Trees) → AreDerived ts all → (rest : List Token) → (k : ℕ) × ((n : ℕ) → k ≤ n → parameters_by (λ more. several n [] more) (ts ++ token.Close ∷ rest) ≡ Some (tree_list all, rest))
+  all_come : (ts : List Token) (all : Trees) → AreDerived ts all → (rest : List Token) → (k : ℕ)
+      × ((n : ℕ) → k ≤ n → parameters_by (λ more. several n [] more) (ts ++ token.Close ∷ rest) ≡ Some (
+        tree_list all,
+        rest,
+      ))
   all_come _ _ none rest = (0, λ n h. refl)
   all_come _ _ (some ts all d) rest =
       let c = some_come ts all d rest [] in
       (c.0, λ n h. opens_some (λ more. several n [] more) ts all d (token.Close ∷ rest) ∙ c.1 n h)
 
   some_come : (ts : List Token) (all : Trees) → AreSome ts all → (rest : List Token) → EndsAll ts all rest
-  some_come _ _ (one ts t d) rest = last_parameter ts t rest (ends_from 0 ts t (token.Close ∷ rest) (no_close 0 rest) (comes 0 ts t d (token.Close ∷ rest) tt 1))
+  some_come _ _ (one ts t d) rest =
+      last_parameter ts t rest (ends_from 0 ts t (token.Close ∷ rest) (no_close 0 rest) (comes 0 ts t d (token.Close
+      ∷ rest) tt 1))
   some_come _ _ (more first others t all d e) rest =
       let behind = token.Separator ∷ (others ++ token.Close ∷ rest) in
-      one_more_parameter first others t all rest (ends_from 0 first t behind (no_separator 0 (others ++ token.Close ∷ rest)) (comes 0 first t d behind tt 1)) (some_come others all e rest)
+      one_more_parameter first others t all rest (ends_from 0 first t behind (no_separator 0 (others ++ token.Close
+      ∷ rest)) (comes 0 first t d behind tt 1)) (some_come others all e rest)
 
 -- what tokens derive is read of them whole
 pub read_whole : (ts : List Token) (t : Tree) → Derives 0 ts t → (k : ℕ) × ((n : ℕ) → k ≤ n → read n 0 ts ≡ Some (t, []))

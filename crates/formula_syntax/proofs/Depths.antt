@@ -1,5 +1,6 @@
 -- How deep a text's parentheses go, as a number: that of its tokens.
-use Rattle.std.proofs.Common.{◌≡◌, ℕ, zero, suc, ◌+◌, ◌-◌, ◌<◌, ◌≤◌, Bool, true, false, List, [], ◌∷◌, ◌++◌, length, take, refl, sym, ◌∙◌, ap, arith, append_assoc}
+use Rattle.std.proofs.Common.{◌≡◌, ℕ, zero, suc, ◌+◌, ◌-◌, ◌<◌, ◌≤◌, Bool, true, false, List, [], ◌∷◌, ◌++◌, length}
+use Rattle.std.proofs.Common.{take, refl, sym, ◌∙◌, ap, arith, append_assoc}
 use Rattle.std.specs.Prelude.{◌==◌, cond, if◌then◌else◌, count_by}
 use Rattle.std.proofs.lemmas.Bool.Decides.{nat_tests}
 use Rattle.std.proofs.lemmas.List.Sums.{sum_by-cons}
@@ -94,7 +95,8 @@ word_token text _ depth (reference _ r name) = refl
 -- a token before a text
 piece_depth : (piece rest more : List ℕ) (t : Token) → IsToken piece rest t → depth_of (piece ++ more) ≡ after_token t (depth_of more)
 piece_depth _ _ more _ (word text rest t is ended) = words_plain text more (word_bytes text t is) ∙ sym (word_token text t (depth_of more) is)
-piece_depth _ _ more _ (bracketed text rest r name) = ap depth_of (append_assoc text (93 ∷ []) more) ∙ words_plain text (93 ∷ more) (reference_words true text r name)
+piece_depth _ _ more _ (bracketed text rest r name) = ap depth_of (append_assoc text (93 ∷ []) more)
+    ∙ words_plain text (93 ∷ more) (reference_words true text r name)
 piece_depth _ _ more _ (error rest k apart) = error_plain k more
 piece_depth _ _ more _ (operator rest op longest) = operator_plain op more
 piece_depth _ _ more _ (opening rest) = refl
@@ -117,7 +119,8 @@ size_of_tokens (t ∷ ts) = token_size t + size_of_tokens ts
 pub tokens_size : (text : List ℕ) (ts : List Token) → HasTokens text ts → size_of_tokens ts ≤ length text
 tokens_size text _ (nothing _ e) = omega arith
 tokens_size text ts (blank _ b rest _ split is h) = omega (arith, ap length split, tokens_size rest ts h)
-tokens_size text _ (next _ piece rest t ts split is h) = omega (arith, ap length split, length-append piece rest, token_short piece rest t is, tokens_size rest ts h)
+tokens_size text _ (next _ piece rest t ts split is h) =
+    omega (arith, ap length split, length-append piece rest, token_short piece rest t is, tokens_size rest ts h)
 
 -- the parentheses that the fronts of a text open and close
 abbrev opened : List ℕ → ℕ
@@ -169,7 +172,8 @@ within_step _ o c d p q r (neither b e f) is h =
     let deep : r ≡ d = is.depth ∙ rw (e, f) refl in
     omega arith
 
-counts_at : (b k : ℕ) (bs : List ℕ) → Counts b (opened (take k bs)) (closed (take k bs)) (depth_of bs) (opened (take (suc k) (b ∷ bs))) (closed (take (suc k) (b ∷ bs))) (depth_of (b ∷ bs))
+counts_at : (b k : ℕ) (bs : List ℕ) → Counts b (opened (take k bs)) (closed (take k bs)) (depth_of bs)
+    (opened (take (suc k) (b ∷ bs))) (closed (take (suc k) (b ∷ bs))) (depth_of (b ∷ bs))
 counts_at b k bs = record { opened = opened_one b (take k bs); closed = closed_one b (take k bs); depth = refl }
 
 -- no front opens more than that
@@ -178,7 +182,8 @@ within_depth [] zero = omega arith
 within_depth [] (suc k) = omega arith
 within_depth (b ∷ bs) zero = omega arith
 within_depth (b ∷ bs) (suc k) =
-    within_step b (opened (take k bs)) (closed (take k bs)) (depth_of bs) (opened (take (suc k) (b ∷ bs))) (closed (take (suc k) (b ∷ bs))) (depth_of (b ∷ bs)) (byte_is b) (counts_at b k bs) (within_depth bs k)
+    within_step b (opened (take k bs)) (closed (take k bs)) (depth_of bs) (opened (take (suc k) (b ∷ bs)))
+    (closed (take (suc k) (b ∷ bs))) (depth_of (b ∷ bs)) (byte_is b) (counts_at b k bs) (within_depth bs k)
 
 -- some front opens so many
 abbrev Reaches : List ℕ → ℕ → Type 0
@@ -207,8 +212,16 @@ reached_step _ bs (closes b e f) (k, h) = by_depth (depth_of bs) refl
 
     by_depth : (d : ℕ) → depth_of bs ≡ d → (k : ℕ) × Reaches (b ∷ bs) k
     by_depth zero is = (0, omega (arith, deep, is))
-    by_depth (suc d) is = (suc k, step (opened (take (suc k) (b ∷ bs))) (closed (take (suc k) (b ∷ bs))) (depth_of (b ∷ bs)) (omega (arith, is)) (counts_at b k bs))
-reached_step _ bs (neither b e f) (k, h) = (suc k, step (opened (take (suc k) (b ∷ bs))) (closed (take (suc k) (b ∷ bs))) (depth_of (b ∷ bs)) (counts_at b k bs))
+    by_depth (suc d) is = (
+      suc k,
+      step (opened (take (suc k) (b ∷ bs))) (closed (take (suc k) (b ∷ bs))) (depth_of (b ∷ bs))
+          (omega (arith, is)) (counts_at b k bs),
+    )
+reached_step _ bs (neither b e f) (k, h) = (
+  suc k,
+  step (opened (take (suc k) (b ∷ bs))) (closed (take (suc k) (b ∷ bs))) (depth_of (b ∷ bs))
+      (counts_at b k bs),
+)
   where
     step : (p q r : ℕ) → Counts b (opened (take k bs)) (closed (take k bs)) (depth_of bs) p q r → q + r ≤ p
     step p q r is =

@@ -6,7 +6,8 @@ use Rattle.std.proofs.lemmas.Bool.{false≢true}
 use Rattle.std.proofs.lemmas.Bool.Decides.{nat_tests}
 use Rattle.formula_syntax.specs.declared.tree.Node.{Node}
 use Rattle.formula_syntax.specs.Functions.{Shape}
-use Rattle.formula_syntax.specs.Tree.{Tree, Trees, number, truth, error, reference, prefix, binary, call, no_trees, and_trees, tree_list, trees_from, Fits, HasReferenceAt, IsReferenceTree, tree_of}
+use Rattle.formula_syntax.specs.Tree.{Tree, Trees, number, truth, error, reference, prefix, binary, call, no_trees}
+use Rattle.formula_syntax.specs.Tree.{and_trees, tree_list, trees_from, Fits, HasReferenceAt, IsReferenceTree, tree_of}
 use Rattle.formula_syntax.specs.Reading.{is_reference, is_reference_if, is_reference_at, references_at, at_most, is_fitting}
 
 both : {p q : Bool} → p ≡ true → q ≡ true → (p && q) ≡ true
@@ -42,9 +43,12 @@ at_complete : (ts : List Tree) (place : ℕ) → HasReferenceAt ts place → is_
 at_complete ts place h = if_complete (slice_get ts place) h
 
 -- the test of a node
-pub got_some : (nodes : List Node) (place : ℕ) (node : Node) (b : Bool) → place < length nodes → node ≡ get_or nodes place node → b ≡ is_reference (tree_of node) → b ≡ is_reference_at (map tree_of nodes) place
+pub got_some : (nodes : List Node) (place : ℕ) (node : Node) (b : Bool) → place < length nodes
+    → node ≡ get_or nodes place node → b ≡ is_reference (tree_of node) → b ≡ is_reference_at (map tree_of nodes) place
 got_some nodes place node b within found is =
-    is ∙ sym (ap is_reference_if (slice_get-map tree_of nodes place ∙ ap (option_map tree_of) (slice_get_read nodes (length nodes) place node refl within found)))
+    is
+    ∙ sym (ap is_reference_if (slice_get-map tree_of nodes place
+    ∙ ap (option_map tree_of) (slice_get_read nodes (length nodes) place node refl within found)))
 
 pub got_none : (nodes : List Node) (place : ℕ) → length nodes ≤ place → true ≡ is_reference_at (map tree_of nodes) place
 got_none nodes place past = sym (ap is_reference_if (slice_get-map tree_of nodes place ∙ ap (option_map tree_of) (slice_get_past nodes place past)))

@@ -58,7 +58,8 @@ same_top down right (prefix op t) = refl
 same_top down right (binary op l r) = refl
 same_top down right (call f ps) = call_top f (all_shifted down right ps)
 
-either : (want : ℕ) (t new : Tree) → top_level new ≡ top_level t → IsFlatter (tree_tokens new) (tree_tokens t) → IsFlatter (at_tokens want new (tree_tokens new)) (at_tokens want t (tree_tokens t))
+either : (want : ℕ) (t new : Tree) → top_level new ≡ top_level t → IsFlatter (tree_tokens new) (tree_tokens t)
+    → IsFlatter (at_tokens want new (tree_tokens new)) (at_tokens want t (tree_tokens t))
 either want t new top h = by_test (nat_lt (top_level t) want) refl
   where
     by_test : (b : Bool) → nat_lt (top_level t) want ≡ b → IsFlatter (at_tokens want new (tree_tokens new)) (at_tokens want t (tree_tokens t))
@@ -69,7 +70,8 @@ lost_flat : (o : Option Reference) (r : Reference) → IsFlatter (tree_tokens (o
 lost_flat None r = record { shallow = omega arith; even = refl; level = refl }
 lost_flat (Some s) r = record { shallow = omega arith; even = refl; level = refl }
 
-call_flat : (f : Function) (ps new : Trees) → IsFlatter (all_tokens new) (all_tokens ps) → IsFlatter (tree_tokens (call_or_lost f new)) (tree_tokens (call f ps))
+call_flat : (f : Function) (ps new : Trees) → IsFlatter (all_tokens new) (all_tokens ps)
+    → IsFlatter (tree_tokens (call_or_lost f new)) (tree_tokens (call f ps))
 call_flat f ps new h = by_test (references_at (shape_of f).references (tree_list new)) refl
   where
     inner : IsFlatter (enclosed (all_tokens new)) (enclosed (all_tokens ps))
@@ -92,26 +94,30 @@ mutual
       let left = either (level_of op) l (shifted down right l) (same_top down right l) (flatter down right l) in
       let h = either (suc (level_of op)) r (shifted down right r) (same_top down right r) (flatter down right r) in
       joined (at_tokens (level_of op) (shifted down right l) (tree_tokens (shifted down right l))) (at_tokens (level_of op) l (tree_tokens l))
-      (token.Operator op ∷ at_tokens (suc (level_of op)) (shifted down right r) (tree_tokens (shifted down right r))) (token.Operator op ∷ at_tokens (suc (level_of op)) r (tree_tokens r))
+      (token.Operator op ∷ at_tokens (suc (level_of op)) (shifted down right r) (tree_tokens (shifted down right r)))
+      (token.Operator op ∷ at_tokens (suc (level_of op)) r (tree_tokens r))
       left (record { shallow = omega (arith, h.shallow); even = omega (arith, h.even); level = omega (arith, h.level) })
   flatter down right (call f ps) = call_flat f ps (all_shifted down right ps) (all_flatter down right ps)
 
   all_flatter : (down right : ℤ) (ps : Trees) → IsFlatter (all_tokens (all_shifted down right ps)) (all_tokens ps)
   all_flatter down right no_trees = record { shallow = omega arith; even = refl; level = refl }
   all_flatter down right (and_trees t rest) =
-      joined (tree_tokens (shifted down right t)) (tree_tokens t) (other_tokens (all_shifted down right rest)) (other_tokens rest) (flatter down right t) (others_flatter down right rest)
+      joined (tree_tokens (shifted down right t)) (tree_tokens t) (other_tokens (all_shifted down right rest))
+      (other_tokens rest) (flatter down right t) (others_flatter down right rest)
 
   others_flatter : (down right : ℤ) (ps : Trees) → IsFlatter (other_tokens (all_shifted down right ps)) (other_tokens ps)
   others_flatter down right no_trees = record { shallow = omega arith; even = refl; level = refl }
   others_flatter down right (and_trees t rest) =
-      let h = joined (tree_tokens (shifted down right t)) (tree_tokens t) (other_tokens (all_shifted down right rest)) (other_tokens rest) (flatter down right t) (others_flatter down right rest) in
+      let h = joined (tree_tokens (shifted down right t)) (tree_tokens t) (other_tokens (all_shifted down right rest))
+      (other_tokens rest) (flatter down right t) (others_flatter down right rest) in
       record { shallow = omega (arith, h.shallow); even = omega (arith, h.even); level = omega (arith, h.level) }
 
 -- so the plain text is no deeper
 pub no_deeper : (down right : ℤ) (t : Tree) → IsFitting t → IsTooDeep (plain (shifted down right t)) → IsTooDeep (plain t)
 no_deeper down right t fits deep =
     let new = shifted down right t in
-    let ours : depth_of (tree_text new) ≡ depth_of_tokens (tree_tokens new) = tokens_depth (tree_text new) (tree_tokens new) (printed_tokens new (stays_fitting down right t fits)) in
+    let ours : depth_of (tree_text new) ≡ depth_of_tokens (tree_tokens new) =
+    tokens_depth (tree_text new) (tree_tokens new) (printed_tokens new (stays_fitting down right t fits)) in
     let theirs : depth_of (tree_text t) ≡ depth_of_tokens (tree_tokens t) = tokens_depth (tree_text t) (tree_tokens t) (printed_tokens t fits) in
     let far : 64 < depth_of (tree_text new) = too_deep (plain new) deep in
     deep_text (plain t) (omega (arith, far, ours, theirs, (flatter down right t).shallow))

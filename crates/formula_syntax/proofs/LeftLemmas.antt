@@ -1,5 +1,6 @@
 -- A tree along its left side: what is printed of it up to a tree there, and behind it.
-use Rattle.std.proofs.Common.{◌≡◌, ℕ, zero, suc, ◌+◌, ◌-◌, ◌≤◌, ◌<◌, Bool, true, false, List, [], ◌∷◌, ◌++◌, length, refl, sym, ap, ap₂, ◌∙◌, subst, arith, append_assoc}
+use Rattle.std.proofs.Common.{◌≡◌, ℕ, zero, suc, ◌+◌, ◌-◌, ◌≤◌, ◌<◌, Bool, true, false, List, [], ◌∷◌, ◌++◌, length}
+use Rattle.std.proofs.Common.{refl, sym, ap, ap₂, ◌∙◌, subst, arith, append_assoc}
 use Rattle.std.specs.Prelude.{nat_lt, if◌then◌else◌}
 use Rattle.std.proofs.lemmas.List.{append-nil}
 use Rattle.std.proofs.lemmas.Bool.Decides.{nat_tests}
@@ -73,14 +74,18 @@ around level tree inner is =
     let back = bracket_if level tree (41 ∷ []) in
     let sign = sign_text tree in
     let right = right_text tree in
-    let moved : (sign ++ (inner ++ right)) ++ back ≡ sign ++ (inner ++ (right ++ back)) = append_assoc sign (inner ++ right) back ∙ ap (λ t. sign ++ t) (append_assoc inner right back) in
-    bracketed level tree (tree_text tree) ∙ (ap (λ t. front ++ (t ++ back)) is ∙ (ap (λ t. front ++ t) moved ∙ sym (append_assoc front sign (inner ++ (right ++ back)))))
+    let moved : (sign ++ (inner ++ right)) ++ back ≡ sign ++ (inner ++ (right ++ back)) =
+    append_assoc sign (inner ++ right) back ∙ ap (λ t. sign ++ t) (append_assoc inner right back) in
+    bracketed level tree (tree_text tree)
+    ∙ (ap (λ t. front ++ (t ++ back)) is
+    ∙ (ap (λ t. front ++ t) moved ∙ sym (append_assoc front sign (inner ++ (right ++ back)))))
 
 -- a tree is what stands before what lies to its left, that, and what stands behind it
 pub with_left : (level : ℕ) (tree left : Tree) (least : ℕ) → HasLeft tree left least
     → at_level level tree (tree_text tree) ≡ opening level tree ++ (at_level least left (tree_text left) ++ closing level tree)
 with_left level (prefix op operand) left least (is, at) =
-    rw (is, at) (around level (prefix op operand) (at_level 4 operand (tree_text operand)) (ap (λ t. operator_text (sign_written op) ++ t) (sym (append-nil (at_level 4 operand (tree_text operand))))))
+    rw (is, at) (around level (prefix op operand) (at_level 4 operand (tree_text operand))
+    (ap (λ t. operator_text (sign_written op) ++ t) (sym (append-nil (at_level 4 operand (tree_text operand))))))
 with_left level (binary op first second) left least (is, at) =
     rw (is, at) (around level (binary op first second) (at_level (level_of op) first (tree_text first)) refl)
 with_left level (number n) left least h = absurd h
@@ -105,7 +110,9 @@ pub record IsGoneThrough {F : Type 0} (taker : Taker F) (old : F) (level : ℕ) 
   pub front : List ℕ
   pub sent : HandsOut taker old front true now
   pub whole : (inner : List ℕ)
-      → at_level (level_below depth level tree) (below depth tree) (tree_text (below depth tree)) ≡ opening (level_below depth level tree) (below depth tree) ++ (inner ++ closing (level_below depth level tree) (below depth tree))
+      → at_level (level_below depth level tree) (below depth tree) (tree_text (below depth tree)) ≡ opening
+      (level_below depth level tree) (below depth tree)
+      ++ (inner ++ closing (level_below depth level tree) (below depth tree))
       → at_level level tree (tree_text tree) ≡ front ++ (inner ++ text_behind (suc depth) level tree)
 
 -- a tree has a node, and no fewer than those to its left
@@ -138,7 +145,8 @@ opened level (error kind) = (_, with_leaf level (error kind) (λ left least h. h
 opened level (reference r) = (_, with_leaf level (reference r) (λ left least h. h))
 opened level (call f parameters) = (_, with_leaf level (call f parameters) (λ left least h. h))
 
-joined : (text front at behind op inner cl : List ℕ) → text ≡ front ++ (at ++ behind) → at ≡ op ++ (inner ++ cl) → text ≡ (front ++ op) ++ (inner ++ (cl ++ behind))
+joined : (text front at behind op inner cl : List ℕ) → text ≡ front ++ (at ++ behind) → at ≡ op ++ (inner ++ cl)
+    → text ≡ (front ++ op) ++ (inner ++ (cl ++ behind))
 joined text front at behind op inner cl whole parts =
     whole ∙ (ap (λ t. front ++ (t ++ behind)) parts
     ∙ (ap (λ t. front ++ t) (append_assoc op (inner ++ cl) behind ∙ ap (λ t. op ++ t) (append_assoc inner cl behind))
@@ -153,13 +161,15 @@ module _ {F : Type 0} (taker : Taker F) where
     whole = λ inner is. is ∙ ap (λ t. opening level tree ++ (inner ++ t)) (sym (append-nil (closing level tree)));
   }
 
-  pub cut_first : (old last : F) (level : ℕ) (tree : Tree) → HandsOut taker old (opening level tree) false last → HandsOut taker old (at_level level tree (tree_text tree)) false last
+  pub cut_first : (old last : F) (level : ℕ) (tree : Tree) → HandsOut taker old (opening level tree) false last
+      → HandsOut taker old (at_level level tree (tree_text tree)) false last
   cut_first old last level tree sent =
       let (rest, is) = opened level tree in
       subst (λ t. HandsOut taker old t false last) (sym is) (cut taker old last (opening level tree) rest sent)
 
   -- up to what lies to the left of the tree that was reached
-  reached : (old now : F) (level : ℕ) (tree left : Tree) (least depth : ℕ) (gone : IsGoneThrough taker old level tree depth now) → HasLeft (below depth tree) left least
+  reached : (old now : F) (level : ℕ) (tree left : Tree) (least depth : ℕ) (gone : IsGoneThrough taker old level tree
+      depth now) → HasLeft (below depth tree) left least
       → at_level level tree (tree_text tree) ≡ gone.front ++ (at_level least left (tree_text left) ++ text_behind (suc depth) level tree)
   reached old now level tree left least depth gone h =
       gone.whole (at_level least left (tree_text left)) (with_left (level_below depth level tree) (below depth tree) left least h)
@@ -181,13 +191,21 @@ module _ {F : Type 0} (taker : Taker F) where
       at = (one_further depth level tree left least h).1
 
       whole : (inner : List ℕ)
-          → at_level (level_below (suc depth) level tree) (below (suc depth) tree) (tree_text (below (suc depth) tree)) ≡ opening (level_below (suc depth) level tree) (below (suc depth) tree) ++ (inner ++ closing (level_below (suc depth) level tree) (below (suc depth) tree))
+          → at_level (level_below (suc depth) level tree) (below (suc depth) tree)
+          (tree_text (below (suc depth) tree)) ≡ opening (level_below (suc depth) level tree)
+          (below (suc depth) tree)
+          ++ (inner ++ closing (level_below (suc depth) level tree) (below (suc depth) tree))
           → at_level level tree (tree_text tree) ≡ (gone.front ++ opening least left) ++ (inner ++ text_behind (suc (suc depth)) level tree)
       whole inner parts =
-          let moved = subst (λ (t : Tree). at_level (level_below (suc depth) level tree) t (tree_text t) ≡ opening (level_below (suc depth) level tree) t ++ (inner ++ closing (level_below (suc depth) level tree) t)) there parts in
+          let moved = subst (λ (t : Tree). at_level (level_below (suc depth) level tree) t (tree_text t) ≡ opening
+          (level_below (suc depth) level tree) t ++ (inner ++ closing (level_below (suc depth) level tree) t)) there
+          parts in
           let same = subst (λ (l : ℕ). at_level l left (tree_text left) ≡ opening l left ++ (inner ++ closing l left)) at moved in
-          joined (at_level level tree (tree_text tree)) gone.front (at_level least left (tree_text left)) (text_behind (suc depth) level tree) (opening least left) inner (closing least left) (reached old mid level tree left least depth gone h) same
-          ∙ ap₂ (λ (l : ℕ) (t : Tree). (gone.front ++ opening least left) ++ (inner ++ (closing l t ++ text_behind (suc depth) level tree))) (sym at) (sym there)
+          joined (at_level level tree (tree_text tree)) gone.front (at_level least left (tree_text left))
+          (text_behind (suc depth) level tree) (opening least left) inner (closing least left)
+          (reached old mid level tree left least depth gone h) same
+          ∙ ap₂ (λ (l : ℕ) (t : Tree). (gone.front ++ opening least left)
+          ++ (inner ++ (closing l t ++ text_behind (suc depth) level tree))) (sym at) (sym there)
 
   pub cut_next : (old mid last : F) (level : ℕ) (tree left : Tree) (least depth : ℕ)
       → IsGoneThrough taker old level tree depth mid → HasLeft (below depth tree) left least → HandsOut taker mid (opening least left) false last
@@ -195,7 +213,8 @@ module _ {F : Type 0} (taker : Taker F) where
   cut_next old mid last level tree left least depth gone h sent =
       let behind = text_behind (suc depth) level tree in
       subst (λ t. HandsOut taker old t false last) (sym (reached old mid level tree left least depth gone h))
-      (and_then taker old mid last gone.front (at_level least left (tree_text left) ++ behind) false gone.sent (cut taker mid last (at_level least left (tree_text left)) behind (cut_first mid last least left sent)))
+      (and_then taker old mid last gone.front (at_level least left (tree_text left) ++ behind) false gone.sent
+      (cut taker mid last (at_level least left (tree_text left)) behind (cut_first mid last least left sent)))
 
   leaf_reached : (old now : F) (level : ℕ) (tree : Tree) (depth : ℕ) (gone : IsGoneThrough taker old level tree depth now) → HasNoLeft (below depth tree)
       → at_level level tree (tree_text tree) ≡ gone.front ++ (leaf_text (below depth tree) ++ text_behind (suc depth) level tree)
@@ -206,8 +225,10 @@ module _ {F : Type 0} (taker : Taker F) where
       → IsGoneThrough taker old level tree depth mid → HasNoLeft here → HandsOut taker mid (leaf_text here) true now → SendsFront taker old level tree depth now
   front_sent old mid now level tree here depth is few gone none sent = record {
     front = gone.front ++ leaf_text (below depth tree);
-    sent = and_then taker old mid now gone.front (leaf_text (below depth tree)) true gone.sent (subst (λ (t : Tree). HandsOut taker mid (leaf_text t) true now) is sent);
-    whole = leaf_reached old mid level tree depth gone (subst HasNoLeft is none) ∙ sym (append_assoc gone.front (leaf_text (below depth tree)) (text_behind (suc depth) level tree));
+    sent = and_then taker old mid now gone.front (leaf_text (below depth tree)) true gone.sent
+        (subst (λ (t : Tree). HandsOut taker mid (leaf_text t) true now) is sent);
+    whole = leaf_reached old mid level tree depth gone (subst HasNoLeft is none)
+        ∙ sym (append_assoc gone.front (leaf_text (below depth tree)) (text_behind (suc depth) level tree));
     few = omega (arith, few, some_nodes here);
   }
 

@@ -1,5 +1,6 @@
 -- What is printed of a token is no longer than any text that is it.
-use Rattle.std.proofs.Common.{◌≡◌, ℕ, zero, suc, ◌+◌, ◌-◌, ◌*◌, ◌/◌, ◌%◌, ◌^◌, ◌<◌, ◌≤◌, Bool, true, false, List, [], ◌∷◌, ◌++◌, length, refl, sym, ◌∙◌, ap, arith, inl, inr, decimal}
+use Rattle.std.proofs.Common.{◌≡◌, ℕ, zero, suc, ◌+◌, ◌-◌, ◌*◌, ◌/◌, ◌%◌, ◌^◌, ◌<◌, ◌≤◌, Bool, true, false, List, []}
+use Rattle.std.proofs.Common.{◌∷◌, ◌++◌, length, refl, sym, ◌∙◌, ap, arith, inl, inr, decimal}
 use Rattle.std.specs.Prelude.{◌==◌, nat_le, min, max, if◌then◌else◌, fold}
 use Rattle.std.specs.List.{All}
 use Rattle.std.specs.Fmt.{signed_decimal}
@@ -58,11 +59,13 @@ letter_small : (b : ℕ) → IsLetter b → letter_number b ≤ 26
 letter_small b (inl h) = grind (arith, nat_tests)
 letter_small b (inr h) = grind (arith, nat_tests)
 
-letters_within : (count acc : ℕ) (letters : List ℕ) → All IsLetter letters → acc ≤ last_column count → fold next_letter acc letters ≤ last_column (count + length letters)
+letters_within : (count acc : ℕ) (letters : List ℕ) → All IsLetter letters → acc ≤ last_column count
+    → fold next_letter acc letters ≤ last_column (count + length letters)
 letters_within count acc [] all within = let same : count + 0 ≡ count = omega arith in rw same within
 letters_within count acc (b ∷ bs) all within =
     let more : count + suc (length bs) ≡ suc count + length bs = omega arith in
-    rw more (letters_within (suc count) (next_letter acc b) bs (λ k e l. all (suc k) e (omega (arith, l))) (omega (arith, letter_small b (all 0 0 (omega arith)), within)))
+    rw more (letters_within (suc count) (next_letter acc b) bs (λ k e l. all (suc k) e (omega (arith, l)))
+    (omega (arith, letter_small b (all 0 0 (omega arith)), within)))
 
 column_short : (count most col : ℕ) → col ≤ last_column count → length (last_letters most col) ≤ count
 column_short count zero col within = omega arith
@@ -70,7 +73,8 @@ column_short zero (suc most) col within = let none : col ≡ 0 = omega arith in 
 column_short (suc count) (suc most) col within =
     let front = last_letters most ((col - 1) / 26) in
     let few : length front ≤ count = column_short count most ((col - 1) / 26) (omega arith) in
-    cond_both (col == 0) [] (front ++ (65 + (col - 1) % 26) ∷ []) (λ (letters : List ℕ). length letters ≤ suc count) (λ _. omega arith) (λ _. omega (arith, few, length-append front ((65 + (col - 1) % 26) ∷ [])))
+    cond_both (col == 0) [] (front ++ (65 + (col - 1) % 26) ∷ []) (λ (letters : List ℕ). length letters ≤ suc count)
+    (λ _. omega arith) (λ _. omega (arith, few, length-append front ((65 + (col - 1) % 26) ∷ [])))
 
 letters_short : (letters : List ℕ) (col : ℕ) → IsColumnName letters col → length (last_letters 3 col) ≤ length letters
 letters_short letters col is =
@@ -96,7 +100,9 @@ end_printed a = three (dollar a.col_fixed) (last_letters 3 a.cell.col) (dollar a
 
 end_short : (text : List ℕ) (a : Anchor) → IsAnchorName text a → end_size a ≤ length text
 end_short text a name =
-    let whole : length text ≡ length (dollar a.col_fixed) + length name.letters + (length (dollar a.row_fixed) + length name.digits) = ap length name.text_is ∙ three (dollar a.col_fixed) name.letters (dollar a.row_fixed) name.digits in
+    let whole : length text ≡ length (dollar a.col_fixed) + length name.letters + (length (dollar a.row_fixed) + length
+    name.digits) = ap length name.text_is ∙ three (dollar a.col_fixed) name.letters (dollar a.row_fixed) name.digits
+    in
     omega (arith, whole, letters_short name.letters a.cell.col name.column, decimal_short name.digits 1048576 a.cell.row (omega arith) name.row.number)
 
 end_name_short : (dotted : Bool) (text : List ℕ) (a : Anchor) → IsEndName dotted text a → end_size a ≤ length text
@@ -120,7 +126,11 @@ both_parts f x y p q = by_test (nat_le x y) refl
         rw (e, low, high) (omega arith)
 
 both_ends : (a b : Anchor) → end_size (lesser a b) + end_size (greater a b) ≡ end_size a + end_size b
-both_ends a b = omega (arith, both_parts column_size a.cell.col b.cell.col a.col_fixed b.col_fixed, both_parts row_size a.cell.row b.cell.row a.row_fixed b.row_fixed)
+both_ends a b = omega (
+  arith,
+  both_parts column_size a.cell.col b.cell.col a.col_fixed b.col_fixed,
+  both_parts row_size a.cell.row b.cell.row a.row_fixed b.row_fixed,
+)
 
 reference_short : (dotted : Bool) (text : List ℕ) (r : Reference) → IsReferenceName dotted text r → length (reference_text r) ≤ length text
 reference_short _ _ _ (alone dotted text a name) = omega (arith, end_printed a, end_name_short dotted text a name)

@@ -77,7 +77,8 @@ past_no_blank (c ∷ cs) b bs e = plain_by c cs (is_blank c) refl (past_no_blank
 pub with_token : (text : List ℕ) (t : Token) (n : ℕ) (us : List Token) → IsFront text (t, n) → HasTokens (drop n text) us → HasTokens text (t ∷ us)
 with_token text t n us front rest = next text (take n text) (drop n text) t us (sym (take-append-drop n text)) front.token rest
 
-pub without_token : (text : List ℕ) (t : Token) (n : ℕ) (us : List Token) → HasNoBlank text → IsFront text (t, n) → HasTokens text us → (vs : List Token) × HasTokens (drop n text) vs
+pub without_token : (text : List ℕ) (t : Token) (n : ℕ) (us : List Token) → HasNoBlank text → IsFront text (t, n)
+    → HasTokens text us → (vs : List Token) × HasTokens (drop n text) vs
 without_token text t n _ plain front (nothing _ e) = absurd (omega (arith, ap length e, front.some, front.within))
 without_token text t n us plain front (blank _ b rest _ split is more) = absurd (false≢true (sym (plain b rest split) ∙ is))
 without_token text t n _ plain front (next _ piece rest u us split is more) =
@@ -102,21 +103,38 @@ starts_at text rest read is past = record {
   few = omega (arith, ap length is, ap length past, past_within text);
 }
 
-pub goes_on : (text rest after : List ℕ) (read longer : List Token) (t : Token) (n : ℕ) → longer ≡ read ++ t ∷ [] → after ≡ past_blanks (drop n rest) → HasNoBlank rest → IsFront rest (t, n) → IsAt text read rest → IsAt text longer after
+pub goes_on : (text rest after : List ℕ) (read longer : List Token) (t : Token) (n : ℕ) → longer ≡ read ++ t ∷ []
+    → after ≡ past_blanks (drop n rest) → HasNoBlank rest → IsFront rest (t, n) → IsAt text read rest
+    → IsAt text longer after
 goes_on text rest after read longer t n is past plain front at = record {
-  there = λ us h. rw (is, append_assoc read (t ∷ []) us) (at.there (t ∷ us) (with_token rest t n us front (with_blanks (drop n rest) us (subst (λ (l : List ℕ). HasTokens l us) past h))));
+  there =
+      λ us h. rw (is, append_assoc read (t ∷ []) us)
+      (at.there (t
+      ∷ us)
+      (with_token rest t n us front (with_blanks (drop n rest) us (subst (λ (l : List ℕ). HasTokens l us) past h))));
   back = λ ts h.
       let (us, left) = at.back ts h in
       let (vs, behind) = without_token rest t n us plain front left in
       (vs, subst (λ (l : List ℕ). HasTokens l vs) (sym past) (without_blanks (drop n rest) vs behind));
-  few = omega (arith, ap length is, length-append read (t ∷ []), ap length past, past_within (drop n rest), length-drop n rest, at.few, front.some, front.within);
+  few = omega (
+    arith,
+    ap length is,
+    length-append read (t ∷ []),
+    ap length past,
+    past_within (drop n rest),
+    length-drop n rest,
+    at.few,
+    front.some,
+    front.within,
+  );
 }
 
 pub ends_at : (text rest : List ℕ) (read : List Token) → length rest ≡ 0 → IsAt text read rest → HasTokens text read
 ends_at text [] read none at = subst (λ (l : List Token). HasTokens text l) (append-nil read) (at.there [] (nothing [] refl))
 ends_at text (b ∷ bs) read none at = absurd (omega (arith, none))
 
-pub stops_at : (text rest : List ℕ) (read : List Token) → HasNoBlank rest → 0 < length rest → HasNoToken rest → IsAt text read rest → (ts : List Token) → ¬ HasTokens text ts
+pub stops_at : (text rest : List ℕ) (read : List Token) → HasNoBlank rest → 0 < length rest → HasNoToken rest
+    → IsAt text read rest → (ts : List Token) → ¬ HasTokens text ts
 stops_at text rest read plain some none at ts h =
     let (us, left) = at.back ts h in
     without_tokens rest us plain some none left

@@ -1,21 +1,21 @@
-pub mod Fitting
-pub mod Complete
-pub mod Depths
+mod Fitting
+mod Complete
+mod Depths
 pub mod Measures
 pub mod Printed
-pub mod Rebuildings
-pub mod PrintedWords
+mod Rebuildings
+mod PrintedWords
 pub mod Shifts
-pub mod Flatter
-pub mod Shorter
-pub mod Signs
+mod Flatter
+mod Shorter
+mod Signs
 pub mod TokenLemmas
-pub mod LeftLemmas
-pub mod Lengths
-pub mod Lexemes
+mod LeftLemmas
+mod Lengths
+mod Lexemes
 pub mod Listings
-pub mod Sound
+mod Sound
 pub mod Spells
-pub mod Steps
+mod Steps
 pub mod WordLemmas
 pub mod Withins

@@ -29,7 +29,13 @@ mutual
   pub references_counted : (level : ℕ) (ts : List Token) (t : Tree) → Derives level ts t → counted ts ≡ length (references_of t)
   references_counted _ _ _ (tighter level ts t small d) = references_counted _ ts t d
   references_counted _ _ _ (operator op front last l r d e) =
-      omega (arith, counted-append front (token.Operator op ∷ last), references_counted _ front l d, references_counted _ last r e, length-append (references_of l) (references_of r))
+      omega (
+        arith,
+        counted-append front (token.Operator op ∷ last),
+        references_counted _ front l d,
+        references_counted _ last r e,
+        length-append (references_of l) (references_of r),
+      )
   references_counted _ _ _ (sign op ts t d) = omega (arith, references_counted 4 ts t d)
   references_counted _ _ _ (a_number n) = refl
   references_counted _ _ _ (a_truth b) = refl
@@ -46,7 +52,13 @@ mutual
   some_counted : (ts : List Token) (all : Trees) → AreSome ts all → counted ts ≡ length (all_references all)
   some_counted _ _ (one ts t d) = omega (arith, references_counted 0 ts t d, length-append (references_of t) [])
   some_counted _ _ (more first others t rest d e) =
-      omega (arith, counted-append first (token.Separator ∷ others), references_counted 0 first t d, some_counted others rest e, length-append (references_of t) (all_references rest))
+      omega (
+        arith,
+        counted-append first (token.Separator ∷ others),
+        references_counted 0 first t d,
+        some_counted others rest e,
+        length-append (references_of t) (all_references rest),
+      )
 
 mutual
   pub nodes_within : (level : ℕ) (ts : List Token) (t : Tree) → Derives level ts t → node_count t ≤ length ts

@@ -1,5 +1,6 @@
 -- The plain text of a tree spells it.
-use Rattle.std.proofs.Common.{◌≡◌, ◌≢◌, ℕ, ℤ, zero, suc, ◌≤◌, Bool, true, false, List, [], ◌∷◌, ◌++◌, pos, refl, sym, ap, ◌∙◌, subst, arith, append_assoc, inl, inr, decimal}
+use Rattle.std.proofs.Common.{◌≡◌, ◌≢◌, ℕ, ℤ, zero, suc, ◌≤◌, Bool, true, false, List, [], ◌∷◌, ◌++◌, pos, refl, sym}
+use Rattle.std.proofs.Common.{ap, ◌∙◌, subst, arith, append_assoc, inl, inr, decimal}
 use Rattle.std.specs.Prelude.{nat_lt, ◌==◌, codes, if◌then◌else◌}
 use Rattle.std.specs.Fmt.{signed_decimal}
 use Rattle.std.proofs.lemmas.List.{append-nil}
@@ -102,7 +103,9 @@ mutual
 
   all_derived : (ps : Trees) → AreFitting ps → AreDerived (all_tokens ps) ps
   all_derived no_trees h = none
-  all_derived (and_trees t rest) (a, h) = some (all_tokens (and_trees t rest)) (and_trees t rest) (some_derived (tree_tokens t) t (loosest (tree_tokens t) t (derives t a)) rest h)
+  all_derived (and_trees t rest) (a, h) =
+      some (all_tokens (and_trees t rest)) (and_trees t rest)
+      (some_derived (tree_tokens t) t (loosest (tree_tokens t) t (derives t a)) rest h)
 
   some_derived : (ts : List Token) (t : Tree) → Derives 0 ts t → (rest : Trees) → AreFitting rest → AreSome (ts ++ other_tokens rest) (and_trees t rest)
   some_derived ts t d no_trees h = subst (λ (l : List Token). AreSome l (and_trees t no_trees)) (sym (append-nil ts)) (one ts t d)
@@ -145,7 +148,9 @@ sign_clear Plus rest = clear_mark 43 rest refl refl
 sign_clear Minus rest = clear_mark 45 rest refl refl
 
 number_clear : (n : ℤ) (count : ℕ) (rest : List ℕ) → count ≤ 9007199254740991 → n ≡ pos count → IsClear (signed_decimal n ++ rest)
-number_clear n count rest small is = subst (λ (m : ℤ). IsClear (signed_decimal m ++ rest)) (sym is) (word_clear (decimal count) rest (token.Number (pos count)) (number_word count small))
+number_clear n count rest small is =
+    subst (λ (m : ℤ). IsClear (signed_decimal m ++ rest)) (sym is)
+    (word_clear (decimal count) rest (token.Number (pos count)) (number_word count small))
 
 at_clear : (level : ℕ) (t : Tree) → ((rest : List ℕ) → IsClear (tree_text t ++ rest)) → (rest : List ℕ) → IsClear (at_level level t (tree_text t) ++ rest)
 at_clear level t clear rest = by_test (nat_lt (top_level t) level) refl
@@ -169,7 +174,9 @@ tree_clear (binary op l r) (a, b) rest =
     let behind = operator_text op ++ at_level (suc (level_of op)) r (tree_text r) in
     front_clear (at_level (level_of op) l (tree_text l)) behind rest (at_clear (level_of op) l (tree_clear l a) (behind ++ rest))
 tree_clear (call f ps) h rest =
-    front_clear (function_name f) (in_parentheses (parameters_text ps)) rest (word_clear (function_name f) (in_parentheses (parameters_text ps) ++ rest) (token.Function f) (function_word f))
+    front_clear (function_name f) (in_parentheses (parameters_text ps)) rest
+    (word_clear (function_name f) (in_parentheses (parameters_text ps) ++ rest) (token.Function f)
+    (function_word f))
 
 longest : (op : BinaryOp) (rest : List ℕ) → IsClear rest → IsLongest op rest
 longest Add rest h = tt
@@ -207,8 +214,10 @@ lexed_word text t is rest us ended h = next (text ++ rest) text rest t us refl (
 lexed_error : (k : ErrorKind) → k ≢ kind.Circ → Lexes (error_text k) (token.Error k ∷ [])
 lexed_error k apart rest us ended h = next (error_text k ++ rest) (error_text k) rest (token.Error k) us refl (error_token rest k apart) h
 
-lexed_operator : (op : BinaryOp) (rest : List ℕ) (us : List Token) → IsClear rest → HasTokens rest us → HasTokens (operator_text op ++ rest) (token.Operator op ∷ us)
-lexed_operator op rest us clear h = next (operator_text op ++ rest) (operator_text op) rest (token.Operator op) us refl (operator_token rest op (longest op rest clear)) h
+lexed_operator : (op : BinaryOp) (rest : List ℕ) (us : List Token) → IsClear rest → HasTokens rest us
+    → HasTokens (operator_text op ++ rest) (token.Operator op ∷ us)
+lexed_operator op rest us clear h = next (operator_text op ++ rest) (operator_text op) rest (token.Operator op) us refl
+    (operator_token rest op (longest op rest clear)) h
 
 lexed_close : (rest : List ℕ) (us : List Token) → HasTokens rest us → HasTokens (41 ∷ rest) (token.Close ∷ us)
 lexed_close rest us h = next (41 ∷ rest) (41 ∷ []) rest token.Close us refl (closing rest) h
@@ -223,7 +232,8 @@ lexed_separator rest us h = next (59 ∷ rest) (59 ∷ []) rest token.Separator 
 joined : (xs ys rest : List ℕ) (ts us vs : List Token) → HasTokens (xs ++ (ys ++ rest)) (ts ++ (us ++ vs)) → HasTokens ((xs ++ ys) ++ rest) ((ts ++ us) ++ vs)
 joined xs ys rest ts us vs h = rw (append_assoc xs ys rest, append_assoc ts us vs) h
 
-lexed_enclosed : (text : List ℕ) (ts : List Token) → Lexes text ts → (rest : List ℕ) (us : List Token) → HasTokens rest us → HasTokens (in_parentheses text ++ rest) (enclosed ts ++ us)
+lexed_enclosed : (text : List ℕ) (ts : List Token) → Lexes text ts → (rest : List ℕ) (us : List Token)
+    → HasTokens rest us → HasTokens (in_parentheses text ++ rest) (enclosed ts ++ us)
 lexed_enclosed text ts lexes rest us h =
     lexed_open ((text ++ 41 ∷ []) ++ rest) ((ts ++ token.Close ∷ []) ++ us)
     (joined text (41 ∷ []) rest ts (token.Close ∷ []) us (lexes (41 ∷ rest) (token.Close ∷ us) refl (lexed_close rest us h)))
@@ -240,7 +250,9 @@ others_end no_trees rest h = h
 others_end (and_trees t ps) rest h = refl
 
 lexed_number : (n : ℤ) (count : ℕ) → count ≤ 9007199254740991 → n ≡ pos count → Lexes (signed_decimal n) (token.Number n ∷ [])
-lexed_number n count small is = subst (λ (m : ℤ). Lexes (signed_decimal m) (token.Number m ∷ [])) (sym is) (lexed_word (decimal count) (token.Number (pos count)) (number_word count small))
+lexed_number n count small is =
+    subst (λ (m : ℤ). Lexes (signed_decimal m) (token.Number m ∷ [])) (sym is)
+    (lexed_word (decimal count) (token.Number (pos count)) (number_word count small))
 
 lexed_sign : (op : PrefixOp) (t : Tree) → IsFitting t → Lexes (tree_text t) (tree_tokens t) → Lexes (tree_text (prefix op t)) (tree_tokens (prefix op t))
 lexed_sign op t fits lexes rest us ended h =
@@ -249,12 +261,14 @@ lexed_sign op t fits lexes rest us ended h =
     joined (operator_text (sign_written op)) text rest (token.Operator (sign_written op) ∷ []) ts us
     (lexed_operator (sign_written op) (text ++ rest) (ts ++ us) (at_clear 4 t (tree_clear t fits) rest) (lexed_at 4 t lexes rest us ended h))
 
-lexed_binary : (op : BinaryOp) (l r : Tree) → IsFitting r → Lexes (tree_text l) (tree_tokens l) → Lexes (tree_text r) (tree_tokens r) → Lexes (tree_text (binary op l r)) (tree_tokens (binary op l r))
+lexed_binary : (op : BinaryOp) (l r : Tree) → IsFitting r → Lexes (tree_text l) (tree_tokens l)
+    → Lexes (tree_text r) (tree_tokens r) → Lexes (tree_text (binary op l r)) (tree_tokens (binary op l r))
 lexed_binary op l r fits left right rest us ended h =
     let text = at_level (suc (level_of op)) r (tree_text r) in
     let ts = at_tokens (suc (level_of op)) r (tree_tokens r) in
     let behind : HasTokens (operator_text op ++ (text ++ rest)) (token.Operator op ∷ (ts ++ us)) =
-    lexed_operator op (text ++ rest) (ts ++ us) (at_clear (suc (level_of op)) r (tree_clear r fits) rest) (lexed_at (suc (level_of op)) r right rest us ended h) in
+    lexed_operator op (text ++ rest) (ts ++ us) (at_clear (suc (level_of op)) r (tree_clear r fits) rest)
+    (lexed_at (suc (level_of op)) r right rest us ended h) in
     joined (at_level (level_of op) l (tree_text l)) (operator_text op ++ text) rest (at_tokens (level_of op) l (tree_tokens l)) (token.Operator op ∷ ts) us
     (lexed_at (level_of op) l left ((operator_text op ++ text) ++ rest) ((token.Operator op ∷ ts) ++ us)
     (rw (append_assoc (operator_text op) text rest) (operator_ends op (text ++ rest)))
@@ -264,7 +278,8 @@ lexed_call : (f : _) (ps : Trees) → Lexes (parameters_text ps) (all_tokens ps)
 lexed_call f ps lexes rest us ended h =
     let behind = lexed_enclosed (parameters_text ps) (all_tokens ps) lexes rest us h in
     joined (function_name f) (in_parentheses (parameters_text ps)) rest (token.Function f ∷ []) (enclosed (all_tokens ps)) us
-    (lexed_word (function_name f) (token.Function f) (function_word f) (in_parentheses (parameters_text ps) ++ rest) (enclosed (all_tokens ps) ++ us) refl behind)
+    (lexed_word (function_name f) (token.Function f) (function_word f) (in_parentheses (parameters_text ps)
+    ++ rest) (enclosed (all_tokens ps) ++ us) refl behind)
 
 mutual
   lexed : (t : Tree) → IsFitting t → Lexes (tree_text t) (tree_tokens t)

@@ -13,7 +13,8 @@ use Rattle.formula_syntax.specs.Rebuilding.{stacked, over_one, over_two, over_al
 use Rattle.formula_syntax.specs.Shifting.{shifted, all_shifted, call_or_lost}
 use Rattle.formula_syntax.specs.Functions.{shape_of}
 use Rattle.formula_syntax.specs.Reading.{references_at}
-use Rattle.formula_syntax.specs.Tree.{Tree, and_trees, error, prefix, binary, call, tree_of, trees_of, parameters_of, trees_from, tree_list, node_count, all_nodes}
+use Rattle.formula_syntax.specs.Tree.{Tree, and_trees, error, prefix, binary, call, tree_of, trees_of, parameters_of}
+use Rattle.formula_syntax.specs.Tree.{trees_from, tree_list, node_count, all_nodes}
 use Rattle.formula_syntax.proofs.Fitting.{trees_there}
 
 -- a node more that is done is on top
@@ -25,7 +26,8 @@ pub pushed_top : (old new : List Node) (node : Node) → new ≡ old ++ node ∷
 pushed_top old new node is = ap (λ (l : List Node). stacked l []) is ∙ stacked_push old node []
 
 -- a step more that is left comes first
-steps_push : (down right : ℤ) (steps : List Step) (step : Step) (done : List Tree) → after_steps down right (steps ++ step ∷ []) done ≡ after_steps down right steps (after_step down right step done)
+steps_push : (down right : ℤ) (steps : List Step) (step : Step) (done : List Tree)
+    → after_steps down right (steps ++ step ∷ []) done ≡ after_steps down right steps (after_step down right step done)
 steps_push down right [] step done = refl
 steps_push down right (x ∷ xs) step done = ap (after_step down right x) (steps_push down right xs step done)
 
@@ -33,23 +35,30 @@ weight_push : (steps : List Step) (step : Step) → steps_weight (steps ++ step 
 weight_push [] step = omega arith
 weight_push (x ∷ xs) step = omega (arith, weight_push xs step)
 
-pub one_more : (down right : ℤ) (old new : List Step) (step : Step) (done : List Tree) → new ≡ old ++ step ∷ [] → after_steps down right new done ≡ after_steps down right old (after_step down right step done)
+pub one_more : (down right : ℤ) (old new : List Step) (step : Step) (done : List Tree) → new ≡ old ++ step ∷ []
+    → after_steps down right new done ≡ after_steps down right old (after_step down right step done)
 one_more down right old new step done is = ap (λ (l : List Step). after_steps down right l done) is ∙ steps_push down right old step done
 
 pub one_heavier : (old new : List Step) (step : Step) → new ≡ old ++ step ∷ [] → steps_weight new ≡ steps_weight old + step_weight step
 one_heavier old new step is = ap steps_weight is ∙ weight_push old step
 
 -- a node without parts is done
-pub leaf_leads : (down right : ℤ) (left : List Step) (items pushed : List Node) (made : Node) (t : Tree) (room : ℕ) → pushed ≡ items ++ made ∷ [] → tree_of made ≡ shifted down right t → 0 < room → Leads down right left (shifted down right t ∷ stacked items []) left (stacked pushed []) room
+pub leaf_leads : (down right : ℤ) (left : List Step) (items pushed : List Node) (made : Node) (t : Tree) (room : ℕ)
+    → pushed ≡ items ++ made ∷ [] → tree_of made ≡ shifted down right t → 0 < room
+    → Leads down right left (shifted down right t ∷ stacked items []) left (stacked pushed []) room
 leaf_leads down right left items pushed made t room more is some = record {
   same = ap (after_steps down right left) (pushed_top items pushed made more ∙ ap (λ (u : Tree). u ∷ stacked items []) is);
   fewer = omega (arith, some);
 }
 
 -- a sign is left behind its operand
-pub prefix_leads : (down right : ℤ) (node : Bor Node) (op : _) (operand : Node) (one : Bor (List Node)) (left middle next : List Step) (done : List Tree) → tree_of node.now ≡ prefix op (tree_of operand) → one.now ≡ operand ∷ [] → middle ≡ left ++ Join node ∷ [] → next ≡ middle ++ Shift one ∷ [] → Leads down right left (shifted down right (tree_of node.now) ∷ done) next done (4 * node_count (tree_of node.now))
+pub prefix_leads : (down right : ℤ) (node : Bor Node) (op : _) (operand : Node) (one : Bor (List Node))
+    (left middle next : List Step) (done : List Tree) → tree_of node.now ≡ prefix op (tree_of operand)
+    → one.now ≡ operand ∷ [] → middle ≡ left ++ Join node ∷ [] → next ≡ middle ++ Shift one ∷ []
+    → Leads down right left (shifted down right (tree_of node.now) ∷ done) next done (4 * node_count (tree_of node.now))
 prefix_leads down right node op operand one left middle next done is alone first second =
-    let inner : join (tree_of node.now) (map (shifted down right) (map tree_of one.now) ++ done) ≡ shifted down right (tree_of node.now) ∷ done = rw (is, alone) refl in
+    let inner : join (tree_of node.now) (map (shifted down right) (map tree_of one.now) ++ done) ≡ shifted down right
+    (tree_of node.now) ∷ done = rw (is, alone) refl in
     record {
       same = one_more down right middle next (Shift one) done second
           ∙ (one_more down right left middle (Join node) (after_step down right (Shift one) done) first ∙ ap (after_steps down right left) inner);
@@ -63,9 +72,15 @@ prefix_leads down right node op operand one left middle next done is alone first
     }
 
 -- an operator is left behind its operands
-pub binary_leads : (down right : ℤ) (node : Bor Node) (op : _) (l r : Node) (one two : Bor (List Node)) (left middle later next : List Step) (done : List Tree) → tree_of node.now ≡ binary op (tree_of l) (tree_of r) → one.now ≡ l ∷ [] → two.now ≡ r ∷ [] → middle ≡ left ++ Join node ∷ [] → later ≡ middle ++ Shift one ∷ [] → next ≡ later ++ Shift two ∷ [] → Leads down right left (shifted down right (tree_of node.now) ∷ done) next done (4 * node_count (tree_of node.now))
+pub binary_leads : (down right : ℤ) (node : Bor Node) (op : _) (l r : Node) (one two : Bor (List Node))
+    (left middle later next : List Step) (done : List Tree) → tree_of node.now ≡ binary op (tree_of l) (tree_of r)
+    → one.now ≡ l ∷ [] → two.now ≡ r ∷ [] → middle ≡ left ++ Join node ∷ [] → later ≡ middle ++ Shift one ∷ []
+    → next ≡ later ++ Shift two ∷ [] → Leads down right left (shifted down right (tree_of node.now)
+    ∷ done) next done (4 * node_count (tree_of node.now))
 binary_leads down right node op l r one two left middle later next done is one_is two_is first second third =
-    let inner : join (tree_of node.now) (map (shifted down right) (map tree_of one.now) ++ (map (shifted down right) (map tree_of two.now) ++ done)) ≡ shifted down right (tree_of node.now) ∷ done = rw (is, one_is, two_is) refl in
+    let inner : join (tree_of node.now) (map (shifted down right) (map tree_of one.now)
+    ++ (map (shifted down right) (map tree_of two.now) ++ done)) ≡ shifted down right (tree_of node.now) ∷ done =
+    rw (is, one_is, two_is) refl in
     record {
       same = one_more down right later next (Shift two) done third
           ∙ (one_more down right middle later (Shift one) (after_step down right (Shift two) done) second
@@ -87,17 +102,28 @@ pub shifted_from : (down right : ℤ) (ts : List Tree) → trees_from (map (shif
 shifted_from down right [] = refl
 shifted_from down right (t ∷ ts) = ap (λ r. and_trees (shifted down right t) r) (shifted_from down right ts)
 
-call_joined : (down right : ℤ) (f : Function) (ts done : List Tree) → join (call f (trees_from ts)) (map (shifted down right) ts ++ done) ≡ shifted down right (call f (trees_from ts)) ∷ done
+call_joined : (down right : ℤ) (f : Function) (ts done : List Tree)
+    → join (call f (trees_from ts)) (map (shifted down right) ts ++ done) ≡ shifted down right (call f (trees_from ts))
+    ∷ done
 call_joined down right f ts done =
-    let count : length (map (shifted down right) ts) ≡ length (tree_list (trees_from ts)) = length-map ts (shifted down right) ∙ sym (ap length (trees_there ts)) in
-    rw (take_at (map (shifted down right) ts) done (length (tree_list (trees_from ts))) count, drop_at (map (shifted down right) ts) done (length (tree_list (trees_from ts))) count, shifted_from down right ts) refl
+    let count : length (map (shifted down right) ts) ≡ length (tree_list (trees_from ts)) =
+    length-map ts (shifted down right) ∙ sym (ap length (trees_there ts)) in
+    rw (
+      take_at (map (shifted down right) ts) done (length (tree_list (trees_from ts))) count,
+      drop_at (map (shifted down right) ts) done (length (tree_list (trees_from ts))) count,
+      shifted_from down right ts,
+    ) refl
 
 -- a function is left behind its parameters
-pub call_leads : (down right : ℤ) (node : Bor Node) (f : Function) (ps : Nodes) (all : Bor (List Node)) (left middle next : List Step) (done : List Tree) → tree_of node.now ≡ call f (parameters_of ps) → trees_of all.now ≡ parameters_of ps → middle ≡ left ++ Join node ∷ [] → next ≡ middle ++ Shift all ∷ [] → Leads down right left (shifted down right (tree_of node.now) ∷ done) next done (4 * node_count (tree_of node.now))
+pub call_leads : (down right : ℤ) (node : Bor Node) (f : Function) (ps : Nodes) (all : Bor (List Node))
+    (left middle next : List Step) (done : List Tree) → tree_of node.now ≡ call f (parameters_of ps)
+    → trees_of all.now ≡ parameters_of ps → middle ≡ left ++ Join node ∷ [] → next ≡ middle ++ Shift all ∷ []
+    → Leads down right left (shifted down right (tree_of node.now) ∷ done) next done (4 * node_count (tree_of node.now))
 call_leads down right node f ps all left middle next done is trees first second =
     let as_call : tree_of node.now ≡ call f (trees_of all.now) = is ∙ ap (call f) (sym trees) in
     let inner : join (tree_of node.now) (map (shifted down right) (map tree_of all.now) ++ done) ≡ shifted down right (tree_of node.now) ∷ done =
-    subst (λ (t : Tree). join t (map (shifted down right) (map tree_of all.now) ++ done) ≡ shifted down right t ∷ done) (sym as_call) (call_joined down right f (map tree_of all.now) done) in
+    subst (λ (t : Tree). join t (map (shifted down right) (map tree_of all.now) ++ done) ≡ shifted down right t
+    ∷ done) (sym as_call) (call_joined down right f (map tree_of all.now) done) in
     record {
       same = one_more down right middle next (Shift all) done second
           ∙ (one_more down right left middle (Join node) (after_step down right (Shift all) done) first ∙ ap (after_steps down right left) inner);
@@ -110,7 +136,9 @@ call_leads down right node f ps all left middle next done is trees first second 
     }
 
 -- no nodes
-pub none_leads : (down right : ℤ) (nodes : List Node) (left : List Step) (done : List Tree) → length nodes ≡ 0 → Leads down right left (map (shifted down right) (map tree_of nodes) ++ done) left done (1 + 4 * all_nodes (trees_of nodes))
+pub none_leads : (down right : ℤ) (nodes : List Node) (left : List Step) (done : List Tree) → length nodes ≡ 0
+    → Leads down right left (map (shifted down right) (map tree_of nodes) ++ done) left done
+    (1 + 4 * all_nodes (trees_of nodes))
 none_leads down right [] left done none = record { same = refl; fewer = omega arith }
 none_leads down right (x ∷ xs) left done none = absurd (omega (arith, none))
 
@@ -119,7 +147,12 @@ nodes_push [] node = omega arith
 nodes_push (x ∷ xs) node = omega (arith, nodes_push xs node)
 
 -- the last of some nodes, before the others
-pub last_leads : (down right : ℤ) (nodes : List Node) (last : Node) (others : Bor (List Node)) (left middle next : List Step) (done now : List Tree) → nodes ≡ others.now ++ last ∷ [] → middle ≡ left ++ Shift others ∷ [] → Leads down right middle (shifted down right (tree_of last) ∷ done) next now (4 * node_count (tree_of last)) → Leads down right left (map (shifted down right) (map tree_of nodes) ++ done) next now (1 + 4 * all_nodes (trees_of nodes))
+pub last_leads : (down right : ℤ) (nodes : List Node) (last : Node) (others : Bor (List Node))
+    (left middle next : List Step) (done now : List Tree) → nodes ≡ others.now ++ last ∷ [] → middle ≡ left
+    ++ Shift others ∷ [] → Leads down right middle (shifted down right (tree_of last)
+    ∷ done) next now (4 * node_count (tree_of last))
+    → Leads down right left (map (shifted down right) (map tree_of nodes)
+    ++ done) next now (1 + 4 * all_nodes (trees_of nodes))
 last_leads down right nodes last others left middle next done now split pushed leads =
     let each = λ (l : List Node). map (shifted down right) (map tree_of l) in
     let joined : each (others.now ++ last ∷ []) ≡ each others.now ++ shifted down right (tree_of last) ∷ [] =
@@ -127,7 +160,9 @@ last_leads down right nodes last others left middle next done now split pushed l
     let moved : each others.now ++ shifted down right (tree_of last) ∷ done ≡ each nodes ++ done =
     sym (ap (λ (l : List Tree). l ++ done) (ap each split ∙ joined) ∙ append_assoc (each others.now) (shifted down right (tree_of last) ∷ []) done) in
     record {
-      same = leads.same ∙ (one_more down right left middle (Shift others) (shifted down right (tree_of last) ∷ done) pushed ∙ ap (after_steps down right left) moved);
+      same =
+          leads.same ∙ (one_more down right left middle (Shift others) (shifted down right (tree_of last) ∷ done) pushed
+          ∙ ap (after_steps down right left) moved);
       fewer = omega (
         arith,
         leads.fewer,
@@ -138,15 +173,19 @@ last_leads down right nodes last others left middle next done now split pushed l
     }
 
 -- a node is put together
-pub join_leads : (down right : ℤ) (node : Bor Node) (left : List Step) (done now : List Tree) → now ≡ join (tree_of node.now) done → Leads down right left (join (tree_of node.now) done) left now 1
+pub join_leads : (down right : ℤ) (node : Bor Node) (left : List Step) (done now : List Tree)
+    → now ≡ join (tree_of node.now) done → Leads down right left (join (tree_of node.now) done) left now 1
 join_leads down right node left done now is = record { same = ap (after_steps down right left) is; fewer = omega arith }
 
 -- an operator over what was done last
-pub one_joined : (f : Tree → Tree) (old popped new : List Node) (operand made : Node) → old ≡ popped ++ operand ∷ [] → new ≡ popped ++ made ∷ [] → tree_of made ≡ f (tree_of operand) → stacked new [] ≡ over_one f (stacked old [])
+pub one_joined : (f : Tree → Tree) (old popped new : List Node) (operand made : Node) → old ≡ popped ++ operand ∷ []
+    → new ≡ popped ++ made ∷ [] → tree_of made ≡ f (tree_of operand) → stacked new [] ≡ over_one f (stacked old [])
 one_joined f old popped new operand made before after is =
     pushed_top popped new made after ∙ (ap (λ (t : Tree). t ∷ stacked popped []) is ∙ sym (ap (over_one f) (pushed_top popped old operand before)))
 
-pub two_joined : (f : Tree → Tree → Tree) (old popped less new : List Node) (first second made : Node) → old ≡ popped ++ first ∷ [] → popped ≡ less ++ second ∷ [] → new ≡ less ++ made ∷ [] → tree_of made ≡ f (tree_of first) (tree_of second) → stacked new [] ≡ over_two f (stacked old [])
+pub two_joined : (f : Tree → Tree → Tree) (old popped less new : List Node) (first second made : Node) → old ≡ popped
+    ++ first ∷ [] → popped ≡ less ++ second ∷ [] → new ≡ less ++ made ∷ []
+    → tree_of made ≡ f (tree_of first) (tree_of second) → stacked new [] ≡ over_two f (stacked old [])
 two_joined f old popped less new first second made before again after is =
     pushed_top less new made after
     ∙ (ap (λ (t : Tree). t ∷ stacked less []) is
@@ -175,12 +214,16 @@ take_past (suc i) (x ∷ xs) is = let (taken, left) = take_past i xs is in (ap (
 pub take_none : (i : ℕ) (all : List Tree) → drop i all ≡ [] → TakesNone all i (i + 1)
 take_none i all is = let next : suc i ≡ i + 1 = omega arith in subst (λ (j : ℕ). TakesNone all i j) next (take_past i all is)
 
-pub popped_one : (i : ℕ) (all : List Tree) (old popped nodes more : List Node) (node : Node) → old ≡ popped ++ node ∷ [] → more ≡ nodes ++ node ∷ [] → map tree_of nodes ≡ take i all → stacked old [] ≡ drop i all → (map tree_of more ≡ take (i + 1) all) × (stacked popped [] ≡ drop (i + 1) all)
+pub popped_one : (i : ℕ) (all : List Tree) (old popped nodes more : List Node) (node : Node) → old ≡ popped ++ node ∷ []
+    → more ≡ nodes ++ node ∷ [] → map tree_of nodes ≡ take i all → stacked old [] ≡ drop i all
+    → (map tree_of more ≡ take (i + 1) all) × (stacked popped [] ≡ drop (i + 1) all)
 popped_one i all old popped nodes more node before after taken left =
     let (first, second) = take_one i all (stacked popped []) (tree_of node) (sym left ∙ pushed_top popped old node before) in
     (ap (map tree_of) after ∙ (map-append tree_of nodes (node ∷ []) ∙ (ap (λ (l : List Tree). l ++ tree_of node ∷ []) taken ∙ sym first)), sym second)
 
-pub popped_none : (i : ℕ) (all : List Tree) (old popped nodes : List Node) → length old ≡ 0 → old ≡ popped ++ [] → map tree_of nodes ≡ take i all → stacked old [] ≡ drop i all → (map tree_of nodes ≡ take (i + 1) all) × (stacked popped [] ≡ drop (i + 1) all)
+pub popped_none : (i : ℕ) (all : List Tree) (old popped nodes : List Node) → length old ≡ 0 → old ≡ popped ++ []
+    → map tree_of nodes ≡ take i all → stacked old [] ≡ drop i all → (map tree_of nodes ≡ take (i + 1) all)
+    × (stacked popped [] ≡ drop (i + 1) all)
 popped_none i all [] popped nodes none same taken left =
     let (first, second) = take_none i all (sym left) in
     (taken ∙ sym first, ap (λ (l : List Node). stacked l []) (sym (append-nil popped) ∙ sym same) ∙ sym second)
@@ -193,26 +236,38 @@ call_kept f ts test = rw (trees_there ts, test) refl
 pub call_lost : (f : Function) (ts : List Tree) → references_at (shape_of f).references ts ≡ false → error kind.Ref ≡ call_or_lost f (trees_from ts)
 call_lost f ts test = rw (trees_there ts, test) refl
 
-pub all_joined : (f : List Tree → Tree) (count : ℕ) (old : List Tree) (popped new nodes : List Node) (made : Node) → new ≡ popped ++ made ∷ [] → tree_of made ≡ f (map tree_of nodes) → map tree_of nodes ≡ take count old → stacked popped [] ≡ drop count old → stacked new [] ≡ over_all f count old
+pub all_joined : (f : List Tree → Tree) (count : ℕ) (old : List Tree) (popped new nodes : List Node) (made : Node)
+    → new ≡ popped ++ made ∷ [] → tree_of made ≡ f (map tree_of nodes) → map tree_of nodes ≡ take count old
+    → stacked popped [] ≡ drop count old → stacked new [] ≡ over_all f count old
 all_joined f count old popped new nodes made after is taken left =
     pushed_top popped new made after ∙ (ap (λ (t : Tree). t ∷ stacked popped []) (is ∙ ap f taken) ∙ ap (λ (l : List Tree). f (take count old) ∷ l) left)
 
-pub call_done : (t : Tree) (f : Function) (ps : Nodes) (nodes : List Node) (old now : List Tree) → t ≡ call f (parameters_of ps) → trees_of nodes ≡ parameters_of ps → now ≡ over_all (λ trees. call_or_lost f (trees_from trees)) (length nodes) old → now ≡ join t old
+pub call_done : (t : Tree) (f : Function) (ps : Nodes) (nodes : List Node) (old now : List Tree)
+    → t ≡ call f (parameters_of ps) → trees_of nodes ≡ parameters_of ps
+    → now ≡ over_all (λ trees. call_or_lost f (trees_from trees)) (length nodes) old → now ≡ join t old
 call_done t f ps nodes old now is trees done =
-    let count : length (tree_list (parameters_of ps)) ≡ length nodes = ap (λ (r : _). length (tree_list r)) (sym trees) ∙ (ap length (trees_there (map tree_of nodes)) ∙ length-map nodes tree_of) in
+    let count : length (tree_list (parameters_of ps)) ≡ length nodes = ap (λ (r : _). length (tree_list r)) (sym trees)
+    ∙ (ap length (trees_there (map tree_of nodes)) ∙ length-map nodes tree_of) in
     rw (is, count) done
 
 -- the steps of a whole tree
-pub steps_start : (down right : ℤ) (root : Node) (one : Bor (List Node)) (left : List Step) (done : List Node) → one.now ≡ root ∷ [] → left ≡ Shift one ∷ [] → done ≡ [] → after_steps down right left (stacked done []) ≡ shifted down right (tree_of root) ∷ []
+pub steps_start : (down right : ℤ) (root : Node) (one : Bor (List Node)) (left : List Step) (done : List Node)
+    → one.now ≡ root ∷ [] → left ≡ Shift one ∷ [] → done ≡ []
+    → after_steps down right left (stacked done []) ≡ shifted down right (tree_of root) ∷ []
 steps_start down right root one left done alone is none = rw (is, none, alone) refl
 
-pub steps_on : (down right : ℤ) (old popped next : List Step) (step : Step) (done now : List Tree) (all : List Tree) → old ≡ popped ++ step ∷ [] → Leads down right popped (after_step down right step done) next now (step_weight step) → after_steps down right old done ≡ all → after_steps down right next now ≡ all
+pub steps_on : (down right : ℤ) (old popped next : List Step) (step : Step) (done now : List Tree) (all : List Tree)
+    → old ≡ popped ++ step ∷ [] → Leads down right popped (after_step down right step done) next now (step_weight step)
+    → after_steps down right old done ≡ all → after_steps down right next now ≡ all
 steps_on down right old popped next step done now all is leads at = leads.same ∙ (sym (one_more down right popped old step done is) ∙ at)
 
-pub steps_fewer : (down right : ℤ) (old popped next : List Step) (step : Step) (done now : List Tree) → old ≡ popped ++ step ∷ [] → Leads down right popped (after_step down right step done) next now (step_weight step) → steps_weight next < steps_weight old
+pub steps_fewer : (down right : ℤ) (old popped next : List Step) (step : Step) (done now : List Tree) → old ≡ popped
+    ++ step ∷ [] → Leads down right popped (after_step down right step done) next now (step_weight step)
+    → steps_weight next < steps_weight old
 steps_fewer down right old popped next step done now is leads = omega (arith, leads.fewer, one_heavier popped old step is)
 
-pub steps_end : (down right : ℤ) (left : List Step) (done : List Node) (t : Tree) → length left ≡ 0 → after_steps down right left (stacked done []) ≡ t ∷ [] → stacked done [] ≡ t ∷ []
+pub steps_end : (down right : ℤ) (left : List Step) (done : List Node) (t : Tree) → length left ≡ 0
+    → after_steps down right left (stacked done []) ≡ t ∷ [] → stacked done [] ≡ t ∷ []
 steps_end down right [] done t none at = at
 steps_end down right (x ∷ xs) done t none at = absurd (omega (arith, none))
 

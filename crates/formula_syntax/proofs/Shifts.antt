@@ -12,8 +12,11 @@ use Rattle.formula_syntax.specs.declared.functions.Function.{Function}
 use Rattle.formula_syntax.specs.Formula.{IsFormula}
 use Rattle.formula_syntax.specs.Functions.{shape_of}
 use Rattle.formula_syntax.specs.Reading.{references_at}
-use Rattle.formula_syntax.specs.Shifting.{if_named, shifted_part, at_cell, shifted_end, shifted_ends, shifted_reference, or_lost, call_or_lost, shifted, all_shifted, IsMovedPart, IsMovedEnd}
-use Rattle.formula_syntax.specs.Tree.{Tree, Trees, number, truth, error, reference, prefix, binary, call, no_trees, and_trees, tree_list, node_count, all_nodes, references_of, all_references, Fits, IsFitting, AreFitting}
+use Rattle.formula_syntax.specs.Shifting.{if_named, shifted_part, at_cell, shifted_end, shifted_ends, shifted_reference}
+use Rattle.formula_syntax.specs.Shifting.{or_lost, call_or_lost, shifted, all_shifted, IsMovedPart, IsMovedEnd}
+use Rattle.formula_syntax.specs.Tree.{Tree, Trees, number, truth, error, reference, prefix, binary, call, no_trees}
+use Rattle.formula_syntax.specs.Tree.{and_trees, tree_list, node_count, all_nodes, references_of, all_references, Fits}
+use Rattle.formula_syntax.specs.Tree.{IsFitting, AreFitting}
 use Rattle.formula_syntax.proofs.Fitting.{all_sound, all_complete}
 
 -- a row or a column that a whole number is
@@ -35,16 +38,20 @@ number_named last n z is from to =
     rw (first, second) (ap Some abs)
 
 -- a part that is shifted, and one that isn't fixed
-pub part_moved : (fixed : Bool) (last : ℕ) (by : ℤ) (part new : ℕ) → 1 ≤ part → part ≤ last → shifted_part fixed last by part ≡ Some new → IsMovedPart fixed by part new × (1 ≤ new) × (new ≤ last)
+pub part_moved : (fixed : Bool) (last : ℕ) (by : ℤ) (part new : ℕ) → 1 ≤ part → part ≤ last
+    → shifted_part fixed last by part ≡ Some new → IsMovedPart fixed by part new × (1 ≤ new) × (new ≤ last)
 part_moved true last by part new from to e = let same : part ≡ new = same_Some part new e in (sym same, omega (arith, same, from), omega (arith, same, to))
 part_moved false last by part new from to e = named_number last new (pos part +ℤ by) e
 
-pub moved_part : (fixed : Bool) (last : ℕ) (by : ℤ) (part new : ℕ) → 1 ≤ new → new ≤ last → IsMovedPart fixed by part new → shifted_part fixed last by part ≡ Some new
+pub moved_part : (fixed : Bool) (last : ℕ) (by : ℤ) (part new : ℕ) → 1 ≤ new → new ≤ last
+    → IsMovedPart fixed by part new → shifted_part fixed last by part ≡ Some new
 moved_part true last by part new from to e = ap Some (sym e)
 moved_part false last by part new from to e = number_named last new (pos part +ℤ by) e from to
 
 -- what an end becomes, by what its parts become
-ends_by : (a : Anchor) (row col : Option ℕ) (b : Anchor) → option_and_then (λ r. option_map (at_cell a r) col) row ≡ Some b → (r : ℕ) × (c : ℕ) × (row ≡ Some r) × (col ≡ Some c) × (at_cell a r c ≡ b)
+ends_by : (a : Anchor) (row col : Option ℕ) (b : Anchor)
+    → option_and_then (λ r. option_map (at_cell a r) col) row ≡ Some b → (r : ℕ) × (c : ℕ) × (row ≡ Some r)
+    × (col ≡ Some c) × (at_cell a r c ≡ b)
 ends_by a None col b e = absurd (none-some b e)
 ends_by a (Some r) None b e = absurd (none-some b e)
 ends_by a (Some r) (Some c) b e = (r, c, refl, refl, same_Some _ _ e)
@@ -89,10 +96,13 @@ then_some f None y e = absurd (none-some y e)
 then_some f (Some x) y e = (x, refl, e)
 
 -- the ends of a shifted reference
-one_shifted : (down right : ℤ) (head tail : Anchor) (s : Reference) → shifted_ends down right true head tail ≡ Some s → (a : Anchor) × (shifted_end down right head ≡ Some a) × (one_end a ≡ s)
+one_shifted : (down right : ℤ) (head tail : Anchor) (s : Reference) → shifted_ends down right true head tail ≡ Some s
+    → (a : Anchor) × (shifted_end down right head ≡ Some a) × (one_end a ≡ s)
 one_shifted down right head tail s e = map_some one_end (shifted_end down right head) s e
 
-two_shifted : (down right : ℤ) (head tail : Anchor) (s : Reference) → shifted_ends down right false head tail ≡ Some s → (a b : Anchor) × (shifted_end down right head ≡ Some a) × (shifted_end down right tail ≡ Some b) × (two_ends a b ≡ s)
+two_shifted : (down right : ℤ) (head tail : Anchor) (s : Reference) → shifted_ends down right false head tail ≡ Some s
+    → (a b : Anchor) × (shifted_end down right head ≡ Some a) × (shifted_end down right tail ≡ Some b)
+    × (two_ends a b ≡ s)
 two_shifted down right head tail s e =
     let (a, first, more) = then_some (λ first. option_map (two_ends first) (shifted_end down right tail)) (shifted_end down right head) s e in
     let (b, second, is) = map_some (two_ends a) (shifted_end down right tail) s more in
@@ -101,13 +111,25 @@ two_shifted down right head tail s e =
 -- a shifted reference has ends in order within the names
 two_kept : (a b : Anchor) → IsNamed a.cell.row a.cell.col → IsNamed b.cell.row b.cell.col → IsReference (lesser a b) (greater a b) false
 two_kept a b one two = record {
-  head_named = record { row_from = omega (arith, one.row_from, two.row_from); row_to = omega (arith, one.row_to, two.row_to); col_from = omega (arith, one.col_from, two.col_from); col_to = omega (arith, one.col_to, two.col_to) };
-  tail_named = record { row_from = omega (arith, one.row_from, two.row_from); row_to = omega (arith, one.row_to, two.row_to); col_from = omega (arith, one.col_from, two.col_from); col_to = omega (arith, one.col_to, two.col_to) };
+  head_named = record {
+    row_from = omega (arith, one.row_from, two.row_from);
+    row_to = omega (arith, one.row_to, two.row_to);
+    col_from = omega (arith, one.col_from, two.col_from);
+    col_to = omega (arith, one.col_to, two.col_to);
+  };
+  tail_named = record {
+    row_from = omega (arith, one.row_from, two.row_from);
+    row_to = omega (arith, one.row_to, two.row_to);
+    col_from = omega (arith, one.col_from, two.col_from);
+    col_to = omega (arith, one.col_to, two.col_to);
+  };
   ordered = record { rows = omega arith; cols = omega arith };
   one_end = λ e. absurd (cc e);
 }
 
-ends_kept : (down right : ℤ) (single : Bool) (head tail : Anchor) (s : Reference) → IsNamed head.cell.row head.cell.col → IsNamed tail.cell.row tail.cell.col → shifted_ends down right single head tail ≡ Some s → IsReference s.head s.tail s.single
+ends_kept : (down right : ℤ) (single : Bool) (head tail : Anchor) (s : Reference) → IsNamed head.cell.row head.cell.col
+    → IsNamed tail.cell.row tail.cell.col → shifted_ends down right single head tail ≡ Some s
+    → IsReference s.head s.tail s.single
 ends_kept down right true head tail s first second e =
     let (a, shifted, is) = one_shifted down right head tail s e in
     let named = (end_moved down right head a first shifted).named in
@@ -133,11 +155,20 @@ same_many : (down right : ℤ) (ps : Trees) → length (tree_list (all_shifted d
 same_many down right no_trees = refl
 same_many down right (and_trees t rest) = ap suc (same_many down right rest)
 
-call_fits : (f : Function) (ps new : Trees) → length (tree_list new) ≡ length (tree_list ps) → Fits (shape_of f) (tree_list ps) → AreFitting new → IsFitting (call_or_lost f new)
+call_fits : (f : Function) (ps new : Trees) → length (tree_list new) ≡ length (tree_list ps)
+    → Fits (shape_of f) (tree_list ps) → AreFitting new → IsFitting (call_or_lost f new)
 call_fits f ps new many fits all = by_test (references_at (shape_of f).references (tree_list new)) refl
   where
     by_test : (b : Bool) → references_at (shape_of f).references (tree_list new) ≡ b → IsFitting (call_or_lost f new)
-    by_test true e = rw e (record { least = rw many fits.least; most = rw many fits.most; references = all_sound (shape_of f).references (tree_list new) e }, all)
+    by_test true e =
+        rw e (
+          record {
+            least = rw many fits.least;
+            most = rw many fits.most;
+            references = all_sound (shape_of f).references (tree_list new) e;
+          },
+          all,
+        )
     by_test false e = rw e ref_plain
 
 mutual
@@ -250,11 +281,13 @@ greater_second a b h =
 abbrev with_ends : Bool → Anchor → Anchor → Reference
 with_ends single head tail = record { head = head; tail = tail; single = single }
 
-still_ends : (single : Bool) (head tail : Anchor) → IsReference head tail single → shifted_ends (pos 0) (pos 0) single head tail ≡ Some (with_ends single head tail)
+still_ends : (single : Bool) (head tail : Anchor) → IsReference head tail single
+    → shifted_ends (pos 0) (pos 0) single head tail ≡ Some (with_ends single head tail)
 still_ends true head tail is = rw (still_end head is.head_named) (ap (λ (t : Anchor). Some (with_ends true head t)) (is.one_end refl))
 still_ends false head tail is =
     rw (still_end head is.head_named, still_end tail is.tail_named)
-    (ap (λ (a : Anchor). Some (with_ends false a (greater head tail))) (lesser_first head tail is.ordered) ∙ ap (λ (b : Anchor). Some (with_ends false head b)) (greater_second head tail is.ordered))
+    (ap (λ (a : Anchor). Some (with_ends false a (greater head tail))) (lesser_first head tail is.ordered)
+    ∙ ap (λ (b : Anchor). Some (with_ends false head b)) (greater_second head tail is.ordered))
 
 mutual
   pub stays : (t : Tree) → IsFitting t → shifted (pos 0) (pos 0) t ≡ t
@@ -271,7 +304,8 @@ mutual
   stay (and_trees t rest) h = ap (λ (x : Tree). and_trees x (all_shifted (pos 0) (pos 0) rest)) (stays t h.0) ∙ ap (and_trees t) (stay rest h.1)
 
 -- two steps are one
-part_twice : (fixed : Bool) (last : ℕ) (by further : ℤ) (part one two : ℕ) → shifted_part fixed last by part ≡ Some one → shifted_part fixed last further one ≡ Some two → shifted_part fixed last (by +ℤ further) part ≡ Some two
+part_twice : (fixed : Bool) (last : ℕ) (by further : ℤ) (part one two : ℕ) → shifted_part fixed last by part ≡ Some one
+    → shifted_part fixed last further one ≡ Some two → shifted_part fixed last (by +ℤ further) part ≡ Some two
 part_twice true last by further part one two e f = ap Some (same_Some part one e ∙ same_Some one two f)
 part_twice false last by further part one two e f =
     let (first, _, _) = named_number last one (pos part +ℤ by) e in
@@ -287,7 +321,9 @@ record Parted (last : ℕ) (by : ℤ) (p q : Bool) (a b lower upper : ℕ) : Typ
   low : min first second ≡ min lower upper
   high : max first second ≡ max lower upper
 
-parted : (last : ℕ) (by : ℤ) (p q : Bool) (a b lower upper : ℕ) → shifted_part (if nat_le a b then p else q) last by (min a b) ≡ Some lower → shifted_part (if nat_le a b then q else p) last by (max a b) ≡ Some upper → Parted last by p q a b lower upper
+parted : (last : ℕ) (by : ℤ) (p q : Bool) (a b lower upper : ℕ)
+    → shifted_part (if nat_le a b then p else q) last by (min a b) ≡ Some lower
+    → shifted_part (if nat_le a b then q else p) last by (max a b) ≡ Some upper → Parted last by p q a b lower upper
 parted last by p q a b lower upper e f = by_test (nat_le a b) refl
   where
     by_test : (t : Bool) → nat_le a b ≡ t → Parted last by p q a b lower upper
@@ -300,12 +336,17 @@ parted last by p q a b lower upper e f = by_test (nat_le a b) refl
         let most : max a b ≡ a = grind (arith, nat_tests) in
         record { first = upper; second = lower; one = rw (is, most) at f; two = rw (is, least) at e; low = omega arith; high = omega arith }
 
-end_twice : (down right further across : ℤ) (a b c : Anchor) → shifted_end down right a ≡ Some b → shifted_end further across b ≡ Some c → shifted_end (down +ℤ further) (right +ℤ across) a ≡ Some c
+end_twice : (down right further across : ℤ) (a b c : Anchor) → shifted_end down right a ≡ Some b
+    → shifted_end further across b ≡ Some c → shifted_end (down +ℤ further) (right +ℤ across) a ≡ Some c
 end_twice down right further across a b c e f =
     let (row, col, row_is, col_is, is) = ends_by a (shifted_part a.row_fixed 1048576 down a.cell.row) (shifted_part a.col_fixed 16384 right a.cell.col) b e in
     let g : shifted_end further across (at_cell a row col) ≡ Some c = subst (λ (x : Anchor). shifted_end further across x ≡ Some c) (sym is) f in
-    let (row2, col2, row_is2, col_is2, is2) = ends_by (at_cell a row col) (shifted_part a.row_fixed 1048576 further row) (shifted_part a.col_fixed 16384 across col) c g in
-    rw (part_twice a.row_fixed 1048576 down further a.cell.row row row2 row_is row_is2, part_twice a.col_fixed 16384 right across a.cell.col col col2 col_is col_is2) (ap Some is2)
+    let (row2, col2, row_is2, col_is2, is2) = ends_by (at_cell a row col) (shifted_part a.row_fixed 1048576 further row)
+    (shifted_part a.col_fixed 16384 across col) c g in
+    rw (
+      part_twice a.row_fixed 1048576 down further a.cell.row row row2 row_is row_is2,
+      part_twice a.col_fixed 16384 right across a.cell.col col col2 col_is col_is2,
+    ) (ap Some is2)
 
 abbrev SumsTo : ℤ → ℤ → Reference → Reference → Type 0
 SumsTo down right first third = (sum : Reference) × (shifted_reference down right first ≡ Some sum) × (corners_of sum ≡ corners_of third)
@@ -324,12 +365,15 @@ record Unordered (further across : ℤ) (a b lower upper : Anchor) : Type 0 wher
   two : shifted_end further across b ≡ Some second
   corners : corners_of (two_ends first second) ≡ corners_of (two_ends lower upper)
 
-unordered : (further across : ℤ) (a b lower upper : Anchor) → shifted_end further across (lesser a b) ≡ Some lower → shifted_end further across (greater a b) ≡ Some upper → Unordered further across a b lower upper
+unordered : (further across : ℤ) (a b lower upper : Anchor) → shifted_end further across (lesser a b) ≡ Some lower
+    → shifted_end further across (greater a b) ≡ Some upper → Unordered further across a b lower upper
 unordered further across a b lower upper e f =
     let low = lesser a b in
     let high = greater a b in
-    let (r, c, r_is, c_is, is) = ends_by low (shifted_part low.row_fixed 1048576 further low.cell.row) (shifted_part low.col_fixed 16384 across low.cell.col) lower e in
-    let (s, d, s_is, d_is, also) = ends_by high (shifted_part high.row_fixed 1048576 further high.cell.row) (shifted_part high.col_fixed 16384 across high.cell.col) upper f in
+    let (r, c, r_is, c_is, is) = ends_by low (shifted_part low.row_fixed 1048576 further low.cell.row)
+    (shifted_part low.col_fixed 16384 across low.cell.col) lower e in
+    let (s, d, s_is, d_is, also) = ends_by high (shifted_part high.row_fixed 1048576 further high.cell.row)
+    (shifted_part high.col_fixed 16384 across high.cell.col) upper f in
     let rows = parted 1048576 further a.row_fixed b.row_fixed a.cell.row b.cell.row r s r_is s_is in
     let cols = parted 16384 across a.col_fixed b.col_fixed a.cell.col b.cell.col c d c_is d_is in
     record {
@@ -341,7 +385,9 @@ unordered further across a b lower upper e f =
           ∙ (ap (λ (x : Anchor). corners_of (two_ends x (at_cell high s d))) is ∙ ap (λ (x : Anchor). corners_of (two_ends lower x)) also);
     }
 
-ends_twice : (down right further across : ℤ) (single : Bool) (head tail : Anchor) (second third : Reference) → shifted_ends down right single head tail ≡ Some second → shifted_reference further across second ≡ Some third → SumsTo (down +ℤ further) (right +ℤ across) (with_ends single head tail) third
+ends_twice : (down right further across : ℤ) (single : Bool) (head tail : Anchor) (second third : Reference)
+    → shifted_ends down right single head tail ≡ Some second → shifted_reference further across second ≡ Some third
+    → SumsTo (down +ℤ further) (right +ℤ across) (with_ends single head tail) third
 ends_twice down right further across true head tail second third e f =
     let (a, one, is) = one_shifted down right head tail second e in
     let g : shifted_ends further across true a a ≡ Some third = subst (λ (x : Reference). shifted_reference further across x ≡ Some third) (sym is) f in
@@ -349,7 +395,8 @@ ends_twice down right further across true head tail second third e f =
     (one_end b, rw (end_twice down right further across head a b one two) refl, ap corners_of also)
 ends_twice down right further across false head tail second third e f =
     let (a, b, one, two, is) = two_shifted down right head tail second e in
-    let g : shifted_ends further across false (lesser a b) (greater a b) ≡ Some third = subst (λ (x : Reference). shifted_reference further across x ≡ Some third) (sym is) f in
+    let g : shifted_ends further across false (lesser a b) (greater a b) ≡ Some third =
+    subst (λ (x : Reference). shifted_reference further across x ≡ Some third) (sym is) f in
     let (lower, upper, less, more, also) = two_shifted further across (lesser a b) (greater a b) third g in
     let h = unordered further across a b lower upper less more in (
       two_ends h.first h.second,
@@ -357,7 +404,9 @@ ends_twice down right further across false head tail second third e f =
       h.corners ∙ ap corners_of also,
     )
 
-pub shifts_add : (down right further across : ℤ) (first second third : Reference) → shifted_reference down right first ≡ Some second → shifted_reference further across second ≡ Some third → SumsTo (down +ℤ further) (right +ℤ across) first third
+pub shifts_add : (down right further across : ℤ) (first second third : Reference)
+    → shifted_reference down right first ≡ Some second → shifted_reference further across second ≡ Some third
+    → SumsTo (down +ℤ further) (right +ℤ across) first third
 shifts_add down right further across first second third e f = ends_twice down right further across first.single first.head first.tail second third e f
 
 -- so a shifted formula keeps the limits

@@ -76,7 +76,8 @@ joined ts us vs ws h k = record {
 }
 
 -- the same token before both
-behind : (t : Token) (ts us : List Token) → opening t ≡ 0 → closing t ≡ 0 → ((depth : ℕ) → after_token t depth ≡ depth) → IsNoMore ts us → IsNoMore (t ∷ ts) (t ∷ us)
+behind : (t : Token) (ts us : List Token) → opening t ≡ 0 → closing t ≡ 0 → ((depth : ℕ) → after_token t depth ≡ depth)
+    → IsNoMore ts us → IsNoMore (t ∷ ts) (t ∷ us)
 behind t ts us no_open no_close same h = record {
   short = omega (arith, h.short);
   shallow = omega (arith, h.shallow, same (depth_of_tokens ts), same (depth_of_tokens us));
@@ -133,23 +134,27 @@ others_are _ _ (more first others t rest d e) = refl
 
 -- what is printed of a tree where a level is wanted is no more than what derives the tree there
 mutual
-  no_more : (level : ℕ) (ts : List Token) (t : Tree) → Derives level ts t → (want : ℕ) → want ≤ level → want ≤ 4 → IsNoMore (at_tokens want t (tree_tokens t)) ts
+  no_more : (level : ℕ) (ts : List Token) (t : Tree) → Derives level ts t → (want : ℕ) → want ≤ level → want ≤ 4
+      → IsNoMore (at_tokens want t (tree_tokens t)) ts
   no_more _ _ _ (tighter level ts t small d) want below few = no_more (suc level) ts t d want (omega (arith, below)) few
   no_more _ _ _ (operator op front last l r d e) want below few =
       let left = no_more (level_of op) front l d (level_of op) (omega arith) (omega (arith, level_small op)) in
       let right = no_more (suc (level_of op)) last r e (suc (level_of op)) (omega arith) (omega (arith, level_small op)) in
       let ours = at_tokens (suc (level_of op)) r (tree_tokens r) in
       stands_bare want (binary op l r) (front ++ token.Operator op ∷ last) below
-      (joined (at_tokens (level_of op) l (tree_tokens l)) front (token.Operator op ∷ ours) (token.Operator op ∷ last) left (behind (token.Operator op) ours last refl refl (λ _. refl) right))
+      (joined (at_tokens (level_of op) l (tree_tokens l)) front (token.Operator op ∷ ours) (token.Operator op
+      ∷ last) left (behind (token.Operator op) ours last refl refl (λ _. refl) right))
   no_more _ _ _ (sign op ts t d) want below few =
       stands_bare want (prefix op t) (token.Operator (sign_written op) ∷ ts) few
       (behind (token.Operator (sign_written op)) (at_tokens 4 t (tree_tokens t)) ts refl refl (λ _. refl) (no_more 4 ts t d 4 (omega arith) (omega arith)))
   no_more _ _ _ (a_number n) want below few = stands_bare want (number n) (token.Number n ∷ []) few (same_token (token.Number n) refl refl (λ _. refl))
   no_more _ _ _ (a_truth b) want below few = stands_bare want (truth b) (token.Truth b ∷ []) few (same_token (token.Truth b) refl refl (λ _. refl))
   no_more _ _ _ (an_error k) want below few = stands_bare want (error k) (token.Error k ∷ []) few (same_token (token.Error k) refl refl (λ _. refl))
-  no_more _ _ _ (a_reference r) want below few = stands_bare want (reference r) (token.Reference r ∷ []) few (same_token (token.Reference r) refl refl (λ _. refl))
+  no_more _ _ _ (a_reference r) want below few =
+      stands_bare want (reference r) (token.Reference r ∷ []) few (same_token (token.Reference r) refl refl (λ _. refl))
   no_more _ _ _ (parentheses ts t d) want below few =
-      in_either want t ts (subst (λ (us : List Token). IsNoMore us ts) (bare 0 t (tree_tokens t) (omega arith)) (no_more 0 ts t d 0 (omega arith) (omega arith)))
+      in_either want t ts (subst (λ (us : List Token). IsNoMore us ts) (bare 0 t (tree_tokens t) (omega arith))
+      (no_more 0 ts t d 0 (omega arith) (omega arith)))
   no_more _ _ _ (a_call f ts ps d fits) want below few =
       stands_bare want (call f ps) (token.Function f ∷ enclosed ts) few
       (behind (token.Function f) (enclosed (all_tokens ps)) (enclosed ts) refl refl (λ _. refl) (both_enclosed (all_tokens ps) ts (all_no_more ts ps d)))
@@ -163,7 +168,8 @@ mutual
 
   some_no_more : (ts : List Token) (all : Trees) → AreSome ts all → IsNoMore (all_tokens all) ts
   some_no_more _ _ (one ts t d) =
-      subst (λ (us : List Token). IsNoMore us ts) (bare 0 t (tree_tokens t) (omega arith) ∙ sym (append-nil (tree_tokens t))) (no_more 0 ts t d 0 (omega arith) (omega arith))
+      subst (λ (us : List Token). IsNoMore us ts) (bare 0 t (tree_tokens t) (omega arith)
+      ∙ sym (append-nil (tree_tokens t))) (no_more 0 ts t d 0 (omega arith) (omega arith))
   some_no_more _ _ (more first others t rest d e) =
       let here = subst (λ (us : List Token). IsNoMore us first) (bare 0 t (tree_tokens t) (omega arith)) (no_more 0 first t d 0 (omega arith) (omega arith)) in
       let there = behind token.Separator (all_tokens rest) others refl refl (λ _. refl) (some_no_more others rest e) in
@@ -174,7 +180,8 @@ mutual
 in_parentheses_size : (text : List ℕ) → length (in_parentheses text) ≡ length text + 2
 in_parentheses_size text = omega (arith, length-append text (41 ∷ []))
 
-at_size : (want : ℕ) (t : Tree) → length (tree_text t) ≡ size_of_tokens (tree_tokens t) → length (at_level want t (tree_text t)) ≡ size_of_tokens (at_tokens want t (tree_tokens t))
+at_size : (want : ℕ) (t : Tree) → length (tree_text t) ≡ size_of_tokens (tree_tokens t)
+    → length (at_level want t (tree_text t)) ≡ size_of_tokens (at_tokens want t (tree_tokens t))
 at_size want t same = by_test (nat_lt (top_level t) want) refl
   where
     by_test : (b : Bool) → nat_lt (top_level t) want ≡ b → length (at_level want t (tree_text t)) ≡ size_of_tokens (at_tokens want t (tree_tokens t))
@@ -199,15 +206,33 @@ mutual
         at_size (suc (level_of op)) r (tree_size r),
       )
   tree_size (call f ps) =
-      omega (arith, length-append (function_name f) (in_parentheses (parameters_text ps)), in_parentheses_size (parameters_text ps), enclosed_size (all_tokens ps), all_size ps)
+      omega (
+        arith,
+        length-append (function_name f) (in_parentheses (parameters_text ps)),
+        in_parentheses_size (parameters_text ps),
+        enclosed_size (all_tokens ps),
+        all_size ps,
+      )
 
   all_size : (ps : Trees) → length (parameters_text ps) ≡ size_of_tokens (all_tokens ps)
   all_size no_trees = refl
-  all_size (and_trees t rest) = omega (arith, length-append (tree_text t) (others_text rest), size-append (tree_tokens t) (other_tokens rest), tree_size t, others_size rest)
+  all_size (and_trees t rest) = omega (
+    arith,
+    length-append (tree_text t) (others_text rest),
+    size-append (tree_tokens t) (other_tokens rest),
+    tree_size t,
+    others_size rest,
+  )
 
   others_size : (ps : Trees) → length (others_text ps) ≡ size_of_tokens (other_tokens ps)
   others_size no_trees = refl
-  others_size (and_trees t rest) = omega (arith, length-append (tree_text t) (others_text rest), size-append (tree_tokens t) (other_tokens rest), tree_size t, others_size rest)
+  others_size (and_trees t rest) = omega (
+    arith,
+    length-append (tree_text t) (others_text rest),
+    size-append (tree_tokens t) (other_tokens rest),
+    tree_size t,
+    others_size rest,
+  )
 
 -- an introduction opens no parenthesis
 introduced_depth : (text rest : List ℕ) → IsIntroduced text rest → depth_of text ≡ depth_of rest
@@ -233,7 +258,8 @@ plain_no_deeper text t spells deep =
     let fits = fitting 0 spells.tokens t spells.derived (tokens_written spells.rest spells.tokens spells.has_tokens) in
     let less = derived_no_more spells.tokens t spells.derived in
     let ours : depth_of (tree_text t) ≡ depth_of_tokens (tree_tokens t) = tokens_depth (tree_text t) (tree_tokens t) (printed_tokens t fits) in
-    let theirs : depth_of text ≡ depth_of_tokens spells.tokens = introduced_depth text spells.rest spells.introduced ∙ tokens_depth spells.rest spells.tokens spells.has_tokens in
+    let theirs : depth_of text ≡ depth_of_tokens spells.tokens = introduced_depth text spells.rest spells.introduced
+    ∙ tokens_depth spells.rest spells.tokens spells.has_tokens in
     let far : 64 < depth_of (tree_text t) = too_deep (plain t) deep in
     deep_text text (omega (arith, far, ours, theirs, less.shallow))
 

@@ -72,13 +72,20 @@ no_sign_with (token.Close ∷ ts) t h = refl
 no_sign_with (token.Separator ∷ ts) t h = refl
 
 -- one more sign is passed
-pub signs_step : (tokens rest behind : List Token) (op : PrefixOp) (signs more : List PrefixOp) → rest ≡ token.Operator (sign_written op) ∷ behind → more ≡ signs ++ op ∷ [] → ((t : Tree) → with_signs tokens t ≡ under_all signs (with_signs rest t)) → (t : Tree) → with_signs tokens t ≡ under_all more (with_signs behind t)
+pub signs_step : (tokens rest behind : List Token) (op : PrefixOp) (signs more : List PrefixOp)
+    → rest ≡ token.Operator (sign_written op) ∷ behind → more ≡ signs ++ op ∷ []
+    → ((t : Tree) → with_signs tokens t ≡ under_all signs (with_signs rest t)) → (t : Tree)
+    → with_signs tokens t ≡ under_all more (with_signs behind t)
 signs_step tokens rest behind op signs more is items inv t =
-    inv t ∙ (ap (λ (r : List Token). under_all signs (with_signs r t)) is ∙ (ap (under_all signs) (with_sign op behind t) ∙ (sym (under_more signs op (with_signs behind t)) ∙ ap (λ (s : List PrefixOp). under_all s (with_signs behind t)) (sym items))))
+    inv t ∙ (ap (λ (r : List Token). under_all signs (with_signs r t)) is
+    ∙ (ap (under_all signs) (with_sign op behind t) ∙ (sym (under_more signs op (with_signs behind t))
+    ∙ ap (λ (s : List PrefixOp). under_all s (with_signs behind t)) (sym items))))
 
-pub after_step : (tokens rest behind : List Token) (op : PrefixOp) → rest ≡ token.Operator (sign_written op) ∷ behind → after_signs tokens ≡ after_signs rest → after_signs tokens ≡ after_signs behind
+pub after_step : (tokens rest behind : List Token) (op : PrefixOp) → rest ≡ token.Operator (sign_written op) ∷ behind
+    → after_signs tokens ≡ after_signs rest → after_signs tokens ≡ after_signs behind
 after_step tokens rest behind op is inv = inv ∙ (ap after_signs is ∙ after_sign op behind)
 
 -- one sign fewer is left
-pub under_step : (signs fewer : List PrefixOp) (op : PrefixOp) (t u : Tree) → signs ≡ fewer ++ op ∷ [] → under_all signs t ≡ u → under_all fewer (prefix op t) ≡ u
+pub under_step : (signs fewer : List PrefixOp) (op : PrefixOp) (t u : Tree) → signs ≡ fewer ++ op ∷ []
+    → under_all signs t ≡ u → under_all fewer (prefix op t) ≡ u
 under_step signs fewer op t u is inv = sym (under_more fewer op t) ∙ (ap (λ (s : List PrefixOp). under_all s t) (sym is) ∙ inv)

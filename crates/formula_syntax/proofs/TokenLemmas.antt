@@ -1,5 +1,6 @@
 -- Tokens at the front of a text: what they are by their first bytes, and that they are one.
-use Rattle.std.proofs.Common.{◌≡◌, ◌≢◌, ℕ, suc, ◌+◌, ◌<◌, ◌≤◌, ◌⊎◌, Bool, true, false, List, [], ◌∷◌, ◌++◌, length, take, drop, refl, sym, ◌∙◌, ap, subst, arith, inl, inr}
+use Rattle.std.proofs.Common.{◌≡◌, ◌≢◌, ℕ, suc, ◌+◌, ◌<◌, ◌≤◌, ◌⊎◌, Bool, true, false, List, [], ◌∷◌, ◌++◌, length}
+use Rattle.std.proofs.Common.{take, drop, refl, sym, ◌∙◌, ap, subst, arith, inl, inr}
 use Rattle.std.specs.Prelude.{Option, Some, None, IfSome, MatchOption, ◌||◌, ◌==◌, nat_eq, cond, codes, option_map}
 use Rattle.std.specs.List.{prefix_len, starts_with}
 use Rattle.std.specs.Cmp.Lexicographic.{pointwise}
@@ -60,7 +61,8 @@ begins (x ∷ xs) (y ∷ ys) e =
     let (r, split) = begins xs ys (and_second (nat_eq x y) (pointwise nat_eq xs (take (length xs) ys)) e) in
     (r, same_cons same split)
 
-at_front : (text : List ℕ) (n : ℕ) (t : Token) (piece rest : List ℕ) → text ≡ piece ++ rest → n ≡ length piece → 0 < n → IsToken piece rest t → IsFront text (t, n)
+at_front : (text : List ℕ) (n : ℕ) (t : Token) (piece rest : List ℕ) → text ≡ piece ++ rest → n ≡ length piece → 0 < n
+    → IsToken piece rest t → IsFront text (t, n)
 at_front text n t piece rest split len some is =
     let front : take n text ≡ piece = rw (split, len) (take_front piece rest) in
     let behind : drop n text ≡ rest = rw (split, len) (drop-append_seam piece rest) in
@@ -69,8 +71,14 @@ at_front text n t piece rest split len some is =
 -- what is read as a token that is always written alike is one
 single_sound : (b : ℕ) (bs : List ℕ) → IfSome (option_map alone (single_of b)) (IsFront (b ∷ bs))
 single_sound b bs =
-    either P (b == 43) _ _ (λ e. op Add 43 e refl tt) (λ _. either P (b == 45) _ _ (λ e. op Sub 45 e refl tt) (λ _. either P (b == 42) _ _ (λ e. op Mul 42 e refl tt) (λ _. either P (b == 47) _ _ (λ e. op Div 47 e refl tt) (λ _. either P (b == 94) _ _ (λ e. op Power 94 e refl tt) (λ _. either P (b == 61) _ _ (λ e. op Equal 61 e refl tt)
-    (λ _. either P (b == 40) _ _ (λ e. one 40 token.Open e (opening bs)) (λ _. either P (b == 41) _ _ (λ e. one 41 token.Close e (closing bs)) (λ _. either P (b == 59) _ _ (λ e. one 59 token.Separator e (semicolon bs)) (λ _. either P (b == 44) _ _ (λ e. one 44 token.Separator e (comma bs)) (λ _. tt))))))))))
+    either P (b == 43) _ _ (λ e. op Add 43 e refl tt) (λ _. either P (b == 45) _ _ (λ e. op Sub 45 e refl tt)
+    (λ _. either P (b == 42) _ _ (λ e. op Mul 42 e refl tt) (λ _. either P (b == 47) _ _ (λ e. op Div 47 e refl tt)
+    (λ _. either P (b == 94) _ _ (λ e. op Power 94 e refl tt)
+    (λ _. either P (b == 61) _ _ (λ e. op Equal 61 e refl tt)
+    (λ _. either P (b == 40) _ _ (λ e. one 40 token.Open e (opening bs))
+    (λ _. either P (b == 41) _ _ (λ e. one 41 token.Close e (closing bs))
+    (λ _. either P (b == 59) _ _ (λ e. one 59 token.Separator e (semicolon bs))
+    (λ _. either P (b == 44) _ _ (λ e. one 44 token.Separator e (comma bs)) (λ _. tt))))))))))
   where
     P : Option Token → Type 0
     P o = IfSome (option_map alone o) (IsFront (b ∷ bs))
@@ -82,13 +90,17 @@ single_sound b bs =
     op o c e written longest = one c (token.Operator o) e (subst (λ (t : List ℕ). IsToken t bs (token.Operator o)) written (operator bs o longest))
 
 less_sound : (bs : List ℕ) → IsFront (60 ∷ bs) (less_of bs)
-less_sound [] = at_front (60 ∷ []) 1 (token.Operator Less) (60 ∷ []) [] refl refl (omega arith) (operator [] Less ((λ more e. absurd (cc)), (λ more e. absurd (cc))))
+less_sound [] = at_front (60 ∷ []) 1 (token.Operator Less) (60 ∷ []) [] refl refl (omega arith)
+    (operator [] Less ((λ more e. absurd (cc)), (λ more e. absurd (cc))))
 less_sound (b ∷ bs) =
     either (IsFront (60 ∷ b ∷ bs)) (b == 61) _ _
-    (λ e. let same : b ≡ 61 = grind (arith, nat_tests) in at_front (60 ∷ b ∷ bs) 2 (token.Operator LessEqual) (60 ∷ 61 ∷ []) bs (rw same refl) refl (omega arith) (operator bs LessEqual tt))
+    (λ e. let same : b ≡ 61 = grind (arith, nat_tests) in at_front (60 ∷ b ∷ bs) 2 (token.Operator LessEqual) (60 ∷ 61
+    ∷ []) bs (rw same refl) refl (omega arith) (operator bs LessEqual tt))
     (λ n. either (IsFront (60 ∷ b ∷ bs)) (b == 62) _ _
-    (λ e. let same : b ≡ 62 = grind (arith, nat_tests) in at_front (60 ∷ b ∷ bs) 2 (token.Operator Unequal) (60 ∷ 62 ∷ []) bs (rw same refl) refl (omega arith) (operator bs Unequal tt))
-    (λ m. at_front (60 ∷ b ∷ bs) 1 (token.Operator Less) (60 ∷ []) (b ∷ bs) refl refl (omega arith) (operator (b ∷ bs) Less ((λ more e. differs 61 n more e), (λ more e. differs 62 m more e)))))
+    (λ e. let same : b ≡ 62 = grind (arith, nat_tests) in at_front (60 ∷ b ∷ bs) 2 (token.Operator Unequal) (60 ∷ 62
+    ∷ []) bs (rw same refl) refl (omega arith) (operator bs Unequal tt))
+    (λ m. at_front (60 ∷ b ∷ bs) 1 (token.Operator Less) (60 ∷ []) (b ∷ bs) refl refl (omega arith)
+    (operator (b ∷ bs) Less ((λ more e. differs 61 n more e), (λ more e. differs 62 m more e)))))
   where
     differs : (c : ℕ) → (b == c) ≡ false → (more : List ℕ) → (b ∷ bs) ≡ c ∷ more → ⊥
     differs c n more e = let same : b ≡ c = cc in false≢true (sym n ∙ (grind (arith, nat_tests)))
@@ -97,7 +109,8 @@ greater_sound : (bs : List ℕ) → IsFront (62 ∷ bs) (greater_of bs)
 greater_sound [] = at_front (62 ∷ []) 1 (token.Operator Greater) (62 ∷ []) [] refl refl (omega arith) (operator [] Greater (λ more e. absurd (cc)))
 greater_sound (b ∷ bs) =
     either (IsFront (62 ∷ b ∷ bs)) (b == 61) _ _
-    (λ e. let same : b ≡ 61 = grind (arith, nat_tests) in at_front (62 ∷ b ∷ bs) 2 (token.Operator GreaterEqual) (62 ∷ 61 ∷ []) bs (rw same refl) refl (omega arith) (operator bs GreaterEqual tt))
+    (λ e. let same : b ≡ 61 = grind (arith, nat_tests) in at_front (62 ∷ b ∷ bs) 2 (token.Operator GreaterEqual) (62
+    ∷ 61 ∷ []) bs (rw same refl) refl (omega arith) (operator bs GreaterEqual tt))
     (λ n. at_front (62 ∷ b ∷ bs) 1 (token.Operator Greater) (62 ∷ []) (b ∷ bs) refl refl (omega arith) (operator (b ∷ bs) Greater (λ more e. differs n more e)))
   where
     differs : (b == 61) ≡ false → (more : List ℕ) → (b ∷ bs) ≡ 61 ∷ more → ⊥
@@ -117,10 +130,12 @@ error_sound bs =
     P : Option (Token × ℕ) → Type 0
     P o = IfSome o (IsFront (35 ∷ bs))
 
-    named : (k : ErrorKind) (p : List ℕ) → starts_with nat_eq bs p ≡ true → error_text k ≡ 35 ∷ p → k ≢ kind.Circ → IsFront (35 ∷ bs) (token.Error k, suc (length p))
+    named : (k : ErrorKind) (p : List ℕ) → starts_with nat_eq bs p ≡ true → error_text k ≡ 35 ∷ p → k ≢ kind.Circ
+        → IsFront (35 ∷ bs) (token.Error k, suc (length p))
     named k p e written apart =
         let (r, split) = begins p bs e in
-        at_front (35 ∷ bs) (suc (length p)) (token.Error k) (35 ∷ p) r (ap (λ (l : List ℕ). 35 ∷ l) split) refl (omega arith) (subst (λ (l : List ℕ). IsToken l r (token.Error k)) written (error r k apart))
+        at_front (35 ∷ bs) (suc (length p)) (token.Error k) (35 ∷ p) r (ap (λ (l : List ℕ). 35 ∷ l) split) refl
+        (omega arith) (subst (λ (l : List ℕ). IsToken l r (token.Error k)) written (error r k apart))
 
 pub fixed_sound : (b : ℕ) (bs : List ℕ) → IfSome (fixed_of b bs) (IsFront (b ∷ bs))
 fixed_sound b bs =
@@ -139,7 +154,8 @@ pub record IsFixed (piece rest : List ℕ) (t : Token) : Type 0 where
   pub split : piece ++ rest ≡ first ∷ behind
   pub read_as : fixed_of first behind ≡ Some (t, length piece)
 
-abbrev fixed_as : (piece rest : List ℕ) (t : Token) (first : ℕ) (behind : List ℕ) → piece ++ rest ≡ first ∷ behind → fixed_of first behind ≡ Some (t, length piece) → IsFixed piece rest t
+abbrev fixed_as : (piece rest : List ℕ) (t : Token) (first : ℕ) (behind : List ℕ) → piece ++ rest ≡ first ∷ behind
+    → fixed_of first behind ≡ Some (t, length piece) → IsFixed piece rest t
 fixed_as piece rest t first behind split read_as = record { first = first; behind = behind; split = split; read_as = read_as }
 
 apart_test : (b c : ℕ) (bs : List ℕ) → ((more : List ℕ) → (b ∷ bs) ≢ c ∷ more) → (b == c) ≡ false
@@ -213,7 +229,21 @@ differs_from b c w other = by_test (b == c) refl
 -- no word's byte and no bracket begins a token that is always written alike
 word_not_fixed : (b : ℕ) (bs : List ℕ) → is_word b ≡ true → fixed_of b bs ≡ None
 word_not_fixed b bs w =
-    rw (differs_from b 60 w refl, differs_from b 62 w refl, differs_from b 35 w refl, differs_from b 43 w refl, differs_from b 45 w refl, differs_from b 42 w refl, differs_from b 47 w refl, differs_from b 94 w refl, differs_from b 61 w refl, differs_from b 40 w refl, differs_from b 41 w refl, differs_from b 59 w refl, differs_from b 44 w refl) refl
+    rw (
+      differs_from b 60 w refl,
+      differs_from b 62 w refl,
+      differs_from b 35 w refl,
+      differs_from b 43 w refl,
+      differs_from b 45 w refl,
+      differs_from b 42 w refl,
+      differs_from b 47 w refl,
+      differs_from b 94 w refl,
+      differs_from b 61 w refl,
+      differs_from b 40 w refl,
+      differs_from b 41 w refl,
+      differs_from b 59 w refl,
+      differs_from b 44 w refl,
+    ) refl
 
 pub bracket_not_fixed : (bs : List ℕ) → fixed_of 91 bs ≡ None
 bracket_not_fixed bs = refl
@@ -231,10 +261,14 @@ word_only text piece rest t starts split is = by_kind piece rest t (subst Starts
     by_kind piece rest t starts (a_fixed _ _ _ f) = absurd (fixed_no_word piece rest t f starts)
 
 -- where a bracket begins, a token is a reference in brackets
-pub bracket_only : (inner piece rest : List ℕ) (t : Token) → 91 ∷ inner ≡ piece ++ rest → IsToken piece rest t → (text : List ℕ) × (r : Reference) × IsReferenceName true text r × (t ≡ token.Reference r) × (inner ≡ text ++ 93 ∷ rest) × (piece ≡ 91 ∷ (text ++ 93 ∷ []))
+pub bracket_only : (inner piece rest : List ℕ) (t : Token) → 91 ∷ inner ≡ piece ++ rest → IsToken piece rest t
+    → (text : List ℕ) × (r : Reference) × IsReferenceName true text r × (t ≡ token.Reference r)
+    × (inner ≡ text ++ 93 ∷ rest) × (piece ≡ 91 ∷ (text ++ 93 ∷ []))
 bracket_only inner piece rest t split is = by_kind piece rest t split (kind_of piece rest t is)
   where
-    by_kind : (piece rest : List ℕ) (t : Token) → 91 ∷ inner ≡ piece ++ rest → Kind piece rest t → (text : List ℕ) × (r : Reference) × IsReferenceName true text r × (t ≡ token.Reference r) × (inner ≡ text ++ 93 ∷ rest) × (piece ≡ 91 ∷ (text ++ 93 ∷ []))
+    by_kind : (piece rest : List ℕ) (t : Token) → 91 ∷ inner ≡ piece ++ rest → Kind piece rest t → (text : List ℕ)
+        × (r : Reference) × IsReferenceName true text r × (t ≡ token.Reference r) × (inner ≡ text ++ 93 ∷ rest)
+        × (piece ≡ 91 ∷ (text ++ 93 ∷ []))
     by_kind piece rest t split (a_word _ _ _ starts w ended) = absurd (false≢true (subst StartsWord (sym split) starts))
     by_kind _ rest _ split (a_bracketed text _ r name) =
         let same : inner ≡ (text ++ 93 ∷ []) ++ rest = cc in
@@ -245,7 +279,8 @@ bracket_only inner piece rest t split is = by_kind piece rest t split (kind_of p
         absurd (none-some _ (sym (subst (λ (b : ℕ). fixed_of b f.behind ≡ None) (sym first) (bracket_not_fixed f.behind)) ∙ f.read_as))
 
 -- elsewhere a token is one that is always written alike
-pub fixed_only : (b : ℕ) (bs piece rest : List ℕ) (t : Token) → is_word b ≡ false → b ≢ 91 → b ∷ bs ≡ piece ++ rest → IsToken piece rest t → fixed_of b bs ≡ Some (t, length piece)
+pub fixed_only : (b : ℕ) (bs piece rest : List ℕ) (t : Token) → is_word b ≡ false → b ≢ 91 → b ∷ bs ≡ piece ++ rest
+    → IsToken piece rest t → fixed_of b bs ≡ Some (t, length piece)
 fixed_only b bs piece rest t no_word no_bracket split is = by_kind piece rest t split (kind_of piece rest t is)
   where
     by_kind : (piece rest : List ℕ) (t : Token) → b ∷ bs ≡ piece ++ rest → Kind piece rest t → fixed_of b bs ≡ Some (t, length piece)
@@ -263,7 +298,8 @@ pub record IsSame (piece rest : List ℕ) (t : Token) (other after : List ℕ) (
   pub rests : rest ≡ after
   pub tokens : t ≡ u
 
-same_split : (text piece rest other after : List ℕ) → text ≡ piece ++ rest → text ≡ other ++ after → length piece ≡ length other → (piece ≡ other) × (rest ≡ after)
+same_split : (text piece rest other after : List ℕ) → text ≡ piece ++ rest → text ≡ other ++ after
+    → length piece ≡ length other → (piece ≡ other) × (rest ≡ after)
 same_split text piece rest other after split apart len =
     let front : take (length piece) text ≡ piece = rw split (take_front piece rest) in
     let again : take (length other) text ≡ other = rw apart (take_front other after) in
@@ -271,30 +307,40 @@ same_split text piece rest other after split apart len =
     let besides : drop (length other) text ≡ after = rw apart (drop-append_seam other after) in
     (sym front ∙ (ap (λ (n : ℕ). take n text) len ∙ again), sym behind ∙ (ap (λ (n : ℕ). drop n text) len ∙ besides))
 
-words_same : (text piece rest other after : List ℕ) (t u : Token) → text ≡ piece ++ rest → text ≡ other ++ after → IsWord piece t × HasEnded rest → IsWord other u × HasEnded after → IsSame piece rest t other after u
+words_same : (text piece rest other after : List ℕ) (t u : Token) → text ≡ piece ++ rest → text ≡ other ++ after
+    → IsWord piece t × HasEnded rest → IsWord other u × HasEnded after → IsSame piece rest t other after u
 words_same text piece rest other after t u split apart (w, ended) (v, past) =
     let one : prefix_len is_word text ≡ length piece = rw split (word_front piece rest (word_bytes piece t w) ended) in
     let two : prefix_len is_word text ≡ length other = rw apart (word_front other after (word_bytes other u v) past) in
     let (pieces, rests) = same_split text piece rest other after split apart (sym one ∙ two) in
     record { pieces = pieces; rests = rests; tokens = word_unique other t u (subst (λ (l : List ℕ). IsWord l t) pieces w) v }
 
-pub bracket_length : (inner text rest : List ℕ) (r : Reference) → inner ≡ text ++ 93 ∷ rest → IsReferenceName true text r → prefix_len is_word inner ≡ length text
+pub bracket_length : (inner text rest : List ℕ) (r : Reference) → inner ≡ text ++ 93 ∷ rest
+    → IsReferenceName true text r → prefix_len is_word inner ≡ length text
 bracket_length inner text rest r split name = rw split (word_front text (93 ∷ rest) (reference_words true text r name) refl)
 
 abbrev Bracketed : List ℕ → List ℕ → List ℕ → Token → Type 0
-Bracketed inner piece rest t = (text : List ℕ) × (r : Reference) × IsReferenceName true text r × (t ≡ token.Reference r) × (inner ≡ text ++ 93 ∷ rest) × (piece ≡ 91 ∷ (text ++ 93 ∷ []))
+Bracketed inner piece rest t = (text : List ℕ) × (r : Reference) × IsReferenceName true text r × (t ≡ token.Reference r)
+    × (inner ≡ text ++ 93 ∷ rest) × (piece ≡ 91 ∷ (text ++ 93 ∷ []))
 
-brackets_same : (inner piece rest other after : List ℕ) (t u : Token) → Bracketed inner piece rest t → Bracketed inner other after u → IsSame piece rest t other after u
+brackets_same : (inner piece rest other after : List ℕ) (t u : Token) → Bracketed inner piece rest t
+    → Bracketed inner other after u → IsSame piece rest t other after u
 brackets_same inner piece rest other after t u (x, r, name, is, split, whole) (y, q, also, are, apart, all) =
     let len : length x ≡ length y = sym (bracket_length inner x rest r split name) ∙ bracket_length inner y after q apart also in
     let (texts, rests) = same_split inner x (93 ∷ rest) y (93 ∷ after) split apart len in
     let same : r ≡ q = one_reference true y r q (subst (λ (l : List ℕ). IsReferenceName true l r) texts name) also in
-    record { pieces = whole ∙ (ap (λ (l : List ℕ). 91 ∷ (l ++ 93 ∷ [])) texts ∙ sym all); rests = same_tail rests; tokens = is ∙ (ap token.Reference same ∙ sym are) }
+    record {
+      pieces = whole ∙ (ap (λ (l : List ℕ). 91 ∷ (l ++ 93 ∷ [])) texts ∙ sym all);
+      rests = same_tail rests;
+      tokens = is ∙ (ap token.Reference same ∙ sym are);
+    }
   where
     same_tail : {a b : List ℕ} → 93 ∷ a ≡ 93 ∷ b → a ≡ b
     same_tail e = cc
 
-fixed_same : (text piece rest other after : List ℕ) (t u : Token) (o : Option (Token × ℕ)) → text ≡ piece ++ rest → text ≡ other ++ after → o ≡ Some (t, length piece) → o ≡ Some (u, length other) → IsSame piece rest t other after u
+fixed_same : (text piece rest other after : List ℕ) (t u : Token) (o : Option (Token × ℕ)) → text ≡ piece ++ rest
+    → text ≡ other ++ after → o ≡ Some (t, length piece) → o ≡ Some (u, length other)
+    → IsSame piece rest t other after u
 fixed_same text piece rest other after t u o split apart one two =
     let pair = same_Some (t, length piece) (u, length other) (sym one ∙ two) in
     let len : length piece ≡ length other = ap (λ (q : Token × ℕ). q.1) pair in
@@ -312,15 +358,21 @@ token_some piece rest t is = by_kind piece rest t (kind_of piece rest t is)
     by_kind _ rest _ (a_bracketed text _ r name) = omega arith
     by_kind piece rest t (a_fixed _ _ _ f) = front f.first f.behind t (length piece) (fixed_sound f.first f.behind) f.read_as
 
-pub token_unique : (text piece rest other after : List ℕ) (t u : Token) → text ≡ piece ++ rest → text ≡ other ++ after → IsToken piece rest t → IsToken other after u → IsSame piece rest t other after u
+pub token_unique : (text piece rest other after : List ℕ) (t u : Token) → text ≡ piece ++ rest → text ≡ other ++ after
+    → IsToken piece rest t → IsToken other after u → IsSame piece rest t other after u
 token_unique [] piece rest other after t u split apart is also = absurd (omega (arith, token_some piece rest t is, ap length split, length-append piece rest))
 token_unique (b ∷ bs) piece rest other after t u split apart is also = by_word (is_word b) refl
   where
     by_word : (w : Bool) → is_word b ≡ w → IsSame piece rest t other after u
-    by_word true e = words_same (b ∷ bs) piece rest other after t u split apart (word_only (b ∷ bs) piece rest t e split is) (word_only (b ∷ bs) other after u e apart also)
+    by_word true e =
+        words_same (b ∷ bs) piece rest other after t u split apart (word_only (b ∷ bs) piece rest t e split is)
+        (word_only (b ∷ bs) other after u e apart also)
     by_word false e = elim (cases_eq b 91) [
-      | inl bracket ↦ brackets_same bs piece rest other after t u (bracket_only bs piece rest t (rw bracket at split) is) (bracket_only bs other after u (rw bracket at apart) also)
-      | inr no_bracket ↦ fixed_same (b ∷ bs) piece rest other after t u (fixed_of b bs) split apart (fixed_only b bs piece rest t e no_bracket split is) (fixed_only b bs other after u e no_bracket apart also)
+      | inl bracket ↦
+          brackets_same bs piece rest other after t u (bracket_only bs piece rest t (rw bracket at split) is)
+          (bracket_only bs other after u (rw bracket at apart) also)
+      | inr no_bracket ↦ fixed_same (b ∷ bs) piece rest other after t u (fixed_of b bs) split apart
+          (fixed_only b bs piece rest t e no_bracket split is) (fixed_only b bs other after u e no_bracket apart also)
     ]
 
 or_cases : (p q : Bool) → (p || q) ≡ true → (p ≡ true) ⊎ (q ≡ true)
@@ -367,7 +419,11 @@ word_missing text starts none piece rest t split is =
     none t (subst (λ (l : List ℕ). IsWord l t) (sym front) w)
 
 -- what a reader of brackets finds behind the first one
-pub bracket_found : (inner : List ℕ) (r : Reference) (tail : List ℕ) → drop (prefix_len is_word inner) inner ≡ 93 ∷ tail → IsReferenceName true (take (prefix_len is_word inner) inner) r → IsFront (91 ∷ inner) (token.Reference r, prefix_len is_word inner + 2)
+pub bracket_found : (inner : List ℕ) (r : Reference) (tail : List ℕ) → drop (prefix_len is_word inner) inner ≡ 93 ∷ tail
+    → IsReferenceName true (take (prefix_len is_word inner) inner) r → IsFront (91 ∷ inner) (
+      token.Reference r,
+      prefix_len is_word inner + 2,
+    )
 bracket_found inner r tail split name =
     let n = prefix_len is_word inner in
     let text = take n inner in
@@ -391,7 +447,8 @@ bracket_missing inner none piece rest t split is = by_parts (bracket_only inner 
     by_parts : Bracketed inner piece rest t → ⊥
     by_parts (text, r, name, same, whole, all) =
         let len = bracket_length inner text rest r whole name in
-        let front : take (prefix_len is_word inner) inner ≡ text = ap (λ (n : ℕ). take n inner) len ∙ (ap (λ (l : List ℕ). take (length text) l) whole ∙ take_front text (93 ∷ rest)) in
+        let front : take (prefix_len is_word inner) inner ≡ text = ap (λ (n : ℕ). take n inner) len
+        ∙ (ap (λ (l : List ℕ). take (length text) l) whole ∙ take_front text (93 ∷ rest)) in
         none r (subst (λ (l : List ℕ). IsReferenceName true l r) (sym front) name)
 
 pub empty_no_token : (text : List ℕ) → length text ≡ 0 → HasNoToken text
@@ -401,13 +458,18 @@ empty_no_token text none piece rest t split is = omega (arith, token_some piece 
 pub fixed_missing : (b : ℕ) (bs : List ℕ) → is_word b ≡ false → b ≢ 91 → fixed_of b bs ≡ None → HasNoToken (b ∷ bs)
 fixed_missing b bs no_word no_bracket none piece rest t split is = none-some _ (sym none ∙ fixed_only b bs piece rest t no_word no_bracket split is)
 
-pub fixed_found : (b : ℕ) (bs : List ℕ) (o : Option (Token × ℕ)) → is_word b ≡ false → b ≢ 91 → o ≡ fixed_of b bs → MatchOption o (HasNoToken (b ∷ bs)) (IsFront (b ∷ bs))
+pub fixed_found : (b : ℕ) (bs : List ℕ) (o : Option (Token × ℕ)) → is_word b ≡ false → b ≢ 91 → o ≡ fixed_of b bs
+    → MatchOption o (HasNoToken (b ∷ bs)) (IsFront (b ∷ bs))
 fixed_found b bs None no_word no_bracket e = fixed_missing b bs no_word no_bracket (sym e)
 fixed_found b bs (Some found) no_word no_bracket e = subst (λ (o : Option (Token × ℕ)). IfSome o (IsFront (b ∷ bs))) (sym e) (fixed_sound b bs)
 
-pub at_word : (text : List ℕ) (n : ℕ) (o : Option Token) (found : Option (Token × ℕ)) → StartsWord text → n ≡ prefix_len is_word text → MatchOption o ((t : Token) → ¬ IsWord (take n text) t) (IsWord (take n text)) → found ≡ option_map (λ t. (t, n)) o → MatchOption found (HasNoToken text) (IsFront text)
+pub at_word : (text : List ℕ) (n : ℕ) (o : Option Token) (found : Option (Token × ℕ)) → StartsWord text
+    → n ≡ prefix_len is_word text → MatchOption o ((t : Token) → ¬ IsWord (take n text) t) (IsWord (take n text))
+    → found ≡ option_map (λ t. (t, n)) o → MatchOption found (HasNoToken text) (IsFront text)
 at_word text n None found starts len m e = rw e (word_missing text starts (subst (λ (k : ℕ). (t : Token) → ¬ IsWord (take k text) t) len m))
 at_word text n (Some t) found starts len m e = rw (e, len) (word_found text t starts (subst (λ (k : ℕ). IsWord (take k text) t) len m))
 
-pub at_first : (text rest : List ℕ) (first : ℕ) (found : Option (Token × ℕ)) → text ≡ first ∷ rest → MatchOption found (HasNoToken (first ∷ rest)) (IsFront (first ∷ rest)) → MatchOption found (HasNoToken text) (IsFront text)
+pub at_first : (text rest : List ℕ) (first : ℕ) (found : Option (Token × ℕ)) → text ≡ first ∷ rest
+    → MatchOption found (HasNoToken (first ∷ rest)) (IsFront (first ∷ rest))
+    → MatchOption found (HasNoToken text) (IsFront text)
 at_first text rest first found split m = subst (λ (l : List ℕ). MatchOption found (HasNoToken l) (IsFront l)) (sym split) m

@@ -29,7 +29,8 @@ and_right false = refl
 
 has-append : (edition : Edition) (ts us : List Token) → has_tokens edition (ts ++ us) ≡ (has_tokens edition ts && has_tokens edition us)
 has-append edition [] us = refl
-has-append edition (t ∷ ts) us = ap (λ (b : Bool). has_token edition t && b) (has-append edition ts us) ∙ sym (and_assoc (has_token edition t) (has_tokens edition ts) (has_tokens edition us))
+has-append edition (t ∷ ts) us = ap (λ (b : Bool). has_token edition t && b) (has-append edition ts us)
+    ∙ sym (and_assoc (has_token edition t) (has_tokens edition ts) (has_tokens edition us))
 
 both : {p q r s : Bool} → p ≡ q → r ≡ s → (p && r) ≡ (q && s)
 both e f = cc
@@ -87,7 +88,8 @@ lost_within : (edition : Edition) (o : Option Reference) → has_tree edition (o
 lost_within edition None = refl
 lost_within edition (Some r) = refl
 
-call_within : (edition : Edition) (f : Function) (ps : Trees) → has_function edition f ≡ true → has_trees edition ps ≡ true → has_tree edition (call_or_lost f ps) ≡ true
+call_within : (edition : Edition) (f : Function) (ps : Trees) → has_function edition f ≡ true
+    → has_trees edition ps ≡ true → has_tree edition (call_or_lost f ps) ≡ true
 call_within edition f ps has all = by_test (references_at (shape_of f).references (tree_list ps)) refl
   where
     by_test : (b : Bool) → references_at (shape_of f).references (tree_list ps) ≡ b → has_tree edition (call_or_lost f ps) ≡ true
@@ -102,11 +104,14 @@ mutual
   stays_within edition down right (reference r) h = lost_within edition (shifted_reference down right r)
   stays_within edition down right (prefix op t) h = stays_within edition down right t h
   stays_within edition down right (binary op l r) h =
-      and_true _ _ (stays_within edition down right l (and_first (has_tree edition l) (has_tree edition r) h)) (stays_within edition down right r (and_second (has_tree edition l) (has_tree edition r) h))
+      and_true _ _ (stays_within edition down right l (and_first (has_tree edition l) (has_tree edition r) h))
+      (stays_within edition down right r (and_second (has_tree edition l) (has_tree edition r) h))
   stays_within edition down right (call f ps) h =
-      call_within edition f (all_shifted down right ps) (and_first (has_function edition f) (has_trees edition ps) h) (stay_within edition down right ps (and_second (has_function edition f) (has_trees edition ps) h))
+      call_within edition f (all_shifted down right ps) (and_first (has_function edition f) (has_trees edition ps) h)
+      (stay_within edition down right ps (and_second (has_function edition f) (has_trees edition ps) h))
 
   stay_within : (edition : Edition) (down right : ℤ) (ps : Trees) → has_trees edition ps ≡ true → has_trees edition (all_shifted down right ps) ≡ true
   stay_within edition down right no_trees h = refl
   stay_within edition down right (and_trees t rest) h =
-      and_true _ _ (stays_within edition down right t (and_first (has_tree edition t) (has_trees edition rest) h)) (stay_within edition down right rest (and_second (has_tree edition t) (has_trees edition rest) h))
+      and_true _ _ (stays_within edition down right t (and_first (has_tree edition t) (has_trees edition rest) h))
+      (stay_within edition down right rest (and_second (has_tree edition t) (has_trees edition rest) h))

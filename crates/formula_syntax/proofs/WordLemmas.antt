@@ -12,7 +12,11 @@ use Rattle.sheet_refs.specs.Ends.IsReferenceName.{alone, joined}
 use Rattle.sheet_refs.proofs.EndLemmas.{one_reference}
 use Rattle.value_core.specs.Values.{truth_text}
 use Rattle.formula_syntax.specs.declared.functions.Function.{Function}
-use Rattle.formula_syntax.specs.declared.functions.Function.TheVariants.{Sum, Product, Min, Max, Count, Counta, Countblank, If, Iferror, And, Or, Not, Abs, Sign, Mod, Quotient, Iserror, Isnumber, Islogical, Istext, Isblank, Na, Countif, Sumif, Match}
+use Rattle.formula_syntax.specs.declared.functions.Function.TheVariants.{Sum, Product, Min, Max, Count, Counta}
+use Rattle.formula_syntax.specs.declared.functions.Function.TheVariants.{Countblank, If, Iferror, And, Or, Not, Abs}
+use Rattle.formula_syntax.specs.declared.functions.Function.TheVariants.{Sign, Mod, Quotient, Iserror, Isnumber}
+use Rattle.formula_syntax.specs.declared.functions.Function.TheVariants.{Islogical, Istext, Isblank, Na, Countif, Sumif}
+use Rattle.formula_syntax.specs.declared.functions.Function.TheVariants.{Match}
 use Rattle.formula_syntax.specs.declared.tokens.Token.{Token}
 use Rattle.formula_syntax.specs.declared.tokens.Token.TheVariants as token
 use Rattle.formula_syntax.specs.Functions.{function_name, all_functions}
@@ -48,7 +52,9 @@ all_apart P h Sumif = h 23 Sum (omega arith)
 all_apart P h Match = h 24 Sum (omega arith)
 
 -- what is neither a number nor a truth nor a function nor a reference stands for nothing
-pub no_word : (text : List ℕ) → ((n : ℕ) → ¬ IsDecimal text 9007199254740991 n) → ¬ IsSpelt text (truth_text true) → ¬ IsSpelt text (truth_text false) → ((f : Function) → ¬ IsSpelt text (function_name f)) → ((r : Reference) → ¬ IsReferenceName false text r) → (t : Token) → ¬ IsWord text t
+pub no_word : (text : List ℕ) → ((n : ℕ) → ¬ IsDecimal text 9007199254740991 n) → ¬ IsSpelt text (truth_text true)
+    → ¬ IsSpelt text (truth_text false) → ((f : Function) → ¬ IsSpelt text (function_name f))
+    → ((r : Reference) → ¬ IsReferenceName false text r) → (t : Token) → ¬ IsWord text t
 no_word text no_number no_true no_false no_function no_reference _ (number _ n is) = no_number n is
 no_word text no_number no_true no_false no_function no_reference _ (truth _ true is) = no_true is
 no_word text no_number no_true no_false no_function no_reference _ (truth _ false is) = no_false is
@@ -92,7 +98,8 @@ some_right : (p : ℕ → Bool) (xs ys : List ℕ) → some_of p ys ≡ true →
 some_right p [] ys f = f
 some_right p (x ∷ xs) ys f = or_second (p x) (some_of p (xs ++ ys)) (some_right p xs ys f)
 
-some_by_first : (p : ℕ → Bool) (x : ℕ) (xs zs : List ℕ) → (some_of p xs ≡ true → some_of p zs ≡ true) → (p x || some_of p xs) ≡ true → (p x || some_of p zs) ≡ true
+some_by_first : (p : ℕ → Bool) (x : ℕ) (xs zs : List ℕ) → (some_of p xs ≡ true → some_of p zs ≡ true)
+    → (p x || some_of p xs) ≡ true → (p x || some_of p zs) ≡ true
 some_by_first p x xs zs more h = by_first (p x) refl
   where
     by_first : (b : Bool) → p x ≡ b → (p x || some_of p zs) ≡ true
@@ -145,9 +152,15 @@ anchor_mixed text end name =
     rw name.text_is (record {
       words = all_append is_word (dollar end.col_fixed) (name.letters ++ tail) (dollar_words end.col_fixed)
           (all_append is_word name.letters tail (all_from IsLetter is_word letter_word name.letters name.column.letters)
-          (all_append is_word (dollar end.row_fixed) name.digits (dollar_words end.row_fixed) (all_from IsDigit is_word digit_word name.digits name.row.number.digits)));
-      digit = some_right is_digit (dollar end.col_fixed) (name.letters ++ tail) (some_right is_digit name.letters tail (some_right is_digit (dollar end.row_fixed) name.digits (some_from IsDigit is_digit digit_tests name.digits some name.row.number.digits)));
-      letter = some_right is_ascii_alphabetic (dollar end.col_fixed) (name.letters ++ tail) (some_left is_ascii_alphabetic name.letters tail (some_from IsLetter is_ascii_alphabetic letter_tests name.letters name.column.some name.column.letters));
+          (all_append is_word (dollar end.row_fixed) name.digits (dollar_words end.row_fixed)
+          (all_from IsDigit is_word digit_word name.digits name.row.number.digits)));
+      digit =
+          some_right is_digit (dollar end.col_fixed) (name.letters
+          ++ tail) (some_right is_digit name.letters tail (some_right is_digit (dollar end.row_fixed) name.digits
+          (some_from IsDigit is_digit digit_tests name.digits some name.row.number.digits)));
+      letter = some_right is_ascii_alphabetic (dollar end.col_fixed) (name.letters
+          ++ tail) (some_left is_ascii_alphabetic name.letters tail (some_from IsLetter is_ascii_alphabetic letter_tests
+          name.letters name.column.some name.column.letters));
     })
 
 mixed_append : (front xs : List ℕ) → all_of is_word front ≡ true → Mixed xs → Mixed (front ++ xs)
@@ -189,7 +202,9 @@ find_function text [] = None
 find_function text (f ∷ fs) = cond (same_text text (lower (function_name f))) (Some (a_function f)) (find_function text fs)
 
 abbrev find : List ℕ → Option Named
-find text = cond (same_text text (lower (truth_text true))) (Some (a_truth true)) (cond (same_text text (lower (truth_text false))) (Some (a_truth false)) (find_function text all_functions))
+find text =
+    cond (same_text text (lower (truth_text true))) (Some (a_truth true))
+    (cond (same_text text (lower (truth_text false))) (Some (a_truth false)) (find_function text all_functions))
 
 find_truth : (b : Bool) → find (lower (truth_text b)) ≡ Some (a_truth b)
 find_truth true = refl
@@ -306,7 +321,9 @@ word_unique text _ _ (number _ n d) (number _ m e) = ap (λ (k : ℕ). token.Num
 word_unique text _ _ (truth _ b is) (truth _ c also) =
     ap token.Truth (found_truths b c (same_Some _ _ (sym (find_truth b) ∙ (ap find (spelt_both text (truth_text b) (truth_text c) is also) ∙ find_truth c))))
 word_unique text _ _ (function _ f is) (function _ g also) =
-    ap token.Function (found_functions f g (same_Some _ _ (sym (find_name f) ∙ (ap find (spelt_both text (function_name f) (function_name g) is also) ∙ find_name g))))
+    ap token.Function
+    (found_functions f g (same_Some _ _ (sym (find_name f)
+    ∙ (ap find (spelt_both text (function_name f) (function_name g) is also) ∙ find_name g))))
 word_unique text _ _ (reference _ r name) (reference _ s other) = ap token.Reference (one_reference false text r s name other)
 word_unique text _ _ (truth _ b is) (function _ f also) =
     absurd (apart b f (same_Some _ _ (sym (find_truth b) ∙ (ap find (spelt_both text (truth_text b) (function_name f) is also) ∙ find_name f))))
@@ -319,13 +336,23 @@ word_unique text _ _ (function _ f is) (truth _ b also) =
     apart : (b : Bool) (f : Function) → a_truth b ≡ a_function f → ⊥
     apart b f e = cc
 word_unique text _ _ (number _ n d) (truth _ b is) = absurd (clash _ (digits_mixed text n d).1 (spelt_letters text (truth_text b) is (truth_lettered b)).1)
-word_unique text _ _ (number _ n d) (function _ f is) = absurd (clash _ (digits_mixed text n d).1 (spelt_letters text (function_name f) is (function_lettered f)).1)
+word_unique text _ _ (number _ n d) (function _ f is) =
+    absurd (clash _ (digits_mixed text n d).1 (spelt_letters text (function_name f) is (function_lettered f)).1)
 word_unique text _ _ (truth _ b is) (number _ n d) = absurd (clash _ (digits_mixed text n d).1 (spelt_letters text (truth_text b) is (truth_lettered b)).1)
-word_unique text _ _ (function _ f is) (number _ n d) = absurd (clash _ (digits_mixed text n d).1 (spelt_letters text (function_name f) is (function_lettered f)).1)
-word_unique text _ _ (reference _ r name) (truth _ b is) = absurd (clash _ (reference_mixed false text r name).digit (spelt_letters text (truth_text b) is (truth_lettered b)).1)
-word_unique text _ _ (reference _ r name) (function _ f is) = absurd (clash _ (reference_mixed false text r name).digit (spelt_letters text (function_name f) is (function_lettered f)).1)
-word_unique text _ _ (truth _ b is) (reference _ r name) = absurd (clash _ (reference_mixed false text r name).digit (spelt_letters text (truth_text b) is (truth_lettered b)).1)
-word_unique text _ _ (function _ f is) (reference _ r name) = absurd (clash _ (reference_mixed false text r name).digit (spelt_letters text (function_name f) is (function_lettered f)).1)
+word_unique text _ _ (function _ f is) (number _ n d) =
+    absurd (clash _ (digits_mixed text n d).1 (spelt_letters text (function_name f) is (function_lettered f)).1)
+word_unique text _ _ (reference _ r name) (truth _ b is) =
+    absurd (clash _ (reference_mixed false text r name).digit
+    (spelt_letters text (truth_text b) is (truth_lettered b)).1)
+word_unique text _ _ (reference _ r name) (function _ f is) =
+    absurd (clash _ (reference_mixed false text r name).digit (spelt_letters text (function_name f) is
+    (function_lettered f)).1)
+word_unique text _ _ (truth _ b is) (reference _ r name) =
+    absurd (clash _ (reference_mixed false text r name).digit
+    (spelt_letters text (truth_text b) is (truth_lettered b)).1)
+word_unique text _ _ (function _ f is) (reference _ r name) =
+    absurd (clash _ (reference_mixed false text r name).digit (spelt_letters text (function_name f) is
+    (function_lettered f)).1)
 word_unique text _ _ (reference _ r name) (number _ n d) = absurd (clash _ (reference_mixed false text r name).letter (no_letters text d.digits))
 word_unique text _ _ (number _ n d) (reference _ r name) = absurd (clash _ (reference_mixed false text r name).letter (no_letters text d.digits))
 

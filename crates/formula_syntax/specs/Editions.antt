@@ -4,7 +4,11 @@ use Rattle.std.specs.List.{list_all}
 use Rattle.formula_syntax.specs.declared.edition.Edition.{Edition}
 use Rattle.formula_syntax.specs.declared.edition.Edition.TheVariants.{One, Two}
 use Rattle.formula_syntax.specs.declared.functions.Function.{Function}
-use Rattle.formula_syntax.specs.declared.functions.Function.TheVariants.{Sum, Product, Min, Max, Count, Counta, Countblank, If, Iferror, And, Or, Not, Abs, Sign, Mod, Quotient, Iserror, Isnumber, Islogical, Istext, Isblank, Na, Countif, Sumif, Match}
+use Rattle.formula_syntax.specs.declared.functions.Function.TheVariants.{Sum, Product, Min, Max, Count, Counta}
+use Rattle.formula_syntax.specs.declared.functions.Function.TheVariants.{Countblank, If, Iferror, And, Or, Not, Abs}
+use Rattle.formula_syntax.specs.declared.functions.Function.TheVariants.{Sign, Mod, Quotient, Iserror, Isnumber}
+use Rattle.formula_syntax.specs.declared.functions.Function.TheVariants.{Islogical, Istext, Isblank, Na, Countif, Sumif}
+use Rattle.formula_syntax.specs.declared.functions.Function.TheVariants.{Match}
 use Rattle.formula_syntax.specs.declared.tokens.Token.{Token}
 use Rattle.formula_syntax.specs.declared.tokens.Token.TheVariants as token
 use Rattle.formula_syntax.specs.Tree.{Tree, Trees, number, truth, error, reference, prefix, binary, call, no_trees, and_trees}

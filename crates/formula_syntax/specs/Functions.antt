@@ -1,7 +1,11 @@
 -- The table of functions: what each is called, and what parameters it takes.
 use Rattle.std.specs.Prelude.{ℕ, List, ◌∷◌, [], codes, Option, Some, None}
 use Rattle.formula_syntax.specs.declared.functions.Function.{Function}
-use Rattle.formula_syntax.specs.declared.functions.Function.TheVariants.{Sum, Product, Min, Max, Count, Counta, Countblank, If, Iferror, And, Or, Not, Abs, Sign, Mod, Quotient, Iserror, Isnumber, Islogical, Istext, Isblank, Na, Countif, Sumif, Match}
+use Rattle.formula_syntax.specs.declared.functions.Function.TheVariants.{Sum, Product, Min, Max, Count, Counta}
+use Rattle.formula_syntax.specs.declared.functions.Function.TheVariants.{Countblank, If, Iferror, And, Or, Not, Abs}
+use Rattle.formula_syntax.specs.declared.functions.Function.TheVariants.{Sign, Mod, Quotient, Iserror, Isnumber}
+use Rattle.formula_syntax.specs.declared.functions.Function.TheVariants.{Islogical, Istext, Isblank, Na, Countif, Sumif}
+use Rattle.formula_syntax.specs.declared.functions.Function.TheVariants.{Match}
 use Rattle.formula_syntax.specs.declared.functions.Place.{Place}
 use Rattle.formula_syntax.specs.declared.functions.Place.TheVariants.{Sequence, Scalar, Ranges}
 
@@ -78,4 +82,5 @@ function_name Match = codes "MATCH"
 
 -- all functions
 abbrev pub all_functions : List Function
-all_functions = Sum ∷ Product ∷ Min ∷ Max ∷ Count ∷ Counta ∷ Countblank ∷ If ∷ Iferror ∷ And ∷ Or ∷ Not ∷ Abs ∷ Sign ∷ Mod ∷ Quotient ∷ Iserror ∷ Isnumber ∷ Islogical ∷ Istext ∷ Isblank ∷ Na ∷ Countif ∷ Sumif ∷ Match ∷ []
+all_functions = Sum ∷ Product ∷ Min ∷ Max ∷ Count ∷ Counta ∷ Countblank ∷ If ∷ Iferror ∷ And ∷ Or ∷ Not ∷ Abs ∷ Sign
+    ∷ Mod ∷ Quotient ∷ Iserror ∷ Isnumber ∷ Islogical ∷ Istext ∷ Isblank ∷ Na ∷ Countif ∷ Sumif ∷ Match ∷ []

@@ -37,7 +37,9 @@ mutual
     -- what is tighter
     tighter : (level : ℕ) (ts : List Token) (t : Tree) → level < 5 → Derives (suc level) ts t → Derives level ts t
     -- an operator, which associates to the left
-    operator : (op : BinaryOp) (front last : List Token) (left right : Tree) → Derives (level_of op) front left → Derives (suc (level_of op)) last right → Derives (level_of op) (front ++ token.Operator op ∷ last) (binary op left right)
+    operator : (op : BinaryOp) (front last : List Token) (left right : Tree) → Derives (level_of op) front left
+        → Derives (suc (level_of op)) last right → Derives (level_of op) (front ++ token.Operator op
+        ∷ last) (binary op left right)
     -- a sign
     sign : (op : PrefixOp) (ts : List Token) (t : Tree) → Derives 4 ts t → Derives 4 (token.Operator (sign_written op) ∷ ts) (prefix op t)
     -- a number, a truth, an error, a reference
@@ -48,7 +50,9 @@ mutual
     -- parentheses
     parentheses : (ts : List Token) (t : Tree) → Derives 0 ts t → Derives 5 (token.Open ∷ (ts ++ token.Close ∷ [])) t
     -- a call, whose parameters fit the function
-    a_call : (f : Function) (ts : List Token) (parameters : Trees) → AreDerived ts parameters → Fits (shape_of f) (tree_list parameters) → Derives 5 (token.Function f ∷ token.Open ∷ (ts ++ token.Close ∷ [])) (call f parameters)
+    a_call : (f : Function) (ts : List Token) (parameters : Trees) → AreDerived ts parameters
+        → Fits (shape_of f) (tree_list parameters) → Derives 5 (token.Function f ∷ token.Open
+        ∷ (ts ++ token.Close ∷ [])) (call f parameters)
     -- a truth that is written as a call
     a_truth_call : (b : Bool) → Derives 5 (token.Truth b ∷ token.Open ∷ token.Close ∷ []) (truth b)
 
@@ -60,4 +64,5 @@ mutual
   -- one or more parameters with separators between them
   pub data AreSome : List Token → Trees → Type 0 where
     one : (ts : List Token) (t : Tree) → Derives 0 ts t → AreSome ts (and_trees t no_trees)
-    more : (first others : List Token) (t : Tree) (rest : Trees) → Derives 0 first t → AreSome others rest → AreSome (first ++ token.Separator ∷ others) (and_trees t rest)
+    more : (first others : List Token) (t : Tree) (rest : Trees) → Derives 0 first t → AreSome others rest
+        → AreSome (first ++ token.Separator ∷ others) (and_trees t rest)

@@ -1,5 +1,6 @@
 -- The first half of the grammar of formulas: which tokens a text has. Each token is the longest that fits.
-use Rattle.std.specs.Prelude.{◌≡◌, ◌≢◌, ◌<◌, ◌≤◌, ℕ, length, take, drop, pos, Bool, true, false, ◌||◌, ◌==◌, List, [], ◌∷◌, ◌++◌, map, codes, if◌then◌else◌, Option, MatchOption}
+use Rattle.std.specs.Prelude.{◌≡◌, ◌≢◌, ◌<◌, ◌≤◌, ℕ, length, take, drop, pos, Bool, true, false, ◌||◌, ◌==◌, List, []}
+use Rattle.std.specs.Prelude.{◌∷◌, ◌++◌, map, codes, if◌then◌else◌, Option, MatchOption}
 use Rattle.std.specs.Char.{is_ascii_alphanumeric, to_ascii_lowercase}
 use Rattle.sheet_refs.specs.Names.{IsDecimal}
 use Rattle.sheet_refs.specs.Ends.{Reference, IsReferenceName}

@@ -10,8 +10,10 @@ use Rattle.formula_syntax.specs.Tree.{references_of, all_references, trees_of}
 -- the ranges of a list, each once in the order in which it first stands: one that stood before adds nothing
 pub data IsOnceEach : List Corners → List Corners → Type 0 where
   nothing : IsOnceEach [] []
-  again : (all ranges longer : List Corners) (range : Corners) → IsOnceEach all ranges → Contains all range → longer ≡ all ++ range ∷ [] → IsOnceEach longer ranges
-  first : (all ranges longer more : List Corners) (range : Corners) → IsOnceEach all ranges → ¬ Contains all range → longer ≡ all ++ range ∷ [] → more ≡ ranges ++ range ∷ [] → IsOnceEach longer more
+  again : (all ranges longer : List Corners) (range : Corners) → IsOnceEach all ranges → Contains all range
+      → longer ≡ all ++ range ∷ [] → IsOnceEach longer ranges
+  first : (all ranges longer more : List Corners) (range : Corners) → IsOnceEach all ranges → ¬ Contains all range
+      → longer ≡ all ++ range ∷ [] → more ≡ ranges ++ range ∷ [] → IsOnceEach longer more
 
 -- the ranges that a tree names, as they are written
 abbrev pub ranges_of : Tree → List Corners

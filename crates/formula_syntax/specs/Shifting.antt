@@ -1,5 +1,6 @@
 -- How a formula is shifted: where its references go when it is copied so many rows down and so many columns to the right.
-use Rattle.std.specs.Prelude.{◌≡◌, ◌↔◌, ◌≤◌, length, ℕ, ℤ, pos, ◌+ℤ◌, int_le, nat_abs, Bool, true, false, ◌&&◌, if◌then◌else◌, Option, Some, None, option_map, option_and_then}
+use Rattle.std.specs.Prelude.{◌≡◌, ◌↔◌, ◌≤◌, length, ℕ, ℤ, pos, ◌+ℤ◌, int_le, nat_abs, Bool, true, false, ◌&&◌}
+use Rattle.std.specs.Prelude.{if◌then◌else◌, Option, Some, None, option_map, option_and_then}
 use Rattle.sheet_refs.specs.Cells.{IsNamed}
 use Rattle.sheet_refs.specs.Ends.{Anchor, Reference, one_end, two_ends, corners_of}
 use Rattle.value_core.specs.declared.value.ErrorKind.TheVariants as kind
@@ -8,7 +9,8 @@ use Rattle.formula_syntax.specs.declared.edition.Edition.{Edition}
 use Rattle.formula_syntax.specs.Editions.{IsWithin}
 use Rattle.formula_syntax.specs.Functions.{shape_of}
 use Rattle.formula_syntax.specs.Reading.{references_at}
-use Rattle.formula_syntax.specs.Tree.{Tree, Trees, number, truth, error, reference, prefix, binary, call, no_trees, and_trees, tree_list, references_of, node_count, IsFitting}
+use Rattle.formula_syntax.specs.Tree.{Tree, Trees, number, truth, error, reference, prefix, binary, call, no_trees}
+use Rattle.formula_syntax.specs.Tree.{and_trees, tree_list, references_of, node_count, IsFitting}
 use Rattle.formula_syntax.specs.Printing.{plain}
 use Rattle.formula_syntax.specs.Spelling.{IsTooDeep}
 

@@ -73,7 +73,8 @@ trees_from_heads (end_head ∷ rest) trees lists = trees_from_heads rest trees (
 trees_from_heads (pair_head ∷ rest) trees lists = trees_from_heads rest (others trees) (and_trees (first_tree trees) (first_trees lists) ∷ others lists)
 
 mutual
-  pub rebuilt_one : (tree : Tree) (rest : List Head) (trees : List Tree) (lists : List Trees) → trees_from_heads (postfix_of tree ++ rest) trees lists ≡ trees_from_heads rest (tree ∷ trees) lists
+  pub rebuilt_one : (tree : Tree) (rest : List Head) (trees : List Tree) (lists : List Trees)
+      → trees_from_heads (postfix_of tree ++ rest) trees lists ≡ trees_from_heads rest (tree ∷ trees) lists
   rebuilt_one (number n) rest trees lists = refl
   rebuilt_one (truth b) rest trees lists = refl
   rebuilt_one (error_tree kind) rest trees lists = refl
@@ -86,7 +87,8 @@ mutual
   rebuilt_one (call f parameters) rest trees lists =
       rw append_assoc (rebuilt_all parameters (call_head f ∷ rest) trees lists)
 
-  pub rebuilt_all : (all : Trees) (rest : List Head) (trees : List Tree) (lists : List Trees) → trees_from_heads (postfix_all all ++ rest) trees lists ≡ trees_from_heads rest trees (all ∷ lists)
+  pub rebuilt_all : (all : Trees) (rest : List Head) (trees : List Tree) (lists : List Trees)
+      → trees_from_heads (postfix_all all ++ rest) trees lists ≡ trees_from_heads rest trees (all ∷ lists)
   rebuilt_all no_trees rest trees lists = refl
   rebuilt_all (and_trees tree others) rest trees lists =
       rw (append_assoc, append_assoc)

@@ -22,20 +22,24 @@ cell_of reservation other = other
 later_leave : (call : Call) (calls : List Call) (cell : Position) → LeaveCell (call ∷ calls) cell → LeaveCell calls cell
 later_leave call calls cell leave ranges (k, within, is) = leave ranges (suc k, omega (arith, within), is)
 
-first_leaves : (other : Position) (ranges : List Corners) (calls : List Call) (cell : Position) → LeaveCell (replacement other ranges ∷ calls) cell → cell ≢ other
+first_leaves : (other : Position) (ranges : List Corners) (calls : List Call) (cell : Position)
+    → LeaveCell (replacement other ranges ∷ calls) cell → cell ≢ other
 first_leaves other ranges calls cell leave same = leave ranges (0, omega arith, ap (λ (c : Position). replacement c ranges) (sym same))
 
 leave_reserved : (calls : List Call) (cell : Position) → LeaveCell calls cell → LeaveCell (reservation ∷ calls) cell
 leave_reserved calls cell leave ranges (zero, within, is) = absurd (let e : reservation ≡ replacement cell ranges = is in cc)
 leave_reserved calls cell leave ranges (suc k, within, is) = leave ranges (k, omega (arith, within), is)
 
-pub leave_more : (other : Position) (given : List Corners) (calls : List Call) (cell : Position) → cell ≢ other → LeaveCell calls cell → LeaveCell (replacement other given ∷ calls) cell
+pub leave_more : (other : Position) (given : List Corners) (calls : List Call) (cell : Position) → cell ≢ other
+    → LeaveCell calls cell → LeaveCell (replacement other given ∷ calls) cell
 leave_more other given calls cell differ leave ranges (zero, within, is) = differ (sym (ap (λ (call : Call). cell_of call cell) is))
 leave_more other given calls cell differ leave ranges (suc k, within, is) = leave ranges (k, omega (arith, within), is)
 
 -- ---- what they leave
 
-pub others_kept : (first : List Pair) (calls : List Call) (pairs : List Pair) (cell : Position) → After first calls pairs → LeaveCell calls cell → (range : Corners) → Contains pairs (pair_of range cell) ↔ Contains first (pair_of range cell)
+pub others_kept : (first : List Pair) (calls : List Call) (pairs : List Pair) (cell : Position)
+    → After first calls pairs → LeaveCell calls cell → (range : Corners) → Contains pairs (pair_of range cell)
+    ↔ Contains first (pair_of range cell)
 others_kept first [] pairs cell same leave range = same (pair_of range cell)
 others_kept first (reservation ∷ calls) pairs cell (before, after, same) leave range =
     let was = others_kept first calls before cell after (later_leave reservation calls cell leave) range in
@@ -49,7 +53,9 @@ others_kept first (replacement other given ∷ calls) pairs cell (before, after,
       λ there. at.1 (inr (differ, was.1 there)),
     )
 
-last_after : (first : List Pair) (later earlier : List Call) (pairs : List Pair) (cell : Position) (ranges : List Corners) → LeaveCell later cell → After first (later ++ replacement cell ranges ∷ earlier) pairs → (range : Corners) → Contains pairs (pair_of range cell) ↔ Contains ranges range
+last_after : (first : List Pair) (later earlier : List Call) (pairs : List Pair) (cell : Position)
+    (ranges : List Corners) → LeaveCell later cell → After first (later ++ replacement cell ranges ∷ earlier) pairs
+    → (range : Corners) → Contains pairs (pair_of range cell) ↔ Contains ranges range
 last_after first [] earlier pairs cell ranges leave (before, after, replaced) range =
     let at = replaced (pair_of range cell) in
     (λ there. elim (at.0 there) [ inl own ↦ own.1 | inr kept ↦ absurd (kept.0 refl) ], λ listed. at.1 (inl (refl, listed)))
@@ -65,13 +71,16 @@ last_after first (replacement other given ∷ later) earlier pairs cell ranges l
       λ listed. at.1 (inr (differ, was.1 listed)),
     )
 
-pub last_left : (first : List Pair) (calls : List Call) (pairs : List Pair) (cell : Position) (ranges : List Corners) → After first calls pairs → IsLastFor calls cell ranges → (range : Corners) → Contains pairs (pair_of range cell) ↔ Contains ranges range
+pub last_left : (first : List Pair) (calls : List Call) (pairs : List Pair) (cell : Position) (ranges : List Corners)
+    → After first calls pairs → IsLastFor calls cell ranges → (range : Corners) → Contains pairs (pair_of range cell)
+    ↔ Contains ranges range
 last_left first calls pairs cell ranges after last =
     last_after first last.later last.earlier pairs cell ranges last.none_later (subst (λ (l : List Call). After first l pairs) last.split after)
 
 -- ---- each cell has a last call or none
 
-last_further : (call : Call) (calls : List Call) (cell : Position) (ranges : List Corners) → (last : IsLastFor calls cell ranges) → LeaveCell (call ∷ last.later) cell → IsLastFor (call ∷ calls) cell ranges
+last_further : (call : Call) (calls : List Call) (cell : Position) (ranges : List Corners)
+    → (last : IsLastFor calls cell ranges) → LeaveCell (call ∷ last.later) cell → IsLastFor (call ∷ calls) cell ranges
 last_further call calls cell ranges last leave = record {
   later = call ∷ last.later;
   earlier = last.earlier;
@@ -97,6 +106,11 @@ replaced_or_left (replacement other given ∷ calls) cell = elim (same_or cell o
   )
   | inr differ ↦ elim (replaced_or_left calls cell) [
     | inl leave ↦ inl (leave_more other given calls cell differ leave)
-    | inr last ↦ inr (last.0, last_further (replacement other given) calls cell last.0 last.1 (leave_more other given last.1.later cell differ last.1.none_later))
+    | inr last ↦
+        inr (
+          last.0,
+          last_further (replacement other given) calls cell last.0 last.1
+              (leave_more other given last.1.later cell differ last.1.none_later),
+        )
   ]
 ]

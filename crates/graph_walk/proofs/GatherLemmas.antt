@@ -1,5 +1,7 @@
 -- Sets of cells that grow: how many named cells they lack, and what gathers in a list of ranges.
-use Rattle.std.proofs.Common.{◌≡◌, ℕ, zero, suc, ◌+◌, ◌<◌, ◌≤◌, ◌↔◌, ◌⊎◌, inl, inr, ◌&&◌, ◌||◌, not, Bool, true, false, cond, List, [], ◌∷◌, ◌++◌, length, get_or, take, refl, sym, ◌∙◌, ap, subst, arith, length-append, length-take}
+use Rattle.std.proofs.Common.{◌≡◌, ℕ, zero, suc, ◌+◌, ◌<◌, ◌≤◌, ◌↔◌, ◌⊎◌, inl, inr, ◌&&◌, ◌||◌, not, Bool, true, false}
+use Rattle.std.proofs.Common.{cond, List, [], ◌∷◌, ◌++◌, length, get_or, take, refl, sym, ◌∙◌, ap, subst, arith}
+use Rattle.std.proofs.Common.{length-append, length-take}
 use Rattle.std.specs.Prelude.{nat_le}
 use Rattle.std.proofs.lemmas.Bool.{le-leb, leb-true}
 use Rattle.std.proofs.lemmas.List.{take_all, take_more, append_assoc, append-nil, get_or_default, get_or-take, length_push}
@@ -62,7 +64,8 @@ among_tells (range ∷ ranges) cell =
       ],
     )
   where
-    by_first : (first : Bool) → is_in cell range ≡ first → (first || is_among ranges cell) ≡ true → (is_among ranges cell ≡ true → IsAmong ranges cell) → (is_in cell range ≡ true → IsIn cell range)
+    by_first : (first : Bool) → is_in cell range ≡ first → (first || is_among ranges cell) ≡ true
+        → (is_among ranges cell ≡ true → IsAmong ranges cell) → (is_in cell range ≡ true → IsIn cell range)
         → (IsIn cell range ⊎ IsAmong ranges cell → IsAmong (range ∷ ranges) cell) → IsAmong (range ∷ ranges) cell
     by_first true is test rest here join = join (inl (here is))
     by_first false is test rest here join = join (inr (rest test))
@@ -76,7 +79,8 @@ among_or_not ranges cell = at (is_among ranges cell) refl
     at false is = inr (λ among. absurd (let yes : is_among ranges cell ≡ true = (among_tells ranges cell).1 among in cc))
 
 -- fewer pass a test that lets nothing more pass, and not one that passed
-count_at_most : (p q : Position → Bool) (cells : List Position) → ((cell : Position) → q cell ≡ true → p cell ≡ true) → count_where q cells ≤ count_where p cells
+count_at_most : (p q : Position → Bool) (cells : List Position) → ((cell : Position) → q cell ≡ true → p cell ≡ true)
+    → count_where q cells ≤ count_where p cells
 count_at_most p q [] less = omega arith
 count_at_most p q (cell ∷ cells) less =
     let rest = count_at_most p q cells less in
@@ -88,7 +92,9 @@ count_at_most p q (cell ∷ cells) less =
     at true true is_q is_p = omega arith
     at true false is_q is_p = absurd (let yes : p cell ≡ true = less cell is_q in cc)
 
-count_below : (p q : Position → Bool) (cells : List Position) (k : ℕ) (lost : Position) → ((cell : Position) → q cell ≡ true → p cell ≡ true) → k < length cells → get_or cells k lost ≡ lost → p lost ≡ true → q lost ≡ false → count_where q cells < count_where p cells
+count_below : (p q : Position → Bool) (cells : List Position) (k : ℕ) (lost : Position)
+    → ((cell : Position) → q cell ≡ true → p cell ≡ true) → k < length cells → get_or cells k lost ≡ lost
+    → p lost ≡ true → q lost ≡ false → count_where q cells < count_where p cells
 count_below p q [] k lost less below is was now = absurd (omega arith)
 count_below p q (cell ∷ cells) zero lost less below is was now =
     let rest = count_at_most p q cells less in
@@ -106,12 +112,17 @@ count_below p q (cell ∷ cells) (suc k) lost less below is was now =
     at true false is_q is_p = absurd (let yes : p cell ≡ true = less cell is_q in cc)
 
 -- a set that gains a named cell lacks fewer of them
-pub absent-falls : (old new : List Corners) (cell : Position) → ((c : Position) → IsAmong old c → IsAmong new c) → IsNamed cell.row cell.col → (IsAmong old cell → ⊥) → IsAmong new cell → absent new < absent old
+pub absent-falls : (old new : List Corners) (cell : Position) → ((c : Position) → IsAmong old c → IsAmong new c)
+    → IsNamed cell.row cell.col → (IsAmong old cell → ⊥) → IsAmong new cell → absent new < absent old
 unfolding absent all_cells
 absent-falls old new cell more named was_not is =
     let everything : Corners = record { head = record { row = 1; col = 1 }; tail = record { row = 1048576; col = 16384 } } in
-    let listed = (cells_listed everything (record { rows = omega arith; cols = omega arith }) cell).1 (record { row_from = named.row_from; row_to = named.row_to; col_from = named.col_from; col_to = named.col_to }) in
-    count_below (λ c. not (is_among old c)) (λ c. not (is_among new c)) (cells_of everything) listed.0 cell less listed.1 listed.2 (not_among old cell was_not) (let yes : is_among new cell ≡ true = (among_tells new cell).1 is in rw yes)
+    let listed = (cells_listed everything (record { rows = omega arith; cols = omega arith }) cell).1
+    (record { row_from = named.row_from; row_to = named.row_to; col_from = named.col_from; col_to = named.col_to })
+    in
+    count_below (λ c. not (is_among old c)) (λ c. not (is_among new c)) (cells_of everything) listed.0 cell less
+    listed.1 listed.2 (not_among old cell was_not) (let yes : is_among new cell ≡ true = (among_tells new cell).1 is
+    in rw yes)
   where
     not_among : (ranges : List Corners) (c : Position) → (IsAmong ranges c → ⊥) → not (is_among ranges c) ≡ true
     not_among ranges c none = at (is_among ranges c) refl
@@ -121,7 +132,8 @@ absent-falls old new cell more named was_not is =
         at false is = refl
 
     less : (c : Position) → not (is_among new c) ≡ true → not (is_among old c) ≡ true
-    less c free = not_among old c (λ among. let yes : is_among new c ≡ true = (among_tells new c).1 (more c among) in absurd (let free_not : not (is_among new c) ≡ false = rw yes in cc))
+    less c free = not_among old c (λ among. let yes : is_among new c ≡ true = (among_tells new c).1 (more c among) in
+        absurd (let free_not : not (is_among new c) ≡ false = rw yes in cc))
 
 -- some ranges have joined a set and wait, each with a cell that the set did not have
 pub record Admitted (old new waited waiting added : List Corners) : Type 0 where
@@ -133,23 +145,31 @@ among_same : (xs ys : List Corners) (cell : Position) → xs ≡ ys → IsAmong 
 among_same xs ys cell same among = subst (λ (rs : List Corners). IsAmong rs cell) same among
 
 -- one more range to each of the first so many of a list
-take_next : (ranges : List Corners) (place : ℕ) (range : Corners) → place < length ranges → range ≡ get_or ranges place range → take (place + 1) ranges ≡ take place ranges ++ range ∷ []
+take_next : (ranges : List Corners) (place : ℕ) (range : Corners) → place < length ranges
+    → range ≡ get_or ranges place range → take (place + 1) ranges ≡ take place ranges ++ range ∷ []
 take_next ranges place range within here = take_more ranges place range within ∙ ap (λ (r : Corners). take place ranges ++ r ∷ []) (sym here)
 
 pub among_next : (ranges : List Corners) (range : Corners) (cell : Position) → IsAmong (ranges ++ range ∷ []) cell ↔ (IsAmong ranges cell ⊎ IsIn cell range)
 among_next ranges range cell =
     let both = among_append ranges (range ∷ []) cell in (
       λ among. elim (both.0 among) [ inl old ↦ inl old | inr new ↦ inr (among_one range cell new) ],
-      λ found. elim found [ inl old ↦ both.1 (inl old) | inr inside ↦ both.1 (inr (record { range = range; listed = (0, omega arith, refl); inside = inside })) ],
+      λ found. elim found [
+        | inl old ↦ both.1 (inl old)
+        | inr inside ↦
+            both.1 (inr (record { range = range; listed = (0, omega arith, refl); inside = inside }))
+      ],
     )
 
 -- a cell of one of the first parts of a tiling is not in a later one
-apart_from_first : (parts : List Corners) (place : ℕ) (cell : Position) → AreDisjoint parts → place < length parts → IsIn cell (get_or parts place (record { head = cell; tail = cell })) → IsAmong (take place parts) cell → ⊥
+apart_from_first : (parts : List Corners) (place : ℕ) (cell : Position) → AreDisjoint parts → place < length parts
+    → IsIn cell (get_or parts place (record { head = cell; tail = cell })) → IsAmong (take place parts) cell → ⊥
 apart_from_first parts place cell disjoint within inside among =
     let d : Corners = record { head = cell; tail = cell } in
     let k : ℕ = among.listed.0 in
     let before : k < place = omega (arith, among.listed.1, length-take place parts) in
-    let first : IsIn cell (get_or parts k d) = subst (λ (r : Corners). IsIn cell r) (sym among.listed.2 ∙ (get_or-take place parts k among.range before ∙ get_or_default parts k among.range d (omega arith))) among.inside in
+    let first : IsIn cell (get_or parts k d) = subst (λ (r : Corners). IsIn cell r) (sym among.listed.2
+    ∙ (get_or-take place parts k among.range before ∙ get_or_default parts k among.range d (omega arith)))
+    among.inside in
     disjoint k place d before within (cell, record { first = first; second = inside })
 
 pub admitted_more : (old now new waited waiting later parts : List Corners) (range : Corners) (place : ℕ) (part : Corners)
@@ -157,7 +177,8 @@ pub admitted_more : (old now new waited waiting later parts : List Corners) (ran
     → IsOrdered part.head part.tail → IsNamed part.head.row part.head.col → Joins now new part → later ≡ waiting ++ part ∷ []
     → Admitted old new waited later (take (place + 1) parts)
 admitted_more old now new waited waiting later parts range place part known tiled within here ordered named joined pushed = record {
-  waits = pushed ∙ (ap (λ (w : List Corners). w ++ part ∷ []) known.waits ∙ (append_assoc waited (take place parts) (part ∷ []) ∙ ap (λ (a : List Corners). waited ++ a) (sym next)));
+  waits = pushed ∙ (ap (λ (w : List Corners). w ++ part ∷ []) known.waits
+      ∙ (append_assoc waited (take place parts) (part ∷ []) ∙ ap (λ (a : List Corners). waited ++ a) (sym next)));
   gained = λ cell. (to cell, from cell);
   fewer = fewer;
 }
@@ -198,12 +219,15 @@ admitted_more old now new waited waiting later parts range place part known tile
 
     fewer : absent new + length (take (place + 1) parts) ≤ absent old
     fewer =
-        let falls : absent new < absent now = absent-falls now new part.head (λ c among. (joined c).1 (inl among)) named absent_now ((joined part.head).1 (inr head_in)) in
+        let falls : absent new < absent now = absent-falls now new part.head (λ c among. (joined c).1 (inl among)) named
+        absent_now ((joined part.head).1 (inr head_in)) in
         let length_next : length (take (place + 1) parts) ≡ length (take place parts) + 1 = ap length next ∙ length_push (take place parts) part in
         omega (arith, falls, length_next, known.fewer)
 
 -- all parts of what a range adds have joined
-pub admitted_all : (old new waited waiting parts : List Corners) (range : Corners) → Admitted old new waited waiting parts → Tile parts (IsNew old range) → Gathers old new waited waiting (λ cell. IsIn cell range)
+pub admitted_all : (old new waited waiting parts : List Corners) (range : Corners)
+    → Admitted old new waited waiting parts → Tile parts (IsNew old range)
+    → Gathers old new waited waiting (λ cell. IsIn cell range)
 admitted_all old new waited waiting parts range known tiled = record {
   added = parts;
   waits = known.waits;
@@ -227,8 +251,11 @@ gathers_none set waiting = record {
 }
 
 -- one more range has been admitted
-pub gathers_more : (old now new waited waiting later found : List Corners) (place : ℕ) (range : Corners) → place < length found → range ≡ get_or found place range
-    → Gathers old now waited waiting (IsAmong (take place found)) → Gathers now new waiting later (λ cell. IsIn cell range) → Gathers old new waited later (IsAmong (take (place + 1) found))
+pub gathers_more : (old now new waited waiting later found : List Corners) (place : ℕ) (range : Corners)
+    → place < length found → range ≡ get_or found place range
+    → Gathers old now waited waiting (IsAmong (take place found))
+    → Gathers now new waiting later (λ cell. IsIn cell range)
+    → Gathers old new waited later (IsAmong (take (place + 1) found))
 gathers_more old now new waited waiting later found place range within here first second = record {
   added = first.added ++ second.added;
   waits = second.waits ∙ (ap (λ (w : List Corners). w ++ second.added) first.waits ∙ append_assoc waited first.added second.added);
@@ -270,8 +297,12 @@ gathers_more old now new waited waiting later found place range within here firs
     ]
 
 -- all items of a list are its first so many
-pub admitted_end : (old new waited waiting parts : List Corners) (place : ℕ) → length parts ≤ place → Admitted old new waited waiting (take place parts) → Admitted old new waited waiting parts
-admitted_end old new waited waiting parts place past known = subst (λ (added : List Corners). Admitted old new waited waiting added) (take_all place parts past) known
+pub admitted_end : (old new waited waiting parts : List Corners) (place : ℕ) → length parts ≤ place
+    → Admitted old new waited waiting (take place parts) → Admitted old new waited waiting parts
+admitted_end old new waited waiting parts place past known =
+    subst (λ (added : List Corners). Admitted old new waited waiting added) (take_all place parts past) known
 
-pub gathers_end : (old new waited waiting found : List Corners) (place : ℕ) → length found ≤ place → Gathers old new waited waiting (IsAmong (take place found)) → Gathers old new waited waiting (IsAmong found)
-gathers_end old new waited waiting found place past known = subst (λ (ranges : List Corners). Gathers old new waited waiting (IsAmong ranges)) (take_all place found past) known
+pub gathers_end : (old new waited waiting found : List Corners) (place : ℕ) → length found ≤ place
+    → Gathers old new waited waiting (IsAmong (take place found)) → Gathers old new waited waiting (IsAmong found)
+gathers_end old new waited waiting found place past known =
+    subst (λ (ranges : List Corners). Gathers old new waited waiting (IsAmong ranges)) (take_all place found past) known

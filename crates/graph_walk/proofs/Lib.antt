@@ -1,4 +1,4 @@
 pub mod CallLemmas
 pub mod GatherLemmas
 pub mod PathLemmas
-pub mod WalkLemmas
+mod WalkLemmas

@@ -28,7 +28,8 @@ module _ (step : Position → Position → Type 0) (starts : List Corners) where
   -- one range is taken from those that wait, and what was found from it gathers
   pub walking_on : (set new waiting rest later found answer : List Corners) (range : Corners) → IsWalking step starts set waiting → waiting ≡ rest ++ range ∷ []
       → Adds found answer (IsNext step range) (IsBeyond step range) → found ≡ [] → Gathers set new rest later (IsAmong answer) → IsWalking step starts new later
-  walking_on set new waiting rest later found answer range walking popped adds empty gathered = record { sound = sound; begun = begun; waits = waits; done = done }
+  walking_on set new waiting rest later found answer range walking popped adds empty gathered =
+      record { sound = sound; begun = begun; waits = waits; done = done }
     where
       answered : answer ≡ adds.added
       answered = adds.whole ∙ ap (λ (f : List Corners). f ++ adds.added) empty
@@ -75,15 +76,22 @@ module _ (step : Position → Position → Type 0) (starts : List Corners) where
       ]
 
   -- each turn leaves fewer cells and ranges to come
-  pub walking_falls : (set new waiting rest later : List Corners) (range : Corners) (cells : Position → Type 0) → waiting ≡ rest ++ range ∷ [] → Gathers set new rest later cells → absent new + length later < absent set + length waiting
+  pub walking_falls : (set new waiting rest later : List Corners) (range : Corners) (cells : Position → Type 0)
+      → waiting ≡ rest ++ range ∷ [] → Gathers set new rest later cells
+      → absent new + length later < absent set + length waiting
   walking_falls set new waiting rest later range cells popped gathered =
       let before : length waiting ≡ length rest + 1 = ap length popped ∙ length-append rest (range ∷ []) in
       let after : length later ≡ length rest + length gathered.added = ap length gathered.waits ∙ length-append rest gathered.added in
       omega (arith, before, after, gathered.fewer)
 
   -- a walk with nothing waiting has all that is reached
-  pub walking_done : (set waiting : List Corners) → IsWalking step starts set waiting → waiting ≡ [] → (cell : Position) → IsAmong set cell ↔ IsReached step (IsAmong starts) cell
-  walking_done set waiting walking empty cell = (walking.sound cell, λ reached. reached_within step (IsAmong starts) (IsAmong set) walking.begun closed cell reached)
+  pub walking_done : (set waiting : List Corners) → IsWalking step starts set waiting → waiting ≡ [] → (cell : Position)
+      → IsAmong set cell ↔ IsReached step (IsAmong starts) cell
+  walking_done set waiting walking empty cell = (
+    walking.sound cell,
+    λ reached. reached_within step (IsAmong starts) (IsAmong set) walking.begun closed cell
+        reached,
+  )
     where
       closed : (from to : Position) → step from to → IsAmong set from → IsAmong set to
       closed from to one among = elim (walking.done from to among one) [
@@ -94,10 +102,20 @@ module _ (step : Position → Position → Type 0) (starts : List Corners) where
 -- ---- what the walks of the public calls answer
 
 -- from one range
-pub reached_range : (step : Position → Position → Type 0) (range : Corners) (cell : Position) → IsReached step (IsAmong (range ∷ [])) cell ↔ IsReached step (λ from. IsIn from range) cell
+pub reached_range : (step : Position → Position → Type 0) (range : Corners) (cell : Position)
+    → IsReached step (IsAmong (range ∷ [])) cell ↔ IsReached step (λ from. IsIn from range) cell
 reached_range step range cell = (
   λ reached. record { from = reached.from; starts = among_one range reached.from reached.starts; cells = reached.cells; path = reached.path },
-  λ reached. record { from = reached.from; starts = record { range = range; listed = (0, omega arith, refl); inside = reached.starts }; cells = reached.cells; path = reached.path },
+  λ reached. record {
+    from = reached.from;
+    starts = record {
+      range = range;
+      listed = (0, omega arith, refl);
+      inside = reached.starts;
+    };
+    cells = reached.cells;
+    path = reached.path;
+  },
 )
 
 -- by the steps taken back, it reaches the cells from which the range is reached
@@ -112,10 +130,21 @@ reached_back pairs range cell = (to, from)
     from : Back pairs range cell → IsReached (back (Step pairs)) (IsAmong (range ∷ [])) cell
     from reached =
         let turned = path_back (Step pairs) cell reached.to reached.cells reached.path in
-        record { from = reached.to; starts = record { range = range; listed = (0, omega arith, refl); inside = reached.ends }; cells = turned.cells; path = turned.path }
+        record {
+          from = reached.to;
+          starts = record {
+            range = range;
+            listed = (0, omega arith, refl);
+            inside = reached.ends;
+          };
+          cells = turned.cells;
+          path = turned.path;
+        }
 
 -- from what lies ahead of a cell, it reaches the cell again exactly where the cell is on a cycle
-pub reached_again : (step : Position → Position → Type 0) (cell : Position) (range : Corners) (old answer : List Corners) → range ≡ span_of cell cell → old ≡ [] → Adds old answer (IsNext step range) (IsBeyond step range)
+pub reached_again : (step : Position → Position → Type 0) (cell : Position) (range : Corners)
+    (old answer : List Corners) → range ≡ span_of cell cell → old ≡ []
+    → Adds old answer (IsNext step range) (IsBeyond step range)
     → IsReached step (IsAmong answer) cell ↔ LeadsTo step cell cell
 reached_again step cell range old answer one empty adds = (to, from)
   where
@@ -128,13 +157,23 @@ reached_again step cell range old answer one empty adds = (to, from)
         same_position (omega (arith, here.row_from, here.row_to)) (omega (arith, here.col_from, here.col_to))
 
     in_range : IsIn cell range
-    in_range = subst (λ (r : Corners). IsIn cell r) (sym one) (record { row_from = omega arith; row_to = omega arith; col_from = omega arith; col_to = omega arith })
+    in_range = subst (λ (r : Corners). IsIn cell r) (sym one) (record {
+      row_from = omega arith;
+      row_to = omega arith;
+      col_from = omega arith;
+      col_to = omega arith;
+    })
 
     to : IsReached step (IsAmong answer) cell → LeadsTo step cell cell
     to reached =
         let leads = adds.only reached.from (subst (λ (a : List Corners). IsAmong a reached.from) answered reached.starts) in
         let first : LeadsTo step cell reached.from = subst (λ (a : Position). LeadsTo step a reached.from) (at_cell leads.0 leads.1) leads.2 in
-        record { next = first.next; first = first.first; cells = first.cells ++ reached.cells; path = path_join step first.next reached.from cell first.cells reached.cells first.path reached.path }
+        record {
+          next = first.next;
+          first = first.first;
+          cells = first.cells ++ reached.cells;
+          path = path_join step first.next reached.from cell first.cells reached.cells first.path reached.path;
+        }
 
     from : LeadsTo step cell cell → IsReached step (IsAmong answer) cell
     from leads = record {

@@ -36,7 +36,8 @@ pair_of range cell = record { range = range; cell = cell }
 -- after any list of calls a cell has exactly the ranges that the last call for it gave
 abbrev pub LastCallsAreLeft : Type 0
 LastCallsAreLeft =
-    (first : List Pair) (calls : List Call) (pairs : List Pair) (cell : Position) (ranges : List Corners) → After first calls pairs → IsLastFor calls cell ranges
+    (first : List Pair) (calls : List Call) (pairs : List Pair) (cell : Position) (ranges : List Corners)
+    → After first calls pairs → IsLastFor calls cell ranges
     → (range : Corners) → Contains pairs (pair_of range cell) ↔ Contains ranges range
 
 -- and where no call was for it, the ranges that it had first

@@ -1,1 +1,1 @@
-pub mod TrialLemmas
+mod TrialLemmas

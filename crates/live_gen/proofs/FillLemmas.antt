@@ -65,7 +65,8 @@ puts_field row col text old between new cell content row_in col_in edition sizes
     }
 
 -- no field of a row
-pub fills_none : (row drawn : ℕ) (old : SheetValue) → IsSheet old → old.edition ≡ One → old.sizes ≡ generated_sizes → old.labels ≡ [] → FillsRow row drawn 0 old old
+pub fills_none : (row drawn : ℕ) (old : SheetValue) → IsSheet old → old.edition ≡ One → old.sizes ≡ generated_sizes
+    → old.labels ≡ [] → FillsRow row drawn 0 old old
 fills_none row drawn old is edition sizes labels = record {
   kept = is;
   edition_is = edition;
@@ -152,7 +153,8 @@ made_there found cell row col position is =
 -- a number gives one sheet
 pub one_sheet : (number : ℕ) (a b : SheetValue) → IsGeneratedSheet number a → IsGeneratedSheet number b → a ≡ b
 one_sheet number a b is_a is_b =
-    same_sheet a b is_a.kept is_b.kept (is_a.edition_is ∙ sym is_b.edition_is) (is_a.sizes_are ∙ sym is_b.sizes_are) (is_a.labels_are ∙ sym is_b.labels_are) same
+    same_sheet a b is_a.kept is_b.kept (is_a.edition_is ∙ sym is_b.edition_is) (is_a.sizes_are ∙ sym is_b.sizes_are)
+    (is_a.labels_are ∙ sym is_b.labels_are) same
   where
     same : (cell : Position) → IsTrue (is_inside a.sizes cell) → content_of a cell ≡ content_of b cell
     same cell inside =

@@ -1,5 +1,6 @@
 -- A client's part of a run that has ended, by what its view tells, over the log of the closed sheet.
-use Rattle.std.proofs.Common.{◌≡◌, ◌<◌, ◌≤◌, ◌+◌, ◌==◌, ◌⊎◌, ⊎_elim, inl, inr, ℕ, List, Some, IsTrue, All, AllPairs, Contains, length, take, drop, slice_get, refl, sym, ◌∙◌, ap, subst, arith}
+use Rattle.std.proofs.Common.{◌≡◌, ◌<◌, ◌≤◌, ◌+◌, ◌==◌, ◌⊎◌, ⊎_elim, inl, inr, ℕ, List, Some, IsTrue, All, AllPairs}
+use Rattle.std.proofs.Common.{Contains, length, take, drop, slice_get, refl, sym, ◌∙◌, ap, subst, arith}
 use Rattle.std.specs.List.{AllZip}
 use Rattle.std.specs.Prelude.{filter}
 use Rattle.std.proofs.lemmas.Bool.{cases_lt}
@@ -25,7 +26,8 @@ use Rattle.sheet_refs.proofs.Grid.{cells_listed}
 use Rattle.sheet_refs.proofs.Places.{first_cell}
 use Rattle.window_text.specs.Reports.{IsFull}
 use Rattle.window_text.specs.declared.report.Report.{Report}
-use Rattle.live_run.specs.Legal.{Answers, HasFollowed, IsLegalReport, IsTouchedLater, LookAsked, MayShow, Shows, StaysCurrent, edits_asked, edits_by, looks_asked, numbers_by, WaitsForLast}
+use Rattle.live_run.specs.Legal.{Answers, HasFollowed, IsLegalReport, IsTouchedLater, LookAsked, MayShow, Shows}
+use Rattle.live_run.specs.Legal.{StaysCurrent, edits_asked, edits_by, looks_asked, numbers_by, WaitsForLast}
 use Rattle.live_run.specs.Told.{HasAnswered, IsBehind, IsMarkAt, IsMarkedSince, IsReported, IsTold, StandsAs}
 use Rattle.live_run.proofs.GrowLemmas.{stands_still}
 use Rattle.live_run.proofs.NumberLemmas.{all_own}
@@ -34,12 +36,15 @@ use Rattle.live_run.proofs.TouchedLemmas.{touched_mark}
 use Rattle.live_run.proofs.ZipLemmas.{stands_in, zip_at, zip_first, zip_map, zip_right}
 
 -- the client's edits in the log are those of its commands, under the numbers that the pass has
-pub edits_are : (opening : SheetValue) (client : ℕ) (commands : List Command) (view : View (List Entry)) (numbers : List ℕ) (reports : List Report) (log : List Entry)
+pub edits_are : (opening : SheetValue) (client : ℕ) (commands : List Command) (view : View (List Entry))
+    (numbers : List ℕ) (reports : List Report) (log : List Entry)
     → HasAnswered opening client commands view numbers reports → IsPrefix view.log log → AreAccepted client log numbers
-    → length (filter (λ (entry : Entry). entry.client == client) log) ≡ length numbers → (numbers ≡ numbers_by client log) × (edits_by client log ≡ edits_asked commands)
+    → length (filter (λ (entry : Entry). entry.client == client) log) ≡ length numbers
+    → (numbers ≡ numbers_by client log) × (edits_by client log ≡ edits_asked commands)
 edits_are opening client commands view numbers reports log has known accepted whole =
     all_own client log numbers (edits_asked commands) (λ k d below. (accepted.each k d below).counted) accepted.rise
-    (zip_map (StandsAs client view.log) (StandsAs client log) numbers (edits_asked commands) (λ number edit _. stands_still client view.log log number edit known) has.edits)
+    (zip_map (StandsAs client view.log) (StandsAs client log) numbers (edits_asked commands)
+    (λ number edit _. stands_still client view.log log number edit known) has.edits)
     (omega (arith, whole))
 
 module _ (opening : SheetValue) (log : List Entry) (view : View (List Entry)) (known : IsPrefix view.log log)
@@ -54,7 +59,8 @@ module _ (opening : SheetValue) (log : List Entry) (view : View (List Entry)) (k
   -- a report's number is within the log, since its window has a cell
   within : (numbers : List ℕ) (look : LookAsked) (report : Report) → IsReported opening view numbers look report → report.board.number ≤ length log
   within numbers look report is =
-      let (shown, told) = zip_first (IsTold opening view report.board.number) (cells_of look.window) report.board.cells look.window.head is.cells (first_cell look.window is.ordered) in
+      let (shown, told) = zip_first (IsTold opening view report.board.number) (cells_of look.window) report.board.cells
+      look.window.head is.cells (first_cell look.window is.ordered) in
       told_within report.board.number look.window.head shown told
 
   -- the last mark of a place at a number
@@ -64,10 +70,13 @@ module _ (opening : SheetValue) (log : List Entry) (view : View (List Entry)) (k
       subst (λ (m : ℕ). IsLastMark (TouchesPlace opening) (take number log) place m) by.mark_is
       (subst (λ (p : ℕ). IsLastMark (TouchesPlace opening) (take number log) p by.read.mark) by.place_is
       (subst (λ (n : ℕ). IsLastMark (TouchesPlace opening) (take n log) by.read.place by.read.mark) by.number_is last))
-  mark_at number place mark (inr by) = subst (λ (l : List Entry). IsLastMark (TouchesPlace opening) l place mark) (sym (take-prefix view.log log number known by.within)) by.last
+  mark_at number place mark (inr by) =
+      subst (λ (l : List Entry). IsLastMark (TouchesPlace opening) l place mark)
+      (sym (take-prefix view.log log number known by.within)) by.last
 
   -- a cell of a report's window is one of the sheet
-  shows_inside : (numbers : List ℕ) (look : LookAsked) (report : Report) (cell : Position) (shown : Shown) → IsReported opening view numbers look report → Shows report cell shown
+  shows_inside : (numbers : List ℕ) (look : LookAsked) (report : Report) (cell : Position) (shown : Shown)
+      → IsReported opening view numbers look report → Shows report cell shown
       → IsTrue (is_inside opening.sizes cell)
   shows_inside numbers look report cell shown is shows =
       is.inside cell ((cells_listed look.window is.ordered cell).0
@@ -78,10 +87,12 @@ module _ (opening : SheetValue) (log : List Entry) (view : View (List Entry)) (k
   past_last number cell mark since =
       let is : since.read.mark ≡ mark = since.mark_is in
       let above : since.last + 1 ≤ since.read.floor = since.floor in
-      ⊎_elim (λ met. omega (arith, met)) (λ computed. absurd (since.stale (computed.1 ∙ sym computed.0))) (legal since.read since.word since.kept since.word_is).floor
+      ⊎_elim (λ met. omega (arith, met)) (λ computed. absurd (since.stale (computed.1 ∙ sym computed.0)))
+      (legal since.read since.word since.kept since.word_is).floor
 
   -- so it is past the earlier number
-  past_number : (number : ℕ) (cell : Position) (mark : ℕ) → IsTrue (is_inside opening.sizes cell) → number ≤ length log → IsMarkedSince opening view number cell mark
+  past_number : (number : ℕ) (cell : Position) (mark : ℕ) → IsTrue (is_inside opening.sizes cell) → number ≤ length log
+      → IsMarkedSince opening view number cell mark
       → (1 ≤ mark → IsTouched (TouchesPlace opening) log (place_of opening.sizes cell) mark) → number < mark
   past_number number cell mark inside le since touched =
       let last = mark_at number (place_of opening.sizes cell) since.last since.at in
@@ -91,10 +102,12 @@ module _ (opening : SheetValue) (log : List Entry) (view : View (List Entry)) (k
       let long : length (take number log) ≡ number = length-take-le number log le in
       let within_front : mark ≤ length (take number log) = omega (arith, covered) in
       absurd (last.none_later mark past within_front
-      (touched_in_prefix (TouchesPlace opening) (take number log) log (place_of opening.sizes cell) mark (take_is_prefix number log) within_front (touched (omega (arith, past))))))
+      (touched_in_prefix (TouchesPlace opening) (take number log) log (place_of opening.sizes cell) mark
+      (take_is_prefix number log) within_front (touched (omega (arith, past))))))
       (cases_lt number mark)
 
-  stale_past : (earlier later : ℕ) (cell : Position) (mark : ℕ) → IsTrue (is_inside opening.sizes cell) → earlier ≤ length log → earlier ≤ later → IsMarkedSince opening view earlier cell mark
+  stale_past : (earlier later : ℕ) (cell : Position) (mark : ℕ) → IsTrue (is_inside opening.sizes cell)
+      → earlier ≤ length log → earlier ≤ later → IsMarkedSince opening view earlier cell mark
       → WaitsForLast opening log later cell mark ⊎ IsTouchedLater opening log later cell mark → earlier < mark
   stale_past earlier later cell mark inside le rises since (inl waits) =
       past_number earlier cell mark inside le since (λ some. touched_mark opening log cell inside mark (waits.last.touched some))
@@ -107,23 +120,29 @@ module _ (opening : SheetValue) (log : List Entry) (view : View (List Entry)) (k
           cells = subst (λ (w : Corners). AllZip (MayShow opening log report.board.number) (cells_of w) report.board.cells) (sym reported.window_is)
               (zip_map (IsTold opening view report.board.number) (MayShow opening log report.board.number) (cells_of look.window) report.board.cells
               (λ cell shown there told.
-              told_may_show opening log cell (reported.inside cell ((cells_listed look.window reported.ordered cell).0 there)) is held report.board.number view known legal shown told)
+              told_may_show opening log cell
+              (reported.inside cell ((cells_listed look.window reported.ordered cell).0 there)) is held
+              report.board.number view known legal shown told)
               reported.cells);
           values = reported.values;
         }
 
     -- what a report shows may be shown
-    may_show_there : (report : Report) (cell : Position) (shown : Shown) → IsLegalReport opening log report → Shows report cell shown → MayShow opening log report.board.number cell shown
+    may_show_there : (report : Report) (cell : Position) (shown : Shown) → IsLegalReport opening log report
+        → Shows report cell shown → MayShow opening log report.board.number cell shown
     may_show_there report cell shown legal_is shows =
-        zip_at (MayShow opening log report.board.number) (cells_of report.board.window) report.board.cells shows.place cell shown legal_is.cells shows.cell_is shows.shown_is
+        zip_at (MayShow opening log report.board.number) (cells_of report.board.window) report.board.cells shows.place
+        cell shown legal_is.cells shows.cell_is shows.shown_is
 
-    stays_current : (look : LookAsked) (earlier later : Report) → IsReported opening view numbers look earlier → IsLegalReport opening log later → IsBehind opening view earlier later
+    stays_current : (look : LookAsked) (earlier later : Report) → IsReported opening view numbers look earlier
+        → IsLegalReport opening log later → IsBehind opening view earlier later
         → StaysCurrent earlier later
     stays_current look earlier later reported legal_is behind =
         record {
           rises = behind.rises;
           stale = λ cell value mark before now.
-              stale_past earlier.board.number later.board.number cell mark (shows_inside numbers look earlier cell (Value value) reported before) (within numbers look earlier reported) behind.rises
+              stale_past earlier.board.number later.board.number cell mark (shows_inside numbers look earlier cell
+              (Value value) reported before) (within numbers look earlier reported) behind.rises
               (behind.stale cell value mark before now) (may_show_there later cell (Stale mark) legal_is now);
           newer = λ cell value mark before now.
               let touched : IsTouchedLater opening log later.board.number cell mark = may_show_there later cell (Newer mark) legal_is now in
@@ -150,10 +169,12 @@ module _ (opening : SheetValue) (log : List Entry) (view : View (List Entry)) (k
       all_full =
           zip_right (IsReported opening view numbers) (λ (report : Report). IsFull report.board) (looks_asked commands) reports
           (λ look report one.
-          AllZip-long (IsTold opening view report.board.number) (cells_of look.window) report.board.cells one.cells ∙ ap (λ (w : Corners). length (cells_of w)) (sym one.window_is))
+          AllZip-long (IsTold opening view report.board.number) (cells_of look.window) report.board.cells one.cells
+          ∙ ap (λ (w : Corners). length (cells_of w)) (sym one.window_is))
           has.answered
 
-      answers : numbers ≡ numbers_by client log → (look : LookAsked) (report : Report) → IsReported opening view numbers look report → Answers client log look report
+      answers : numbers ≡ numbers_by client log → (look : LookAsked) (report : Report)
+          → IsReported opening view numbers look report → Answers client log look report
       answers same look report one =
           record {
             firm_is = one.firm_is;
@@ -167,7 +188,8 @@ module _ (opening : SheetValue) (log : List Entry) (view : View (List Entry)) (k
       followed own =
           record {
             edits = own.1;
-            answered = zip_map (IsReported opening view numbers) (Answers client log) (looks_asked commands) reports (λ look report _ one. answers own.0 look report one) has.answered;
+            answered = zip_map (IsReported opening view numbers) (Answers client log) (looks_asked commands) reports
+                (λ look report _ one. answers own.0 look report one) has.answered;
             legal = all_legal;
             current = all_current;
           }

@@ -1,5 +1,6 @@
 -- What is known of reports is still known by a view that has learned more.
-use Rattle.std.proofs.Common.{◌≡◌, ◌<◌, ◌≤◌, ◌-◌, ◌⊎◌, ⊎_elim, inl, inr, ℕ, List, [], ◌∷◌, ◌++◌, All, AllPairs, Contains, length, take, drop, slice_get, sym, ◌∙◌, ap, subst, arith, length-append}
+use Rattle.std.proofs.Common.{◌≡◌, ◌<◌, ◌≤◌, ◌-◌, ◌⊎◌, ⊎_elim, inl, inr, ℕ, List, [], ◌∷◌, ◌++◌, All, AllPairs}
+use Rattle.std.proofs.Common.{Contains, length, take, drop, slice_get, sym, ◌∙◌, ap, subst, arith, length-append}
 use Rattle.std.specs.List.{AllZip}
 use Rattle.std.proofs.lemmas.List.{take-append-le, drop-append-le, append-nil}
 use Rattle.std.proofs.lemmas.List.Elements.{All-append, All-push}
@@ -35,7 +36,8 @@ pub record Grows (old new : View (List Entry)) : Type 0 where
   pub known : (pair : Known) → Contains old.known pair → Contains new.known pair
 
 -- the entry with a number in a longer log
-pub stands_still : (client : ℕ) (old new : List Entry) (number : ℕ) (edit : EditValue) → IsPrefix old new → StandsAs client old number edit → StandsAs client new number edit
+pub stands_still : (client : ℕ) (old new : List Entry) (number : ℕ) (edit : EditValue) → IsPrefix old new
+    → StandsAs client old number edit → StandsAs client new number edit
 stands_still client old new number edit longer stands =
     ap (λ l. slice_get l (number - 1)) longer.whole ∙ slice_get-append old longer.rest (number - 1) (client_entry client edit) stands
 
@@ -108,14 +110,19 @@ module _ (opening : SheetValue) (old new : View (List Entry)) (grows : Grows old
 
   behind_still : (earlier later : Report) → IsBehind opening old earlier later → IsBehind opening new earlier later
   behind_still earlier later behind =
-      record { rises = behind.rises; stale = λ cell value mark before now. since_still earlier.board.number cell mark (behind.stale cell value mark before now) }
+      record {
+        rises = behind.rises;
+        stale = λ cell value mark before now. since_still earlier.board.number cell mark
+            (behind.stale cell value mark before now);
+      }
 
   pub seen_still : (number : ℕ) → (number ≤ old.seen) ⊎ (number ≤ length old.log) → (number ≤ new.seen) ⊎ (number ≤ length new.log)
   seen_still number (inl seen) = inl (let s : old.seen ≤ new.seen = grows.seen in omega arith)
   seen_still number (inr within) = inr (omega (arith, longer))
 
   -- a report, where the client has got edits past its number alone
-  pub reported_still : (numbers more : List ℕ) (look : LookAsked) (report : Report) → All (λ own. report.board.number < own) more → IsReported opening old numbers look report
+  pub reported_still : (numbers more : List ℕ) (look : LookAsked) (report : Report)
+      → All (λ own. report.board.number < own) more → IsReported opening old numbers look report
       → IsReported opening new (numbers ++ more) look report
   reported_still numbers more look report past is =
       record {
@@ -133,7 +140,8 @@ module _ (opening : SheetValue) (old new : View (List Entry)) (grows : Grows old
         values = is.values;
       }
 
-  module _ (client : ℕ) (commands : List Command) (numbers : List ℕ) (reports : List Report) (before : HasAnswered opening client commands old numbers reports) where
+  module _ (client : ℕ) (commands : List Command) (numbers : List ℕ) (reports : List Report)
+      (before : HasAnswered opening client commands old numbers reports) where
     pub still_stand : AllZip (StandsAs client new.log) numbers (edits_asked commands)
     still_stand = zip_map (StandsAs client old.log) (StandsAs client new.log) numbers (edits_asked commands)
         (λ number edit _. stands_still client old.log new.log number edit grows.log) before.edits
@@ -144,7 +152,8 @@ module _ (opening : SheetValue) (old new : View (List Entry)) (grows : Grows old
     pub still_behind : AllPairs (IsBehind opening new) reports
     still_behind = λ i j d lt below. behind_still _ _ (before.behind i j d lt below)
 
-    not_past : (number : ℕ) (look : LookAsked) (report : Report) → old.seen < number → length old.log < number → IsReported opening old numbers look report → report.board.number < number
+    not_past : (number : ℕ) (look : LookAsked) (report : Report) → old.seen < number → length old.log < number
+        → IsReported opening old numbers look report → report.board.number < number
     not_past number look report above behind is = ⊎_elim (λ seen. omega (arith, above, seen)) (λ within. omega (arith, behind, within)) is.seen
 
     -- after an edit
@@ -165,4 +174,5 @@ module _ (opening : SheetValue) (old new : View (List Entry)) (grows : Grows old
         }
       where
         past : (look : LookAsked) (report : Report) → IsReported opening old numbers look report → All (λ own. report.board.number < own) (number ∷ [])
-        past look report is = All-push (λ own. report.board.number < own) [] number (λ k d below. absurd (omega arith)) (not_past number look report above behind is)
+        past look report is = All-push (λ own. report.board.number < own) [] number (λ k d below. absurd (omega arith))
+            (not_past number look report above behind is)

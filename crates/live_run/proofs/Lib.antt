@@ -1,22 +1,22 @@
-pub mod AddLemmas
-pub mod ClientSent
-pub mod CommandLemmas
-pub mod CoverLemmas
-pub mod EndLemmas
-pub mod FollowLemmas
-pub mod GrowLemmas
-pub mod NumberLemmas
-pub mod OrderLemmas
-pub mod PartLemmas
-pub mod ReadsLemmas
-pub mod RoomLemmas
-pub mod RunLemmas
-pub mod RunningLemmas
+mod AddLemmas
+mod ClientSent
+mod CommandLemmas
+mod CoverLemmas
+mod EndLemmas
+mod FollowLemmas
+mod GrowLemmas
+mod NumberLemmas
+mod OrderLemmas
+mod PartLemmas
+mod ReadsLemmas
+mod RoomLemmas
+mod RunLemmas
+mod RunningLemmas
 pub mod ScriptLemmas
-pub mod ShownLemmas
-pub mod StepLemmas
-pub mod SumLemmas
-pub mod TaskLemmas
-pub mod TouchedLemmas
-pub mod TranscriptLemmas
-pub mod ZipLemmas
+mod ShownLemmas
+mod StepLemmas
+mod SumLemmas
+mod TaskLemmas
+mod TouchedLemmas
+mod TranscriptLemmas
+mod ZipLemmas

@@ -1,5 +1,6 @@
 -- Commands become orders, the last one first.
-use Rattle.std.proofs.Common.{◌≡◌, ◌<◌, suc, Bool, List, [], ◌∷◌, ◌++◌, true, false, All, length, map, refl, sym, ◌∙◌, ap, subst, arith, append_assoc, length-append}
+use Rattle.std.proofs.Common.{◌≡◌, ◌<◌, suc, Bool, List, [], ◌∷◌, ◌++◌, true, false, All, length, map, refl, sym, ◌∙◌}
+use Rattle.std.proofs.Common.{ap, subst, arith, append_assoc, length-append}
 use Rattle.std.specs.List.{AllZip}
 use Rattle.std.specs.Prelude.{reverse}
 use Rattle.std.proofs.lemmas.List.{append-nil, map-append, reverse-append, length-reverse, length-map}
@@ -42,12 +43,18 @@ module _ (sheet : SheetValue) where
     fits : IsOrderFor sheet order
     command_is : command_of order ≡ command
 
-  taken_look : (firm : Bool) (window : Corners) (command : Command) (commands : List Command) (order : Order) (before after : List Report) → look_command firm window ≡ command → IsWindowFor sheet window
-      → AllZip IsReportFor (looks_asked commands ++ record { firm = firm; window = window; made = length (edits_asked commands) } ∷ []) before → TakesBoard firm window order before after
+  taken_look : (firm : Bool) (window : Corners) (command : Command) (commands : List Command) (order : Order)
+      (before after : List Report) → look_command firm window ≡ command → IsWindowFor sheet window
+      → AllZip IsReportFor (looks_asked commands ++ record {
+        firm = firm;
+        window = window;
+        made = length (edits_asked commands);
+      } ∷ []) before → TakesBoard firm window order before after
       → IsTaken commands command order after
   taken_look firm window command commands order before after is fit zip taken =
       let look : LookAsked = record { firm = firm; window = window; made = length (edits_asked commands) } in
-      let parts = zip_last IsReportFor (looks_asked commands) after look taken.report (subst (λ (l : List Report). AllZip IsReportFor (looks_asked commands ++ look ∷ []) l) taken.taken zip) in
+      let parts = zip_last IsReportFor (looks_asked commands) after look taken.report
+      (subst (λ (l : List Report). AllZip IsReportFor (looks_asked commands ++ look ∷ []) l) taken.taken zip) in
       record {
         reports = parts.0;
         fits = subst (IsOrderFor sheet) (sym taken.order_is) (fit.inside, parts.1.room);
@@ -72,8 +79,12 @@ module _ (sheet : SheetValue) where
   may_take : (commands : List Command) (command : Command) (before : List Report) → IsCommandFor sheet command
       → AllZip IsReportFor (looks_asked commands ++ looks_behind (length (edits_asked commands)) (command ∷ [])) before → MayTake command before
   may_take commands (asks.Put edit) before fit zip = tt
-  may_take commands (asks.Look window) before fit zip = one_left (looks_asked commands) (record { firm = false; window = window; made = length (edits_asked commands) }) before zip
-  may_take commands (asks.Firm window) before fit zip = one_left (looks_asked commands) (record { firm = true; window = window; made = length (edits_asked commands) }) before zip
+  may_take commands (asks.Look window) before fit zip =
+      one_left (looks_asked commands) (record { firm = false; window = window; made = length (edits_asked commands) })
+      before zip
+  may_take commands (asks.Firm window) before fit zip =
+      one_left (looks_asked commands) (record { firm = true; window = window; made = length (edits_asked commands) })
+      before zip
   may_take commands (asks.Work turns) before fit zip = absurd fit
 
   -- the orders of the last commands, which were taken away with their reports
@@ -83,7 +94,8 @@ module _ (sheet : SheetValue) where
     pub reports_are : AreReportsFor commands reports
     pub fit : All (IsOrderFor sheet) orders
 
-  pub orders_begin : (all : List Command) (reports : List Report) (orders : List Order) → orders ≡ [] → AreCommandsFor sheet all → AreReportsFor all reports → OrdersSoFar all all orders reports
+  pub orders_begin : (all : List Command) (reports : List Report) (orders : List Order) → orders ≡ []
+      → AreCommandsFor sheet all → AreReportsFor all reports → OrdersSoFar all all orders reports
   orders_begin all reports orders none left are =
       record {
         whole = sym (append-nil all) ∙ ap (λ l. all ++ commands_of l) (sym none);
@@ -92,7 +104,8 @@ module _ (sheet : SheetValue) where
         fit = subst (λ (l : List Order). All (IsOrderFor sheet) l) (sym none) (All-nil (IsOrderFor sheet));
       }
 
-  module _ (all commands rest : List Command) (command : Command) (orders : List Order) (reports : List Report) (split : commands ≡ rest ++ command ∷ []) (so : OrdersSoFar all commands orders reports) where
+  module _ (all commands rest : List Command) (command : Command) (orders : List Order) (reports : List Report)
+      (split : commands ≡ rest ++ command ∷ []) (so : OrdersSoFar all commands orders reports) where
     zip : AllZip IsReportFor (looks_asked rest ++ looks_behind (length (edits_asked rest)) (command ∷ [])) reports
     zip = subst (λ (l : List LookAsked). AllZip IsReportFor l reports) (ap looks_asked split ∙ looks_more rest command) so.reports_are
 
@@ -102,7 +115,8 @@ module _ (sheet : SheetValue) where
     pub can_take : MayTake command reports
     can_take = may_take rest command reports left.1 zip
 
-    pub orders_go_on : (order : Order) (after : List Report) (pushed : List Order) → IsOrderOf command order reports after → pushed ≡ orders ++ order ∷ [] → OrdersSoFar all rest pushed after
+    pub orders_go_on : (order : Order) (after : List Report) (pushed : List Order)
+        → IsOrderOf command order reports after → pushed ≡ orders ++ order ∷ [] → OrdersSoFar all rest pushed after
     orders_go_on order after pushed is push =
         let one = taken rest command order reports after left.1 zip is in
         record {
@@ -119,7 +133,8 @@ module _ (sheet : SheetValue) where
         }
 
   -- once all are taken
-  module _ (all commands : List Command) (orders : List Order) (reports : List Report) (none : commands ≡ []) (so : OrdersSoFar all commands orders reports) where
+  module _ (all commands : List Command) (orders : List Order) (reports : List Report) (none : commands ≡ [])
+      (so : OrdersSoFar all commands orders reports) where
     pub orders_are : commands_of orders ≡ all
     orders_are = sym (so.whole ∙ ap (λ l. l ++ commands_of orders) none)
 

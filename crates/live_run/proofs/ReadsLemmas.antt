@@ -1,5 +1,6 @@
 -- What a look's reads leave in a view.
-use Rattle.std.proofs.Common.{◌≡◌, ◌≢◌, ◌<◌, ◌≤◌, ◌+◌, ◌==◌, ⊎_elim, ℕ, zero, suc, List, [], ◌∷◌, ◌++◌, Bool, true, false, max, Contains, map, refl, sym, ap, subst, arith}
+use Rattle.std.proofs.Common.{◌≡◌, ◌≢◌, ◌<◌, ◌≤◌, ◌+◌, ◌==◌, ⊎_elim, ℕ, zero, suc, List, [], ◌∷◌, ◌++◌, Bool, true}
+use Rattle.std.proofs.Common.{false, max, Contains, map, refl, sym, ap, subst, arith}
 use Rattle.std.specs.List.{AllZip}
 use Rattle.std.specs.Prelude.{if◌then◌else◌}
 use Rattle.std.proofs.lemmas.Bool.{cases_eq, cases_lt, cond_both, cond-true, eq-eqb}
@@ -53,15 +54,19 @@ module _ {L : Type 0} (sizes : Sizes) where
   reads_keep_log view [] = refl
   reads_keep_log view (read ∷ reads) = reads_keep_log (after_read view (place_of sizes read.0) read.1) reads
 
-  pub reads_keep_reads : (view : View L) (reads : List (Position × Loads)) (read : Finished) → Contains view.reads read → Contains (after_reads sizes view reads).reads read
+  pub reads_keep_reads : (view : View L) (reads : List (Position × Loads)) (read : Finished) → Contains view.reads read
+      → Contains (after_reads sizes view reads).reads read
   reads_keep_reads view [] read has = has
   reads_keep_reads view (one ∷ reads) read has =
-      reads_keep_reads (after_read view (place_of sizes one.0) one.1) reads read (Contains-append_left view.reads (read_made view (place_of sizes one.0) one.1 ∷ []) read has)
+      reads_keep_reads (after_read view (place_of sizes one.0) one.1) reads read
+      (Contains-append_left view.reads (read_made view (place_of sizes one.0) one.1 ∷ []) read has)
 
-  pub reads_keep_known : (view : View L) (reads : List (Position × Loads)) (pair : Known) → Contains view.known pair → Contains (after_reads sizes view reads).known pair
+  pub reads_keep_known : (view : View L) (reads : List (Position × Loads)) (pair : Known) → Contains view.known pair
+      → Contains (after_reads sizes view reads).known pair
   reads_keep_known view [] pair has = has
   reads_keep_known view (one ∷ reads) pair has =
-      reads_keep_known (after_read view (place_of sizes one.0) one.1) reads pair (Contains-append_left view.known (learned (place_of sizes one.0) one.1) pair has)
+      reads_keep_known (after_read view (place_of sizes one.0) one.1) reads pair
+      (Contains-append_left view.known (learned (place_of sizes one.0) one.1) pair has)
 
 -- the read that a look at a number made of a cell stands among those that a view has, with a floor of no less than these
 -- known pairs give
@@ -88,20 +93,24 @@ module _ (opening : SheetValue) (base : List Known) (number : ℕ) where
             record {
               read = read_made view (place_of opening.sizes cell) loads;
               word = loads.word;
-              kept = reads_keep_reads opening.sizes next reads (read_made view (place_of opening.sizes cell) loads) (Contains-push view.reads (read_made view (place_of opening.sizes cell) loads));
+              kept = reads_keep_reads opening.sizes next reads (read_made view (place_of opening.sizes cell) loads)
+                  (Contains-push view.reads (read_made view (place_of opening.sizes cell) loads));
               word_is = refl;
               number_is = seen;
               place_is = refl;
               shown_is = shows;
               known = λ computed.
                   reads_keep_known opening.sizes next reads (record { place = place_of opening.sizes cell; mark = loads.mark })
-                  (Contains-append_right view.known (learned (place_of opening.sizes cell) loads) (record { place = place_of opening.sizes cell; mark = loads.mark }) (learns (place_of opening.sizes cell) loads computed));
+                  (Contains-append_right view.known (learned (place_of opening.sizes cell) loads)
+                  (record { place = place_of opening.sizes cell; mark = loads.mark })
+                  (learns (place_of opening.sizes cell) loads computed));
             };
         floor = above (place_of opening.sizes cell);
       }
 
   -- each cell of a look is read so
-  pub all_looked : (view : View (List Entry)) (reads : List (Position × Loads)) (cells : List Shown) → view.seen ≡ number → ((place : ℕ) → floor_of base place ≤ floor_of view.known place)
+  pub all_looked : (view : View (List Entry)) (reads : List (Position × Loads)) (cells : List Shown)
+      → view.seen ≡ number → ((place : ℕ) → floor_of base place ≤ floor_of view.known place)
       → AreShown number reads cells → AllZip (IsLooked opening base (after_reads opening.sizes view reads) number) (map (λ read. read.0) reads) cells
   all_looked view [] [] seen above shown = tt
   all_looked view [] (s ∷ cells) seen above shown = absurd shown
@@ -111,12 +120,14 @@ module _ (opening : SheetValue) (base : List Known) (number : ℕ) where
     all_looked (after_read view (place_of opening.sizes read.0) read.1) reads cells seen
         (λ place.
         let a : floor_of base place ≤ floor_of view.known place = above place in
-        let b : floor_of view.known place ≤ floor_of (view.known ++ learned (place_of opening.sizes read.0) read.1) place = floor_more view.known (learned (place_of opening.sizes read.0) read.1) place in
+        let b : floor_of view.known place ≤ floor_of (view.known ++ learned (place_of opening.sizes read.0) read.1)
+        place = floor_more view.known (learned (place_of opening.sizes read.0) read.1) place in
         omega arith) shown.1,
   )
 
 -- where a value is shown, the place was computed for the mark, and the mark is within the number
-pub value_means : (number : ℕ) (loads : Loads) (value : CellValue) → ShowsLoads number loads (Value value) → (loads.clean.upto ≡ loads.mark + 1) × (loads.mark ≤ number)
+pub value_means : (number : ℕ) (loads : Loads) (value : CellValue) → ShowsLoads number loads (Value value)
+    → (loads.clean.upto ≡ loads.mark + 1) × (loads.mark ≤ number)
 value_means number loads value shows =
     ⊎_elim
     (λ (computed : loads.clean.upto ≡ loads.mark + 1).
@@ -129,6 +140,7 @@ pub stale_means : (number : ℕ) (loads : Loads) (mark : ℕ) → ShowsLoads num
 stale_means number loads mark shows =
     ⊎_elim
     (λ (computed : loads.clean.upto ≡ loads.mark + 1).
-    ⊎_elim (λ (past : number < loads.mark). absurd (let e = shows.newer computed past in cc)) (λ le. absurd (let e = (shows.current computed le).1 in cc)) (cases_lt number loads.mark))
+    ⊎_elim (λ (past : number < loads.mark). absurd (let e = shows.newer computed past in cc))
+    (λ le. absurd (let e = (shows.current computed le).1 in cc)) (cases_lt number loads.mark))
     (λ stale. (let e = shows.stale stale in cc, stale))
     (cases_eq loads.clean.upto (loads.mark + 1))

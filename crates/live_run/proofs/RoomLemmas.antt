@@ -39,10 +39,12 @@ one_asked (asks.Look window) = refl
 one_asked (asks.Firm window) = refl
 one_asked (asks.Work turns) = refl
 
-puts_first : (client : ℕ) (step : Step) (steps : List Step) → step.client ≡ client → puts_by client (step ∷ steps) ≡ puts_by client steps + cond (is_put step.command) 1 0
+puts_first : (client : ℕ) (step : Step) (steps : List Step) → step.client ≡ client
+    → puts_by client (step ∷ steps) ≡ puts_by client steps + cond (is_put step.command) 1 0
 puts_first client step steps is =
     let kept =
-    cond-true (step.client == client) (step ∷ filter (λ (s : Step). s.client == client) steps) (filter (λ (s : Step). s.client == client) steps) (eq-eqb step.client client is) in
+    cond-true (step.client == client) (step ∷ filter (λ (s : Step). s.client == client) steps)
+    (filter (λ (s : Step). s.client == client) steps) (eq-eqb step.client client is) in
     let count = ap (λ ss. length (edits_asked (map (λ (s : Step). s.command) ss))) kept in
     let joined = length-append (edit_asked step.command) (edits_asked (commands_by client steps)) in
     omega (arith, count, joined, one_asked step.command)
@@ -50,7 +52,8 @@ puts_first client step steps is =
 puts_later : (client : ℕ) (step : Step) (steps : List Step) → (step.client ≡ client → ⊥) → puts_by client (step ∷ steps) ≡ puts_by client steps
 puts_later client step steps other =
     ap (λ ss. length (edits_asked (map (λ (s : Step). s.command) ss)))
-    (cond-false (step.client == client) (step ∷ filter (λ (s : Step). s.client == client) steps) (filter (λ (s : Step). s.client == client) steps) (ne_eqb step.client client other))
+    (cond-false (step.client == client) (step ∷ filter (λ (s : Step). s.client == client) steps)
+    (filter (λ (s : Step). s.client == client) steps) (ne_eqb step.client client other))
 
 -- together so many clients ask for no more edits than there are
 few_puts : (clients : ℕ) (steps : List Step) → total (λ i. puts_by i steps) clients ≤ count_by (λ (s : Step). is_put s.command) steps
@@ -69,7 +72,8 @@ few_puts clients (step ∷ steps) =
     (cases_lt step.client clients)
 
 -- so do the parts of a script
-pub few_edits : (clients : ℕ) (steps : List Step) (parts : List Part) → ArePartsOf clients steps parts → edits_of parts ≤ count_by (λ (s : Step). is_put s.command) steps
+pub few_edits : (clients : ℕ) (steps : List Step) (parts : List Part) → ArePartsOf clients steps parts
+    → edits_of parts ≤ count_by (λ (s : Step). is_put s.command) steps
 few_edits clients steps parts are =
     let most =
     no_more_in_all (λ i. puts_by i steps) parts

@@ -55,7 +55,8 @@ log_is_held labels clients log others each = all_from (λ (entry : Entry). AreHe
         (contains_filter (λ (e : Entry). e.client == entry.client) log entry there (eq-eqb entry.client entry.client refl)))
 
 module _ {N : Type 0} {G : Ghosts N} (opening : SheetValue) (client : ℕ) (commands : List Command) where
-  pub ended_as : (old new : Client N G) → IsReady opening client commands old → HasEnded opening old.client (task_commands old) new → HasEnded opening client commands new
+  pub ended_as : (old new : Client N G) → IsReady opening client commands old
+      → HasEnded opening old.client (task_commands old) new → HasEnded opening client commands new
   ended_as old new ready ended =
       subst (λ (c : ℕ). HasEnded opening c commands new) ready.whose (subst (λ (l : List Command). HasEnded opening old.client l new) ready.asked ended)
 
@@ -78,7 +79,8 @@ module _ {N : Type 0} {G : Ghosts N} (opening : SheetValue) (client : ℕ) (comm
       pub own_edits : edits_by client log ≡ edits_asked commands
       own_edits = own.1
 
-      legal : codes ≡ opening_codes opening → (read : Finished) (word : ℕ) → Contains (pass_view pass).reads read → read.word ≡ Some word → IsLegalOver opening (opening_codes opening) log read word
+      legal : codes ≡ opening_codes opening → (read : Finished) (word : ℕ) → Contains (pass_view pass).reads read
+          → read.word ≡ Some word → IsLegalOver opening (opening_codes opening) log read word
       legal same read word kept is = subst (λ (c : List (Option ℕ)). IsLegalOver opening c log read word) same (ends.legal read word kept is)
 
       -- the client's part is followed, and each of its reports has something of each cell

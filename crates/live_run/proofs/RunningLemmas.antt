@@ -1,5 +1,6 @@
 -- A client's task while its orders are followed.
-use Rattle.std.proofs.Common.{◌≡◌, ◌<◌, ◌≤◌, ◌+◌, ◌^◌, ℕ, Bool, List, [], ◌∷◌, ◌++◌, true, false, All, length, refl, sym, ◌∙◌, ap, subst, arith, append_assoc, length-append, vec_capacity}
+use Rattle.std.proofs.Common.{◌≡◌, ◌<◌, ◌≤◌, ◌+◌, ◌^◌, ℕ, Bool, List, [], ◌∷◌, ◌++◌, true, false, All, length, refl}
+use Rattle.std.proofs.Common.{sym, ◌∙◌, ap, subst, arith, append_assoc, length-append, vec_capacity}
 use Rattle.std.proofs.lemmas.List.{append-nil}
 use Rattle.std.proofs.lemmas.List.Elements.{All-nil}
 use Rattle.std.proofs.lemmas.Slice.Zip.{AllZip-long}
@@ -57,7 +58,9 @@ module _ {N : Type 0} {G : Ghosts N} (opening : SheetValue) where
     pub fits : length (looks_asked commands) ≤ room
     pub few : number + length orders < 2 ^ 32
 
-  pub underway_begins : (task : Client N G) → Begins opening task → IsUnderway task.client (task_commands task) task.pass task.orders.items task.reports.items 0 (vec_capacity task.reports)
+  pub underway_begins : (task : Client N G) → Begins opening task
+      → IsUnderway task.client (task_commands task) task.pass task.orders.items task.reports.items 0
+      (vec_capacity task.reports)
   underway_begins task begins =
       record {
         done = [];
@@ -68,7 +71,8 @@ module _ {N : Type 0} {G : Ghosts N} (opening : SheetValue) where
         few = let f : length task.orders.items < 2 ^ 32 = begins.few in omega arith;
       }
 
-  module _ (client : ℕ) (commands : List Command) (old : Pass N G) (orders rest : List Order) (order : Order) (reports : List Report) (number room : ℕ) (split : orders ≡ rest ++ order ∷ [])
+  module _ (client : ℕ) (commands : List Command) (old : Pass N G) (orders rest : List Order) (order : Order)
+      (reports : List Report) (number room : ℕ) (split : orders ≡ rest ++ order ∷ [])
       (so : IsUnderway client commands old orders reports number room) where
     whole_is : commands ≡ so.done ++ command_of order ∷ commands_of rest
     whole_is = so.whole ∙ ap (λ l. so.done ++ commands_of l) split ∙ ap (λ l. so.done ++ l) (commands_push rest order)
@@ -97,7 +101,8 @@ module _ {N : Type 0} {G : Ghosts N} (opening : SheetValue) where
     pub next_room : IsLook order → length reports < room
     next_room look = room_for order whole_is look
 
-    pub underway_goes_on : (new : Pass N G) (after : List Report) → HasMade opening order old new reports after → IsUnderway client commands new rest after (number + 1) room
+    pub underway_goes_on : (new : Pass N G) (after : List Report) → HasMade opening order old new reports after
+        → IsUnderway client commands new rest after (number + 1) room
     underway_goes_on new after made =
         record {
           done = so.done ++ command_of order ∷ [];
@@ -108,7 +113,8 @@ module _ {N : Type 0} {G : Ghosts N} (opening : SheetValue) where
           few = let f : number + length orders < 2 ^ 32 = so.few in omega (arith, f, ap length split, length-append rest (order ∷ []));
         }
 
-    cut_edit : (edit : EditValue) (new : Pass N G) → commands ≡ so.done ++ asks.Put edit ∷ commands_of rest → KnowsFull old new → IsCutShort opening client commands new
+    cut_edit : (edit : EditValue) (new : Pass N G) → commands ≡ so.done ++ asks.Put edit ∷ commands_of rest
+        → KnowsFull old new → IsCutShort opening client commands new
     cut_edit edit new is full =
         record {
           whose = full.kept.client ∙ so.run.whose;
@@ -123,7 +129,8 @@ module _ {N : Type 0} {G : Ghosts N} (opening : SheetValue) where
               );
         }
 
-    cut_order : (order : Order) (new : Pass N G) → commands ≡ so.done ++ command_of order ∷ commands_of rest → IsCutAt order old new cut.FullLog → IsCutShort opening client commands new
+    cut_order : (order : Order) (new : Pass N G) → commands ≡ so.done ++ command_of order ∷ commands_of rest
+        → IsCutAt order old new cut.FullLog → IsCutShort opening client commands new
     cut_order (Put edit) new is full = cut_edit edit new is full
     cut_order (Look firm window board) new is why = absurd (cc)
 
@@ -131,7 +138,9 @@ module _ {N : Type 0} {G : Ghosts N} (opening : SheetValue) where
     pub cut_short : (new : Pass N G) → IsCutAt order old new cut.FullLog → IsCutShort opening client commands new
     cut_short new at = cut_order order new whole_is at
 
-  pub underway_ends : (client : ℕ) (commands : List Command) (pass : Pass N G) (orders : List Order) (reports : List Report) (number room : ℕ) → orders ≡ [] → IsUnderway client commands pass orders reports number room
+  pub underway_ends : (client : ℕ) (commands : List Command) (pass : Pass N G) (orders : List Order)
+      (reports : List Report) (number room : ℕ) → orders ≡ []
+      → IsUnderway client commands pass orders reports number room
       → HasRun opening client commands pass reports
   underway_ends client commands pass orders reports number room none so =
       subst (λ (l : List Command). HasRun opening client l pass reports) (sym (so.whole ∙ ap (λ l. so.done ++ commands_of l) none ∙ append-nil so.done)) so.run

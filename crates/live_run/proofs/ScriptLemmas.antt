@@ -1,5 +1,6 @@
 -- A script that was read for a live run may be run over its sheet.
-use Rattle.std.proofs.Common.{◌≡◌, ◌⊎◌, inl, inr, ⊎_elim, ℕ, ◌+◌, ◌<◌, ◌≤◌, Bool, true, false, List, [], ◌∷◌, ◌++◌, length, Option, Some, None, All, arith, refl, sym, ap, subst, ◌∙◌, length-append}
+use Rattle.std.proofs.Common.{◌≡◌, ◌⊎◌, inl, inr, ⊎_elim, ℕ, ◌+◌, ◌<◌, ◌≤◌, Bool, true, false, List, [], ◌∷◌, ◌++◌}
+use Rattle.std.proofs.Common.{length, Option, Some, None, All, arith, refl, sym, ap, subst, ◌∙◌, length-append}
 use Rattle.std.specs.Prelude.{Contains, fold, if◌then◌else◌}
 use Rattle.std.specs.List.{list_any}
 use Rattle.std.specs.Str.{bytes_eq}
@@ -15,7 +16,9 @@ use Rattle.sheet_model.specs.Labels.{with_label}
 use Rattle.sheet_model.specs.Sheets.{SheetValue, Constant, with_labels}
 use Rattle.value_core.specs.declared.value.Value.TheVariants.{Empty}
 use Rattle.edit_script.specs.Lines.{FitsMode, LineValue, Skip, Client, Set, Clear, Look, Firm, Work, Batch, End, script_lines}
-use Rattle.edit_script.specs.Scripts.{AddsCommand, AreLines, AreSteps, Brought, GoesOn, Ground, IsAllowed, IsScript, MakesChange, ScriptValue, brought_by, change_of, ground_of, nothing_yet, with_change, with_client, with_line}
+use Rattle.edit_script.specs.Scripts.{AddsCommand, AreLines, AreSteps, Brought, GoesOn, Ground, IsAllowed, IsScript}
+use Rattle.edit_script.specs.Scripts.{MakesChange, ScriptValue, brought_by, change_of, ground_of, nothing_yet}
+use Rattle.edit_script.specs.Scripts.{with_change, with_client, with_line}
 use Rattle.edit_script.specs.Scripts.AreLines.{none as no_lines, more as more_lines}
 use Rattle.edit_script.specs.Scripts.AreSteps.{none as no_steps, more as step_more}
 use Rattle.edit_script.specs.declared.script.Command.{Command}
@@ -51,7 +54,9 @@ joins now name few room = record { few = few_names now.names name few.few room; 
 
 -- the client whose commands follow joins
 goes_on : (now : Brought) → AreFewClients now → AreFewClients (with_client now now.client)
-goes_on now few = joins now now.client few (⊎_elim (λ (none : now.names ≡ []). inl (let no = ap length none in omega (arith, no))) (λ (there : Contains now.names now.client). inr there) few.named)
+goes_on now few =
+    joins now now.client few (⊎_elim (λ (none : now.names ≡ []). inl (let no = ap length none in omega (arith, no)))
+    (λ (there : Contains now.names now.client). inr there) few.named)
 
 few_change : (batch : Option (List Position)) (now : Brought) (cell : Position) → AreFewClients now → AreFewClients (with_change batch now cell)
 few_change None now cell few = let more = goes_on now few in record { few = more.few; named = more.named }
@@ -68,10 +73,12 @@ few_line ground now (Work turns) allowed few = goes_on now few
 few_line ground now Batch allowed few = record { few = few.few; named = few.named }
 few_line ground now End allowed few = let more = goes_on now few in record { few = more.few; named = more.named }
 
-few_lines : (mode : Mode) (ground : Ground) (texts : List (List ℕ)) (lines : List LineValue) → AreLines mode ground texts lines → AreFewClients (brought_by lines)
+few_lines : (mode : Mode) (ground : Ground) (texts : List (List ℕ)) (lines : List LineValue)
+    → AreLines mode ground texts lines → AreFewClients (brought_by lines)
 few_lines mode ground _ _ no_lines = record { few = omega arith; named = inl refl }
 few_lines mode ground _ _ (more_lines texts all text lines known line are says allowed all_is known_is) =
-    subst AreFewClients (sym (ap brought_by known_is ∙ fold_last nothing_yet lines line)) (few_line ground (brought_by lines) line allowed (few_lines mode ground texts lines are))
+    subst AreFewClients (sym (ap brought_by known_is ∙ fold_last nothing_yet lines line))
+    (few_line ground (brought_by lines) line allowed (few_lines mode ground texts lines are))
 
 -- there are as many lines as texts
 counted : (mode : Mode) (ground : Ground) (texts : List (List ℕ)) (lines : List LineValue) → AreLines mode ground texts lines → length lines ≡ length texts
@@ -84,19 +91,25 @@ counted mode ground _ _ (more_lines texts all text lines known line are says all
 
 -- a line brings at most one step
 one_added : (command : Command) (there : Brought) (old new : List Step) → AddsCommand command there old new → length new ≤ length old + 1
-one_added command there old new adds = let all = ap length adds.added ∙ length-append old (record { client = adds.client; command = command } ∷ []) in omega (arith, all)
+one_added command there old new adds =
+    let all = ap length adds.added ∙ length-append old (record { client = adds.client; command = command } ∷ []) in
+    omega (arith, all)
 
 same_steps : (old new : List Step) → new ≡ old → length new ≤ length old + 1
 same_steps old new same = let all = ap length same in omega (arith, all)
 
-one_change : (there : Brought) (change : ChangeValue) (before after : Option EditValue) (old new : List Step) → MakesChange there change before after old new → length new ≤ length old + 1
+one_change : (there : Brought) (change : ChangeValue) (before after : Option EditValue) (old new : List Step)
+    → MakesChange there change before after old new → length new ≤ length old + 1
 one_change there change None after old new (is, adds) = one_added (asks.Put (change ∷ [])) there old new adds
 one_change there change (Some changes) after old new (is, same) = same_steps old new same
 
-one_line : (edition : Edition) (labels : List (List ℕ)) (there : Brought) (line : LineValue) (before after : Option EditValue) (old new : List Step) → GoesOn edition labels there line before after old new → length new ≤ length old + 1
+one_line : (edition : Edition) (labels : List (List ℕ)) (there : Brought) (line : LineValue)
+    (before after : Option EditValue) (old new : List Step) → GoesOn edition labels there line before after old new
+    → length new ≤ length old + 1
 one_line edition labels there Skip before after old new (is, same) = same_steps old new same
 one_line edition labels there (Client name) before after old new (is, same) = same_steps old new same
-one_line edition labels there (Set cell text) before after old new (content, writes, makes) = one_change there (change_of cell content) before after old new makes
+one_line edition labels there (Set cell text) before after old new (content, writes, makes) =
+    one_change there (change_of cell content) before after old new makes
 one_line edition labels there (Clear cell) before after old new makes = one_change there (change_of cell (Constant Empty)) before after old new makes
 one_line edition labels there (Look range) before after old new (is, adds) = one_added (asks.Look range) there old new adds
 one_line edition labels there (Firm range) before after old new (is, adds) = one_added (asks.Firm range) there old new adds
@@ -104,7 +117,8 @@ one_line edition labels there (Work turns) before after old new (is, adds) = one
 one_line edition labels there Batch before after old new (is, same) = same_steps old new same
 one_line edition labels there End before after old new (changes, was, is, adds) = one_added (asks.Put changes) there old new adds
 
-few_steps : (edition : Edition) (labels : List (List ℕ)) (lines : List LineValue) (after : Option EditValue) (steps : List Step) → AreSteps edition labels lines after steps → length steps ≤ length lines
+few_steps : (edition : Edition) (labels : List (List ℕ)) (lines : List LineValue) (after : Option EditValue)
+    (steps : List Step) → AreSteps edition labels lines after steps → length steps ≤ length lines
 few_steps edition labels _ _ _ no_steps = omega arith
 few_steps edition labels _ _ _ (step_more lines known line before after steps all are goes known_is) =
     let rest = few_steps edition labels lines before steps are in
@@ -137,29 +151,41 @@ live_lines ground _ _ no_lines = All-nil IsLiveLine
 live_lines ground _ _ (more_lines texts all text lines known line are says allowed all_is known_is) =
     subst (All IsLiveLine) (sym known_is) (All-push IsLiveLine lines line (live_lines ground texts lines are) (live_line line says.1))
 
-live_added : (command : Command) (there : Brought) (old new : List Step) → IsLiveCommand command → AddsCommand command there old new → All (λ (s : Step). IsLiveCommand s.command) old → All (λ (s : Step). IsLiveCommand s.command) new
-live_added command there old new live adds all = subst (All (λ (s : Step). IsLiveCommand s.command)) (sym adds.added) (All-push (λ (s : Step). IsLiveCommand s.command) old _ all live)
+live_added : (command : Command) (there : Brought) (old new : List Step) → IsLiveCommand command
+    → AddsCommand command there old new → All (λ (s : Step). IsLiveCommand s.command) old
+    → All (λ (s : Step). IsLiveCommand s.command) new
+live_added command there old new live adds all =
+    subst (All (λ (s : Step). IsLiveCommand s.command)) (sym adds.added)
+    (All-push (λ (s : Step). IsLiveCommand s.command) old _ all live)
 
 live_same : (old new : List Step) → new ≡ old → All (λ (s : Step). IsLiveCommand s.command) old → All (λ (s : Step). IsLiveCommand s.command) new
 live_same old new same all = subst (All (λ (s : Step). IsLiveCommand s.command)) (sym same) all
 
-live_change : (there : Brought) (change : ChangeValue) (before after : Option EditValue) (old new : List Step) → MakesChange there change before after old new → All (λ (s : Step). IsLiveCommand s.command) old → All (λ (s : Step). IsLiveCommand s.command) new
+live_change : (there : Brought) (change : ChangeValue) (before after : Option EditValue) (old new : List Step)
+    → MakesChange there change before after old new → All (λ (s : Step). IsLiveCommand s.command) old
+    → All (λ (s : Step). IsLiveCommand s.command) new
 live_change there change None after old new (is, adds) all = live_added (asks.Put (change ∷ [])) there old new tt adds all
 live_change there change (Some changes) after old new (is, same) all = live_same old new same all
 
-live_step : (edition : Edition) (labels : List (List ℕ)) (there : Brought) (line : LineValue) (before after : Option EditValue) (old new : List Step) → IsLiveLine line → GoesOn edition labels there line before after old new
+live_step : (edition : Edition) (labels : List (List ℕ)) (there : Brought) (line : LineValue)
+    (before after : Option EditValue) (old new : List Step) → IsLiveLine line
+    → GoesOn edition labels there line before after old new
     → All (λ (s : Step). IsLiveCommand s.command) old → All (λ (s : Step). IsLiveCommand s.command) new
 live_step edition labels there Skip before after old new live (is, same) all = live_same old new same all
 live_step edition labels there (Client name) before after old new live (is, same) all = live_same old new same all
-live_step edition labels there (Set cell text) before after old new live (content, writes, makes) all = live_change there (change_of cell content) before after old new makes all
-live_step edition labels there (Clear cell) before after old new live makes all = live_change there (change_of cell (Constant Empty)) before after old new makes all
+live_step edition labels there (Set cell text) before after old new live (content, writes, makes) all =
+    live_change there (change_of cell content) before after old new makes all
+live_step edition labels there (Clear cell) before after old new live makes all =
+    live_change there (change_of cell (Constant Empty)) before after old new makes all
 live_step edition labels there (Look range) before after old new live (is, adds) all = live_added (asks.Look range) there old new tt adds all
 live_step edition labels there (Firm range) before after old new live (is, adds) all = live_added (asks.Firm range) there old new tt adds all
 live_step edition labels there (Work turns) before after old new live goes all = absurd live
 live_step edition labels there Batch before after old new live (is, same) all = live_same old new same all
 live_step edition labels there End before after old new live (changes, was, is, adds) all = live_added (asks.Put changes) there old new tt adds all
 
-live_steps : (edition : Edition) (labels : List (List ℕ)) (lines : List LineValue) (after : Option EditValue) (steps : List Step) → AreSteps edition labels lines after steps → All IsLiveLine lines → All (λ (s : Step). IsLiveCommand s.command) steps
+live_steps : (edition : Edition) (labels : List (List ℕ)) (lines : List LineValue) (after : Option EditValue)
+    (steps : List Step) → AreSteps edition labels lines after steps → All IsLiveLine lines
+    → All (λ (s : Step). IsLiveCommand s.command) steps
 live_steps edition labels _ _ _ no_steps live = All-nil (λ (s : Step). IsLiveCommand s.command)
 live_steps edition labels _ _ _ (step_more lines known line before after steps all are goes known_is) live =
     let both = All-pop IsLiveLine known lines (Some line) known_is live in
@@ -181,7 +207,9 @@ runs sheet labels text script small is =
     let names = ap length is.names in
     record {
       few = (let some = clients.few in omega (arith, names, some));
-      short = (let steps = few_steps sheet.edition labels is.lines None script.steps is.steps in let lines = counted Live (ground_of sheet) (script_lines text) is.lines is.said in let most = length-lines text in omega (arith, steps, lines, most, small));
+      short = (let steps = few_steps sheet.edition labels is.lines None script.steps is.steps in
+          let lines = counted Live (ground_of sheet) (script_lines text) is.lines is.said in
+          let most = length-lines text in omega (arith, steps, lines, most, small));
       commands = λ place step within. for_sheet (with_labels sheet labels) _ (fits.each place step within) (live place step within);
       edits = fits.few;
     }

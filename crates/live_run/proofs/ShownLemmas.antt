@@ -1,5 +1,6 @@
 -- What a legal read, or a value after entries that are known, may show of a cell.
-use Rattle.std.proofs.Common.{◌≡◌, ◌<◌, ◌≤◌, ◌+◌, ◌⊎◌, ⊎_elim, inl, inr, ℕ, zero, suc, List, [], ◌∷◌, ◌++◌, Some, None, IsTrue, map, length, take, slice_get, get_or, Contains, refl, sym, ◌∙◌, ap, subst}
+use Rattle.std.proofs.Common.{◌≡◌, ◌<◌, ◌≤◌, ◌+◌, ◌⊎◌, ⊎_elim, inl, inr, ℕ, zero, suc, List, [], ◌∷◌, ◌++◌, Some, None}
+use Rattle.std.proofs.Common.{IsTrue, map, length, take, slice_get, get_or, Contains, refl, sym, ◌∙◌, ap, subst}
 use Rattle.std.proofs.lemmas.Bool.{cases_eq, cases_lt}
 use Rattle.std.proofs.lemmas.List.{append-nil}
 use Rattle.std.proofs.lemmas.List.Elements.{All-take}
@@ -34,7 +35,9 @@ use Rattle.live_run.specs.Told.{IsKnownBy, IsTold}
 use Rattle.live_run.proofs.TouchedLemmas.{touched_by, last_of}
 
 -- a place that opened without a code held a formula
-codeless_content : (contents : List ContentValue) (place : ℕ) (d : ContentValue) → slice_get (map code_before contents) place ≡ Some None → (formula : Tree) × (get_or contents place d ≡ Computed formula)
+codeless_content : (contents : List ContentValue) (place : ℕ) (d : ContentValue)
+    → slice_get (map code_before contents) place ≡ Some None → (formula : Tree)
+    × (get_or contents place d ≡ Computed formula)
 codeless_content [] place d none = absurd (none-some None none)
 codeless_content (Constant value ∷ contents) zero d none = absurd (cc)
 codeless_content (Computed formula ∷ contents) zero d none = (formula, refl)
@@ -51,7 +54,8 @@ module _ (opening : SheetValue) (log : List Entry) (cell : Position) (inside : I
     in_range = value_in_range (after opening (take number log)) cell
         (after-sheet opening (take number log) is (All-take (λ (entry : Entry). AreHeldBeside (length opening.labels) entry.edit) number log held))
 
-    module _ (read : Finished) (word : ℕ) (legal : IsLegalOver opening (opening_codes opening) log read word) (number_is : read.number ≡ number) (place_is : read.place ≡ place_of opening.sizes cell) where
+    module _ (read : Finished) (word : ℕ) (legal : IsLegalOver opening (opening_codes opening) log read word)
+        (number_is : read.number ≡ number) (place_is : read.place ≡ place_of opening.sizes cell) where
       later : read.number < read.mark → IsTouched (TouchesPlace opening) log read.place read.mark → IsTouchedLater opening log number cell read.mark
       later past touched =
           record {
@@ -60,7 +64,8 @@ module _ (opening : SheetValue) (log : List Entry) (cell : Position) (inside : I
           }
 
       -- the last mark in so many entries, or a later one
-      later_or_last : ((read.mark ≤ read.number) × IsLastMark (TouchesPlace opening) (take read.number log) read.place read.mark × (read.mark ≡ 0 → IsCodeless (opening_codes opening) read.place))
+      later_or_last : ((read.mark ≤ read.number) × IsLastMark (TouchesPlace opening) (take read.number log) read.place
+          read.mark × (read.mark ≡ 0 → IsCodeless (opening_codes opening) read.place))
           ⊎ ((read.number < read.mark) × IsTouched (TouchesPlace opening) (log ++ []) read.place read.mark)
           → MayShow opening log number cell (Stale read.mark)
       later_or_last (inl (le, last, load)) =
@@ -74,7 +79,8 @@ module _ (opening : SheetValue) (log : List Entry) (cell : Position) (inside : I
           inr (later past (subst (λ (l : List Entry). IsTouched (TouchesPlace opening) l read.place read.mark) (append-nil log) touched))
 
       -- what the read shows may be shown
-      may_show : (shown : Shown) → ShowsLoads number (record { clean = read.clean; word = word; mark = read.mark }) shown → MayShow opening log number cell shown
+      may_show : (shown : Shown) → ShowsLoads number (record { clean = read.clean; word = word; mark = read.mark })
+          shown → MayShow opening log number cell shown
       may_show shown shows =
           ⊎_elim
           (λ (computed : read.clean.upto ≡ read.mark + 1).
@@ -83,7 +89,8 @@ module _ (opening : SheetValue) (log : List Entry) (cell : Position) (inside : I
           let answer = legal.answer (seen.Newer read.mark) (computed, subst (λ n. n < read.mark) (sym number_is) past, refl) in
           subst (λ (s : Shown). MayShow opening log number cell s) (sym (shows.newer computed past)) (later answer.0 answer.1))
           (λ (le : read.mark ≤ number).
-          let answer : word ≡ place_worth opening (take read.number log) read.place = legal.answer (seen.Value word) (computed, subst (λ n. read.mark ≤ n) (sym number_is) le, refl) in
+          let answer : word ≡ place_worth opening (take read.number log) read.place =
+          legal.answer (seen.Value word) (computed, subst (λ n. read.mark ≤ n) (sym number_is) le, refl) in
           let shown_value = shows.current computed le in
           subst (λ (s : Shown). MayShow opening log number cell s) (sym shown_value.1)
           (shown_value.2 (value_of (after opening (take number log)) cell) in_range
@@ -92,11 +99,13 @@ module _ (opening : SheetValue) (log : List Entry) (cell : Position) (inside : I
           ∙ ap (λ p. place_worth opening (take number log) p) place_is
           ∙ ap (λ c. code_of (value_of (after opening (take number log)) c)) (cell_at-place opening.sizes cell inside))))
           (cases_lt number read.mark))
-          (λ stale. subst (λ (s : Shown). MayShow opening log number cell s) (sym (shows.stale stale)) (later_or_last (legal.answer (seen.Stale read.mark) (stale, refl))))
+          (λ stale. subst (λ (s : Shown). MayShow opening log number cell s) (sym (shows.stale stale))
+          (later_or_last (legal.answer (seen.Stale read.mark) (stale, refl))))
           (cases_eq read.clean.upto (read.mark + 1))
 
     module _ (view : View (List Entry)) (known : IsPrefix view.log log)
-        (legal : (read : Finished) (word : ℕ) → Contains view.reads read → read.word ≡ Some word → IsLegalOver opening (opening_codes opening) log read word) where
+        (legal : (read : Finished) (word : ℕ) → Contains view.reads read → read.word ≡ Some word
+        → IsLegalOver opening (opening_codes opening) log read word) where
       known_may_show : (shown : Shown) → IsKnownBy opening view number cell shown → MayShow opening log number cell shown
       known_may_show shown by =
           subst (λ (s : Shown). MayShow opening log number cell s) (sym by.shown_is)

@@ -1,5 +1,6 @@
 -- What each call of a client leaves of what was known, and adds to it.
-use Rattle.std.proofs.Common.{◌≡◌, ◌<◌, ◌≤◌, ◌+◌, ◌-◌, inl, inr, ℕ, List, [], ◌∷◌, ◌++◌, Bool, Some, true, false, All, Contains, length, take, map, slice_get, refl, sym, ◌∙◌, ap, subst, arith}
+use Rattle.std.proofs.Common.{◌≡◌, ◌<◌, ◌≤◌, ◌+◌, ◌-◌, inl, inr, ℕ, List, [], ◌∷◌, ◌++◌, Bool, Some, true, false, All}
+use Rattle.std.proofs.Common.{Contains, length, take, map, slice_get, refl, sym, ◌∙◌, ap, subst, arith}
 use Rattle.std.specs.List.{AllZip}
 use Rattle.std.proofs.lemmas.List.{take_all}
 use Rattle.std.proofs.lemmas.List.Elements.{Contains-append_left}
@@ -52,15 +53,19 @@ look_edits : (firm : Bool) (window : Corners) → edit_asked (look_command firm 
 look_edits true window = refl
 look_edits false window = refl
 
-look_asked : (firm : Bool) (window : Corners) (made : ℕ) → looks_behind made (look_command firm window ∷ []) ≡ record { firm = firm; window = window; made = made } ∷ []
+look_asked : (firm : Bool) (window : Corners) (made : ℕ) → looks_behind made (look_command firm window
+    ∷ []) ≡ record { firm = firm; window = window; made = made } ∷ []
 look_asked true window made = refl
 look_asked false window made = refl
 
-module _ {N : Type 0} {G : Ghosts N} (opening : SheetValue) (client : ℕ) (commands : List Command) (old new : Pass N G) (reports : List Report) (before : HasRun opening client commands old reports) where
+module _ {N : Type 0} {G : Ghosts N} (opening : SheetValue) (client : ℕ) (commands : List Command) (old new : Pass N G)
+    (reports : List Report) (before : HasRun opening client commands old reports) where
   committed_grows : (edit : EditValue) (number : ℕ) (log : List Entry) → IsCommitted edit number log old new → Grows (pass_view old) (pass_view new)
   committed_grows edit number log is =
       record {
-        log = subst (λ (l : List Entry). IsPrefix (pass_log old) l) (sym is.log) (prefix_more (pass_log old) log (client_entry (client_of old) edit ∷ []) is.goes_on);
+        log =
+            subst (λ (l : List Entry). IsPrefix (pass_log old) l) (sym is.log)
+            (prefix_more (pass_log old) log (client_entry (client_of old) edit ∷ []) is.goes_on);
         seen = is.met.seen;
         reads = λ read has. subst (λ (l : List Finished). Contains l read) (sym is.met.reads) has;
         known = of_prefix (pass_view old).known (pass_view new).known is.met.known;
@@ -75,7 +80,8 @@ module _ {N : Type 0} {G : Ghosts N} (opening : SheetValue) (client : ℕ) (comm
       ∙ ap (λ c. Some (client_entry c edit)) before.whose
 
   -- after an edit
-  pub edit_made : (edit : EditValue) → IsFor opening edit → HasMadeEdit opening edit old new → HasRun opening client (commands ++ asks.Put edit ∷ []) new reports
+  pub edit_made : (edit : EditValue) → IsFor opening edit → HasMadeEdit opening edit old new
+      → HasRun opening client (commands ++ asks.Put edit ∷ []) new reports
   edit_made edit for made =
       let is = made.committed.committed in
       let log : List Entry = made.committed.before in
@@ -84,7 +90,8 @@ module _ {N : Type 0} {G : Ghosts N} (opening : SheetValue) (client : ℕ) (comm
       record {
         whose = is.whose ∙ before.whose;
         answered = subst (λ (l : List ℕ). HasAnswered opening client (commands ++ asks.Put edit ∷ []) (pass_view new) l reports) (sym is.numbers)
-            (edit_more opening (pass_view old) (pass_view new) (committed_grows edit made.number log is) client commands (numbers_of old) reports before.answered
+            (edit_more opening (pass_view old) (pass_view new) (committed_grows edit made.number log is) client commands
+            (numbers_of old) reports before.answered
             edit made.number is.later behind is.seen (committed_stands edit made.number log is) (held_for opening edit for made.written));
       }
 
@@ -106,17 +113,23 @@ module _ {N : Type 0} {G : Ghosts N} (opening : SheetValue) (client : ℕ) (comm
         })
 
     look_seen : board.number ≤ pass_seen new
-    look_seen = subst (λ (v : View (List Entry)). board.number ≤ v.seen) (sym view_is) (subst (λ (n : ℕ). board.number ≤ n) (sym (reads_keep_seen opening.sizes begun looked.reads)) (omega arith))
+    look_seen =
+        subst (λ (v : View (List Entry)). board.number ≤ v.seen) (sym view_is)
+        (subst (λ (n : ℕ). board.number ≤ n) (sym (reads_keep_seen opening.sizes begun looked.reads)) (omega arith))
 
     look_cells : AllZip (IsLooked opening (pass_view old).known (pass_view new) board.number) (cells_of window) board.cells
     look_cells =
         subst (λ (v : View (List Entry)). AllZip (IsLooked opening (pass_view old).known v board.number) (cells_of window) board.cells) (sym view_is)
-        (subst (λ (cells : List Position). AllZip (IsLooked opening (pass_view old).known (after_reads opening.sizes begun looked.reads) board.number) cells board.cells) looked.of_cells
+        (subst
+        (λ (cells : List Position). AllZip (IsLooked opening (pass_view old).known
+        (after_reads opening.sizes begun looked.reads) board.number) cells board.cells) looked.of_cells
         (all_looked opening (pass_view old).known board.number begun looked.reads board.cells refl (λ place. omega arith) looked.are_shown))
 
     look_told : AllZip (IsTold opening (pass_view new) board.number) (cells_of window) board.cells
     look_told =
-        zip_map (IsLooked opening (pass_view old).known (pass_view new) board.number) (IsTold opening (pass_view new) board.number) (cells_of window) board.cells (λ cell shown _ one. inl one.by) look_cells
+        zip_map (IsLooked opening (pass_view old).known (pass_view new) board.number)
+        (IsTold opening (pass_view new) board.number) (cells_of window) board.cells (λ cell shown _ one. inl one.by)
+        look_cells
 
   -- after a look
   look_made : (window : Corners) (report : Report) → IsInside opening.sizes window → IsOrdered window.head window.tail → report.firm ≡ false
@@ -128,14 +141,21 @@ module _ {N : Type 0} {G : Ghosts N} (opening : SheetValue) (client : ℕ) (comm
       let grows = look_grows window report.board looked in
       record {
         whose = shown.kept.client ∙ before.whose;
-        answered = subst (λ (l : List ℕ). HasAnswered opening client (commands ++ look_command false window ∷ []) (pass_view new) l (reports ++ report ∷ [])) (sym shown.kept.numbers)
-            (look_more opening (pass_view old) (pass_view new) grows client commands (numbers_of old) reports before.answered (look_command false window) look report refl refl
-            (reported opening (pass_view old) (pass_view new) grows client commands (numbers_of old) reports before.answered report looked.covers looked.told look refl plain looked.window_is inside ordered
+        answered =
+            subst (λ (l : List ℕ). HasAnswered opening client (commands ++ look_command false window
+            ∷ []) (pass_view new) l (reports ++ report ∷ [])) (sym shown.kept.numbers)
+            (look_more opening (pass_view old) (pass_view new) grows client commands (numbers_of old) reports
+            before.answered (look_command false window) look report refl refl
+            (reported opening (pass_view old) (pass_view new) grows client commands (numbers_of old) reports
+            before.answered report looked.covers looked.told look refl plain looked.window_is inside ordered
             (inl (look_seen window report.board looked)) (look_told window report.board looked) (λ firm. absurd (cc)))
-            (behind_look opening (pass_view old) (pass_view new) grows client commands (numbers_of old) reports before.answered report looked.covers looked.told window looked.window_is (look_cells window report.board looked)));
+            (behind_look opening (pass_view old) (pass_view new) grows client commands (numbers_of old) reports
+            before.answered report looked.covers looked.told window looked.window_is
+            (look_cells window report.board looked)));
       }
 
-  module _ (window : Corners) (ordered : IsOrdered window.head window.tail) (room : ℕ) (board : BoardValue) (keeps : KeepsPass old new) (firm : IsFirmLook opening window old.seat new.seat room board) where
+  module _ (window : Corners) (ordered : IsOrdered window.head window.tail) (room : ℕ) (board : BoardValue)
+      (keeps : KeepsPass old new) (firm : IsFirmLook opening window old.seat new.seat room board) where
     firm_grows : Grows (pass_view old) (pass_view new)
     firm_grows =
         record {
@@ -148,7 +168,8 @@ module _ {N : Type 0} {G : Ghosts N} (opening : SheetValue) (client : ℕ) (comm
     all_known : take board.number (pass_log new) ≡ pass_log new
     all_known = take_all board.number (pass_log new) (let n : board.number ≡ length (pass_log new) = firm.shows.number_is in omega arith)
 
-    one_known : (cell : Position) → Contains (cells_of window) cell → IsTold opening (pass_view new) board.number cell (value_shown (after opening (pass_log new)) cell)
+    one_known : (cell : Position) → Contains (cells_of window) cell
+        → IsTold opening (pass_view new) board.number cell (value_shown (after opening (pass_log new)) cell)
     one_known cell there =
         let (mark, clean) = firm.known cell ((cells_listed window ordered cell).0 there) in
         inr (record {
@@ -175,7 +196,9 @@ module _ {N : Type 0} {G : Ghosts N} (opening : SheetValue) (client : ℕ) (comm
         (all_from IsShownValue (map (value_shown (after opening (pass_log new))) (cells_of window)) value_is)
 
     firm_covers_log : length (pass_log old) ≤ board.number
-    firm_covers_log = let n : board.number ≡ length (pass_log new) = firm.shows.number_is in omega (arith, prefix_length (pass_log old) (pass_log new) keeps.seat.log)
+    firm_covers_log =
+        let n : board.number ≡ length (pass_log new) = firm.shows.number_is in
+        omega (arith, prefix_length (pass_log old) (pass_log new) keeps.seat.log)
 
   -- after a firm look
   firm_made : (window : Corners) (report : Report) → IsInside opening.sizes window → IsOrdered window.head window.tail → report.firm ≡ true
@@ -187,22 +210,35 @@ module _ {N : Type 0} {G : Ghosts N} (opening : SheetValue) (client : ℕ) (comm
       let values = firm_values window ordered shown.room report.board shown.keeps shown.firm in
       record {
         whose = shown.keeps.office.client ∙ before.whose;
-        answered = subst (λ (l : List ℕ). HasAnswered opening client (commands ++ look_command true window ∷ []) (pass_view new) l (reports ++ report ∷ [])) (sym shown.keeps.office.numbers)
-            (look_more opening (pass_view old) (pass_view new) grows client commands (numbers_of old) reports before.answered (look_command true window) look report refl refl
-            (reported opening (pass_view old) (pass_view new) grows client commands (numbers_of old) reports before.answered report shown.firm.covers told look refl is_firm shown.firm.shows.window_is inside ordered
+        answered =
+            subst (λ (l : List ℕ). HasAnswered opening client (commands ++ look_command true window
+            ∷ []) (pass_view new) l (reports ++ report ∷ [])) (sym shown.keeps.office.numbers)
+            (look_more opening (pass_view old) (pass_view new) grows client commands (numbers_of old) reports
+            before.answered (look_command true window) look report refl refl
+            (reported opening (pass_view old) (pass_view new) grows client commands (numbers_of old) reports
+            before.answered report shown.firm.covers told look refl is_firm shown.firm.shows.window_is inside
+            ordered
             (inr (let n : report.board.number ≡ length (pass_log new) = shown.firm.shows.number_is in omega arith))
             (firm_told window ordered shown.room report.board shown.keeps shown.firm) (λ firm. values))
-            (behind_values opening (pass_view old) (pass_view new) grows client commands (numbers_of old) reports before.answered report shown.firm.covers told values));
+            (behind_values opening (pass_view old) (pass_view new) grows client commands (numbers_of old) reports
+            before.answered report shown.firm.covers told values));
       }
 
-  report_made : (firm : Bool) (window : Corners) (after : List Report) → IsInside opening.sizes window → HasAddedReport opening firm window old new reports after
+  report_made : (firm : Bool) (window : Corners) (after : List Report) → IsInside opening.sizes window
+      → HasAddedReport opening firm window old new reports after
       → HasRun opening client (commands ++ look_command firm window ∷ []) new after
   report_made true window after inside made =
-      subst (λ (l : List Report). HasRun opening client (commands ++ look_command true window ∷ []) new l) (sym made.added) (firm_made window made.report inside made.ordered made.firm_is made.shown)
+      subst (λ (l : List Report). HasRun opening client (commands ++ look_command true window ∷ []) new l)
+      (sym made.added) (firm_made window made.report inside made.ordered made.firm_is made.shown)
   report_made false window after inside made =
-      subst (λ (l : List Report). HasRun opening client (commands ++ look_command false window ∷ []) new l) (sym made.added) (look_made window made.report inside made.ordered made.firm_is made.shown)
+      subst (λ (l : List Report). HasRun opening client (commands ++ look_command false window ∷ []) new l)
+      (sym made.added) (look_made window made.report inside made.ordered made.firm_is made.shown)
 
   -- after an order
-  pub order_made : (order : Order) (after : List Report) → IsOrderFor opening order → HasMade opening order old new reports after → HasRun opening client (commands ++ command_of order ∷ []) new after
-  order_made (Put edit) after for made = subst (λ (l : List Report). HasRun opening client (commands ++ asks.Put edit ∷ []) new l) (sym made.1) (edit_made edit for made.0)
+  pub order_made : (order : Order) (after : List Report) → IsOrderFor opening order
+      → HasMade opening order old new reports after → HasRun opening client (commands ++ command_of order
+      ∷ []) new after
+  order_made (Put edit) after for made =
+      subst (λ (l : List Report). HasRun opening client (commands ++ asks.Put edit ∷ []) new l) (sym made.1)
+      (edit_made edit for made.0)
   order_made (Look firm window board) after for made = report_made firm window after for.0 made

@@ -56,15 +56,19 @@ module _ (f : ℕ → ℕ) where
       let rest = no_more_than (suc first) parts (λ i p at. let one = all (suc i) p at in omega (arith, one, later first i)) in
       omega (arith, along first part parts, rest, all 0 part refl, at_first first)
 
-  fewer_than : (first : ℕ) (parts : List Part) (k : ℕ) (short : Part) → AskForAll first parts → slice_get parts k ≡ Some short → f (first + k) < length (edits_asked short.commands.items)
+  fewer_than : (first : ℕ) (parts : List Part) (k : ℕ) (short : Part) → AskForAll first parts
+      → slice_get parts k ≡ Some short → f (first + k) < length (edits_asked short.commands.items)
       → total f (first + length parts) < total f first + edits_of parts
   fewer_than first [] k short all at fewer = absurd (none-some short at)
   fewer_than first (part ∷ parts) zero short all at fewer =
       let rest = no_more_than (suc first) parts (λ i p there. let one = all (suc i) p there in omega (arith, one, later first i)) in
-      let head : f (first + 0) < length (edits_asked part.commands.items) = subst (λ (p : Part). f (first + 0) < length (edits_asked p.commands.items)) (sym (same_Some part short at)) fewer in
+      let head : f (first + 0) < length (edits_asked part.commands.items) =
+      subst (λ (p : Part). f (first + 0) < length (edits_asked p.commands.items)) (sym (same_Some part short at))
+      fewer in
       omega (arith, along first part parts, rest, head, at_first first)
   fewer_than first (part ∷ parts) (suc k) short all at fewer =
-      let rest = fewer_than (suc first) parts k short (λ i p there. let one = all (suc i) p there in omega (arith, one, later first i)) at (omega (arith, fewer, later first k)) in
+      let rest = fewer_than (suc first) parts k short (λ i p there. let one = all (suc i) p there in
+      omega (arith, one, later first i)) at (omega (arith, fewer, later first k)) in
       omega (arith, along first part parts, rest, all 0 part refl, at_first first)
 
   no_less_than : (first : ℕ) (parts : List Part) → AskForNoMore first parts → total f first + edits_of parts ≤ total f (first + length parts)
@@ -81,14 +85,16 @@ module _ (f : ℕ → ℕ) where
 
   -- Where the parts of all clients ask for at least as many edits as each client has, and one of them asks for more, they
   -- ask for more together.
-  pub fewer_in_all : (parts : List Part) (k : ℕ) (short : Part) → ((i : ℕ) (part : Part) → slice_get parts i ≡ Some part → f i ≤ length (edits_asked part.commands.items))
+  pub fewer_in_all : (parts : List Part) (k : ℕ) (short : Part) → ((i : ℕ) (part : Part) → slice_get parts i ≡ Some part
+      → f i ≤ length (edits_asked part.commands.items))
       → slice_get parts k ≡ Some short → f k < length (edits_asked short.commands.items) → total f (length parts) < edits_of parts
   fewer_in_all parts k short all at fewer =
       let less = fewer_than 0 parts k short (λ i p there. let one = all i p there in omega (arith, one, at_zero i)) at (omega (arith, fewer, at_zero k)) in
       omega (arith, less, up_to (length parts))
 
   -- where each asks for at most as many, so do all together
-  pub no_more_in_all : (parts : List Part) → ((i : ℕ) (part : Part) → slice_get parts i ≡ Some part → length (edits_asked part.commands.items) ≤ f i) → edits_of parts ≤ total f (length parts)
+  pub no_more_in_all : (parts : List Part) → ((i : ℕ) (part : Part) → slice_get parts i ≡ Some part
+      → length (edits_asked part.commands.items) ≤ f i) → edits_of parts ≤ total f (length parts)
   no_more_in_all parts all =
       let most = no_less_than 0 parts (λ i p there. let one = all i p there in omega (arith, one, at_zero i)) in
       omega (arith, most, up_to (length parts))

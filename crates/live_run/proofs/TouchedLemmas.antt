@@ -31,13 +31,17 @@ module _ (opening : SheetValue) (log : List Entry) (cell : Position) (inside : I
       }
 
   -- the last mark in the first so many entries is that of the last of them that touches the cell
-  pub last_of : (count number : ℕ) → count ≤ length log → IsLastMark (TouchesPlace opening) (take count log) (place_of opening.sizes cell) number → IsLastOf opening log count cell number
+  pub last_of : (count number : ℕ) → count ≤ length log
+      → IsLastMark (TouchesPlace opening) (take count log) (place_of opening.sizes cell) number
+      → IsLastOf opening log count cell number
   last_of count number within last =
       let long : length (take count log) ≡ count = length-take-le count log within in
       let front = take_is_prefix count log in
       record {
         within = let w : number ≤ length (take count log) = last.within in omega arith;
-        touched = λ (some : 1 ≤ number). touched_by number (touched_in_longer (TouchesPlace opening) (take count log) log (place_of opening.sizes cell) number front (last.touched (omega arith)));
+        touched =
+            λ (some : 1 ≤ number). touched_by number (touched_in_longer (TouchesPlace opening) (take count log) log
+            (place_of opening.sizes cell) number front (last.touched (omega arith)));
         none_later = λ later past le t.
             let le' : later ≤ length (take count log) = omega (arith, le) in
             last.none_later later past le'

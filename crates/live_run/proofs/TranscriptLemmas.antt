@@ -22,7 +22,8 @@ abbrev pub told : Transcript → Ran → Transcript
 told t ran = record { names = t.names; log = ran.closed.log; sheet = ran.closed.sheet; values = ran.closed.values; reports = ran.reports }
 
 module _ (opening : SheetValue) (script : ScriptValue) (parts : List Part) (t : Transcript) (ran : Ran) where
-  pub is_legal : map string_bytes t.names.items ≡ script.names → ArePartsOf (length script.names) script.steps parts → IsRunOf opening parts ran → IsLegalTranscript opening script (transcript_value (told t ran))
+  pub is_legal : map string_bytes t.names.items ≡ script.names → ArePartsOf (length script.names) script.steps parts
+      → IsRunOf opening parts ran → IsLegalTranscript opening script (transcript_value (told t ran))
   is_legal same are run =
       record {
         names_are = same;
@@ -32,14 +33,18 @@ module _ (opening : SheetValue) (script : ScriptValue) (parts : List Part) (t : 
             elim (slice_get_cases parts client).1 [
               | inl (part, inside, here, it) ↦
                   subst (HasFollowed opening ran.closed.log.items client (commands_by client script.steps)) is
-                  (subst (λ cs. HasFollowed opening ran.closed.log.items client cs own.items) (are.each client part here).commands_are (run.each client part own here there))
-              | inr (past, none) ↦ absurd (let count = run.count in let within = slice_get_within ran.reports.items client own there in omega (arith, past, within, count))
+                  (subst (λ cs. HasFollowed opening ran.closed.log.items client cs own.items)
+                  (are.each client part here).commands_are (run.each client part own here there))
+              | inr (past, none) ↦ absurd (let count = run.count in
+                  let within = slice_get_within ran.reports.items client own there in
+                  omega (arith, past, within, count))
             ];
         others = subst (λ n. All (λ (entry : Entry). entry.client < n) ran.closed.log.items) are.count run.others;
         closing = run.sheet_is;
       }
 
-  pub is_whole : map string_bytes t.names.items ≡ script.names → ArePartsOf (length script.names) script.steps parts → IsRunOf opening parts ran → IsWhole (told t ran)
+  pub is_whole : map string_bytes t.names.items ≡ script.names → ArePartsOf (length script.names) script.steps parts
+      → IsRunOf opening parts ran → IsWhole (told t ran)
   is_whole same are run =
       let clients : length parts ≡ length t.names.items = are.count ∙ sym (ap length same) ∙ length-map t.names.items string_bytes in
       record {

@@ -35,7 +35,8 @@ module _ {A B : Type 0} where
   zip_last R (a ∷ c ∷ xs) [] x y zip = absurd zip.1
   zip_last R (a ∷ xs) (b ∷ ys) x y zip = let rest = zip_last R xs ys x y zip.1 in ((zip.0, rest.0), rest.1)
 
-  pub zip_at : (R : A → B → Type 0) (xs : List A) (ys : List B) (place : ℕ) (x : A) (y : B) → AllZip R xs ys → slice_get xs place ≡ Some x → slice_get ys place ≡ Some y → R x y
+  pub zip_at : (R : A → B → Type 0) (xs : List A) (ys : List B) (place : ℕ) (x : A) (y : B) → AllZip R xs ys
+      → slice_get xs place ≡ Some x → slice_get ys place ≡ Some y → R x y
   zip_at R [] ys place x y zip at_x at_y = absurd (none-some x at_x)
   zip_at R (a ∷ xs) [] place x y zip at_x at_y = absurd zip
   zip_at R (a ∷ xs) (b ∷ ys) zero x y zip at_x at_y = subst (λ (z : A). R z y) (same_Some a x at_x) (subst (λ (z : B). R a z) (same_Some b y at_y) zip.0)

@@ -1,5 +1,6 @@
 -- What a live run of a script may tell: one log with each client's edits, what each look showed, and the closing sheet.
-use Rattle.std.specs.Prelude.{◌≡◌, ◌<◌, ◌≤◌, ◌+◌, ◌-◌, ◌==◌, ◌⊎◌, ℕ, Bool, true, false, if◌then◌else◌, List, [], ◌∷◌, Some, map, filter, flat_map, length, take, drop, slice_get, All, AllPairs}
+use Rattle.std.specs.Prelude.{◌≡◌, ◌<◌, ◌≤◌, ◌+◌, ◌-◌, ◌==◌, ◌⊎◌, ℕ, Bool, true, false, if◌then◌else◌, List, [], ◌∷◌}
+use Rattle.std.specs.Prelude.{Some, map, filter, flat_map, length, take, drop, slice_get, All, AllPairs}
 use Rattle.std.specs.List.{AllZip}
 use Rattle.sheet_refs.specs.Cells.{Position, Corners, cells_of}
 use Rattle.edit_log.specs.Touches.{Touches}

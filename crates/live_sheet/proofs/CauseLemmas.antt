@@ -37,17 +37,20 @@ outside_of a b edit cell same is =
 in_sheet_of : (a b : SheetValue) (edit : EditValue) → a.sizes ≡ b.sizes → AreInSheet a edit → AreInSheet b edit
 in_sheet_of a b edit same is = subst (λ (s : Sizes). All (λ (change : ChangeValue). IsTrue (is_inside s change.cell)) edit) same is
 
-cause_of : (a b : SheetValue) (log log' : List Entry) (edit : EditValue) (why : PrepareRefused) → a.sizes ≡ b.sizes → log ≡ log' → IsCause a log edit why → IsCause b log' edit why
+cause_of : (a b : SheetValue) (log log' : List Entry) (edit : EditValue) (why : PrepareRefused) → a.sizes ≡ b.sizes
+    → log ≡ log' → IsCause a log edit why → IsCause b log' edit why
 cause_of a b log log' edit (OutOfSheet cell) same is cause = outside_of a b edit cell same cause
 cause_of a b log log' edit (LogFull count) same is cause = (in_sheet_of a b edit same cause.0, cause.1 ∙ ap length is, sym (ap length is) ∙ cause.2)
 cause_of a b log log' edit Memory same is cause = cause
 
-pub why_of : {T : Type 0} (a b : SheetValue) (log log' : List Entry) (edit : EditValue) (r : Result T PrepareRefused) → a.sizes ≡ b.sizes → log ≡ log' → IfErr r (IsCause a log edit) → IfErr r (IsCause b log' edit)
+pub why_of : {T : Type 0} (a b : SheetValue) (log log' : List Entry) (edit : EditValue) (r : Result T PrepareRefused)
+    → a.sizes ≡ b.sizes → log ≡ log' → IfErr r (IsCause a log edit) → IfErr r (IsCause b log' edit)
 why_of a b log log' edit (Ok x) same is why = why
 why_of a b log log' edit (Err e) same is why = cause_of a b log log' edit e same is why
 
 -- what an edit did to a book, from one that was unchanged before
-pub applied_from : {G : Type 0} (pairs : G → List Pair) (a b c : BookValue G) (entry entry' : Entry) → IsUnchanged pairs a b → entry ≡ entry' → HasApplied entry b c → HasApplied entry' a c
+pub applied_from : {G : Type 0} (pairs : G → List Pair) (a b c : BookValue G) (entry entry' : Entry)
+    → IsUnchanged pairs a b → entry ≡ entry' → HasApplied entry b c → HasApplied entry' a c
 applied_from {G} pairs a b c entry entry' same is made =
     subst (λ (e : Entry). HasApplied e a c) is
     (record {

@@ -42,35 +42,44 @@ on_ok (Ok value) p = p
 on_ok (Err error) p = tt
 
 -- what is known of all cells of the sheet now is known of all cells of the opening sheet
-pub known_now : (opening start sheet : SheetValue) (log : List Entry) (view : View (List Entry)) → sheet ≡ after start log → start ≡ opening → KnowsAll (TouchesPlace start) sheet.sizes view
+pub known_now : (opening start sheet : SheetValue) (log : List Entry) (view : View (List Entry))
+    → sheet ≡ after start log → start ≡ opening → KnowsAll (TouchesPlace start) sheet.sizes view
     → KnowsAll (TouchesPlace opening) opening.sizes view
 known_now opening start sheet log view replayed is known =
     subst (λ (s : Sizes). KnowsAll (TouchesPlace opening) s view) (sizes_now opening start sheet log replayed is)
     (subst (λ (o : SheetValue). KnowsAll (TouchesPlace o) sheet.sizes view) is known)
 
 -- all cells are known, and so all places
-pub known_places : (opening : SheetValue) (view : View (List Entry)) → KnowsAll (TouchesPlace opening) opening.sizes view → (place : ℕ) → place < cell_count opening.sizes → KnowsPlace (TouchesPlace opening) view place
+pub known_places : (opening : SheetValue) (view : View (List Entry))
+    → KnowsAll (TouchesPlace opening) opening.sizes view → (place : ℕ) → place < cell_count opening.sizes
+    → KnowsPlace (TouchesPlace opening) view place
 known_places opening view known place below =
     let at = places_of_cells opening.sizes place below in
     subst (λ (p : ℕ). KnowsPlace (TouchesPlace opening) view p) at.1 (known (cell_at opening.sizes place) at.0)
 
 -- what is legal is so by the log and the pending entry alone
 unmarked : {E : Type 0} (worth : List E → ℕ → ℕ) (touches : List E → E → ℕ → Type 0) (codeless : ℕ → Type 0) (edits : Edits E) (number place : ℕ) (shown : Seen)
-    → IsLegalAnswer worth touches codeless edits number place shown → IsLegalAnswer worth touches codeless (record { log = edits.log; pending = edits.pending; marked = [] }) number place shown
+    → IsLegalAnswer worth touches codeless edits number place shown
+    → IsLegalAnswer worth touches codeless (record { log = edits.log; pending = edits.pending; marked = [] }) number
+    place shown
 unmarked worth touches codeless edits number place (Value word) is = is
 unmarked worth touches codeless edits number place (Stale mark) is = is
 unmarked worth touches codeless edits number place (Newer mark) is = is
 
-pub legal_over : (opening subject : SheetValue) (codes : List (Option ℕ)) (edits : Edits Entry) (log : List Entry) (read : Finished) (word : ℕ) → subject ≡ opening → edits.log ≡ log → edits.pending ≡ None
+pub legal_over : (opening subject : SheetValue) (codes : List (Option ℕ)) (edits : Edits Entry) (log : List Entry)
+    (read : Finished) (word : ℕ) → subject ≡ opening → edits.log ≡ log → edits.pending ≡ None
     → IsLegalRead (place_worth subject) (TouchesPlace subject) (IsCodeless codes) edits read word → IsLegalOver opening codes log read word
 legal_over opening subject codes edits log read word is log_is none legal =
     subst (λ (o : SheetValue). IsLegalOver o codes log read word) is
-    (subst (λ (l : List Entry). IsLegalRead (place_worth subject) (TouchesPlace subject) (IsCodeless codes) (record { log = l; pending = None; marked = [] }) read word) log_is
-    (subst (λ (p : Option Entry). IsLegalRead (place_worth subject) (TouchesPlace subject) (IsCodeless codes) (record { log = edits.log; pending = p; marked = [] }) read word) none
+    (subst (λ (l : List Entry). IsLegalRead (place_worth subject) (TouchesPlace subject) (IsCodeless codes)
+    (record { log = l; pending = None; marked = [] }) read word) log_is
+    (subst (λ (p : Option Entry). IsLegalRead (place_worth subject) (TouchesPlace subject) (IsCodeless codes)
+    (record { log = edits.log; pending = p; marked = [] }) read word) none
     (record {
       within = legal.within;
       floor = legal.floor;
-      answer = λ shown shows. unmarked (place_worth subject) (TouchesPlace subject) (IsCodeless codes) edits read.number read.place shown (legal.answer shown shows);
+      answer = λ shown shows. unmarked (place_worth subject) (TouchesPlace subject) (IsCodeless codes) edits read.number
+          read.place shown (legal.answer shown shows);
       last = legal.last;
     })))
 
@@ -80,7 +89,8 @@ pub all_end : {N : Type 0} {G : Ghosts N} (opening : SheetValue) (codes : List (
     → All (λ (pass : Pass N G). IsPrefix (pass_log pass) log) passes → All (λ (pass : Pass N G). ReadsAreLegal opening codes log pass.seat) passes
     → All (EndsWith opening codes log) passes × All (λ (entry : Entry). entry.client < length passes) log
 all_end {N} {G} opening codes log passes order all accepted known legal =
-    let still : All (λ (pass : Pass N G). AreAccepted (client_of pass) log (numbers_of pass)) passes = λ k d below. accepted_still _ _ log _ (known k d below) (accepted k d below) in
+    let still : All (λ (pass : Pass N G). AreAccepted (client_of pass) log (numbers_of pass)) passes =
+    λ k d below. accepted_still _ _ log _ (known k d below) (accepted k d below) in
     let counts = accounts_for_all log passes order still all in (
       (λ k d below. record {
         known = known k d below;
@@ -93,7 +103,8 @@ all_end {N} {G} opening codes log passes order all accepted known legal =
     )
 
 -- a seat of the table of this name is one of these words
-pub seat_of_words : {S E : Type 0} {G : SubjectGhosts S E} (words : TableId) (opening : S) (marks : Marks S E) (seat : Seat S E G) → table_of marks ≡ words → subject_of marks ≡ opening
+pub seat_of_words : {S E : Type 0} {G : SubjectGhosts S E} (words : TableId) (opening : S) (marks : Marks S E)
+    (seat : Seat S E G) → table_of marks ≡ words → subject_of marks ≡ opening
     → places_of marks ≡ G.places (subject_of marks) → IsFreeSeat words opening seat → IsSeatOf marks seat
 seat_of_words words opening marks seat table about places free =
     record {
@@ -103,14 +114,18 @@ seat_of_words words opening marks seat table about places free =
     }
 
 -- the codes that the closed words give for the cells of the opening sheet after the log are those of the sheet
-pub values_closed : (opening subject sheet : SheetValue) (log known : List Entry) (codes : List ℕ) (cells : ℕ) → subject ≡ opening → known ≡ log → sheet ≡ after opening log → IsSheet sheet
+pub values_closed : (opening subject sheet : SheetValue) (log known : List Entry) (codes : List ℕ) (cells : ℕ)
+    → subject ≡ opening → known ≡ log → sheet ≡ after opening log → IsSheet sheet
     → length codes ≡ cells → cells ≡ cell_count opening.sizes
-    → ((cell : Position) → IsTrue (is_inside subject.sizes cell) → slice_get codes (place_of subject.sizes cell) ≡ Some (code_of (value_of (after subject known) cell)))
+    → ((cell : Position) → IsTrue (is_inside subject.sizes cell)
+    → slice_get codes (place_of subject.sizes cell) ≡ Some (code_of (value_of (after subject known) cell)))
     → AreValues sheet codes
 values_closed opening subject sheet log known codes cells is log_is sheet_is a_sheet count all each =
     let sizes : sheet.sizes ≡ opening.sizes = ap (λ (s : SheetValue). s.sizes) sheet_is ∙ after-sizes opening log in
-    let of_opening : (cell : Position) → IsTrue (is_inside opening.sizes cell) → slice_get codes (place_of opening.sizes cell) ≡ Some (code_of (value_of (after opening known) cell)) =
-    subst (λ (o : SheetValue). (cell : Position) → IsTrue (is_inside o.sizes cell) → slice_get codes (place_of o.sizes cell) ≡ Some (code_of (value_of (after o known) cell))) is each in
+    let of_opening : (cell : Position) → IsTrue (is_inside opening.sizes cell)
+    → slice_get codes (place_of opening.sizes cell) ≡ Some (code_of (value_of (after opening known) cell)) =
+    subst (λ (o : SheetValue). (cell : Position) → IsTrue (is_inside o.sizes cell)
+    → slice_get codes (place_of o.sizes cell) ≡ Some (code_of (value_of (after o known) cell))) is each in
     record {
       count = count ∙ all ∙ ap cell_count (sym sizes);
       each = λ cell inside.

@@ -1,5 +1,6 @@
 -- How many entries of a log are whose.
-use Rattle.std.proofs.Common.{◌≡◌, ◌<◌, ◌≤◌, ◌+◌, ◌-◌, ◌==◌, ◌⊎◌, inl, inr, ⊎_elim, ℕ, zero, suc, List, [], ◌∷◌, Bool, true, false, cond, Some, length, All, refl, sym, ◌∙◌, ap, subst, arith}
+use Rattle.std.proofs.Common.{◌≡◌, ◌<◌, ◌≤◌, ◌+◌, ◌-◌, ◌==◌, ◌⊎◌, inl, inr, ⊎_elim, ℕ, zero, suc, List, [], ◌∷◌, Bool}
+use Rattle.std.proofs.Common.{true, false, cond, Some, length, All, refl, sym, ◌∙◌, ap, subst, arith}
 use Rattle.std.specs.Prelude.{slice_get, slice_index, option_map, filter}
 use Rattle.std.specs.List.Sorted.{IsStrictlyIncreasing}
 use Rattle.std.proofs.lemmas.Bool.{eq-eqb, ne_eqb, cond-true, cond-false, cases_eq}
@@ -19,15 +20,20 @@ length_cond false xs ys = refl
 -- one more entry counts for its client alone
 by_itself : (client : ℕ) (entry : Entry) (log : List Entry) → entry.client ≡ client → entries_by client (entry ∷ log) ≡ suc (entries_by client log)
 by_itself client entry log is =
-    ap length (cond-true (entry.client == client) (entry ∷ filter (λ (e : Entry). e.client == client) log) (filter (λ (e : Entry). e.client == client) log) (eq-eqb entry.client client is))
+    ap length (cond-true (entry.client == client) (entry ∷ filter (λ (e : Entry). e.client == client) log)
+    (filter (λ (e : Entry). e.client == client) log) (eq-eqb entry.client client is))
 
 by_another : (client : ℕ) (entry : Entry) (log : List Entry) → (entry.client ≡ client → ⊥) → entries_by client (entry ∷ log) ≡ entries_by client log
 by_another client entry log other =
-    ap length (cond-false (entry.client == client) (entry ∷ filter (λ (e : Entry). e.client == client) log) (filter (λ (e : Entry). e.client == client) log) (ne_eqb entry.client client other))
+    ap length (cond-false (entry.client == client) (entry ∷ filter (λ (e : Entry). e.client == client) log)
+    (filter (λ (e : Entry). e.client == client) log) (ne_eqb entry.client client other))
 
 no_fewer : (client : ℕ) (entry : Entry) (log : List Entry) → entries_by client log ≤ entries_by client (entry ∷ log)
 no_fewer client entry log =
-    ⊎_elim (λ (is : entry.client ≡ client). omega (arith, by_itself client entry log is)) (λ other. omega (arith, by_another client entry log other)) (cases_eq entry.client client)
+    ⊎_elim (λ (is : entry.client ≡ client). omega (arith, by_itself client entry log is)) (λ other. omega (
+      arith,
+      by_another client entry log other,
+    )) (cases_eq entry.client client)
 
 -- numbers that rise from one on, each that of an entry of the client in what follows so many entries
 abbrev RiseFrom : ℕ → List ℕ → Type 0
@@ -38,7 +44,8 @@ abbrev ByFrom : ℕ → ℕ → List Entry → List ℕ → Type 0
 ByFrom client before log [] = Unit {0}
 ByFrom client before log (n ∷ ns) = (option_map (λ (e : Entry). e.client) (slice_get log (n - suc before)) ≡ Some client) × ByFrom client before log ns
 
-by_later : (client before from : ℕ) (entry : Entry) (log : List Entry) (ns : List ℕ) → suc before ≤ from → RiseFrom from ns → ByFrom client before (entry ∷ log) ns → ByFrom client (suc before) log ns
+by_later : (client before from : ℕ) (entry : Entry) (log : List Entry) (ns : List ℕ) → suc before ≤ from
+    → RiseFrom from ns → ByFrom client before (entry ∷ log) ns → ByFrom client (suc before) log ns
 by_later client before from entry log [] le rise by = tt
 by_later client before from entry log (n ∷ ns) le rise by =
     let at : n - suc before ≡ suc (n - suc (suc before)) = omega (arith, le, rise.0) in (
@@ -52,12 +59,18 @@ counted_from client before [] (n ∷ ns) rise by = absurd (none-some client by.0
 counted_from client before (entry ∷ log) (n ∷ ns) rise by =
     ⊎_elim
     (λ (is : n ≡ suc before).
-    let same : entry.client ≡ client = same_Some entry.client client (ap (λ i. option_map (λ (e : Entry). e.client) (slice_get (entry ∷ log) i)) (let z : 0 ≡ n - suc before = omega (arith, is) in z) ∙ by.0) in
-    let rest = counted_from client (suc before) log ns (subst (λ m. RiseFrom m ns) is rise.1) (by_later client before n entry log ns (omega (arith, is)) rise.1 by.1) in
+    let same : entry.client ≡ client =
+    same_Some entry.client client (ap (λ i. option_map (λ (e : Entry). e.client) (slice_get (entry ∷ log) i))
+    (let z : 0 ≡ n - suc before = omega (arith, is) in z) ∙ by.0) in
+    let rest = counted_from client (suc before) log ns (subst (λ m. RiseFrom m ns) is rise.1)
+    (by_later client before n entry log ns (omega (arith, is)) rise.1 by.1) in
     omega (arith, rest, by_itself client entry log same))
     (λ other.
     let later : suc before < n = omega (arith, rise.0, other) in
-    let rest = counted_from client (suc before) log (n ∷ ns) (later, rise.1) (by_later client before (suc before) entry log (n ∷ ns) (omega arith) (later, rise.1) by) in
+    let rest = counted_from client (suc before) log (n ∷ ns) (
+      later,
+      rise.1,
+    ) (by_later client before (suc before) entry log (n ∷ ns) (omega arith) (later, rise.1) by) in
     omega (arith, rest, no_fewer client entry log))
     (cases_eq n (suc before))
 
@@ -78,11 +91,17 @@ first_above n m (o ∷ ns) lt rise =
 rise_from : (from : ℕ) (ns : List ℕ) → All (λ n. from < n) ns → IsStrictlyIncreasing ns → RiseFrom from ns
 rise_from from [] above rise = tt
 rise_from from (n ∷ []) above rise = (above 0 0 (omega arith), tt)
-rise_from from (n ∷ m ∷ ns) above rise = (above 0 0 (omega arith), rise_from n (m ∷ ns) (first_above n m ns (rises_on n m ns rise) (tail_rises n (m ∷ ns) rise)) (tail_rises n (m ∷ ns) rise))
+rise_from from (n ∷ m ∷ ns) above rise = (
+  above 0 0 (omega arith),
+  rise_from n (m ∷ ns) (first_above n m ns (rises_on n m ns rise) (tail_rises n (m ∷ ns) rise))
+      (tail_rises n (m ∷ ns) rise),
+)
 
 -- a client has no fewer entries than there are accepted edits of it
 pub no_more_accepted : (client : ℕ) (log : List Entry) (numbers : List ℕ) → AreAccepted client log numbers → length numbers ≤ entries_by client log
-no_more_accepted client log numbers are = counted_from client 0 log numbers (rise_from 0 numbers (λ k d below. (are.each k d below).counted) are.rise) (by_from log numbers are.each)
+no_more_accepted client log numbers are =
+    counted_from client 0 log numbers (rise_from 0 numbers (λ k d below. (are.each k d below).counted) are.rise)
+    (by_from log numbers are.each)
   where
     by_from : (log : List Entry) (ns : List ℕ) → All (IsNumberOf client log) ns → ByFrom client 0 log ns
     by_from log [] each = tt
@@ -136,24 +155,29 @@ module _ {N : Type 0} {G : Ghosts N} (log : List Entry) where
   from_next : (first : ℕ) (pass : Pass N G) (passes : List (Pass N G)) → AreFrom first (pass ∷ passes) → AreFrom (suc first) passes
   from_next first pass passes are = λ i p here. let h = are (suc i) p here in omega (arith, h)
 
-  own_entries : (first : ℕ) (pass : Pass N G) (passes : List (Pass N G)) → AreFrom first (pass ∷ passes) → entries_by (client_of pass) log ≡ entries_by first log
+  own_entries : (first : ℕ) (pass : Pass N G) (passes : List (Pass N G)) → AreFrom first (pass ∷ passes)
+      → entries_by (client_of pass) log ≡ entries_by first log
   own_entries first pass passes are = ap (λ c. entries_by c log) (let h = are 0 pass refl in let z : client_of pass ≡ first = omega (arith, h) in z)
 
-  one_along : (first : ℕ) (pass : Pass N G) (passes : List (Pass N G)) → total_by (first + length (pass ∷ passes)) log ≡ total_by (suc first + length passes) log
+  one_along : (first : ℕ) (pass : Pass N G) (passes : List (Pass N G))
+      → total_by (first + length (pass ∷ passes)) log ≡ total_by (suc first + length passes) log
   one_along first pass passes = ap (λ n. total_by n log) (omega arith)
 
-  no_less : (first : ℕ) (passes : List (Pass N G)) → AreFrom first passes → HaveNoMore passes → total_by first log + accepted_count passes ≤ total_by (first + length passes) log
+  no_less : (first : ℕ) (passes : List (Pass N G)) → AreFrom first passes → HaveNoMore passes
+      → total_by first log + accepted_count passes ≤ total_by (first + length passes) log
   no_less first [] are no_more = let e : total_by (first + 0) log ≡ total_by first log = ap (λ n. total_by n log) (omega arith) in omega (arith, e)
   no_less first (pass ∷ passes) are no_more =
       omega (
         arith,
         one_along first pass passes,
-        no_less (suc first) passes (from_next first pass passes are) (All-tail (λ (p : Pass N G). length (numbers_of p) ≤ entries_by (client_of p) log) pass passes no_more),
+        no_less (suc first) passes (from_next first pass passes are)
+            (All-tail (λ (p : Pass N G). length (numbers_of p) ≤ entries_by (client_of p) log) pass passes no_more),
         All-head (λ (p : Pass N G). length (numbers_of p) ≤ entries_by (client_of p) log) pass passes no_more,
         own_entries first pass passes are,
       )
 
-  all_whole : (first : ℕ) (passes : List (Pass N G)) → AreFrom first passes → HaveNoMore passes → total_by (first + length passes) log ≤ total_by first log + accepted_count passes → AreWhole passes
+  all_whole : (first : ℕ) (passes : List (Pass N G)) → AreFrom first passes → HaveNoMore passes
+      → total_by (first + length passes) log ≤ total_by first log + accepted_count passes → AreWhole passes
   all_whole first [] are no_more enough = All-nil (λ (pass : Pass N G). entries_by (client_of pass) log ≡ length (numbers_of pass))
   all_whole first (pass ∷ passes) are no_more enough =
       let later = from_next first pass passes are in

@@ -51,10 +51,13 @@ module _ {S E : Type 0} (sizes : Sizes) (entry : E) where
             ∙ ap (λ l. old.edits.marked ++ l) (sym (ap (map (place_of sizes)) is ∙ map-append (place_of sizes) cells (cell ∷ [])));
       }
 
-pub one_mark_more : {E : Type 0} (sizes : Sizes) (entry : E) (number : ℕ) (cells more : List Position) (cell : Position) (a b c : List (OwnStep E)) → more ≡ cells ++ cell ∷ []
-    → StepsAre a (marks_of sizes entry number cells) b → StepsAre b (marked entry number (place_of sizes cell) ∷ []) c → StepsAre a (marks_of sizes entry number more) c
+pub one_mark_more : {E : Type 0} (sizes : Sizes) (entry : E) (number : ℕ) (cells more : List Position) (cell : Position)
+    (a b c : List (OwnStep E)) → more ≡ cells ++ cell ∷ []
+    → StepsAre a (marks_of sizes entry number cells) b → StepsAre b (marked entry number (place_of sizes cell) ∷ []) c
+    → StepsAre a (marks_of sizes entry number more) c
 one_mark_more {E} sizes entry number cells more cell a b c is first second =
-    subst (λ (acts : List (Act E)). StepsAre a acts c) (sym (ap (marks_of sizes entry number) is ∙ map-append (λ (p : Position). marked entry number (place_of sizes p)) cells (cell ∷ [])))
+    subst (λ (acts : List (Act E)). StepsAre a acts c) (sym (ap (marks_of sizes entry number) is
+    ∙ map-append (λ (p : Position). marked entry number (place_of sizes p)) cells (cell ∷ [])))
     (steps_on a b c (marks_of sizes entry number cells) (marked entry number (place_of sizes cell) ∷ []) first second)
 
 -- two lists each of which goes on from the other are one

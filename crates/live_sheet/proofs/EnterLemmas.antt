@@ -37,9 +37,12 @@ some_touched : (opening : SheetValue) (log : List Entry) (prepared : PreparedVal
 some_touched opening log prepared is =
     let d : ChangeValue = record { cell = record { row = 0; col = 0 }; content = Constant Empty } in
     let change = get_or prepared.entry.edit 0 d in
-    some_in prepared.touched change.cell ((is.touched.exact change.cell).1 (changed_touched opening log prepared.entry change (Contains-get_or prepared.entry.edit 0 d (omega (arith, is.edit.some)))))
+    some_in prepared.touched change.cell
+    ((is.touched.exact change.cell).1 (changed_touched opening log prepared.entry change
+    (Contains-get_or prepared.entry.edit 0 d (omega (arith, is.edit.some)))))
 
-pub is_ready : (opening : SheetValue) (log : List Entry) (prepared : PreparedValue) (places : ℕ) (old new : Doing SheetValue Entry) → IsPreparedFor opening log prepared
+pub is_ready : (opening : SheetValue) (log : List Entry) (prepared : PreparedValue) (places : ℕ)
+    (old new : Doing SheetValue Entry) → IsPreparedFor opening log prepared
     → old.view.log ≡ log → HasMarked opening.sizes prepared.entry prepared.touched old new → IsReady places (TouchesPlace opening) prepared.entry new
 is_ready opening log prepared places old new is at has =
     record {

@@ -26,7 +26,8 @@ use Rattle.live_sheet.specs.Stale.{KnowsCell}
 use Rattle.live_sheet.proofs.StaleLemmas.{cell_still, kept_itself}
 
 -- a read of a place that is known with its last mark, by a view with the whole log: it shows the place as clean
-pub shows_clean : {E : Type 0} (touches : List E → E → ℕ → Type 0) (log : List E) (place known mark floor upto : ℕ) → IsLastMark touches log place known → IsLastMark touches log place mark
+pub shows_clean : {E : Type 0} (touches : List E → E → ℕ → Type 0) (log : List E) (place known mark floor upto : ℕ)
+    → IsLastMark touches log place known → IsLastMark touches log place mark
     → known < floor → MeetsFloor mark floor upto → upto ≡ mark + 1
 shows_clean touches log place known mark floor upto last read above meets = by_case meets
   where
@@ -48,7 +49,8 @@ module _ {S E : Type 0} {G : Ghosts S E} (marks : Marks S E) (sheet : SheetValue
     pub cells : board.cells ≡ map (value_shown sheet) (take place (cells_of window))
     pub at : HasComeTo window place cell
 
-  pub window_begins : IsSeatOf marks editor₀ → (board begun : BoardValue) → begun ≡ begun_board board number window → board.room ≡ room → (cell : Position) → HasComeTo window 0 cell
+  pub window_begins : IsSeatOf marks editor₀ → (board begun : BoardValue) → begun ≡ begun_board board number window
+      → board.room ≡ room → (cell : Position) → HasComeTo window 0 cell
       → WindowSoFar editor₀ begun 0 cell
   window_begins table board begun is room_is cell at =
       record {
@@ -61,8 +63,10 @@ module _ {S E : Type 0} {G : Ghosts S E} (marks : Marks S E) (sheet : SheetValue
         at = at;
       }
 
-  pub window_goes_on : (editor next : Seat S E G) (board pushed : BoardValue) (shown : Shown) (place : ℕ) (cell behind : Position) → WindowSoFar editor board place cell
-      → slice_get (cells_of window) place ≡ Some cell → IsSeatOf marks next → KeepsEditor editor next → shown ≡ value_shown sheet cell → pushed ≡ with_shown board shown
+  pub window_goes_on : (editor next : Seat S E G) (board pushed : BoardValue) (shown : Shown) (place : ℕ)
+      (cell behind : Position) → WindowSoFar editor board place cell
+      → slice_get (cells_of window) place ≡ Some cell → IsSeatOf marks next → KeepsEditor editor next
+      → shown ≡ value_shown sheet cell → pushed ≡ with_shown board shown
       → HasComeTo window (place + 1) behind → WindowSoFar next pushed (place + 1) behind
   window_goes_on editor next board pushed shown place cell behind so here table kept is one at =
       record {
@@ -71,11 +75,13 @@ module _ {S E : Type 0} {G : Ghosts S E} (marks : Marks S E) (sheet : SheetValue
         number_is = ap (λ (b : BoardValue). b.number) one ∙ so.number_is;
         window_is = ap (λ (b : BoardValue). b.window) one ∙ so.window_is;
         room_is = ap (λ (b : BoardValue). b.room) one ∙ so.room_is;
-        cells = one_more (value_shown sheet) (cells_of window) place cell shown [] board.cells pushed.cells here is so.cells (ap (λ (b : BoardValue). b.cells) one);
+        cells = one_more (value_shown sheet) (cells_of window) place cell shown [] board.cells pushed.cells here is
+            so.cells (ap (λ (b : BoardValue). b.cells) one);
         at = at;
       }
 
-  pub window_ends : (editor : Seat S E G) (board : BoardValue) (count place : ℕ) (cell : Position) → WindowSoFar editor board place cell → count ≡ length (cells_of window) → count ≤ place
+  pub window_ends : (editor : Seat S E G) (board : BoardValue) (count place : ℕ) (cell : Position)
+      → WindowSoFar editor board place cell → count ≡ length (cells_of window) → count ≤ place
       → ShowsValues sheet number window room board
   window_ends editor board count place cell so all past =
       record {
@@ -86,8 +92,10 @@ module _ {S E : Type 0} {G : Ghosts S E} (marks : Marks S E) (sheet : SheetValue
       }
 
 -- once the window is known to the editor's seat and shown, one that it told has had a firm look
-pub is_firm : {G : Ghosts SheetValue Entry} (opening sheet : SheetValue) (number : ℕ) (window : Corners) (room : ℕ) (board : BoardValue) (old heard settled shown new : Seat SheetValue Entry G)
-    → sheet ≡ opening → number ≡ length (log_of heard) → seen_of old ≤ seen_of heard → seen_of heard ≡ length (log_of heard) → KeepsEditor heard settled → KeepsEditor settled shown
+pub is_firm : {G : Ghosts SheetValue Entry} (opening sheet : SheetValue) (number : ℕ) (window : Corners) (room : ℕ)
+    (board : BoardValue) (old heard settled shown new : Seat SheetValue Entry G)
+    → sheet ≡ opening → number ≡ length (log_of heard) → seen_of old ≤ seen_of heard
+    → seen_of heard ≡ length (log_of heard) → KeepsEditor heard settled → KeepsEditor settled shown
     → KnowsNoLess (view_of shown) (view_of new) → ((cell : Position) → IsIn cell window → KnowsCell (TouchesPlace opening) opening.sizes (view_of settled) cell)
     → ShowsValues (after sheet (log_of settled)) number window room board → IsFirmLook opening window old new room board
 is_firm opening sheet number window room board old heard settled shown new same number_is covers seen kept kept₁ less known shows =

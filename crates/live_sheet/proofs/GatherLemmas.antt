@@ -33,8 +33,10 @@ module _ {N X : Type 0} {G : Ghosts N} (seat : Pass N G → X) (Kept : Pass N G 
         tables = subst (All Free) (sym none) (All-nil Free);
       }
 
-  pub gather_goes_on : (passes left rest : List (Pass N G)) (parts amount parts_then amount_then parts_now amount_now : ℕ) (seats more : List X) (pass : Pass N G)
-      → GatheredSoFar passes parts amount left parts_then amount_then seats → left ≡ rest ++ pass ∷ [] → parts_now ≡ parts_then + 1 → amount_now ≡ amount_then + length (numbers_of pass)
+  pub gather_goes_on : (passes left rest : List (Pass N G)) (parts amount parts_then amount_then parts_now
+      amount_now : ℕ) (seats more : List X) (pass : Pass N G)
+      → GatheredSoFar passes parts amount left parts_then amount_then seats → left ≡ rest ++ pass ∷ []
+      → parts_now ≡ parts_then + 1 → amount_now ≡ amount_then + length (numbers_of pass)
       → more ≡ seats ++ seat pass ∷ [] → Kept pass → Free (seat pass) → GatheredSoFar passes parts amount rest parts_now amount_now more
   gather_goes_on passes left rest parts amount parts_then amount_then parts_now amount_now seats more pass so is one plus pushed kept free =
       record {
@@ -59,8 +61,10 @@ module _ {N X : Type 0} {G : Ghosts N} (seat : Pass N G → X) (Kept : Pass N G 
       omega (arith, ap length so.whole, length-append left so.gone, ap length is, length-append rest (pass ∷ []), so.count, below)
 
   -- once none is left, all are gone
-  pub all_gone : (passes left : List (Pass N G)) (parts amount parts_now amount_now : ℕ) (seats : List X) → GatheredSoFar passes parts amount left parts_now amount_now seats → left ≡ []
-      → (parts_now ≡ parts + length passes) × (amount_now ≡ amount + accepted_count passes) × All Kept passes × All (λ pass. Contains seats (seat pass)) passes × All Free seats
+  pub all_gone : (passes left : List (Pass N G)) (parts amount parts_now amount_now : ℕ) (seats : List X)
+      → GatheredSoFar passes parts amount left parts_now amount_now seats → left ≡ []
+      → (parts_now ≡ parts + length passes) × (amount_now ≡ amount + accepted_count passes) × All Kept passes
+      × All (λ pass. Contains seats (seat pass)) passes × All Free seats
   all_gone passes left parts amount parts_now amount_now seats so none =
       let all : passes ≡ so.gone = so.whole ∙ ap (λ l. l ++ so.gone) none in (
         so.parts_are ∙ ap (λ l. parts + length l) (sym all),

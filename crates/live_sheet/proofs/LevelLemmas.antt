@@ -48,7 +48,9 @@ mapped_at f xs k x within here = slice_get-map f xs k ∙ ap (option_map f) (sli
 same_level : {a b : List Position} → Some a ≡ Some b → a ≡ b
 same_level is = cc
 
-module _ {S : Type 0} {G : Ghosts S Entry} {X : Type 0} (marks : Marks S Entry) (opening sheet : SheetValue) (touches : List Entry → Entry → ℕ → Type 0) (cells : X → List Position) (levels : List X) (editor₀ : Seat S Entry G) (desks₀ : List (Desk S Entry G)) where
+module _ {S : Type 0} {G : Ghosts S Entry} {X : Type 0} (marks : Marks S Entry) (opening sheet : SheetValue)
+    (touches : List Entry → Entry → ℕ → Type 0) (cells : X → List Position) (levels : List X) (editor₀ : Seat S Entry G)
+    (desks₀ : List (Desk S Entry G)) where
   -- so many of the levels are computed
   pub record LevelsSoFar (editor : Seat S Entry G) (desks : List (Desk S Entry G)) (count : ℕ) : Type 0 where
     pub editor_of : IsEditorOf marks opening sheet editor
@@ -58,7 +60,12 @@ module _ {S : Type 0} {G : Ghosts S Entry} {X : Type 0} (marks : Marks S Entry) 
 
   pub levels_begin : IsEditorOf marks opening sheet editor₀ → AreDesksOf marks desks₀ → LevelsSoFar editor₀ desks₀ 0
   levels_begin is all =
-      record { editor_of = is; kept = kept_itself editor₀; changed = desks_themselves marks desks₀ all; known = λ number cell below at. absurd (omega (arith, below)) }
+      record {
+        editor_of = is;
+        kept = kept_itself editor₀;
+        changed = desks_themselves marks desks₀ all;
+        known = λ number cell below at. absurd (omega (arith, below));
+      }
 
   -- it is the editor's seat of the sheet still
   pub editor_still : (a b : Seat S Entry G) → IsEditorOf marks opening sheet a → IsSeatOf marks b → KeepsEditor a b → IsEditorOf marks opening sheet b
@@ -70,46 +77,54 @@ module _ {S : Type 0} {G : Ghosts S Entry} {X : Type 0} (marks : Marks S Entry) 
         sheet_is = is.sheet_is ∙ ap (after opening) (sym kept.log);
       }
 
-  module _ (editor : Seat S Entry G) (desks : List (Desk S Entry G)) (count : ℕ) (level : X) (so : LevelsSoFar editor desks count) (within : count < length levels) (here : level ≡ get_or levels count level) where
-    at_level : (cell : Position) → Contains (cells level) cell → InLevel (map cells levels) count cell
-    at_level cell has = record { level = cells level; at = mapped_at cells levels count level within here; listed = has }
+  module _ (editor : Seat S Entry G) (desks : List (Desk S Entry G)) (count : ℕ) (level : X)
+      (so : LevelsSoFar editor desks count) (within : count < length levels) (here : level ≡ get_or levels count level)
+    where
+      at_level : (cell : Position) → Contains (cells level) cell → InLevel (map cells levels) count cell
+      at_level cell has = record { level = cells level; at = mapped_at cells levels count level within here; listed = has }
 
-    pub next_inside : LevelsLieInside sheet.sizes (map cells levels) → AreInside sheet.sizes (cells level)
-    next_inside inside = λ k d below. inside count (get_or (cells level) k d) (at_level (get_or (cells level) k d) (Contains-get_or (cells level) k d below))
+      pub next_inside : LevelsLieInside sheet.sizes (map cells levels) → AreInside sheet.sizes (cells level)
+      next_inside inside = λ k d below. inside count (get_or (cells level) k d) (at_level (get_or (cells level) k d) (Contains-get_or (cells level) k d below))
 
-    -- each input of a cell of the next level is known
-    pub next_inputs : InputsComeFirst (KnowsCell touches sheet.sizes (view_of editor₀)) sheet (map cells levels) → All (KnowsInputs touches sheet (view_of editor)) (cells level)
-    next_inputs first = λ k d below input is.
-        by_case input (first count (get_or (cells level) k d) input (at_level (get_or (cells level) k d) (Contains-get_or (cells level) k d below)) is)
-      where
-        by_case : (input : Position) → KnowsCell touches sheet.sizes (view_of editor₀) input ⊎ ((before : ℕ) × (before < count) × InLevel (map cells levels) before input)
-            → KnowsCell touches sheet.sizes (view_of editor) input
-        by_case input (inl known) = cell_still touches sheet.sizes editor₀ editor so.kept input known
-        by_case input (inr earlier) = so.known earlier.0 input earlier.1 earlier.2
+      -- each input of a cell of the next level is known
+      pub next_inputs : InputsComeFirst (KnowsCell touches sheet.sizes (view_of editor₀)) sheet (map cells levels)
+          → All (KnowsInputs touches sheet (view_of editor)) (cells level)
+      next_inputs first = λ k d below input is.
+          by_case input (first count (get_or (cells level) k d) input (at_level (get_or (cells level) k d) (Contains-get_or (cells level) k d below)) is)
+        where
+          by_case : (input : Position) → KnowsCell touches sheet.sizes (view_of editor₀) input
+              ⊎ ((before : ℕ) × (before < count) × InLevel (map cells levels) before input)
+              → KnowsCell touches sheet.sizes (view_of editor) input
+          by_case input (inl known) = cell_still touches sheet.sizes editor₀ editor so.kept input known
+          by_case input (inr earlier) = so.known earlier.0 input earlier.1 earlier.2
 
-    -- one level more
-    pub next_level : (next : Seat S Entry G) (desks₁ : List (Desk S Entry G)) → IsSeatOf marks next → KeepsEditor editor next → Each (IsDeskAfter marks) desks desks₁
-        → KnowsCells touches sheet.sizes (view_of next) (cells level) → LevelsSoFar next desks₁ (count + 1)
-    next_level next desks₁ table kept changed clean =
-        record {
-          editor_of = editor_still editor next so.editor_of table kept;
-          kept = keeps_editor_on editor₀ editor next so.kept kept;
-          changed = desks_on marks desks₀ desks desks₁ so.changed changed;
-          known = λ number cell below at. by_place number cell below at (cases_eq number count);
-        }
-      where
-        by_place : (number : ℕ) (cell : Position) → number < count + 1 → InLevel (map cells levels) number cell → (number ≡ count) ⊎ (number ≢ count)
-            → KnowsCell touches sheet.sizes (view_of next) cell
-        by_place number cell below at (inl same) =
-            let is : at.level ≡ cells level = same_level (sym at.at ∙ ap (slice_get (map cells levels)) same ∙ mapped_at cells levels count level within here) in
-            All-contains (KnowsCell touches sheet.sizes (view_of next)) (cells level) cell clean (subst (λ (l : List Position). Contains l cell) is at.listed)
-        by_place number cell below at (inr other) =
-            cell_still touches sheet.sizes editor next kept cell (so.known number cell (omega (arith, below, other)) at)
+      -- one level more
+      pub next_level : (next : Seat S Entry G) (desks₁ : List (Desk S Entry G)) → IsSeatOf marks next
+          → KeepsEditor editor next → Each (IsDeskAfter marks) desks desks₁
+          → KnowsCells touches sheet.sizes (view_of next) (cells level) → LevelsSoFar next desks₁ (count + 1)
+      next_level next desks₁ table kept changed clean =
+          record {
+            editor_of = editor_still editor next so.editor_of table kept;
+            kept = keeps_editor_on editor₀ editor next so.kept kept;
+            changed = desks_on marks desks₀ desks desks₁ so.changed changed;
+            known = λ number cell below at. by_place number cell below at (cases_eq number count);
+          }
+        where
+          by_place : (number : ℕ) (cell : Position) → number < count + 1 → InLevel (map cells levels) number cell → (number ≡ count) ⊎ (number ≢ count)
+              → KnowsCell touches sheet.sizes (view_of next) cell
+          by_place number cell below at (inl same) =
+              let is : at.level ≡ cells level = same_level (sym at.at ∙ ap (slice_get (map cells levels)) same
+              ∙ mapped_at cells levels count level within here) in
+              All-contains (KnowsCell touches sheet.sizes (view_of next)) (cells level) cell clean (subst (λ (l : List Position). Contains l cell) is at.listed)
+          by_place number cell below at (inr other) =
+              cell_still touches sheet.sizes editor next kept cell (so.known number cell (omega (arith, below, other)) at)
 
   pub levels_end : (editor : Seat S Entry G) (desks : List (Desk S Entry G)) (count : ℕ) → length levels ≤ count → LevelsSoFar editor desks count
       → KnowsLevels (KnowsCell touches sheet.sizes (view_of editor)) (map cells levels)
   levels_end editor desks count all so = λ number cell at.
-      so.known number cell (let mapped_length : length (map cells levels) ≡ length levels = simp length-map in let within = slice_get_within (map cells levels) number at.level at.at in omega (arith, all, within, mapped_length)) at
+      so.known number cell (let mapped_length : length (map cells levels) ≡ length levels = simp length-map in
+      let within = slice_get_within (map cells levels) number at.level at.at in
+      omega (arith, all, within, mapped_length)) at
 
 -- what holds anyhow holds where the answer is Ok
 pub on_ok : {T F : Type 0} (P : Type 0) (r : Result T F) → P → OnOk r P

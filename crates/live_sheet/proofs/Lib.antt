@@ -1,21 +1,21 @@
-pub mod AcceptedLemmas
-pub mod CauseLemmas
-pub mod ClosedWordsLemmas
-pub mod ClosingLemmas
-pub mod CountLemmas
-pub mod EditLemmas
-pub mod EnterLemmas
-pub mod FirmLemmas
-pub mod GatherLemmas
-pub mod LevelLemmas
-pub mod LookLemmas
-pub mod MeetingLemmas
-pub mod OfferLemmas
-pub mod OpeningLemmas
-pub mod PassEdits
-pub mod PassLemmas
-pub mod PlanLemmas
-pub mod RangeLemmas
-pub mod RefusalLemmas
-pub mod Sent
-pub mod StaleLemmas
+mod AcceptedLemmas
+mod CauseLemmas
+mod ClosedWordsLemmas
+mod ClosingLemmas
+mod CountLemmas
+mod EditLemmas
+mod EnterLemmas
+mod FirmLemmas
+mod GatherLemmas
+mod LevelLemmas
+mod LookLemmas
+mod MeetingLemmas
+mod OfferLemmas
+mod OpeningLemmas
+mod PassEdits
+mod PassLemmas
+mod PlanLemmas
+mod RangeLemmas
+mod RefusalLemmas
+mod Sent
+mod StaleLemmas

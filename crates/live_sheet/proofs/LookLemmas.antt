@@ -23,11 +23,15 @@ pub steps_on : {E : Type 0} (a b c : List (OwnStep E)) (first second : List (Act
 steps_on {E} a b c [] second f s = subst (λ (x : List (OwnStep E)). StepsAre x second c) f s
 steps_on a b c (act ∷ acts) second f s = (f.0, f.1, steps_on f.0 b c acts second f.2 s)
 
-pub reads_on : {L : Type 0} (sizes : Sizes) (view : View L) (reads : List (Position × Loads)) (cell : Position) (loads : Loads) → after_reads sizes view (reads ++ (cell, loads) ∷ []) ≡ after_read (after_reads sizes view reads) (place_of sizes cell) loads
+pub reads_on : {L : Type 0} (sizes : Sizes) (view : View L) (reads : List (Position × Loads)) (cell : Position)
+    (loads : Loads) → after_reads sizes view (reads ++ (cell, loads) ∷ []) ≡ after_read (after_reads sizes view reads)
+    (place_of sizes cell) loads
 reads_on sizes view [] cell loads = refl
 reads_on sizes view (read ∷ reads) cell loads = reads_on sizes (after_read view (place_of sizes read.0) read.1) reads cell loads
 
-pub shown_on : (number : ℕ) (reads : List (Position × Loads)) (cells : List Shown) (read : Position × Loads) (shown : Shown) → AreShown number reads cells → ShowsLoads number read.1 shown → AreShown number (reads ++ read ∷ []) (cells ++ shown ∷ [])
+pub shown_on : (number : ℕ) (reads : List (Position × Loads)) (cells : List Shown) (read : Position
+    × Loads) (shown : Shown) → AreShown number reads cells → ShowsLoads number read.1 shown
+    → AreShown number (reads ++ read ∷ []) (cells ++ shown ∷ [])
 shown_on number [] [] read shown are one = (one, tt)
 shown_on number [] (other ∷ cells) read shown are one = absurd are
 shown_on number (first ∷ reads) [] read shown are one = absurd are
@@ -43,18 +47,21 @@ reads_keep_log sizes view [] = refl
 reads_keep_log sizes view (read ∷ reads) = reads_keep_log sizes (after_read view (place_of sizes read.0) read.1) reads
 
 module _ {S E : Type 0} {G : Ghosts S E} where
-  pub look_keeps_holds : (sizes : Sizes) (window : Corners) (old new : Seat S E G) (board : BoardValue) → HasLooked sizes window old new board → (view_of new).holds ≡ (view_of old).holds
+  pub look_keeps_holds : (sizes : Sizes) (window : Corners) (old new : Seat S E G) (board : BoardValue)
+      → HasLooked sizes window old new board → (view_of new).holds ≡ (view_of old).holds
   look_keeps_holds sizes window old new board looked =
       ap (λ (d : Doing S E). d.view.holds) looked.doing ∙ reads_keep_holds sizes (with_count (view_of old) board.number) looked.reads
 
-  pub look_keeps_log : (sizes : Sizes) (window : Corners) (old new : Seat S E G) (board : BoardValue) → HasLooked sizes window old new board → log_of new ≡ log_of old
+  pub look_keeps_log : (sizes : Sizes) (window : Corners) (old new : Seat S E G) (board : BoardValue)
+      → HasLooked sizes window old new board → log_of new ≡ log_of old
   look_keeps_log sizes window old new board looked =
       ap (λ (d : Doing S E). d.view.log) looked.doing ∙ reads_keep_log sizes (with_count (view_of old) board.number) looked.reads
 
   pub read_none : (sizes : Sizes) (number : ℕ) (seat : Seat S E G) → HasReadCells sizes number [] seat seat []
   read_none sizes number seat = record { reads = []; of_cells = refl; doing = refl; steps = refl; are_shown = tt }
 
-  pub read_one_more : (sizes : Sizes) (number : ℕ) (cells more : List Position) (cell : Position) (loads : Loads) (shown : Shown) (a b c : Seat S E G) (board board' : List Shown)
+  pub read_one_more : (sizes : Sizes) (number : ℕ) (cells more : List Position) (cell : Position) (loads : Loads)
+      (shown : Shown) (a b c : Seat S E G) (board board' : List Shown)
       → more ≡ cells ++ cell ∷ [] → board' ≡ board ++ shown ∷ []
       → HasReadCells sizes number cells a b board
       → doing_of c ≡ record (doing_of b) { view = after_read (view_of b) (place_of sizes cell) loads }
@@ -70,7 +77,11 @@ module _ {S E : Type 0} {G : Ghosts S E} where
             ∙ ap (λ (d : Doing S E). record d { view = after_read d.view (place_of sizes cell) loads }) has.doing
             ∙ ap (λ (v : View (List E)). record (doing_of a) { view = v }) (sym (reads_on sizes (view_of a) has.reads cell loads));
         steps = subst (λ (acts : List (Act E)). StepsAre (own_steps a) acts (own_steps c))
-            (sym (flat_map-append (λ (read : Position × Loads). loads_made (place_of sizes read.0) read.1) has.reads ((cell, loads) ∷ []) ∙ ap (λ l. all_loads sizes has.reads ++ l) (append-nil (loads_made (place_of sizes cell) loads))))
+            (sym (flat_map-append (λ (read : Position × Loads). loads_made (place_of sizes read.0) read.1) has.reads
+            ((cell, loads) ∷ [])
+            ∙ ap (λ l. all_loads sizes has.reads ++ l) (append-nil (loads_made (place_of sizes cell) loads))))
             (steps_on (own_steps a) (own_steps b) (own_steps c) (all_loads sizes has.reads) (loads_made (place_of sizes cell) loads) has.steps steps);
-        are_shown = subst (AreShown number (has.reads ++ (cell, loads) ∷ [])) (sym board_is) (shown_on number has.reads board (cell, loads) shown has.are_shown shows);
+        are_shown =
+            subst (AreShown number (has.reads ++ (cell, loads) ∷ [])) (sym board_is)
+            (shown_on number has.reads board (cell, loads) shown has.are_shown shows);
       }

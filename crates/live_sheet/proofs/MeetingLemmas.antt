@@ -39,19 +39,24 @@ one_list : {X : Type 0} (xs ys : List X) → IsPrefix xs ys → IsPrefix ys xs �
 one_list xs ys p q = no_more xs ys p.rest p.whole (prefix_length ys xs q)
 
 -- a seat that met one whose log goes on from its own knows what that one knows
-pub knows_the_longer : {S E : Type 0} (seat other after : Doing S E) → HasMet seat other after → IsPrefix seat.view.log other.view.log → KnowsNoLess other.view after.view
+pub knows_the_longer : {S E : Type 0} (seat other after : Doing S E) → HasMet seat other after
+    → IsPrefix seat.view.log other.view.log → KnowsNoLess other.view after.view
 knows_the_longer {S} {E} seat other after met shorter =
     record {
       log =
-          ⊎_elim (λ (own : after.view.log ≡ seat.view.log). own ∙ sym (one_list seat.view.log other.view.log shorter (subst (λ (l : List E). IsPrefix other.view.log l) own met.other_log)))
+          ⊎_elim (λ (own : after.view.log ≡ seat.view.log). own
+          ∙ sym (one_list seat.view.log other.view.log shorter (subst (λ (l : List E). IsPrefix other.view.log l)
+          own met.other_log)))
           (λ (longer : after.view.log ≡ other.view.log). longer)
           met.one_log;
       known = λ pair has. subst (λ (l : List Known). Contains l pair) (sym met.known) (Contains-append_right seat.view.known other.view.known pair has);
     }
 
 -- what a walk over the pairs of the sheet tells of a cycle, it tells of the sheet after the log that the seat knows
-pub tells_cycle : {F : Type 0} {G : Ghosts SheetValue Entry} (opening sheet : SheetValue) (cell : Position) (seat : Seat SheetValue Entry G) (pairs : List Pair) (r : Result Bool F)
-    → CyclesOfPairsAreThoseOfInputs → ArePairsOf sheet pairs → IsSheet sheet → sheet ≡ after opening (log_of seat) → IfOk r (λ on. IsTrue on ↔ IsOnCycle pairs cell)
+pub tells_cycle : {F : Type 0} {G : Ghosts SheetValue Entry} (opening sheet : SheetValue) (cell : Position)
+    (seat : Seat SheetValue Entry G) (pairs : List Pair) (r : Result Bool F)
+    → CyclesOfPairsAreThoseOfInputs → ArePairsOf sheet pairs → IsSheet sheet → sheet ≡ after opening (log_of seat)
+    → IfOk r (λ on. IsTrue on ↔ IsOnCycle pairs cell)
     → IfOk r (TellsCycle opening cell seat)
 tells_cycle opening sheet cell seat pairs (Ok on) law are whole is given =
     let both = law sheet pairs cell are in
@@ -62,8 +67,10 @@ tells_cycle opening sheet cell seat pairs (Ok on) law are whole is given =
 tells_cycle opening sheet cell seat pairs (Err e) law are whole is given = tt
 
 -- once all cells are known to the editor's seat, one that it told has settled the sheet
-pub has_settled : {G : Ghosts SheetValue Entry} (opening : SheetValue) (sizes : Sizes) (old heard settled new : Seat SheetValue Entry G) → sizes ≡ opening.sizes → seen_of old ≤ seen_of heard
-    → seen_of heard ≡ length (log_of heard) → KeepsEditor heard settled → KnowsNoLess (view_of settled) (view_of new) → KnowsAll (TouchesPlace opening) sizes (view_of settled)
+pub has_settled : {G : Ghosts SheetValue Entry} (opening : SheetValue) (sizes : Sizes)
+    (old heard settled new : Seat SheetValue Entry G) → sizes ≡ opening.sizes → seen_of old ≤ seen_of heard
+    → seen_of heard ≡ length (log_of heard) → KeepsEditor heard settled → KnowsNoLess (view_of settled) (view_of new)
+    → KnowsAll (TouchesPlace opening) sizes (view_of settled)
     → HasSettled opening old new
 has_settled opening sizes old heard settled new same covers seen kept less known =
     record {

@@ -19,7 +19,10 @@ use Rattle.live_sheet.specs.Levels.{InputsComeFirst, KnowsLevels, LevelsLieInsid
 use Rattle.live_sheet.specs.Ranges.{AreClosed}
 use Rattle.live_sheet.specs.Stale.{KnowsAllBut, LieInside}
 
-module _ (sheet : SheetValue) (pairs : List Pair) (are : ArePairsOf sheet pairs) (ranges : List Corners) (inside : LieInside sheet.sizes ranges) (Knows : Position → Type 0) (stale : List Position) (left : KnowsAllBut Knows (IsAmong ranges) stale) (levels : List (List Position)) (circular : List Position) (order : IsPlan pairs stale levels circular) where
+module _ (sheet : SheetValue) (pairs : List Pair) (are : ArePairsOf sheet pairs) (ranges : List Corners)
+    (inside : LieInside sheet.sizes ranges) (Knows : Position → Type 0) (stale : List Position)
+    (left : KnowsAllBut Knows (IsAmong ranges) stale) (levels : List (List Position)) (circular : List Position)
+    (order : IsPlan pairs stale levels circular) where
   -- a stale cell is in one of the ranges, so in the rectangle
   among : (number : ℕ) (cell : Position) → InLevel levels number cell → IsAmong ranges cell
   among number cell at = left.of_set cell (order.sorted.of_stale number cell at)

@@ -1,5 +1,6 @@
 -- The ranges that a firm look and settling compute.
-use Rattle.std.proofs.Common.{◌≡◌, ◌⊎◌, inl, inr, ◌↔◌, ℕ, ◌+◌, ◌*◌, ◌<◌, ◌≤◌, List, [], ◌∷◌, ◌++◌, IsTrue, true≢false, zero, suc, length, take, get_or, refl, sym, ◌∙◌, subst, arith}
+use Rattle.std.proofs.Common.{◌≡◌, ◌⊎◌, inl, inr, ◌↔◌, ℕ, ◌+◌, ◌*◌, ◌<◌, ◌≤◌, List, [], ◌∷◌, ◌++◌, IsTrue, true≢false}
+use Rattle.std.proofs.Common.{zero, suc, length, take, get_or, refl, sym, ◌∙◌, subst, arith}
 use Rattle.std.specs.Prelude.{Bool, IsFalse}
 use Rattle.std.proofs.lemmas.List.{take_all}
 use Rattle.sheet_refs.specs.Cells.{Position, Corners, IsIn, IsNamed}
@@ -47,57 +48,65 @@ cut_begins sizes ranges =
       exact = λ cell. (λ among. absurd (omega (arith, among.listed.1)), λ is. absurd (omega (arith, is.0.listed.1)));
     }
 
-module _ (sizes : Sizes) (ranges parts : List Corners) (place : ℕ) (range : Corners) (disjoint : AreDisjoint ranges) (within : place < length ranges) (here : range ≡ get_or ranges place range) (so : CutSoFar sizes ranges parts place) where
-  more : take (place + 1) ranges ≡ take place ranges ++ range ∷ []
-  more = taken_more ranges place range within here
+module _ (sizes : Sizes) (ranges parts : List Corners) (place : ℕ) (range : Corners) (disjoint : AreDisjoint ranges)
+    (within : place < length ranges) (here : range ≡ get_or ranges place range) (so : CutSoFar sizes ranges parts place)
+  where
+    more : take (place + 1) ranges ≡ take place ranges ++ range ∷ []
+    more = taken_more ranges place range within here
 
-  -- a cell of the first ranges and the next one
-  next_range : (cell : Position) → IsAmong (take (place + 1) ranges) cell ↔ (IsAmong (take place ranges) cell ⊎ IsIn cell range)
-  next_range cell =
-      subst (λ (rs : List Corners). IsAmong rs cell ↔ (IsAmong (take place ranges) cell ⊎ IsIn cell range)) (sym more) (among_next (take place ranges) range cell)
+    -- a cell of the first ranges and the next one
+    next_range : (cell : Position) → IsAmong (take (place + 1) ranges) cell ↔ (IsAmong (take place ranges) cell ⊎ IsIn cell range)
+    next_range cell =
+        subst (λ (rs : List Corners). IsAmong rs cell ↔ (IsAmong (take place ranges) cell ⊎ IsIn cell range)) (sym more)
+        (among_next (take place ranges) range cell)
 
-  pub cut_none : MissesRange sizes range → CutSoFar sizes ranges parts (place + 1)
-  cut_none misses = record { disjoint = so.disjoint; exact = λ cell. (to cell, from cell) }
-    where
-      to : (cell : Position) → IsAmong parts cell → IsAmong (take (place + 1) ranges) cell × IsTrue (is_inside sizes cell)
-      to cell among = let is = (so.exact cell).0 among in ((next_range cell).1 (inl is.0), is.1)
+    pub cut_none : MissesRange sizes range → CutSoFar sizes ranges parts (place + 1)
+    cut_none misses = record { disjoint = so.disjoint; exact = λ cell. (to cell, from cell) }
+      where
+        to : (cell : Position) → IsAmong parts cell → IsAmong (take (place + 1) ranges) cell × IsTrue (is_inside sizes cell)
+        to cell among = let is = (so.exact cell).0 among in ((next_range cell).1 (inl is.0), is.1)
 
-      from : (cell : Position) → IsAmong (take (place + 1) ranges) cell × IsTrue (is_inside sizes cell) → IsAmong parts cell
-      from cell is = elim ((next_range cell).0 is.0) [
-        | inl first ↦ (so.exact cell).1 (first, is.1)
-        | inr inside ↦ absurd (not_both (is_inside sizes cell) is.1 (misses cell inside))
-      ]
+        from : (cell : Position) → IsAmong (take (place + 1) ranges) cell × IsTrue (is_inside sizes cell) → IsAmong parts cell
+        from cell is = elim ((next_range cell).0 is.0) [
+          | inl first ↦ (so.exact cell).1 (first, is.1)
+          | inr inside ↦ absurd (not_both (is_inside sizes cell) is.1 (misses cell inside))
+        ]
 
-  pub cut_one : (part : Corners) → HoldsPart sizes range part → CutSoFar sizes ranges (parts ++ part ∷ []) (place + 1)
-  cut_one part holds = record { disjoint = AllPairs-append (λ a b. ¬ Overlap a b) parts (part ∷ []) so.disjoint alone across; exact = λ cell. (to cell, from cell) }
-    where
-      alone : AreDisjoint (part ∷ [])
-      alone i j d before below = absurd (omega (arith, below, before))
+    pub cut_one : (part : Corners) → HoldsPart sizes range part → CutSoFar sizes ranges (parts ++ part ∷ []) (place + 1)
+    cut_one part holds =
+        record {
+          disjoint = AllPairs-append (λ a b. ¬ Overlap a b) parts (part ∷ []) so.disjoint alone across;
+          exact = λ cell. (to cell, from cell);
+        }
+      where
+        alone : AreDisjoint (part ∷ [])
+        alone i j d before below = absurd (omega (arith, below, before))
 
-      across : Across (λ a b. ¬ Overlap a b) parts (part ∷ [])
-      across i j d i_in j_in over =
-          let only : get_or (part ∷ []) j d ≡ part = one_item part j d j_in in
-          apart_from_first ranges place range over.0 disjoint within here
-          ((so.exact over.0).0 (among_at parts i d over.0 i_in over.1.first)).0
-          ((holds over.0).0 (subst (λ (r : Corners). IsIn over.0 r) only over.1.second)).0
+        across : Across (λ a b. ¬ Overlap a b) parts (part ∷ [])
+        across i j d i_in j_in over =
+            let only : get_or (part ∷ []) j d ≡ part = one_item part j d j_in in
+            apart_from_first ranges place range over.0 disjoint within here
+            ((so.exact over.0).0 (among_at parts i d over.0 i_in over.1.first)).0
+            ((holds over.0).0 (subst (λ (r : Corners). IsIn over.0 r) only over.1.second)).0
 
-      to : (cell : Position) → IsAmong (parts ++ part ∷ []) cell → IsAmong (take (place + 1) ranges) cell × IsTrue (is_inside sizes cell)
-      to cell among = elim ((among_next parts part cell).0 among) [
-        | inl old ↦ let is = (so.exact cell).0 old in ((next_range cell).1 (inl is.0), is.1)
-        | inr new ↦ let is = (holds cell).0 new in ((next_range cell).1 (inr is.0), is.1)
-      ]
+        to : (cell : Position) → IsAmong (parts ++ part ∷ []) cell → IsAmong (take (place + 1) ranges) cell × IsTrue (is_inside sizes cell)
+        to cell among = elim ((among_next parts part cell).0 among) [
+          | inl old ↦ let is = (so.exact cell).0 old in ((next_range cell).1 (inl is.0), is.1)
+          | inr new ↦ let is = (holds cell).0 new in ((next_range cell).1 (inr is.0), is.1)
+        ]
 
-      from : (cell : Position) → IsAmong (take (place + 1) ranges) cell × IsTrue (is_inside sizes cell) → IsAmong (parts ++ part ∷ []) cell
-      from cell is = elim ((next_range cell).0 is.0) [
-        | inl first ↦ (among_next parts part cell).1 (inl ((so.exact cell).1 (first, is.1)))
-        | inr inside ↦ (among_next parts part cell).1 (inr ((holds cell).1 (inside, is.1)))
-      ]
+        from : (cell : Position) → IsAmong (take (place + 1) ranges) cell × IsTrue (is_inside sizes cell) → IsAmong (parts ++ part ∷ []) cell
+        from cell is = elim ((next_range cell).0 is.0) [
+          | inl first ↦ (among_next parts part cell).1 (inl ((so.exact cell).1 (first, is.1)))
+          | inr inside ↦ (among_next parts part cell).1 (inr ((holds cell).1 (inside, is.1)))
+        ]
 
-  pub cut_next : (new : List Corners) → PushesPart sizes range parts new → CutSoFar sizes ranges new (place + 1)
-  cut_next new (inl (misses, same)) = subst (λ (l : List Corners). CutSoFar sizes ranges l (place + 1)) (sym same) (cut_none misses)
-  cut_next new (inr (part, holds, pushed)) = subst (λ (l : List Corners). CutSoFar sizes ranges l (place + 1)) (sym pushed) (cut_one part holds)
+    pub cut_next : (new : List Corners) → PushesPart sizes range parts new → CutSoFar sizes ranges new (place + 1)
+    cut_next new (inl (misses, same)) = subst (λ (l : List Corners). CutSoFar sizes ranges l (place + 1)) (sym same) (cut_none misses)
+    cut_next new (inr (part, holds, pushed)) = subst (λ (l : List Corners). CutSoFar sizes ranges l (place + 1)) (sym pushed) (cut_one part holds)
 
-pub cut_ends : (sizes : Sizes) (ranges parts : List Corners) (place : ℕ) → length ranges ≤ place → CutSoFar sizes ranges parts place → AreCutTo sizes (IsAmong ranges) parts
+pub cut_ends : (sizes : Sizes) (ranges parts : List Corners) (place : ℕ) → length ranges ≤ place
+    → CutSoFar sizes ranges parts place → AreCutTo sizes (IsAmong ranges) parts
 cut_ends sizes ranges parts place all so =
     subst (λ (rs : List Corners). AreCutTo sizes (IsAmong rs) parts) (take_all place ranges all) so
 
@@ -106,7 +115,11 @@ pub cut_closed : (sheet : SheetValue) (pairs : List Pair) (window : Corners) (ra
     → ((from to : Position) → Step pairs from to → Back pairs window to → Back pairs window from)
     → AreCutTo sheet.sizes (Back pairs window) ranges → AreClosed sheet ranges
 cut_closed sheet pairs window ranges are closed cut cell input among is =
-    (cut.exact input).1 (closed input cell ((depends_step sheet pairs input cell are).0 (input_step sheet cell input is)) ((cut.exact cell).0 among).0, is.inside)
+    (cut.exact input).1 (
+      closed input cell ((depends_step sheet pairs input cell are).0 (input_step sheet cell input is))
+          ((cut.exact cell).0 among).0,
+      is.inside,
+    )
 
 -- a number of rows isn't more than that of the cells
 at_least : (rows cols : ℕ) → 1 ≤ cols → rows ≤ rows * cols

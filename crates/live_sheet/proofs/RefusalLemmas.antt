@@ -10,5 +10,7 @@ use Rattle.live_sheet.specs.declared.naming.Naming.{Ghosts}
 use Rattle.live_sheet.specs.declared.pass.Pass.{Pass}
 use Rattle.live_sheet.specs.Edited.{IsRefusedAs}
 
-pub refused_outside : {N : Type 0} {G : Ghosts N} (log : List Entry) (old new : Pass N G) (cell : Position) (why : PrepareRefused) (answer : EditRefused) → why ≡ prepare.OutOfSheet cell → IsRefusedAs log old new why answer → answer ≡ OutOfSheet cell
+pub refused_outside : {N : Type 0} {G : Ghosts N} (log : List Entry) (old new : Pass N G) (cell : Position)
+    (why : PrepareRefused) (answer : EditRefused) → why ≡ prepare.OutOfSheet cell → IsRefusedAs log old new why answer
+    → answer ≡ OutOfSheet cell
 refused_outside log old new cell why answer is told = (subst (λ (w : PrepareRefused). IsRefusedAs log old new w answer) is told).0

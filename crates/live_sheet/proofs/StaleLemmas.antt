@@ -1,11 +1,13 @@
 -- What reads with the editor's seat come to, and which cells they leave as stale.
-use Rattle.std.proofs.Common.{◌≡◌, ◌≢◌, ◌⊎◌, inl, inr, ℕ, ◌+◌, ◌*◌, ◌/◌, ◌%◌, ◌<◌, ◌≤◌, ◌↔◌, List, [], ◌∷◌, ◌++◌, Some, true, length, take, get_or, slice_get, Contains, refl, sym, ◌∙◌, ap, subst, arith}
+use Rattle.std.proofs.Common.{◌≡◌, ◌≢◌, ◌⊎◌, inl, inr, ℕ, ◌+◌, ◌*◌, ◌/◌, ◌%◌, ◌<◌, ◌≤◌, ◌↔◌, List, [], ◌∷◌, ◌++◌, Some}
+use Rattle.std.proofs.Common.{true, length, take, get_or, slice_get, Contains, refl, sym, ◌∙◌, ap, subst, arith}
 use Rattle.std.specs.Bool.{OnTrue}
 use Rattle.std.specs.Prelude.{Bool, false, IsTrue}
 use Rattle.std.proofs.lemmas.Bool.{cases_eq}
 use Rattle.std.proofs.lemmas.Nat.{div-add-mod'}
 use Rattle.std.proofs.lemmas.List.{append_assoc, append-nil, length-take, get_or-take, get_or_default}
-use Rattle.std.proofs.lemmas.List.Elements.{Contains-append_cases, Contains-append_left, Contains-append_right, Contains-push, Contains-push_cases, Contains-get_or}
+use Rattle.std.proofs.lemmas.List.Elements.{Contains-append_cases, Contains-append_left, Contains-append_right}
+use Rattle.std.proofs.lemmas.List.Elements.{Contains-push, Contains-push_cases, Contains-get_or}
 use Rattle.std.proofs.lemmas.Option.{slice_get_within, slice_get-get_or, get_or_from_slice_get}
 use Rattle.sheet_refs.specs.Cells.{Position, Corners, IsIn, ListsCells, cells_of, width}
 use Rattle.sheet_refs.specs.Rectangles.{AreDisjoint, IsAmong}
@@ -61,17 +63,21 @@ read_knows touches view place upto mark true known is = (mark, known (is.0 refl)
 read_knows touches view place upto mark false known is = tt
 
 -- a cell of one of the first ranges is in no later one
-pub apart_from_first : (ranges : List Corners) (place : ℕ) (range : Corners) (cell : Position) → AreDisjoint ranges → place < length ranges → range ≡ get_or ranges place range
+pub apart_from_first : (ranges : List Corners) (place : ℕ) (range : Corners) (cell : Position) → AreDisjoint ranges
+    → place < length ranges → range ≡ get_or ranges place range
     → IsAmong (take place ranges) cell → ¬ IsIn cell range
 apart_from_first ranges place range cell disjoint within here among inside =
     let k : ℕ = among.listed.0 in
     let before : k < place = omega (arith, among.listed.1, length-take place ranges) in
-    let first : IsIn cell (get_or ranges k range) = subst (λ (r : Corners). IsIn cell r) (sym among.listed.2 ∙ (get_or-take place ranges k among.range before ∙ get_or_default ranges k among.range range (omega arith))) among.inside in
+    let first : IsIn cell (get_or ranges k range) = subst (λ (r : Corners). IsIn cell r) (sym among.listed.2
+    ∙ (get_or-take place ranges k among.range before ∙ get_or_default ranges k among.range range (omega arith)))
+    among.inside in
     disjoint k place range before within (cell, record { first = first; second = subst (λ (r : Corners). IsIn cell r) here inside })
 
 module _ (Knows : Position → Type 0) where
   -- where more is known, what is left is left
-  pub still_left : (More Set : Position → Type 0) (stale : List Position) → ((cell : Position) → Knows cell → More cell) → KnowsAllBut Knows Set stale → KnowsAllBut More Set stale
+  pub still_left : (More Set : Position → Type 0) (stale : List Position) → ((cell : Position) → Knows cell → More cell)
+      → KnowsAllBut Knows Set stale → KnowsAllBut More Set stale
   still_left More Set stale more left =
       record {
         of_set = left.of_set;
@@ -83,11 +89,13 @@ module _ (Knows : Position → Type 0) where
       by_case cell (inl known) = inl (more cell known)
       by_case cell (inr listed) = inr listed
 
-  pub adds_still : (More Set : Position → Type 0) (old new : List Position) → ((cell : Position) → Knows cell → More cell) → AddsStale Knows Set old new → AddsStale More Set old new
+  pub adds_still : (More Set : Position → Type 0) (old new : List Position)
+      → ((cell : Position) → Knows cell → More cell) → AddsStale Knows Set old new → AddsStale More Set old new
   adds_still More Set old new more adds = record { added = adds.added; whole = adds.whole; stale = still_left More Set adds.added more adds.stale }
 
   -- the same cells by another name
-  same_set : (Set Other : Position → Type 0) (stale : List Position) → ((cell : Position) → Set cell ↔ Other cell) → KnowsAllBut Knows Set stale → KnowsAllBut Knows Other stale
+  same_set : (Set Other : Position → Type 0) (stale : List Position) → ((cell : Position) → Set cell ↔ Other cell)
+      → KnowsAllBut Knows Set stale → KnowsAllBut Knows Other stale
   same_set Set Other stale same left =
       record {
         of_set = λ cell has. (same cell).0 (left.of_set cell has);
@@ -124,7 +132,8 @@ module _ (Knows : Position → Type 0) where
 
       across : Across (λ a b. a ≢ b) xs ys
       across i j d i_in j_in same =
-          apart (get_or ys j d) (subst A same (first.of_set (get_or xs i d) (Contains-get_or xs i d i_in))) (second.of_set (get_or ys j d) (Contains-get_or ys j d j_in))
+          apart (get_or ys j d) (subst A same (first.of_set (get_or xs i d) (Contains-get_or xs i d i_in)))
+          (second.of_set (get_or ys j d) (Contains-get_or ys j d j_in))
 
   -- of one cell
   one_known : (cell : Position) → Knows cell → KnowsAllBut Knows (λ c. c ≡ cell) []
@@ -148,7 +157,8 @@ module _ (Knows : Position → Type 0) where
       from c (inr same) = sym same
 
   -- the cells before the next place of a range are those before the place and the cell there
-  next_place : (range : Corners) (place : ℕ) (cell : Position) → slice_get (cells_of range) place ≡ Some cell → (c : Position) → (IsBefore range place c ⊎ (c ≡ cell)) ↔ IsBefore range (place + 1) c
+  next_place : (range : Corners) (place : ℕ) (cell : Position) → slice_get (cells_of range) place ≡ Some cell
+      → (c : Position) → (IsBefore range place c ⊎ (c ≡ cell)) ↔ IsBefore range (place + 1) c
   next_place range place cell here c = (to, from)
     where
       to : IsBefore range place c ⊎ (c ≡ cell) → IsBefore range (place + 1) c
@@ -177,7 +187,12 @@ module _ (Knows : Position → Type 0) where
 
       by_case : (Knows cell × (new ≡ now)) ⊎ (new ≡ now ++ cell ∷ []) → AddsStale Knows (IsBefore range (place + 1)) old new
       by_case (inl (known, same)) =
-          record { added = adds.added ++ []; whole = same ∙ adds.whole ∙ ap (λ l. old ++ l) (sym (append-nil adds.added)); stale = joined [] (one_known cell known) }
+          record {
+            added = adds.added ++ [];
+            whole = same ∙ adds.whole
+                ∙ ap (λ l. old ++ l) (sym (append-nil adds.added));
+            stale = joined [] (one_known cell known);
+          }
       by_case (inr pushed) =
           record {
             added = adds.added ++ cell ∷ [];
@@ -188,10 +203,16 @@ module _ (Knows : Position → Type 0) where
   pub adds_none : (range : Corners) (old : List Position) → AddsStale Knows (IsBefore range 0) old old
   adds_none range old = record { added = []; whole = sym (append-nil old); stale = none_left (IsBefore range 0) (λ cell is. omega (arith, is.before)) }
 
-  pub adds_all : (range : Corners) (count place : ℕ) (old new : List Position) → count ≡ length (cells_of range) → ListsCells (cells_of range) range → count ≤ place
+  pub adds_all : (range : Corners) (count place : ℕ) (old new : List Position) → count ≡ length (cells_of range)
+      → ListsCells (cells_of range) range → count ≤ place
       → AddsStale Knows (IsBefore range place) old new → AddsStale Knows (λ cell. IsIn cell range) old new
   adds_all range count place old new all lists past adds =
-      record { added = adds.added; whole = adds.whole; stale = same_set (IsBefore range place) (λ cell. IsIn cell range) adds.added (λ cell. (to cell, from cell)) adds.stale }
+      record {
+        added = adds.added;
+        whole = adds.whole;
+        stale = same_set (IsBefore range place) (λ cell. IsIn cell range)
+            adds.added (λ cell. (to cell, from cell)) adds.stale;
+      }
     where
       to : (cell : Position) → IsBefore range place cell → IsIn cell range
       to cell is =
@@ -207,10 +228,13 @@ module _ (Knows : Position → Type 0) where
           }
 
   -- one range more
-  pub next_range : (ranges : List Corners) (place : ℕ) (range : Corners) (old new : List Position) → AreDisjoint ranges → place < length ranges → range ≡ get_or ranges place range
-      → KnowsAllBut Knows (IsAmong (take place ranges)) old → AddsStale Knows (λ cell. IsIn cell range) old new → KnowsAllBut Knows (IsAmong (take (place + 1) ranges)) new
+  pub next_range : (ranges : List Corners) (place : ℕ) (range : Corners) (old new : List Position) → AreDisjoint ranges
+      → place < length ranges → range ≡ get_or ranges place range
+      → KnowsAllBut Knows (IsAmong (take place ranges)) old → AddsStale Knows (λ cell. IsIn cell range) old new
+      → KnowsAllBut Knows (IsAmong (take (place + 1) ranges)) new
   next_range ranges place range old new disjoint within here left adds =
-      let joined = both_left (IsAmong (take place ranges)) (λ cell. IsIn cell range) old adds.added (λ cell. apart_from_first ranges place range cell disjoint within here) left adds.stale in
+      let joined = both_left (IsAmong (take place ranges)) (λ cell. IsIn cell range) old adds.added
+      (λ cell. apart_from_first ranges place range cell disjoint within here) left adds.stale in
       let more : take (place + 1) ranges ≡ take place ranges ++ range ∷ [] = taken_more ranges place range within here in
       subst (λ (l : List Position). KnowsAllBut Knows (IsAmong (take (place + 1) ranges)) l) (sym adds.whole)
       (subst (λ (rs : List Corners). KnowsAllBut Knows (IsAmong rs) (old ++ adds.added)) (sym more)
@@ -243,17 +267,25 @@ module _ {S E : Type 0} {G : Ghosts S E} where
       pub at : HasComeTo range place cell
 
     pub range_begins : IsSeatOf marks editor₀ → (cell : Position) → HasComeTo range 0 cell → RangeSoFar editor₀ old 0 cell
-    range_begins table cell at = record { table = table; kept = kept_itself editor₀; stale = adds_none (KnowsCell touches sizes (view_of editor₀)) range old; at = at }
+    range_begins table cell at =
+        record {
+          table = table;
+          kept = kept_itself editor₀;
+          stale = adds_none (KnowsCell touches sizes (view_of editor₀)) range old;
+          at = at;
+        }
 
     pub range_goes_on : (editor next : Seat S E G) (now new : List Position) (place : ℕ) (cell behind : Position) → RangeSoFar editor now place cell
-        → slice_get (cells_of range) place ≡ Some cell → IsSeatOf marks next → KeepsEditor editor next → IsListedOr (KnowsCell touches sizes (view_of next)) cell now new
+        → slice_get (cells_of range) place ≡ Some cell → IsSeatOf marks next → KeepsEditor editor next
+        → IsListedOr (KnowsCell touches sizes (view_of next)) cell now new
         → HasComeTo range (place + 1) behind → RangeSoFar next new (place + 1) behind
     range_goes_on editor next now new place cell behind so here table kept listed at =
         record {
           table = table;
           kept = keeps_editor_on editor₀ editor next so.kept kept;
           stale = adds_next (KnowsCell touches sizes (view_of next)) range place cell old now new here
-              (adds_still (KnowsCell touches sizes (view_of editor)) (KnowsCell touches sizes (view_of next)) (IsBefore range place) old now (cell_still touches sizes editor next kept) so.stale) listed;
+              (adds_still (KnowsCell touches sizes (view_of editor)) (KnowsCell touches sizes (view_of next))
+              (IsBefore range place) old now (cell_still touches sizes editor next kept) so.stale) listed;
           at = at;
         }
 
@@ -267,13 +299,16 @@ module _ {S E : Type 0} {G : Ghosts S E} where
     pub ranges_begin : IsSeatOf marks editor₀ → RangesSoFar editor₀ [] 0
     ranges_begin table = record { table = table; kept = kept_itself editor₀; left = no_range (KnowsCell touches sizes (view_of editor₀)) ranges }
 
-    pub ranges_go_on : (editor next : Seat S E G) (old new : List Position) (place : ℕ) (range : Corners) → RangesSoFar editor old place → AreDisjoint ranges → place < length ranges
-        → range ≡ get_or ranges place range → IsSeatOf marks next → KeepsEditor editor next → AddsStale (KnowsCell touches sizes (view_of next)) (λ cell. IsIn cell range) old new
+    pub ranges_go_on : (editor next : Seat S E G) (old new : List Position) (place : ℕ) (range : Corners)
+        → RangesSoFar editor old place → AreDisjoint ranges → place < length ranges
+        → range ≡ get_or ranges place range → IsSeatOf marks next → KeepsEditor editor next
+        → AddsStale (KnowsCell touches sizes (view_of next)) (λ cell. IsIn cell range) old new
         → RangesSoFar next new (place + 1)
     ranges_go_on editor next old new place range so disjoint within here table kept adds =
         record {
           table = table;
           kept = keeps_editor_on editor₀ editor next so.kept kept;
           left = next_range (KnowsCell touches sizes (view_of next)) ranges place range old new disjoint within here
-              (still_left (KnowsCell touches sizes (view_of editor)) (KnowsCell touches sizes (view_of next)) (IsAmong (take place ranges)) old (cell_still touches sizes editor next kept) so.left) adds;
+              (still_left (KnowsCell touches sizes (view_of editor)) (KnowsCell touches sizes (view_of next))
+              (IsAmong (take place ranges)) old (cell_still touches sizes editor next kept) so.left) adds;
         }

@@ -40,7 +40,8 @@ pub record ShowsValues (sheet : SheetValue) (number : ℕ) (window : Corners) (r
 -- A firm look from one moment of a seat to another: the board tells of the log that the seat knows then, which isn't
 -- shorter than what it had seen; each cell of the window shows its value after that log; and the seat knows each of them
 -- as clean.
-pub record IsFirmLook {G : Ghosts SheetValue Entry} (opening : SheetValue) (window : Corners) (old new : Seat SheetValue Entry G) (room : ℕ) (board : BoardValue) : Type 0 where
+pub record IsFirmLook {G : Ghosts SheetValue Entry} (opening : SheetValue) (window : Corners)
+    (old new : Seat SheetValue Entry G) (room : ℕ) (board : BoardValue) : Type 0 where
   pub shows : ShowsValues (after opening (log_of new)) (length (log_of new)) window room board
   pub covers : seen_of old ≤ board.number
   pub known : (cell : Position) → IsIn cell window → KnowsCell (TouchesPlace opening) opening.sizes (view_of new) cell

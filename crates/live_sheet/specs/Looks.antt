@@ -78,7 +78,8 @@ AreShown number (read ∷ reads) (shown ∷ cells) = ShowsLoads number read.1 sh
 AreShown number reads cells = ⊥
 
 -- Reads of these cells, in order, from one moment of a seat to another, each by three loads; and what is shown of them.
-pub record HasReadCells {S E : Type 0} {G : Ghosts S E} (sizes : Sizes) (number : ℕ) (cells : List Position) (old new : Seat S E G) (shown : List Shown) : Type 0 where
+pub record HasReadCells {S E : Type 0} {G : Ghosts S E} (sizes : Sizes) (number : ℕ) (cells : List Position)
+    (old new : Seat S E G) (shown : List Shown) : Type 0 where
   pub reads : List (Position × Loads)
   pub of_cells : map (λ read. read.0) reads ≡ cells
   pub doing : doing_of new ≡ record (doing_of old) { view = after_reads sizes (view_of old) reads }

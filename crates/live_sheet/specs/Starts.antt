@@ -15,7 +15,8 @@ use Rattle.live_sheet.specs.Held.{queue_of}
 
 -- The words are those of this table and of this opening sheet, and the editor's seat is as it opened. The jobs are those of
 -- this queue and of a sheet of these sizes, and the hand is one of them.
-pub record IsStart {G : Ghosts SheetValue Entry} (words queue : TableId) (opening : SheetValue) (marks : Marks SheetValue Entry) (editor : Seat SheetValue Entry G) (jobs : Jobs) (hand : Hand) : Type 0 where
+pub record IsStart {G : Ghosts SheetValue Entry} (words queue : TableId) (opening : SheetValue)
+    (marks : Marks SheetValue Entry) (editor : Seat SheetValue Entry G) (jobs : Jobs) (hand : Hand) : Type 0 where
   pub words_are : table_of marks ≡ words
   pub subject_is : subject_of marks ≡ opening
   pub seat : IsSeatOf marks editor

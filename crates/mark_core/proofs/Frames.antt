@@ -54,7 +54,11 @@ known_since : (count : ℕ) (before after : Words) (pair : Known) → Moves coun
 known_since count before after pair (Same s) k =
     elim k.since [
       | inl h ↦ inl (omega (arith, s.mark))
-      | inr c ↦ inr (record { marked = s.mark ∙ c.marked; upto = ap (λ (x : Clean). x.upto) s.clean ∙ c.upto; free = ap (λ (x : Clean). x.held) s.clean ∙ c.free })
+      | inr c ↦ inr (record {
+        marked = s.mark ∙ c.marked;
+        upto = ap (λ (x : Clean). x.upto) s.clean ∙ c.upto;
+        free = ap (λ (x : Clean). x.held) s.clean ∙ c.free;
+      })
     ]
 known_since count before after pair (Raised r) k = inl (omega (arith, r.mark, k.within))
 known_since count before after pair (Reworked r) k =
@@ -63,7 +67,8 @@ known_since count before after pair (Reworked r) k =
       | inr c ↦ absurd (omega (arith, r.stale, c.marked, c.upto))
     ]
 
-half_stale : (codeless : ℕ → Type 0) (count : ℕ) (before after : Words) (half : Half) → Moves count before after half.place → IsRightHalf codeless count before half
+half_stale : (codeless : ℕ → Type 0) (count : ℕ) (before after : Words) (half : Half)
+    → Moves count before after half.place → IsRightHalf codeless count before half
     → (half.clean.upto ≤ after.mark half.place) ⊎ IsStillThere after half
 half_stale codeless count before after half (Same s) k =
     elim k.stale [
@@ -77,7 +82,8 @@ half_stale codeless count before after half (Reworked r) k =
       | inr t ↦ let same : (before.clean half.place).upto ≡ half.clean.upto = ap (λ (x : Clean). x.upto) t.clean in inl (omega (arith, r.mark, r.stale))
     ]
 
-half_floor : (codeless : ℕ → Type 0) (count : ℕ) (before after : Words) (half : Half) → Moves count before after half.place → IsRightHalf codeless count before half
+half_floor : (codeless : ℕ → Type 0) (count : ℕ) (before after : Words) (half : Half)
+    → Moves count before after half.place → IsRightHalf codeless count before half
     → MeetsFloor (after.mark half.place) half.floor half.clean.upto
 half_floor codeless count before after half (Same s) k =
     elim k.floor [ inl h ↦ inl (omega (arith, s.mark)) | inr e ↦ inr (ap (λ n. n + 1) s.mark ∙ e.0, e.1) ]
@@ -122,7 +128,16 @@ module _ {E : Type 0} (worth : List E → ℕ → ℕ) (touches : List E → E �
     pub half_stays : (half : Half) → IsRightHalf codeless (length edits.log) words half → IsRightHalf codeless (length edits'.log) words' half
     half_stays half k =
         record {
-          upto = record { upto_mark = omega (arith, k.upto.upto_mark, mark_grows (length edits.log) words words' half.place (advances.place half.place)); upto_log = omega (arith, k.upto.upto_log, log_grows); never = k.upto.never };
+          upto =
+              record {
+                upto_mark = omega (
+                  arith,
+                  k.upto.upto_mark,
+                  mark_grows (length edits.log) words words' half.place (advances.place half.place),
+                );
+                upto_log = omega (arith, k.upto.upto_log, log_grows);
+                never = k.upto.never;
+              };
           stale = half_stale codeless (length edits.log) words words' half (advances.place half.place) k;
           floor = half_floor codeless (length edits.log) words words' half (advances.place half.place) k;
         }

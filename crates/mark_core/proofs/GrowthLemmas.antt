@@ -1,5 +1,6 @@
 -- What each event adds to the lists of each view, and what splits and joins hand on.
-use Rattle.std.proofs.Common.{◌≡◌, ◌≢◌, ◌<◌, ◌≤◌, ◌==◌, ◌⊎◌, ℕ, List, [], ◌∷◌, ◌++◌, Option, Some, None, true, false, length, get_or, set, refl, sym, ◌∙◌, ap, subst, inl, inr, arith}
+use Rattle.std.proofs.Common.{◌≡◌, ◌≢◌, ◌<◌, ◌≤◌, ◌==◌, ◌⊎◌, ℕ, List, [], ◌∷◌, ◌++◌, Option, Some, None, true, false}
+use Rattle.std.proofs.Common.{length, get_or, set, refl, sym, ◌∙◌, ap, subst, inl, inr, arith}
 use Rattle.std.specs.Prelude.{if◌then◌else◌, nat_lt}
 use Rattle.std.proofs.Math.ListN.{length-set}
 use Rattle.std.proofs.lemmas.List.{append-nil, get_or_past}
@@ -15,7 +16,9 @@ use Rattle.mark_core.specs.declared.events.Outcome.{Outcome}
 use Rattle.mark_core.specs.Place.{place_at}
 use Rattle.mark_core.specs.Mark.{IsPrefix}
 use Rattle.mark_core.specs.State.{State, view_at, spent_view}
-use Rattle.mark_core.specs.View.{with_count, with_entry, split_off, union_of, with_half, with_value, known_from, read_of, with_read, with_read_at, with_read_end, with_hold, with_loss, with_put, without_hold}
+use Rattle.mark_core.specs.View.{with_count, with_entry, split_off, union_of, with_half, with_value, known_from}
+use Rattle.mark_core.specs.View.{read_of, with_read, with_read_at, with_read_end, with_hold, with_loss, with_put}
+use Rattle.mark_core.specs.View.{without_hold}
 use Rattle.mark_core.specs.Permission.{IsLive}
 use Rattle.mark_core.specs.Step.{Happens}
 use Rattle.mark_core.specs.Honest.{IsHonest}
@@ -115,7 +118,8 @@ module _ {E : Type 0} (places : ℕ) (worth : List E → ℕ → ℕ) (touches :
       grows_quietly s.views actor changed (live_within s.views actor live) (grows_else (view_at s actor) changed c f l seen log known reads)
 
   see_grows : (actor : ℕ) → (view_at s actor).spent ≡ false → (view : ℕ)
-      → Grows (counts_of s (See actor) view) [] [] (view_at s view) (get_or (set s.views actor (with_count (view_at s actor) (length s.edits.log))) view spent_view)
+      → Grows (counts_of s (See actor) view) [] [] (view_at s view)
+      (get_or (set s.views actor (with_count (view_at s actor) (length s.edits.log))) view spent_view)
   see_grows actor live =
       let v : View (List E) = view_at s actor in
       let count : ℕ = length s.edits.log in
@@ -132,7 +136,8 @@ module _ {E : Type 0} (places : ℕ) (worth : List E → ℕ → ℕ) (touches :
       (λ view differs. (spared view actor (count ∷ []) [] differs, refl, refl))
 
   finish_grows : (actor place mark : ℕ) → (view_at s actor).spent ≡ false → (view : ℕ)
-      → Grows [] (finishes_of s (Finish actor place mark) view) [] (view_at s view) (get_or (set s.views actor (without_hold (view_at s actor) place mark)) view spent_view)
+      → Grows [] (finishes_of s (Finish actor place mark) view) [] (view_at s view)
+      (get_or (set s.views actor (without_hold (view_at s actor) place mark)) view spent_view)
   finish_grows actor place mark live =
       let v : View (List E) = view_at s actor in
       let pair : Known = record { place = place; mark = mark } in
@@ -258,7 +263,10 @@ module _ {E : Type 0} (places : ℕ) (worth : List E → ℕ → ℕ) (touches :
             (prefix_itself v.log) (prefix_itself v.known) (prefix_itself v.reads) view))
         | inr misses ↦
             subst (λ (o : Outcome). GrowsAfter (Claim actor place seen) o after view) (sym misses.answer)
-            (subst (λ (t : State E). Grows [] [] (if view == actor then record { place = place; found = (place_at s.places place).clean } ∷ [] else []) (view_at s view) (view_at t view))
+            (subst (λ (t : State E). Grows [] [] (if view == actor then record {
+              place = place;
+              found = (place_at s.places place).clean;
+            } ∷ [] else []) (view_at s view) (view_at t view))
             (sym misses.effect) (loss_grows actor place h.allowed.0.live view))
       ]
   grows (Put actor place word) outcome after view h live =

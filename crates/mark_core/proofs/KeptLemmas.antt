@@ -1,7 +1,10 @@
 -- The state that the machine keeps, through each event.
-use Rattle.std.proofs.Common.{◌≡◌, ◌≢◌, ◌<◌, ◌≤◌, ◌+◌, ◌==◌, ℕ, List, [], ◌∷◌, ◌++◌, Option, Some, None, true, false, inl, inr, max, min, length, map, take, get_or, set, refl, sym, ◌∙◌, ap, subst, arith}
+use Rattle.std.proofs.Common.{◌≡◌, ◌≢◌, ◌<◌, ◌≤◌, ◌+◌, ◌==◌, ℕ, List, [], ◌∷◌, ◌++◌, Option, Some, None, true, false}
+use Rattle.std.proofs.Common.{inl, inr, max, min, length, map, take, get_or, set, refl, sym, ◌∙◌, ap, subst, arith}
 use Rattle.std.specs.Prelude.{All, nat_lt}
-use Rattle.std.proofs.lemmas.List.{get_or-map, map-set, length-map, length-set, length_push, set-set, set-get_or, set_comm, get_or-set_other, get_or_default, get_or_append_left, take_all, take-append-le, length-take}
+use Rattle.std.proofs.lemmas.List.{get_or-map, map-set, length-map, length-set, length_push, set-set, set-get_or}
+use Rattle.std.proofs.lemmas.List.{set_comm, get_or-set_other, get_or_default, get_or_append_left, take_all}
+use Rattle.std.proofs.lemmas.List.{take-append-le, length-take}
 use Rattle.std.proofs.lemmas.List.Elements.{All-push, All-set, All-head, All-tail}
 use Rattle.std.proofs.lemmas.Bool.{cond_both, ltb-true, ltb-false}
 use Rattle.mark_core.specs.declared.words.Clean.{Clean}
@@ -10,8 +13,10 @@ use Rattle.mark_core.specs.declared.words.Half.{Half}
 use Rattle.mark_core.specs.Place.{place_at, blank_place, opening_place}
 use Rattle.mark_core.specs.declared.actors.View.{View}
 use Rattle.mark_core.specs.State.{State, view_at, with_view, spent_view, spent_with, new_view, opening_state}
-use Rattle.mark_core.specs.View.{with_count, with_entry, split_off, longer, union_with, union_of, with_half, with_value, with_read, with_read_at, with_read_end, with_hold, with_loss, with_put, without_hold}
-use Rattle.mark_core.specs.Step.{with_place, after_see, after_commit, after_join, after_read_clean, after_read_value, after_read_mark, after_claim, after_refusal, after_put, after_finish}
+use Rattle.mark_core.specs.View.{with_count, with_entry, split_off, longer, union_with, union_of, with_half, with_value}
+use Rattle.mark_core.specs.View.{with_read, with_read_at, with_read_end, with_hold, with_loss, with_put, without_hold}
+use Rattle.mark_core.specs.Step.{with_place, after_see, after_commit, after_join, after_read_clean, after_read_value}
+use Rattle.mark_core.specs.Step.{after_read_mark, after_claim, after_refusal, after_put, after_finish}
 use Rattle.mark_core.specs.Kept.{known_view, kept_state, IsKept}
 use Rattle.mark_core.proofs.Lists.{set_cases}
 
@@ -160,7 +165,8 @@ module _ {E : Type 0} (log : List E) (pending : Option E) (marked : List ℕ) (p
     kept_claim view place seen x x' p lt is there at made =
         ap (λ t. with_place t place (record p { clean = record { upto = seen.upto; held = true } }))
         (changes view x x' (λ v. with_hold v place) lt is (ap (known_view log) made))
-        ∙ ap (λ (q : Place). with_place (with_view s view (with_hold (view_at s view) place)) place (record q { clean = record { upto = seen.upto; held = true } }))
+        ∙ ap (λ (q : Place). with_place (with_view s view (with_hold (view_at s view) place)) place
+        (record q { clean = record { upto = seen.upto; held = true } }))
         (sym (place_kept place p there at))
 
     pub kept_put : (view place word : ℕ) (x x' : View ℕ) (p : Place) → view < length s.views → x ≡ get_or views view x
@@ -178,10 +184,12 @@ module _ {E : Type 0} (log : List E) (pending : Option E) (marked : List ℕ) (p
     kept_finish view place mark x x' p lt is there at made =
         ap (λ t. with_place t place (record p { clean = record { upto = mark + 1; held = false } }))
         (changes view x x' (λ v. without_hold v place mark) lt is (ap (known_view log) made))
-        ∙ ap (λ (q : Place). with_place (with_view s view (without_hold (view_at s view) place mark)) place (record q { clean = record { upto = mark + 1; held = false } }))
+        ∙ ap (λ (q : Place). with_place (with_view s view (without_hold (view_at s view) place mark)) place
+        (record q { clean = record { upto = mark + 1; held = false } }))
         (sym (place_kept place p there at))
 
-    pub kept_commit : (entry : E) (log' : List E) (marked' : List ℕ) (count : ℕ) (x x' : View ℕ) → marked' ≡ [] → 0 < length s.views → IsKept log places views → x ≡ get_or views 0 x
+    pub kept_commit : (entry : E) (log' : List E) (marked' : List ℕ) (count : ℕ) (x x' : View ℕ) → marked' ≡ []
+        → 0 < length s.views → IsKept log places views → x ≡ get_or views 0 x
         → log' ≡ log ++ entry ∷ [] → count ≡ length log + 1 → x' ≡ record x { log = count; seen = count }
         → kept_state log' None marked' places (set views 0 x') ≡ after_commit s 0 entry
     kept_commit entry log' marked' count x x' cleared there right is grows counted made =
@@ -264,7 +272,8 @@ module _ {E : Type 0} (log : List E) (places : List Place) (views : List (View �
             elim (set_cases (set views other gone) view x' (spent_with 0) 0 (omega arith)) [
               | inl p ↦
                   let editor : x.log ≡ length log =
-                  ap (λ (v : View ℕ). v.log) (is' ∙ get_or_default views view x (spent_with 0) lt ∙ ap (λ i. get_or views i (spent_with 0)) (sym p.0)) ∙ right.editor in
+                  ap (λ (v : View ℕ). v.log) (is' ∙ get_or_default views view x (spent_with 0) lt
+                  ∙ ap (λ i. get_or views i (spent_with 0)) (sym p.0)) ∙ right.editor in
                   ap (λ (v : View ℕ). v.log) p.1 ∙ omega arith
               | inr p ↦ ap (λ (v : View ℕ). v.log) (p.1 ∙ first) ∙ right.editor
             ];

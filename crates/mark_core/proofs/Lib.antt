@@ -1,19 +1,19 @@
 pub mod Prefixes
-pub mod Stores
-pub mod Frames
-pub mod Places
-pub mod Holds
-pub mod HoldLaws
+mod Stores
+mod Frames
+mod Places
+mod Holds
+mod HoldLaws
 pub mod ReadLemmas
 pub mod ViewLemmas
-pub mod Lists
-pub mod Steps
-pub mod WorkSteps
-pub mod Opening
+mod Lists
+mod Steps
+mod WorkSteps
+mod Opening
 pub mod Runs
-pub mod FloorLemmas
-pub mod KeptLemmas
-pub mod JudgeLemmas
+mod FloorLemmas
+mod KeptLemmas
+mod JudgeLemmas
 pub mod ReadLaws
-pub mod TwoReads
-pub mod GrowthLemmas
+mod TwoReads
+mod GrowthLemmas

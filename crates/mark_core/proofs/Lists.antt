@@ -1,5 +1,6 @@
 -- One element of a list in place of another, for places, views and what the views hold.
-use Rattle.std.proofs.Common.{◌≡◌, ◌≢◌, ◌<◌, ◌+◌, ◌⊎◌, ℕ, List, [], ◌∷◌, ◌++◌, true, false, length, get_or, set, refl, sym, ◌∙◌, ap, inl, inr, arith, length-append, get_or-set_same, get_or-set_other}
+use Rattle.std.proofs.Common.{◌≡◌, ◌≢◌, ◌<◌, ◌+◌, ◌⊎◌, ℕ, List, [], ◌∷◌, ◌++◌, true, false, length, get_or, set, refl}
+use Rattle.std.proofs.Common.{sym, ◌∙◌, ap, inl, inr, arith, length-append, get_or-set_same, get_or-set_other}
 use Rattle.std.proofs.lemmas.List.{get_or_past, get_or_append_left, get_or_push}
 use Rattle.std.proofs.lemmas.Bool.{cases_eq, cases_lt}
 use Rattle.mark_core.specs.declared.words.Clean.{Clean}
@@ -56,7 +57,9 @@ module _ (places : List Place) (place : ℕ) (there : place < length places) whe
         values = set_keeps (λ (p : Place). p.value) places place changed blank_place there refl;
       }
 
-  pub stores_clean : (clean : Clean) → StoresClean (words_of places) (words_of (set places place (record (place_at places place) { clean = clean }))) place clean
+  pub stores_clean : (clean : Clean)
+      → StoresClean (words_of places) (words_of (set places place (record (place_at places place) { clean = clean })))
+      place clean
   stores_clean clean =
       let changed : Place = record (place_at places place) { clean = clean } in
       record {

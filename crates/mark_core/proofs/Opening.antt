@@ -26,7 +26,8 @@ opened_free (None ∷ opening) zero = refl
 opened_free (Some code ∷ opening) zero = refl
 opened_free (item ∷ opening) (suc place) = opened_free opening place
 
-opened_at : (opening : List (Option ℕ)) (place : ℕ) (item : Option ℕ) → slice_get opening place ≡ Some item → place_at (map opening_place opening) place ≡ opening_place item
+opened_at : (opening : List (Option ℕ)) (place : ℕ) (item : Option ℕ) → slice_get opening place ≡ Some item
+    → place_at (map opening_place opening) place ≡ opening_place item
 opened_at [] place item is = absurd (none-some item is)
 opened_at (first ∷ opening) zero item is = ap opening_place (same_Some first item is)
 opened_at (first ∷ opening) (suc place) item is = opened_at opening place item is
@@ -52,7 +53,8 @@ module _ {E : Type 0} (places : ℕ) (worth : List E → ℕ → ℕ) (touches :
         held = λ e. absurd (cc);
       }
 
-  opening_view : (view : ℕ) → IsRightView worth touches (IsCodeless opening) (opening_state {E = E} opening).edits (words_of (map opening_place opening)) (view_at (opening_state opening) view)
+  opening_view : (view : ℕ) → IsRightView worth touches (IsCodeless opening) (opening_state {E = E} opening).edits
+      (words_of (map opening_place opening)) (view_at (opening_state opening) view)
   opening_view zero =
       view_split worth touches (IsCodeless opening) (opening_state opening).edits (words_of (map opening_place opening)) spent_view
       (view_spent worth touches (IsCodeless opening) (opening_state opening).edits (words_of (map opening_place opening)))
@@ -79,6 +81,7 @@ module _ {E : Type 0} (places : ℕ) (worth : List E → ℕ → ℕ) (touches :
             record {
               held = λ place is. absurd (let free : (place_at (map opening_place opening) place).clean.held ≡ false = opened_free opening place in cc);
               one = λ place view other a b.
-                  absurd (any_none (λ (hold : Held). hold.place ≡ place) (subst (λ (l : List Held). Any (λ hold. hold.place ≡ place) l) (opening_holds E opening view) a));
+                  absurd (any_none (λ (hold : Held). hold.place ≡ place)
+                  (subst (λ (l : List Held). Any (λ hold. hold.place ≡ place) l) (opening_holds E opening view) a));
             };
       }

@@ -1,6 +1,7 @@
 -- The marks, clean words and values of the places stay right through each event that stores one of them,
 -- and through a commit; and to other views such an event is an advance.
-use Rattle.std.proofs.Common.{◌≡◌, ◌<◌, ◌≤◌, ◌+◌, ◌⊎◌, ℕ, List, [], ◌∷◌, ◌++◌, Some, None, true, false, length, take, refl, sym, ◌∙◌, ap, subst, inl, inr, arith, length-append}
+use Rattle.std.proofs.Common.{◌≡◌, ◌<◌, ◌≤◌, ◌+◌, ◌⊎◌, ℕ, List, [], ◌∷◌, ◌++◌, Some, None, true, false, length, take}
+use Rattle.std.proofs.Common.{refl, sym, ◌∙◌, ap, subst, inl, inr, arith, length-append}
 use Rattle.std.specs.Prelude.{Contains}
 use Rattle.std.specs.Option.{option_to_list}
 use Rattle.std.proofs.lemmas.List.{append-nil}
@@ -16,7 +17,9 @@ use Rattle.mark_core.specs.State.{entries_of}
 use Rattle.mark_core.specs.Step.{marks_for, commits}
 use Rattle.mark_core.specs.Permission.{IsWorthMarked}
 use Rattle.mark_core.specs.Honest.{IsRightMark, IsRightValue}
-use Rattle.mark_core.proofs.Prefixes.{prefix_itself, prefix_more, prefix_of_prefix, prefix_length, take_is_prefix, touched_in_longer, touched_up_to, last_mark_push, last_mark_push_other, worth-prefix}
+use Rattle.mark_core.proofs.Prefixes.{prefix_itself, prefix_more, prefix_of_prefix, prefix_length, take_is_prefix}
+use Rattle.mark_core.proofs.Prefixes.{touched_in_longer, touched_up_to, last_mark_push, last_mark_push_other}
+use Rattle.mark_core.proofs.Prefixes.{worth-prefix}
 use Rattle.mark_core.proofs.Frames.{Same, Raised, Reworked, Advances}
 
 nothing_contained : {X : Type 0} (x : X) → Contains {X = X} [] x → ⊥
@@ -81,7 +84,8 @@ module _ {E : Type 0} (worth : List E → ℕ → ℕ) (touches : List E → E �
       elim (cases_eq other place) [
         | inl same ↦
             let number : words'.mark other ≡ length edits.log + 1 = ap words'.mark same ∙ stores.stored in
-            value_same worth codeless edits.log other (length edits.log + 1) (words'.mark other) (words.clean other) (words'.clean other) (words.value other) (words'.value other)
+            value_same worth codeless edits.log other (length edits.log + 1) (words'.mark other) (words.clean other)
+            (words'.clean other) (words.value other) (words'.value other)
             number (stores.cleans other) (stores.values other)
             (record {
               upto = record { upto_mark = omega (arith, right.upto.upto_log); upto_log = right.upto.upto_log; never = right.upto.never };
@@ -89,7 +93,8 @@ module _ {E : Type 0} (worth : List E → ℕ → ℕ) (touches : List E → E �
               held = λ h. omega (arith, right.upto.upto_log);
             })
         | inr differs ↦
-            value_same worth codeless edits.log other (words.mark other) (words'.mark other) (words.clean other) (words'.clean other) (words.value other) (words'.value other)
+            value_same worth codeless edits.log other (words.mark other) (words'.mark other) (words.clean other)
+            (words'.clean other) (words.value other) (words'.value other)
             (stores.marks other differs) (stores.cleans other) (stores.values other) right
       ]
 
@@ -187,7 +192,8 @@ module _ {E : Type 0} (worth : List E → ℕ → ℕ) (codeless : ℕ → Type 
               held = λ h. below;
             })
         | inr differs ↦
-            value_same worth codeless edits.log other (words.mark other) (words'.mark other) (words.clean other) (words'.clean other) (words.value other) (words'.value other)
+            value_same worth codeless edits.log other (words.mark other) (words'.mark other) (words.clean other)
+            (words'.clean other) (words.value other) (words'.value other)
             (stores.marks other) (stores.cleans other differs) (stores.values other) right
       ]
 
@@ -201,7 +207,9 @@ module _ {E : Type 0} (worth : List E → ℕ → ℕ) (codeless : ℕ → Type 
               | inl same ↦
                   Reworked (record {
                     mark = stores.marks other;
-                    stale = subst (λ (p : ℕ). (words.clean p).upto ≤ words.mark p) (sym same) (subst (λ (x : Clean). x.upto ≤ words.mark place) (sym found) stale);
+                    stale =
+                        subst (λ (p : ℕ). (words.clean p).upto ≤ words.mark p) (sym same)
+                        (subst (λ (x : Clean). x.upto ≤ words.mark place) (sym found) stale);
                   })
               | inr differs ↦ Same (record { mark = stores.marks other; clean = stores.cleans other differs; value = stores.values other })
             ];
@@ -218,7 +226,8 @@ module _ {E : Type 0} (worth : List E → ℕ → ℕ) (codeless : ℕ → Type 
       elim (cases_eq other place) [
         | inl same ↦
             let below : (words.clean other).upto ≤ words.mark other = subst (λ (p : ℕ). (words.clean p).upto ≤ words.mark p) (sym same) stale in
-            value_same worth codeless edits.log other (words.mark other) (words'.mark other) (words.clean other) (words'.clean other) (words'.value other) (words'.value other)
+            value_same worth codeless edits.log other (words.mark other) (words'.mark other) (words.clean other)
+            (words'.clean other) (words'.value other) (words'.value other)
             (stores.marks other) (stores.cleans other) refl
             (record {
               upto = right.upto;
@@ -226,7 +235,8 @@ module _ {E : Type 0} (worth : List E → ℕ → ℕ) (codeless : ℕ → Type 
               held = right.held;
             })
         | inr differs ↦
-            value_same worth codeless edits.log other (words.mark other) (words'.mark other) (words.clean other) (words'.clean other) (words.value other) (words'.value other)
+            value_same worth codeless edits.log other (words.mark other) (words'.mark other) (words.clean other)
+            (words'.clean other) (words.value other) (words'.value other)
             (stores.marks other) (stores.cleans other) (stores.values other differs) right
       ]
 
@@ -304,7 +314,8 @@ module _ {E : Type 0} (worth : List E → ℕ → ℕ) (touches : List E → E �
               held = λ h. absurd (cc);
             }))
         | inr differs ↦
-            value_same worth codeless edits.log other (words.mark other) (words'.mark other) (words.clean other) (words'.clean other) (words.value other) (words'.value other)
+            value_same worth codeless edits.log other (words.mark other) (words'.mark other) (words.clean other)
+            (words'.clean other) (words.value other) (words'.value other)
             (stores.marks other) (stores.cleans other differs) (stores.values other) right
       ]
 

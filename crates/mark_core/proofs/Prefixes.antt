@@ -1,5 +1,6 @@
 -- Prefixes of a list of entries, and what a longer list keeps of touched places and last marks.
-use Rattle.std.proofs.Common.{◌≡◌, ◌<◌, ◌≤◌, ◌+◌, ◌-◌, ℕ, zero, suc, List, [], ◌∷◌, ◌++◌, Some, length, take, drop, refl, sym, ◌∙◌, ap, subst, inl, inr, arith, length-append, append_assoc}
+use Rattle.std.proofs.Common.{◌≡◌, ◌<◌, ◌≤◌, ◌+◌, ◌-◌, ℕ, zero, suc, List, [], ◌∷◌, ◌++◌, Some, length, take, drop}
+use Rattle.std.proofs.Common.{refl, sym, ◌∙◌, ap, subst, inl, inr, arith, length-append, append_assoc}
 use Rattle.std.specs.Prelude.{slice_get}
 use Rattle.std.proofs.lemmas.List.{take-append-le, take-append-drop, take_at, append-nil}
 use Rattle.std.proofs.lemmas.Option.{slice_get_within, same_Some}
@@ -62,7 +63,8 @@ module _ {E : Type 0} (touches : List E → E → ℕ → Type 0) where
       }
 
   -- and in each prefix that it is an entry of
-  pub touched_in_prefix : (xs ys : List E) (place number : ℕ) → IsPrefix xs ys → number ≤ length xs → IsTouched touches ys place number → IsTouched touches xs place number
+  pub touched_in_prefix : (xs ys : List E) (place number : ℕ) → IsPrefix xs ys → number ≤ length xs
+      → IsTouched touches ys place number → IsTouched touches xs place number
   touched_in_prefix xs ys place number p le t =
       let c : 0 < number = t.counted in
       let h : number - 1 < length xs = omega arith in
@@ -118,7 +120,8 @@ module _ {E : Type 0} (touches : List E → E → ℕ → Type 0) where
       ]
 
   -- a last mark is the last mark of each prefix that it is an entry of
-  pub last_mark_in_prefix : (xs ys : List E) (place mark : ℕ) → IsPrefix xs ys → mark ≤ length xs → IsLastMark touches ys place mark → IsLastMark touches xs place mark
+  pub last_mark_in_prefix : (xs ys : List E) (place mark : ℕ) → IsPrefix xs ys → mark ≤ length xs
+      → IsLastMark touches ys place mark → IsLastMark touches xs place mark
   last_mark_in_prefix xs ys place mark p le m =
       record {
         within = le;
@@ -128,7 +131,8 @@ module _ {E : Type 0} (touches : List E → E → ℕ → Type 0) where
             m.none_later n later (omega arith) (touched_in_longer xs ys place n p t);
       }
 
-  pub last_mark_push_other : (xs : List E) (entry : E) (place mark : ℕ) → (touches xs entry place → ⊥) → IsLastMark touches xs place mark → IsLastMark touches (xs ++ entry ∷ []) place mark
+  pub last_mark_push_other : (xs : List E) (entry : E) (place mark : ℕ) → (touches xs entry place → ⊥)
+      → IsLastMark touches xs place mark → IsLastMark touches (xs ++ entry ∷ []) place mark
   last_mark_push_other xs entry place mark ne m =
       let long : length (xs ++ entry ∷ []) ≡ length xs + 1 = length-append xs (entry ∷ []) in
       let old : mark ≤ length xs = m.within in
@@ -162,7 +166,8 @@ module _ {E : Type 0} (touches : List E → E → ℕ → Type 0) where
         none_later = λ n later within u. absurd (let z : n ≤ 0 = within in omega arith);
       }
 
-  module _ (worth : List E → ℕ → ℕ) (place : ℕ) (untouched : (log : List E) (entry : E) → (touches log entry place → ⊥) → worth (log ++ entry ∷ []) place ≡ worth log place) where
+  module _ (worth : List E → ℕ → ℕ) (place : ℕ) (untouched : (log : List E) (entry : E) → (touches log entry place → ⊥)
+      → worth (log ++ entry ∷ []) place ≡ worth log place) where
     -- a place keeps its worth from its last mark on
     worth_from : (xs rest : List E) (mark : ℕ) → mark ≤ length xs → IsLastMark touches (xs ++ rest) place mark → worth (xs ++ rest) place ≡ worth xs place
     worth_from xs [] mark le m = ap (λ l. worth l place) (append-nil xs)

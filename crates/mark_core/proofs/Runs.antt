@@ -8,7 +8,8 @@ use Rattle.mark_core.specs.Permission.{MayMark, MayCommit}
 use Rattle.mark_core.specs.Step.{Happens, after_commit}
 use Rattle.mark_core.specs.Honest.{IsHonest}
 use Rattle.mark_core.specs.Run.{IsOpening, IsCodeless, Runs}
-use Rattle.mark_core.proofs.Steps.{see_keeps, mark_keeps, commit_keeps, split_keeps, join_keeps, read_clean_keeps, read_value_keeps, read_mark_keeps, refusal_keeps}
+use Rattle.mark_core.proofs.Steps.{see_keeps, mark_keeps, commit_keeps, split_keeps, join_keeps, read_clean_keeps}
+use Rattle.mark_core.proofs.Steps.{read_value_keeps, read_mark_keeps, refusal_keeps}
 use Rattle.mark_core.proofs.WorkSteps.{claim_keeps, put_keeps, finish_keeps}
 use Rattle.mark_core.proofs.Opening.{opening_honest}
 

@@ -1,5 +1,6 @@
 -- The events of the editor and of readers, splits and joins keep the state honest.
-use Rattle.std.proofs.Common.{◌≡◌, ◌≢◌, ◌<◌, ◌≤◌, ◌+◌, ℕ, List, [], ◌∷◌, ◌++◌, Option, Some, None, ◌==◌, length, get_or, set, refl, sym, ◌∙◌, ap, subst, inl, inr, arith}
+use Rattle.std.proofs.Common.{◌≡◌, ◌≢◌, ◌<◌, ◌≤◌, ◌+◌, ℕ, List, [], ◌∷◌, ◌++◌, Option, Some, None, ◌==◌, length, get_or}
+use Rattle.std.proofs.Common.{set, refl, sym, ◌∙◌, ap, subst, inl, inr, arith}
 use Rattle.std.specs.Prelude.{Contains, Any, nat_lt}
 use Rattle.std.proofs.Math.ListN.{length-set}
 use Rattle.std.proofs.lemmas.List.{get_or_past}
@@ -14,12 +15,14 @@ use Rattle.mark_core.specs.declared.actors.View.{View}
 use Rattle.mark_core.specs.State.{State, view_at, with_view, spent_view}
 use Rattle.mark_core.specs.View.{with_count, with_entry, split_off, longer, union_of, with_half, with_value, with_read_end, with_read, with_read_at, with_loss}
 use Rattle.mark_core.specs.Permission.{IsLive, MayMark, MayCommit, MayJoin, MayStepAt}
-use Rattle.mark_core.specs.Step.{marks_for, commits, after_see, after_mark, after_commit, after_split, after_join, after_read_clean, after_read_value, after_read_mark, after_refusal}
+use Rattle.mark_core.specs.Step.{marks_for, commits, after_see, after_mark, after_commit, after_split, after_join}
+use Rattle.mark_core.specs.Step.{after_read_clean, after_read_value, after_read_mark, after_refusal}
 use Rattle.mark_core.specs.Honest.{IsRightView, HasOneHolder, IsHonest}
 use Rattle.mark_core.proofs.Prefixes.{prefix_length}
 use Rattle.mark_core.proofs.Frames.{Advances}
 use Rattle.mark_core.proofs.Places.{mark_bound, marks_after_mark, values_after_mark, mark_advances, marks_after_commit, values_after_commit, commit_advances}
-use Rattle.mark_core.proofs.ViewLemmas.{view_spent, view_stays, view_saw, view_split, view_joined, view_missed, view_began, view_valued, view_finished, view_committed}
+use Rattle.mark_core.proofs.ViewLemmas.{view_spent, view_stays, view_saw, view_split, view_joined, view_missed}
+use Rattle.mark_core.proofs.ViewLemmas.{view_began, view_valued, view_finished, view_committed}
 use Rattle.mark_core.proofs.Lists.{set_cases, push_cases, set_keeps, stores_mark, live_within}
 
 -- the holders stay where the held places and what each view holds stay
@@ -97,17 +100,20 @@ module _ {E : Type 0} (places : ℕ) (worth : List E → ℕ → ℕ) (touches :
       quiet view (with_count (view_at s view) (length s.edits.log)) (live_within s.views view live) refl refl refl
       (view_saw worth touches codeless s.edits (words_of s.places) (view_at s view) (honest.views view))
 
-  pub read_clean_keeps : (view place : ℕ) → MayStepAt (length s.places) (view_at s view) place → IsHonest places worth touches codeless (after_read_clean s view place)
+  pub read_clean_keeps : (view place : ℕ) → MayStepAt (length s.places) (view_at s view) place
+      → IsHonest places worth touches codeless (after_read_clean s view place)
   read_clean_keeps view place may =
       quiet view (with_half (view_at s view) place (place_at s.places place).clean) (live_within s.views view may.live) refl refl refl
       (view_began worth touches codeless s.edits (words_of s.places) (view_at s view) (honest.views view) place (honest.values place (within place may.there)))
 
-  pub read_value_keeps : (view place : ℕ) → MayStepAt (length s.places) (view_at s view) place → IsHonest places worth touches codeless (after_read_value s view place)
+  pub read_value_keeps : (view place : ℕ) → MayStepAt (length s.places) (view_at s view) place
+      → IsHonest places worth touches codeless (after_read_value s view place)
   read_value_keeps view place may =
       quiet view (with_value (view_at s view) place (place_at s.places place).value) (live_within s.views view may.live) refl refl refl
       (view_valued worth touches codeless s.edits (words_of s.places) (view_at s view) (honest.views view) place)
 
-  pub read_mark_keeps : (view place : ℕ) → MayStepAt (length s.places) (view_at s view) place → IsHonest places worth touches codeless (after_read_mark s view place)
+  pub read_mark_keeps : (view place : ℕ) → MayStepAt (length s.places) (view_at s view) place
+      → IsHonest places worth touches codeless (after_read_mark s view place)
   read_mark_keeps view place may =
       let mark : ℕ = (place_at s.places place).mark in
       quiet view (with_read_end (view_at s view) place mark) (live_within s.views view may.live)
@@ -228,7 +234,8 @@ module _ {E : Type 0} (places : ℕ) (worth : List E → ℕ → ℕ) (touches :
         editor_live = honest.editor_live;
         editor_log = honest.editor_log;
         marks = λ other lt.
-            marks_after_mark worth touches codeless s.edits (words_of s.places) (words_of after) entry place stores may.idle touched other (honest.marks other lt);
+            marks_after_mark worth touches codeless s.edits (words_of s.places) (words_of after) entry place stores
+            may.idle touched other (honest.marks other lt);
         values = λ other lt.
             values_after_mark worth touches codeless s.edits (words_of s.places) (words_of after) entry place stores other (honest.values other lt);
         views = λ view.
@@ -254,9 +261,11 @@ module _ {E : Type 0} (places : ℕ) (worth : List E → ℕ → ℕ) (touches :
               | inr p ↦ absurd (p.0 refl)
             ];
         marks = λ place there.
-            marks_after_commit worth touches codeless s.edits entry may.pending place (place_at s.places place).mark (all place there) (honest.marks place there);
+            marks_after_commit worth touches codeless s.edits entry may.pending place (place_at s.places place).mark
+            (all place there) (honest.marks place there);
         values = λ place there.
-            values_after_commit worth touches codeless s.edits entry may.pending place (place_at s.places place).mark (place_at s.places place).clean (place_at s.places place).value
+            values_after_commit worth touches codeless s.edits entry may.pending place (place_at s.places place).mark
+            (place_at s.places place).clean (place_at s.places place).value
             (all place there) (untouched s.edits.log entry place there) (honest.marks place there) (honest.values place there);
         views =
             each_after_set (IsRightView worth touches codeless (commits s.edits entry) (words_of s.places)) s.views 0 new lt

@@ -1,5 +1,6 @@
 -- A view stays right through an event of another view, and through each event of its own.
-use Rattle.std.proofs.Common.{◌≡◌, ◌<◌, ◌≤◌, ◌+◌, ℕ, List, [], ◌∷◌, ◌++◌, Option, Some, None, true, false, not, ◌==◌, max, length, take, drop, refl, sym, ◌∙◌, ap, subst, inl, inr, arith, length-append}
+use Rattle.std.proofs.Common.{◌≡◌, ◌<◌, ◌≤◌, ◌+◌, ℕ, List, [], ◌∷◌, ◌++◌, Option, Some, None, true, false, not, ◌==◌}
+use Rattle.std.proofs.Common.{max, length, take, drop, refl, sym, ◌∙◌, ap, subst, inl, inr, arith, length-append}
 use Rattle.std.specs.Prelude.{Contains, nat_lt}
 use Rattle.std.proofs.lemmas.List.{take-append-drop, take_at}
 use Rattle.std.proofs.lemmas.List.Elements.{All-nil, All-append, All-push, All-map}
@@ -14,7 +15,9 @@ use Rattle.mark_core.specs.Mark.{IsPrefix}
 use Rattle.mark_core.specs.declared.actors.Edits.{Edits}
 use Rattle.mark_core.specs.declared.actors.View.{View}
 use Rattle.mark_core.specs.State.{spent_view}
-use Rattle.mark_core.specs.View.{with_count, with_entry, split_off, longer, union_of, floor_of, with_half, with_word, with_value, with_read, with_read_at, with_read_end, with_hold, with_loss, hold_with, with_put, without_hold, known_from, read_of}
+use Rattle.mark_core.specs.View.{with_count, with_entry, split_off, longer, union_of, floor_of, with_half, with_word}
+use Rattle.mark_core.specs.View.{with_value, with_read, with_read_at, with_read_end, with_hold, with_loss, hold_with}
+use Rattle.mark_core.specs.View.{with_put, without_hold, known_from, read_of}
 use Rattle.mark_core.specs.Permission.{IsWorthKnown, IsWorthMarked}
 use Rattle.mark_core.specs.Step.{commits}
 use Rattle.mark_core.specs.Honest.{IsRightMark, IsRightValue, IsRightKnown, IsRightHalf, IsRightRead, IsRightHold, IsRightView}
@@ -113,7 +116,8 @@ module _ {E : Type 0} (worth : List E → ℕ → ℕ) (touches : List E → E �
           holds = All-nil (IsRightHold worth words view.log);
         }
 
-    pub view_joined : (other : View (List E)) → IsRightView worth touches codeless edits words other → IsRightView worth touches codeless edits words (union_of view other)
+    pub view_joined : (other : View (List E)) → IsRightView worth touches codeless edits words other
+        → IsRightView worth touches codeless edits words (union_of view other)
     view_joined other right' =
         record {
           log = record {
@@ -256,7 +260,8 @@ module _ {E : Type 0} (worth : List E → ℕ → ℕ) (touches : List E → E �
           holds =
               all_by (IsRightHold worth words view.log) (IsRightHold worth words (view.log ++ entry ∷ [])) view.holds right.holds
               (λ hold among h.
-              hold_stays worth words words view.log (view.log ++ entry ∷ []) hold (prefix_more view.log view.log (entry ∷ []) (prefix_itself view.log)) refl refl h);
+              hold_stays worth words words view.log (view.log ++ entry ∷ []) hold (prefix_more view.log view.log (entry
+              ∷ []) (prefix_itself view.log)) refl refl h);
         }
 
   -- a place with a free clean word is held by no view
@@ -333,7 +338,10 @@ module _ {E : Type 0} (worth : List E → ℕ → ℕ) (touches : List E → E �
       finish_below worth touches codeless edits words words' view.log place word mark right.log.known_prefix computed untouched stores marks in
       let known_length : length view.log ≤ length edits.log = prefix_length view.log edits.log right.log.known_prefix in
       let front_length : length (take computed.known.count view.log) ≤ length view.log =
-      prefix_length (take computed.known.count view.log) view.log (record { rest = drop computed.known.count view.log; whole = sym (take-append-drop computed.known.count view.log) }) in
+      prefix_length (take computed.known.count view.log) view.log (record {
+        rest = drop computed.known.count view.log;
+        whole = sym (take-append-drop computed.known.count view.log);
+      }) in
       record {
         log = record {
           known_prefix = right.log.known_prefix;
@@ -366,7 +374,8 @@ module _ {E : Type 0} (worth : List E → ℕ → ℕ) (touches : List E → E �
             (λ hold h passes. hold_stays worth words words' view.log view.log hold (prefix_itself view.log)
             (stores.cleans hold.place (not_this hold.place place passes)) (stores.values hold.place) h)
             view.holds
-            (all_by (IsRightHold worth words view.log) (λ hold. (not (hold.place == place) ≡ true → IsRightHold worth words' view.log hold)) view.holds right.holds
+            (all_by (IsRightHold worth words view.log) (λ hold. (not (hold.place == place) ≡ true
+            → IsRightHold worth words' view.log hold)) view.holds right.holds
             (λ hold among h passes. hold_stays worth words words' view.log view.log hold (prefix_itself view.log)
             (stores.cleans hold.place (not_this hold.place place passes)) (stores.values hold.place) h));
       }

@@ -1,5 +1,6 @@
 -- Claims, puts and finishes keep the state honest.
-use Rattle.std.proofs.Common.{◌≡◌, ◌≢◌, ◌<◌, ◌≤◌, ◌+◌, ℕ, List, [], ◌∷◌, ◌++◌, None, true, false, not, ◌==◌, length, get_or, set, refl, sym, ◌∙◌, ap, subst, inl, inr, arith}
+use Rattle.std.proofs.Common.{◌≡◌, ◌≢◌, ◌<◌, ◌≤◌, ◌+◌, ℕ, List, [], ◌∷◌, ◌++◌, None, true, false, not, ◌==◌, length}
+use Rattle.std.proofs.Common.{get_or, set, refl, sym, ◌∙◌, ap, subst, inl, inr, arith}
 use Rattle.std.specs.Prelude.{Contains, Any}
 use Rattle.std.proofs.Math.ListN.{length-set}
 use Rattle.std.proofs.lemmas.List.Elements.{All-contains, Contains-push}
@@ -81,7 +82,8 @@ module _ {E : Type 0} (places : ℕ) (worth : List E → ℕ → ℕ) (touches :
       let stores : StoresClean (words_of s.places) (words_of after) place held = stores_clean s.places place may.there held in
       let read : IsRightRead worth touches codeless s.edits (words_of s.places) claim.read =
       All-contains (IsRightRead worth touches codeless s.edits (words_of s.places)) (view_at s view).reads claim.read (honest.views view).reads claim.among in
-      let read_mark : (place_at s.places claim.read.place).mark ≡ (place_at s.places place).mark = ap (λ p. (place_at s.places p).mark) claim.ground.same_place in
+      let read_mark : (place_at s.places claim.read.place).mark ≡ (place_at s.places place).mark =
+      ap (λ p. (place_at s.places p).mark) claim.ground.same_place in
       let stale : seen.upto ≤ (place_at s.places place).mark = omega (arith, claim.ground.stale, read.mark_below) in
       let free : (place_at s.places place).clean.held ≡ false = ap (λ (x : Clean). x.held) found ∙ claim.free in
       let new : View (List E) = with_hold (view_at s view) place in
@@ -94,11 +96,13 @@ module _ {E : Type 0} (places : ℕ) (worth : List E → ℕ → ℕ) (touches :
             values_after_claim worth codeless s.edits (words_of s.places) (words_of after) place seen found stale stores other (honest.values other there);
         views =
             each_after_set (IsRightView worth touches codeless s.edits (words_of after)) s.views view new lt
-            (view_took worth touches codeless s.edits (words_of s.places) (words_of after) (view_at s view) place seen found claim.free stale stores (honest.views view))
+            (view_took worth touches codeless s.edits (words_of s.places) (words_of after) (view_at s view) place seen
+            found claim.free stale stores (honest.views view))
             (λ other differs.
             view_stays worth touches codeless s.edits s.edits (words_of s.places) (words_of after) (view_at s other)
             (claim_advances worth codeless s.edits (words_of s.places) (words_of after) place seen found stale stores)
-            (λ hold among h. claim_leaves worth touches codeless (words_of s.places) (words_of after) place seen held (view_at s other).log hold found claim.free stores h)
+            (λ hold among h. claim_leaves worth touches codeless (words_of s.places) (words_of after) place seen held
+            (view_at s other).log hold found claim.free stores h)
             (honest.views other));
         holders =
             record {
@@ -109,7 +113,8 @@ module _ {E : Type 0} (places : ℕ) (worth : List E → ℕ → ℕ) (touches :
                       elim (set_cases s.views view new spent_view view lt) [
                         | inl p ↦
                             subst (λ (v : View (List E)). HoldsPlace v other) (sym p.1)
-                            (any_contained (λ (h : Held). h.place ≡ other) ((view_at s view).holds ++ record { place = place; word = None } ∷ []) (record { place = place; word = None })
+                            (any_contained (λ (h : Held). h.place ≡ other) ((view_at s view).holds
+                            ++ record { place = place; word = None } ∷ []) (record { place = place; word = None })
                             (Contains-push (view_at s view).holds (record { place = place; word = None })) (sym same))
                         | inr p ↦ absurd (p.0 refl)
                       ],
@@ -123,7 +128,9 @@ module _ {E : Type 0} (places : ℕ) (worth : List E → ℕ → ℕ) (touches :
                     | inl same ↦
                         claimer view place first lt free (subst (λ (p : ℕ). HoldsPlace (get_or (set s.views view new) first spent_view) p) same a)
                         ∙ sym (claimer view place second lt free (subst (λ (p : ℕ). HoldsPlace (get_or (set s.views view new) second spent_view) p) same b))
-                    | inr differs ↦ honest.holders.one other first second (held_before view place first other lt differs a) (held_before view place second other lt differs b)
+                    | inr differs ↦
+                        honest.holders.one other first second (held_before view place first other lt differs a)
+                        (held_before view place second other lt differs b)
                   ];
             };
       }
@@ -183,7 +190,8 @@ module _ {E : Type 0} (places : ℕ) (worth : List E → ℕ → ℕ) (touches :
             values_after_put worth codeless s.edits (words_of s.places) (words_of after) place word stale stores other (honest.values other there);
         views =
             each_after_set (IsRightView worth touches codeless s.edits (words_of after)) s.views view new lt
-            (view_wrote worth touches codeless s.edits (words_of s.places) (words_of after) (view_at s view) place word stale stores put.known (honest.views view))
+            (view_wrote worth touches codeless s.edits (words_of s.places) (words_of after) (view_at s view) place word
+            stale stores put.known (honest.views view))
             (λ other differs.
             view_stays worth touches codeless s.edits s.edits (words_of s.places) (words_of after) (view_at s other)
             (put_advances worth codeless s.edits (words_of s.places) (words_of after) place word stale stores)
@@ -248,7 +256,9 @@ module _ {E : Type 0} (places : ℕ) (worth : List E → ℕ → ℕ) (touches :
         marks = λ other there. subst (λ (m : ℕ). IsRightMark touches s.edits other m) (sym (stores.marks other)) (honest.marks other there);
         values = λ other there.
             values_after_finish worth touches codeless s.edits (words_of s.places) (words_of after) (view_at s view).log place finish.marked.word mark below
-            finish.marked.computed (law place may.there) stores (ap (λ p. (place_at s.places p).value) (sym same) ∙ right.put finish.marked.word finish.marked.put) other (honest.marks other there) (honest.values other there);
+            finish.marked.computed (law place may.there) stores (ap (λ p. (place_at s.places p).value) (sym same)
+            ∙ right.put finish.marked.word finish.marked.put) other (honest.marks other there)
+            (honest.values other there);
         views =
             each_after_set (IsRightView worth touches codeless s.edits (words_of after)) s.views view new lt
             (view_gave_back worth touches codeless s.edits (words_of s.places) (words_of after) (view_at s view) place finish.marked.word mark

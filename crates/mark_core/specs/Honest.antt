@@ -75,7 +75,8 @@ pub record IsRightHalf (codeless : ℕ → Type 0) (count : ℕ) (words : Words)
   pub floor : MeetsFloor (words.mark half.place) half.floor half.clean.upto
 
 -- A finished read: its mark hasn't fallen since, it met its floor, and with a word it is legal.
-pub record IsRightRead {E : Type 0} (worth : List E → ℕ → ℕ) (touches : List E → E → ℕ → Type 0) (codeless : ℕ → Type 0) (edits : Edits E) (words : Words) (read : Finished) : Type 0 where
+pub record IsRightRead {E : Type 0} (worth : List E → ℕ → ℕ) (touches : List E → E → ℕ → Type 0) (codeless : ℕ
+    → Type 0) (edits : Edits E) (words : Words) (read : Finished) : Type 0 where
   pub mark_below : read.mark ≤ words.mark read.place
   pub floor : MeetsFloor read.mark read.floor read.clean.upto
   pub legal : (word : ℕ) → read.word ≡ Some word → IsLegalRead worth touches codeless edits read word
@@ -92,7 +93,8 @@ pub record IsRightHold {E : Type 0} (worth : List E → ℕ → ℕ) (words : Wo
   pub worth_known : (word : ℕ) → hold.word ≡ Some word → IsWorthKnown worth log hold.place word
 
 -- all that holds of one view
-pub record IsRightView {E : Type 0} (worth : List E → ℕ → ℕ) (touches : List E → E → ℕ → Type 0) (codeless : ℕ → Type 0) (edits : Edits E) (words : Words) (view : View (List E)) : Type 0 where
+pub record IsRightView {E : Type 0} (worth : List E → ℕ → ℕ) (touches : List E → E → ℕ → Type 0) (codeless : ℕ
+    → Type 0) (edits : Edits E) (words : Words) (view : View (List E)) : Type 0 where
   pub log : IsRightLog edits.log view
   pub known : All (IsRightKnown (length edits.log) words) view.known
   pub half : (half : Half) → view.half ≡ Some half → IsRightHalf codeless (length edits.log) words half

@@ -21,7 +21,8 @@ IsLegalAnswer worth touches codeless edits number place (Stale mark) =
 IsLegalAnswer worth touches codeless edits number place (Newer mark) = (number < mark) × IsTouched touches edits.log place mark
 
 -- A cell of a look that saw this number of commits is legal. It has no mark beside a value.
-pub record IsLegalCell {E : Type 0} (worth : List E → ℕ → ℕ) (touches : List E → E → ℕ → Type 0) (codeless : ℕ → Type 0) (edits : Edits E) (number place : ℕ) (shown : Seen) : Type 0 where
+pub record IsLegalCell {E : Type 0} (worth : List E → ℕ → ℕ) (touches : List E → E → ℕ → Type 0) (codeless : ℕ
+    → Type 0) (edits : Edits E) (number place : ℕ) (shown : Seen) : Type 0 where
   pub within : number ≤ length edits.log
   pub answer : IsLegalAnswer worth touches codeless edits number place shown
 
@@ -31,7 +32,8 @@ MeetsFloor mark floor upto = (floor ≤ mark) ⊎ ((mark + 1 ≡ floor) × (upto
 
 -- A finished read with this word is legal: its number is within the log, it met its floor, whatever it
 -- shows may be shown, and beside a value its mark is the last one in so many entries.
-pub record IsLegalRead {E : Type 0} (worth : List E → ℕ → ℕ) (touches : List E → E → ℕ → Type 0) (codeless : ℕ → Type 0) (edits : Edits E) (read : Finished) (word : ℕ) : Type 0 where
+pub record IsLegalRead {E : Type 0} (worth : List E → ℕ → ℕ) (touches : List E → E → ℕ → Type 0) (codeless : ℕ
+    → Type 0) (edits : Edits E) (read : Finished) (word : ℕ) : Type 0 where
   pub within : read.number ≤ length edits.log
   pub floor : MeetsFloor read.mark read.floor read.clean.upto
   pub answer :

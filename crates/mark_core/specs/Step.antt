@@ -10,7 +10,8 @@ use Rattle.mark_core.specs.declared.events.Outcome.TheVariants.{Clean as Answers
 use Rattle.mark_core.specs.Place.{place_at}
 use Rattle.mark_core.specs.declared.actors.Edits.{Edits}
 use Rattle.mark_core.specs.State.{State, view_at, with_view, spent_view}
-use Rattle.mark_core.specs.View.{with_count, with_entry, split_off, union_of, with_half, with_value, with_read_end, with_hold, with_loss, with_put, without_hold}
+use Rattle.mark_core.specs.View.{with_count, with_entry, split_off, union_of, with_half, with_value, with_read_end}
+use Rattle.mark_core.specs.View.{with_hold, with_loss, with_put, without_hold}
 use Rattle.mark_core.specs.Permission.{Allowed}
 
 -- the state with another place in place of this one
@@ -129,6 +130,7 @@ Gives s (Put view place word) outcome after = (outcome ≡ Done) × (after ≡ a
 Gives s (Finish view place mark) outcome after = (outcome ≡ Done) × (after ≡ after_finish s view place mark)
 
 -- the event is allowed, and this is what it does
-pub record Happens {E : Type 0} (worth : List E → ℕ → ℕ) (touches : List E → E → ℕ → Type 0) (s : State E) (event : Event E) (outcome : Outcome) (after : State E) : Type 0 where
+pub record Happens {E : Type 0} (worth : List E → ℕ → ℕ) (touches : List E → E → ℕ → Type 0) (s : State E)
+    (event : Event E) (outcome : Outcome) (after : State E) : Type 0 where
   pub allowed : Allowed worth touches s event
   pub gives : Gives s event outcome after

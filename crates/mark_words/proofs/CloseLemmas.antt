@@ -1,5 +1,6 @@
 -- The seats that are handed in, one after the other, and what the closed table shows.
-use Rattle.std.proofs.Common.{◌≡◌, ◌<◌, ℕ, suc, List, [], ◌∷◌, ◌++◌, length, map, true, false, refl, sym, ◌∙◌, ap, subst, inl, inr, arith, length-append, append_assoc}
+use Rattle.std.proofs.Common.{◌≡◌, ◌<◌, ℕ, suc, List, [], ◌∷◌, ◌++◌, length, map, true, false, refl, sym, ◌∙◌, ap}
+use Rattle.std.proofs.Common.{subst, inl, inr, arith, length-append, append_assoc}
 use Rattle.std.specs.Prelude.{All, Contains}
 use Rattle.std.specs.Mem.Slots.{slots_items}
 use Rattle.std.proofs.lemmas.List.{get_or_append_left, get_or_push, map-append}
@@ -81,7 +82,8 @@ parts : {X Y V W : Type 0} (f : X → V) (g : Y → V) (h : V → W) (xs : List 
 parts f g h xs ys same = sym (map_of f h xs) ∙ ap (map h) same ∙ map_of g h ys
 
 -- which view of the state a seat has that was handed in
-pub number_of : {X V : Type 0} (f : ℕ → V) (g : X → V) (numbers : List ℕ) (xs : List X) (y : X) → map f numbers ≡ map g xs → Contains xs y → (n : ℕ) × (f n ≡ g y)
+pub number_of : {X V : Type 0} (f : ℕ → V) (g : X → V) (numbers : List ℕ) (xs : List X) (y : X)
+    → map f numbers ≡ map g xs → Contains xs y → (n : ℕ) × (f n ≡ g y)
 number_of f g numbers [] y same among = absurd (let lt : among.0 < 0 = among.1 in omega arith)
 number_of f g [] (x ∷ xs) y same among = absurd (let none : 0 ≡ suc (length (map g xs)) = ap length same in omega arith)
 number_of {X} {V} f g (n ∷ numbers) (x ∷ xs) y same among =
@@ -96,7 +98,8 @@ past_of seat = record { view = view_of seat; steps = own_steps seat }
 
 -- The editor's seat while the others are handed in to it: it knows what it knew at first, and what those knew and did
 -- that are still to be handed in stands before that of those that were.
-pub record IsHanding {S E : Type 0} {G : Ghosts S E} (table : TableId) (first : History S E) (start : List (Seat S E G)) (all : TableSeat E (History S E)) (others : List (Seat S E G)) : Type 0 where
+pub record IsHanding {S E : Type 0} {G : Ghosts S E} (table : TableId) (first : History S E) (start : List (Seat S E G))
+    (all : TableSeat E (History S E)) (others : List (Seat S E G)) : Type 0 where
   pub same_table : all.table_id ≡ table
   pub bare : all.me.1 ≡ []
   pub live : all.me.0.doing.view.spent ≡ false
@@ -108,7 +111,8 @@ pub record IsHanding {S E : Type 0} {G : Ghosts S E} (table : TableId) (first : 
   pub pasts : map past_of others ++ all.me.0.doing.gathered ≡ map past_of start ++ first.doing.gathered
 
 -- and so it is after one more
-pub handed : {S E : Type 0} {G : Ghosts S E} (table : TableId) (first : History S E) (start : List (Seat S E G)) (all all' : TableSeat E (History S E)) (others others' : List (Seat S E G)) (last : Seat S E G)
+pub handed : {S E : Type 0} {G : Ghosts S E} (table : TableId) (first : History S E) (start : List (Seat S E G))
+    (all all' : TableSeat E (History S E)) (others others' : List (Seat S E G)) (last : Seat S E G)
     → IsHanding table first start all others → others ≡ others' ++ last ∷ [] → all'.table_id ≡ all.table_id
     → all'.me ≡ (gather_history all.me.0 last.seat.me.0, all.me.1) → IsHanding table first start all' others'
 handed {S} {E} {G} table first start all all' others others' last inv is same made =
@@ -128,7 +132,8 @@ handed {S} {E} {G} table first start all all' others others' last inv is same ma
 
 module _ {S E : Type 0} {G : Ghosts S E} (places : S → ℕ) (worth : S → List E → ℕ → ℕ) (touches : S → List E → E → ℕ → Type 0)
     (marks : Marks S E) (editor : Seat S E G) (others : List (Seat S E G)) (words : Words S E G) where
-  module _ (t : TableState E (History S E)) (kept : IsKeptTable (subject_of marks) (places (subject_of marks)) (worth (subject_of marks)) (touches (subject_of marks)) (topic_of marks).opening.value t)
+  module _ (t : TableState E (History S E)) (kept : IsKeptTable (subject_of marks) (places (subject_of marks))
+      (worth (subject_of marks)) (touches (subject_of marks)) (topic_of marks).opening.value t)
       (id : ℕ) (seat : History S E) (at : get_elem? t.views id ≡ some seat) (live : seat.doing.view.spent ≡ false) (on : seat.doing.editor ≡ true) where
     pub closes : ((log : List E) (entry : E) (place : ℕ) → place < places (subject_of marks) → (touches (subject_of marks) log entry place → ⊥)
         → worth (subject_of marks) (log ++ entry ∷ []) place ≡ worth (subject_of marks) log place)
@@ -138,7 +143,8 @@ module _ {S E : Type 0} {G : Ghosts S E} (places : S → ℕ) (worth : S → Lis
         → HasClosed places worth touches marks editor others words
     closes untouched is view edits steps knows about log before handed =
         let core : State E = kept.core in
-        let honest = honest_state (subject_of marks) (places (subject_of marks)) (worth (subject_of marks)) (touches (subject_of marks)) (topic_of marks).opening.value t kept untouched in
+        let honest = honest_state (subject_of marks) (places (subject_of marks)) (worth (subject_of marks))
+        (touches (subject_of marks)) (topic_of marks).opening.value t kept untouched in
         let places' : ℕ = places (subject_of marks) in
         let worth' = worth (subject_of marks) in
         let touches' = touches (subject_of marks) in
@@ -162,12 +168,14 @@ module _ {S E : Type 0} {G : Ghosts S E} (places : S → ℕ) (worth : S → Lis
           edits = sym ed.edits ∙ edits;
           log = ap (λ (x : Edits E). x.log) (sym ed.edits ∙ edits) ∙ sym knows ∙ sym log;
           editor_view = ap (λ i. view_at core i) (sym ed.first) ∙ same_view (subject_of marks) places' worth' touches' opening t kept id seat at live ∙ view;
-          editor_steps = ap (λ i. steps_of kept.events i) (sym ed.first) ∙ sym (same_steps (subject_of marks) places' worth' touches' opening t kept id seat at live) ∙ steps;
+          editor_steps = ap (λ i. steps_of kept.events i) (sym ed.first)
+              ∙ sym (same_steps (subject_of marks) places' worth' touches' opening t kept id seat at live) ∙ steps;
           numbers = front.0;
           other_views = parts (past_at core kept.events) past_of (λ (p : Past E). p.view) front.0 others front.1;
           other_steps = parts (past_at core kept.events) past_of (λ (p : Past E). p.steps) front.0 others front.1;
           apart = (
-            λ zero. not_spent (doings_of t.views) id seat.doing there live (subst (λ (i : ℕ). IsSpent (doings_of t.views) i) (sym ed.first) (gathered.spent 0 (front.3 0 zero))),
+            λ zero. not_spent (doings_of t.views) id seat.doing there live
+                (subst (λ (i : ℕ). IsSpent (doings_of t.views) i) (sym ed.first) (gathered.spent 0 (front.3 0 zero))),
             front.2,
           );
         }
@@ -190,8 +198,11 @@ module _ {S E : Type 0} {G : Ghosts S E} (places : S → ℕ) (worth : S → Lis
     pub legal_closed : AreLegal worth touches marks editor (editor ∷ others)
     legal_closed seat read word among read_among had =
         let n = view_closed seat among in
-        let right : IsRightRead (worth (subject_of marks)) (touches (subject_of marks)) (IsCodeless (topic_of marks).opening.value) closed.core.edits (words_of closed.core.places) read =
-        All-contains (IsRightRead (worth (subject_of marks)) (touches (subject_of marks)) (IsCodeless (topic_of marks).opening.value) closed.core.edits (words_of closed.core.places))
+        let right : IsRightRead (worth (subject_of marks)) (touches (subject_of marks))
+        (IsCodeless (topic_of marks).opening.value) closed.core.edits (words_of closed.core.places) read =
+        All-contains (IsRightRead (worth (subject_of marks)) (touches (subject_of marks))
+        (IsCodeless (topic_of marks).opening.value) closed.core.edits (words_of closed.core.places))
         (view_at closed.core n.0).reads read (closed.honest.views n.0).reads (subst (λ (v : View (List E)). Contains v.reads read) (sym n.1) read_among) in
-        subst (λ (x : Edits E). IsLegalRead (worth (subject_of marks)) (touches (subject_of marks)) (IsCodeless (topic_of marks).opening.value) x read word) closed.edits
+        subst (λ (x : Edits E). IsLegalRead (worth (subject_of marks)) (touches (subject_of marks))
+        (IsCodeless (topic_of marks).opening.value) x read word) closed.edits
         (right.legal word had)

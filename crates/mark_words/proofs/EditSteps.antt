@@ -1,5 +1,6 @@
 -- Marks and commits of the editor's seat keep the rule of the table.
-use Rattle.std.proofs.Common.{◌≡◌, ◌<◌, ◌+◌, ◌*◌, ◌==◌, ◌⊎◌, ℕ, zero, suc, List, [], ◌∷◌, ◌++◌, Option, Some, None, map, length, get_or, false, true, refl, sym, ◌∙◌, ap, subst, arith, length-append}
+use Rattle.std.proofs.Common.{◌≡◌, ◌<◌, ◌+◌, ◌*◌, ◌==◌, ◌⊎◌, ℕ, zero, suc, List, [], ◌∷◌, ◌++◌, Option, Some, None, map}
+use Rattle.std.proofs.Common.{length, get_or, false, true, refl, sym, ◌∙◌, ap, subst, arith, length-append}
 use Rattle.std.specs.Prelude.{is_some, Contains, slice_index, slice_set}
 use Rattle.std.proofs.lemmas.List.{map-set, set-get_or}
 use Rattle.std.proofs.lemmas.Bool.{eq-eqb}
@@ -45,7 +46,8 @@ old_mark (p ∷ places) (suc place) d lt = old_mark places place d (omega arith)
 module _ {S E : Type 0} (subject : S) (places : ℕ) (worth : List E → ℕ → ℕ) (touches : List E → E → ℕ → Type 0)
     (untouched : (log : List E) (entry : E) (place : ℕ) → place < places → (touches log entry place → ⊥) → worth (log ++ entry ∷ []) place ≡ worth log place)
     (opening : List (Option ℕ)) where
-  pub commits_entry : (slots id : ℕ) (me : Me E (History S E)) (step : Step E) (entry : E) (new : ℕ) → me.0.doing.view.spent ≡ false → me.0.doing.editor ≡ true → me.0.doing.edits.pending ≡ Some entry
+  pub commits_entry : (slots id : ℕ) (me : Me E (History S E)) (step : Step E) (entry : E) (new : ℕ)
+      → me.0.doing.view.spent ≡ false → me.0.doing.editor ≡ true → me.0.doing.edits.pending ≡ Some entry
       → ((place : ℕ) → place < length opening → touches me.0.doing.view.log entry place → Contains me.0.doing.edits.marked place)
       → new ≡ length me.0.doing.view.log + 1
       → Allows (IsKeptTable subject places worth touches opening) slots id me 0 (λ n. new) (λ n after. Committed step me new after)
@@ -84,11 +86,13 @@ module _ {S E : Type 0} (subject : S) (places : ℕ) (worth : List E → ℕ →
               ∙ ap (λ n. n ∷ words_of_places core.places) count;
           subjects =
               doings_set (NameSubject subject) t.views id made
-              (subject_set subject (doings_of t.views) id doing kept.subjects (λ still. same_subject subject places worth touches opening t kept id me.0 at live));
+              (subject_set subject (doings_of t.views) id doing kept.subjects
+              (λ still. same_subject subject places worth touches opening t kept id me.0 at live));
           steps = next_steps subject places worth touches opening t kept id me.0 at live (Commit 0 entry) new doing refl (sym ed.first) refl;
           seats =
               doings_set (AreSeats after (kept.events ++ made_of (Commit 0 entry) new ∷ [])) t.views id made
-              (seat_changes core after kept.events (kept.events ++ made_of (Commit 0 entry) new ∷ []) (doings_of t.views) kept.seats id me.0.doing doing (doing_at t.views id me.0 at) live
+              (seat_changes core after kept.events (kept.events ++ made_of (Commit 0 entry) new
+              ∷ []) (doings_of t.views) kept.seats id me.0.doing doing (doing_at t.views id me.0 at) live
               (ap (λ i. slice_set core.views i (with_entry (view_at core 0) entry)) (sym ed.first)
               ∙ ap (λ v. slice_set core.views id (with_entry v entry)) here)
               (others_stay subject places worth touches opening t kept id me.0 at live (Commit 0 entry) new refl (sym ed.first))
@@ -107,19 +111,29 @@ module _ {S E : Type 0} (subject : S) (places : ℕ) (worth : List E → ℕ →
                 shorter_length = omega (arith, seat.shorter_length, length-append me.0.doing.view.log (entry ∷ []));
               }));
         },
-        record { slots = refl; entry = entry; pending = pending; doing = refl; one = one_more me.0.steps 0 (next_number kept.events) (λ v. Commit v entry) new (Commit 0 entry) new refl refl },
+        record {
+          slots = refl;
+          entry = entry;
+          pending = pending;
+          doing = refl;
+          one = one_more me.0.steps 0 (next_number kept.events) (λ v. Commit v entry) new (Commit 0 entry) new refl
+              refl;
+        },
       )
 
   -- the same, of whatever entry is pending
-  pub commits_some : (slots id : ℕ) (me : Me E (History S E)) (step : Step E) (new : ℕ) → me.0.doing.view.spent ≡ false → me.0.doing.editor ≡ true → is_some me.0.doing.edits.pending ≡ true
-      → ((entry : E) → me.0.doing.edits.pending ≡ Some entry → (place : ℕ) → place < length opening → touches me.0.doing.view.log entry place → Contains me.0.doing.edits.marked place)
+  pub commits_some : (slots id : ℕ) (me : Me E (History S E)) (step : Step E) (new : ℕ) → me.0.doing.view.spent ≡ false
+      → me.0.doing.editor ≡ true → is_some me.0.doing.edits.pending ≡ true
+      → ((entry : E) → me.0.doing.edits.pending ≡ Some entry → (place : ℕ) → place < length opening
+      → touches me.0.doing.view.log entry place → Contains me.0.doing.edits.marked place)
       → new ≡ length me.0.doing.view.log + 1
       → Allows (IsKeptTable subject places worth touches opening) slots id me 0 (λ n. new) (λ n after. Committed step me new after)
   commits_some slots id me step new live on there all is =
       let entry = some_entry me.0.doing.edits.pending there in
       commits_entry slots id me step entry.0 new live on entry.1 (all entry.0 entry.1) is
 
-  pub marks_place : (slots id : ℕ) (me : Me E (History S E)) (step : Step E) (entry : E) (place old new : ℕ) → me.0.doing.view.spent ≡ false → me.0.doing.editor ≡ true → place < length opening
+  pub marks_place : (slots id : ℕ) (me : Me E (History S E)) (step : Step E) (entry : E) (place old new : ℕ)
+      → me.0.doing.view.spent ≡ false → me.0.doing.editor ≡ true → place < length opening
       → (me.0.doing.edits.pending ≡ None) ⊎ (me.0.doing.edits.pending ≡ Some entry) → touches me.0.doing.view.log entry place
       → new ≡ length me.0.doing.view.log + 1 → (d : ℕ) → old ≡ get_or me.0.doing.marks place d
       → step.word ≡ 3 * place + 1 → step.second ≡ new → step.said ≡ some entry
@@ -166,11 +180,13 @@ module _ {S E : Type 0} (subject : S) (places : ℕ) (worth : List E → ℕ →
               ∙ ap (λ n. length core.edits.log ∷ words_of_places (slice_set core.places place (record (place_at core.places place) { mark = n }))) count;
           subjects =
               doings_set (NameSubject subject) t.views id made
-              (subject_set subject (doings_of t.views) id doing kept.subjects (λ still. same_subject subject places worth touches opening t kept id me.0 at live));
+              (subject_set subject (doings_of t.views) id doing kept.subjects
+              (λ still. same_subject subject places worth touches opening t kept id me.0 at live));
           steps = next_steps subject places worth touches opening t kept id me.0 at live (Mark 0 entry place) new doing refl (sym ed.first) refl;
           seats =
               doings_set (AreSeats after (kept.events ++ made_of (Mark 0 entry place) new ∷ [])) t.views id made
-              (seat_changes core after kept.events (kept.events ++ made_of (Mark 0 entry place) new ∷ []) (doings_of t.views) kept.seats id me.0.doing doing (doing_at t.views id me.0 at) live
+              (seat_changes core after kept.events (kept.events ++ made_of (Mark 0 entry place) new
+              ∷ []) (doings_of t.views) kept.seats id me.0.doing doing (doing_at t.views id me.0 at) live
               (sym (set-get_or core.views id spent_view) ∙ ap (λ v. slice_set core.views id v) same)
               (others_stay subject places worth touches opening t kept id me.0 at live (Mark 0 entry place) new refl (sym ed.first))
               refl

@@ -1,18 +1,18 @@
-pub mod TableLemmas
-pub mod StepLemmas
-pub mod OrderLemmas
-pub mod WordLemmas
-pub mod SightLemmas
-pub mod RunLemmas
-pub mod SeeSteps
-pub mod ViewSteps
+mod TableLemmas
+mod StepLemmas
+mod OrderLemmas
+mod WordLemmas
+mod SightLemmas
+mod RunLemmas
+mod SeeSteps
+mod ViewSteps
 pub mod ReadSteps
-pub mod WorkSteps
-pub mod SeatSteps
-pub mod EditSteps
-pub mod EditorMarkLemmas
-pub mod TokenLemmas
-pub mod Meets
-pub mod OpeningLemmas
+mod WorkSteps
+mod SeatSteps
+mod EditSteps
+mod EditorMarkLemmas
+mod TokenLemmas
+mod Meets
+mod OpeningLemmas
 pub mod CloseLemmas
-pub mod TestLemmas
+mod TestLemmas

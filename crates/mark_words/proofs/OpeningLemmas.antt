@@ -1,5 +1,6 @@
 -- The table opens under its rule.
-use Rattle.std.proofs.Common.{◌≡◌, ◌<◌, ◌+◌, ◌*◌, ℕ, zero, suc, List, [], ◌∷◌, ◌++◌, Option, Some, None, map, length, drop, get_or, false, refl, sym, ◌∙◌, ap, subst, arith, append_assoc}
+use Rattle.std.proofs.Common.{◌≡◌, ◌<◌, ◌+◌, ◌*◌, ℕ, zero, suc, List, [], ◌∷◌, ◌++◌, Option, Some, None, map, length}
+use Rattle.std.proofs.Common.{drop, get_or, false, refl, sym, ◌∙◌, ap, subst, arith, append_assoc}
 use Rattle.std.proofs.lemmas.List.{drop_more}
 use mathlib.Core.Option.{some, some-injective, some-ne-none}
 use lib.ListN.{get_elem?}
@@ -44,8 +45,10 @@ module _ {S E : Type 0} (places : ℕ) (worth : List E → ℕ → ℕ) (touches
         shorter_length = omega arith;
       }
 
-  seats_open : (seat : ℕ) (doing : Doing S E) → get_elem? (first_doing topic ∷ []) seat ≡ some doing → IsRightSeat (opening_state topic.opening.value) seat doing
-  seats_open zero doing e = subst (λ (d : Doing S E). IsRightSeat (opening_state topic.opening.value) 0 d) (some-injective (first_doing topic) doing e) first_right
+  seats_open : (seat : ℕ) (doing : Doing S E) → get_elem? (first_doing topic ∷ []) seat ≡ some doing
+      → IsRightSeat (opening_state topic.opening.value) seat doing
+  seats_open zero doing e = subst (λ (d : Doing S E). IsRightSeat (opening_state topic.opening.value) 0 d)
+      (some-injective (first_doing topic) doing e) first_right
   seats_open (suc seat) doing e = absurd (some-ne-none doing (sym e))
 
   views_open : (seat : ℕ) (doing : Doing S E) → get_elem? (first_doing topic ∷ []) seat ≡ some doing → doing.view.spent ≡ false
@@ -56,7 +59,8 @@ module _ {S E : Type 0} (places : ℕ) (worth : List E → ℕ → ℕ) (touches
   gathered_open : (seat : ℕ) (doing : Doing S E) → get_elem? (first_doing topic ∷ []) seat ≡ some doing
       → AreGathered (opening_state topic.opening.value) [] (first_doing {E = E} topic ∷ []) doing.gathered
   gathered_open zero doing e =
-      subst (λ (d : Doing S E). AreGathered (opening_state topic.opening.value) [] (first_doing {E = E} topic ∷ []) d.gathered) (some-injective (first_doing topic) doing e)
+      subst (λ (d : Doing S E). AreGathered (opening_state topic.opening.value) [] (first_doing {E = E} topic
+      ∷ []) d.gathered) (some-injective (first_doing topic) doing e)
       (none_gathered (opening_state topic.opening.value) [] (first_doing {E = E} topic ∷ []))
   gathered_open (suc seat) doing e = absurd (some-ne-none doing (sym e))
 

@@ -32,12 +32,14 @@ not_empty x xs e = absurd (let none : suc (length xs) ≡ 0 = ap length e in ome
 from_hit : {E : Type 0} (view number : ℕ) (made : Made E) (events : List (Made E)) → actor_of made.event ≡ view
     → steps_from view number (made ∷ events) ≡ step_at number made ∷ steps_from view (suc number) events
 from_hit view number made events own =
-    ap (λ b. if b then step_at number made ∷ steps_from view (suc number) events else steps_from view (suc number) events) (eq-eqb (actor_of made.event) view own)
+    ap (λ b. if b then step_at number made ∷ steps_from view (suc number) events else steps_from view (suc number)
+    events) (eq-eqb (actor_of made.event) view own)
 
 from_miss : {E : Type 0} (view number : ℕ) (made : Made E) (events : List (Made E)) → actor_of made.event ≢ view
     → steps_from view number (made ∷ events) ≡ steps_from view (suc number) events
 from_miss view number made events other =
-    ap (λ b. if b then step_at number made ∷ steps_from view (suc number) events else steps_from view (suc number) events) (ne_eqb (actor_of made.event) view other)
+    ap (λ b. if b then step_at number made ∷ steps_from view (suc number) events else steps_from view (suc number)
+    events) (ne_eqb (actor_of made.event) view other)
 
 -- no step has a number below the first one
 number_above : {E : Type 0} (view number : ℕ) (events : List (Made E)) (step : OwnStep E) (more : List (OwnStep E))
@@ -134,7 +136,8 @@ some_at (x ∷ xs) zero lt = (x, refl)
 some_at (x ∷ xs) (suc i) lt = some_at xs i (omega (arith, lt))
 
 -- so the single steps of the events grow by a seat's one step more
-pub one_event_more : {S E : Type 0} (events events' : List (Made E)) (seats seats' : List (History S E)) (seat : ℕ) (before after : History S E) (event : ℕ → Event E) (word : ℕ)
+pub one_event_more : {S E : Type 0} (events events' : List (Made E)) (seats seats' : List (History S E)) (seat : ℕ)
+    (before after : History S E) (event : ℕ → Event E) (word : ℕ)
     → AreStepsOf events seats → AreStepsOf events' seats' → get_elem? seats seat ≡ some before → seats' ≡ slice_set seats seat after
     → NoneHandedIn seats → NoneHandedIn seats' → (one : OneMore before.steps after.steps event word)
     → single_steps events' ≡ single_steps events ++ made_of (event one.view) word ∷ []

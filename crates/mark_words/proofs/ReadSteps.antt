@@ -1,5 +1,6 @@
 -- The three loads of a read keep the rule of the table, and what the last one tells.
-use Rattle.std.proofs.Common.{◌≡◌, ◌<◌, ◌≤◌, ◌+◌, ◌*◌, ◌==◌, ℕ, List, Option, [], ◌∷◌, ◌++◌, Some, None, length, take, false, true, refl, sym, ◌∙◌, ap, subst, inl, inr, arith, length-append}
+use Rattle.std.proofs.Common.{◌≡◌, ◌<◌, ◌≤◌, ◌+◌, ◌*◌, ◌==◌, ℕ, List, Option, [], ◌∷◌, ◌++◌, Some, None, length, take}
+use Rattle.std.proofs.Common.{false, true, refl, sym, ◌∙◌, ap, subst, inl, inr, arith, length-append}
 use Rattle.std.specs.Prelude.{slice_index, slice_set, Contains}
 use Rattle.std.proofs.lemmas.List.{append-nil, length-take-le, set-get_or}
 use Rattle.std.proofs.lemmas.Bool.{cond_both, eq-eqb, eqb-true}
@@ -67,7 +68,8 @@ goes_on {S} {E} before after place word made half begun same =
     (λ e. absurd (let t : (half.place == place) ≡ true = eq-eqb half.place place same in cc))
 
 -- and ends with the mark
-pub ends : {S E : Type 0} (before after : Doing S E) (place mark : ℕ) → length before.view.log ≤ before.view.seen → after ≡ with_mark_read before place mark → Ends before place mark after
+pub ends : {S E : Type 0} (before after : Doing S E) (place mark : ℕ) → length before.view.log ≤ before.view.seen
+    → after ≡ with_mark_read before place mark → Ends before place mark after
 ends {S} {E} before after place mark within made half begun same =
     let view : after.view ≡ with_read before.view half mark = ap (λ (d : Doing S E). d.view) made ∙ read_end_of before.view half place mark begun same in
     subst (λ (v : View (List E)). EndsRead before.view half mark (read_of before.view.seen half mark) v) (sym view) (ends_right before.view half mark within)
@@ -85,7 +87,8 @@ learns_clean touches before after place mark ended last half begun same word had
 
 module _ {E : Type 0} (places : ℕ) (worth : List E → ℕ → ℕ) (touches : List E → E → ℕ → Type 0) (codeless : ℕ → Type 0)
     (untouched : (log : List E) (entry : E) (place : ℕ) → place < places → (touches log entry place → ⊥) → worth (log ++ entry ∷ []) place ≡ worth log place)
-    (s : State E) (honest : IsHonest places worth touches codeless s) (view : ℕ) (half : Half) (begun : (view_at s view).half ≡ Some half) (there : half.place < places) where
+    (s : State E) (honest : IsHonest places worth touches codeless s) (view : ℕ) (half : Half)
+    (begun : (view_at s view).half ≡ Some half) (there : half.place < places) where
   abbrev log : List E
   log = s.edits.log
 
@@ -109,7 +112,8 @@ module _ {E : Type 0} (places : ℕ) (worth : List E → ℕ → ℕ) (touches :
       → (number : ℕ) → number ≤ length log → length own.log ≤ number → mark ≤ number → IsWorthAfter worth touches own.log number half.place word mark
   worth_after word had upto number within below le =
       let ended : IsRightRead worth touches codeless s.edits (words_of s.places) (read_of number half mark) =
-      read_ends worth touches codeless s.edits (words_of s.places) half right marks (honest.values half.place there) (λ l e ne. untouched l e half.place there ne) number within in
+      read_ends worth touches codeless s.edits (words_of s.places) half right marks (honest.values half.place there)
+      (λ l e ne. untouched l e half.place there ne) number within in
       let legal : IsLegalRead worth touches codeless s.edits (read_of number half mark) word = ended.legal word had in
       let count : length (take number log) ≡ number = length-take-le number log within in
       record {
@@ -146,7 +150,8 @@ module _ {E : Type 0} (places : ℕ) (worth : List E → ℕ → ℕ) (touches :
 
 module _ {S E : Type 0} (subject : S) (places : ℕ) (worth : List E → ℕ → ℕ) (touches : List E → E → ℕ → Type 0)
     (untouched : (log : List E) (entry : E) (place : ℕ) → place < places → (touches log entry place → ⊥) → worth (log ++ entry ∷ []) place ≡ worth log place)
-    (opening : List (Option ℕ)) (slots id : ℕ) (me : Me E (History S E)) (step : Step E) (place : ℕ) (live : me.0.doing.view.spent ≡ false) (there : place < length opening) where
+    (opening : List (Option ℕ)) (slots id : ℕ) (me : Me E (History S E)) (step : Step E) (place : ℕ)
+    (live : me.0.doing.view.spent ≡ false) (there : place < length opening) where
   pub reads_clean : step.word ≡ 3 * place + 2
       → Allows (IsKeptTable subject places worth touches opening) slots id me (3 * place + 2) (λ n. n) (λ n after. BeganRead step me n after)
   reads_clean word t kept deep at fits =
@@ -162,7 +167,9 @@ module _ {S E : Type 0} (subject : S) (places : ℕ) (worth : List E → ℕ →
         with_step me.0 (with_clean_read me.0.doing place (clean_at found)) (next_number kept.events) (made_of (ReadClean id place) found),
         keeps,
         tt,
-        view_step subject places worth touches opening t kept id me.0 at live (ReadClean id place) found (AnswersClean (place_at core.places place).clean) (after_read_clean core id place) (with_half me.0.doing.view place (clean_at found))
+        view_step subject places worth touches opening t kept id me.0 at live (ReadClean id place) found
+            (AnswersClean (place_at core.places place).clean) (after_read_clean core id place)
+            (with_half me.0.doing.view place (clean_at found))
             (slice_set t.words (3 * place + 2) found) refl refl
             (record { allowed = record { there = lt; live = ap (λ (v : View (List E)). v.spent) same ∙ live }; gives = (refl, refl) })
             is_word
@@ -174,7 +181,8 @@ module _ {S E : Type 0} (subject : S) (places : ℕ) (worth : List E → ℕ →
           slots = refl;
           rest = keeps_rest me.0.doing _ refl refl refl;
           doing = λ place' word'. ap (λ p. with_clean_read me.0.doing p (clean_at found)) (omega (arith, word, word'));
-          one = λ place' word'. one_more me.0.steps id (next_number kept.events) (λ v. ReadClean v place') found (ReadClean id place) found (ap (λ p. ReadClean id p) (omega (arith, word, word'))) refl;
+          one = λ place' word'. one_more me.0.steps id (next_number kept.events) (λ v. ReadClean v place') found
+              (ReadClean id place) found (ap (λ p. ReadClean id p) (omega (arith, word, word'))) refl;
         },
       )
 
@@ -191,7 +199,9 @@ module _ {S E : Type 0} (subject : S) (places : ℕ) (worth : List E → ℕ →
         with_step me.0 (with_value_read me.0.doing place found) (next_number kept.events) (made_of (ReadValue id place) found),
         keeps,
         tt,
-        view_step subject places worth touches opening t kept id me.0 at live (ReadValue id place) found (Word (place_at core.places place).value) (after_read_value core id place) (with_value me.0.doing.view place found)
+        view_step subject places worth touches opening t kept id me.0 at live (ReadValue id place) found
+            (Word (place_at core.places place).value) (after_read_value core id place)
+            (with_value me.0.doing.view place found)
             (slice_set t.words (3 * place + 3) found) refl refl
             (record { allowed = record { there = lt; live = ap (λ (v : View (List E)). v.spent) same ∙ live }; gives = (refl, refl) })
             is
@@ -203,16 +213,20 @@ module _ {S E : Type 0} (subject : S) (places : ℕ) (worth : List E → ℕ →
           slots = refl;
           rest = keeps_rest me.0.doing _ refl refl refl;
           doing = λ place' word'. ap (λ p. with_value_read me.0.doing p found) (omega (arith, word, word'));
-          one = λ place' word'. one_more me.0.steps id (next_number kept.events) (λ v. ReadValue v place') found (ReadValue id place) found (ap (λ p. ReadValue id p) (omega (arith, word, word'))) refl;
+          one = λ place' word'. one_more me.0.steps id (next_number kept.events) (λ v. ReadValue v place') found
+              (ReadValue id place) found (ap (λ p. ReadValue id p) (omega (arith, word, word'))) refl;
         },
       )
 
 -- the load of the mark speaks of the subject that the seat names
 module _ {S E : Type 0} (subject : S) (places : S → ℕ) (worth : S → List E → ℕ → ℕ) (touches : S → List E → E → ℕ → Type 0)
-    (untouched : (log : List E) (entry : E) (place : ℕ) → place < places subject → (touches subject log entry place → ⊥) → worth subject (log ++ entry ∷ []) place ≡ worth subject log place)
-    (opening : List (Option ℕ)) (slots id : ℕ) (me : Me E (History S E)) (step : Step E) (place : ℕ) (live : me.0.doing.view.spent ≡ false) (there : place < length opening) where
+    (untouched : (log : List E) (entry : E) (place : ℕ) → place < places subject → (touches subject log entry place → ⊥)
+    → worth subject (log ++ entry ∷ []) place ≡ worth subject log place)
+    (opening : List (Option ℕ)) (slots id : ℕ) (me : Me E (History S E)) (step : Step E) (place : ℕ)
+    (live : me.0.doing.view.spent ≡ false) (there : place < length opening) where
   pub reads_mark : step.word ≡ 3 * place + 1
-      → Allows (IsKeptTable subject (places subject) (worth subject) (touches subject) opening) slots id me (3 * place + 1) (λ n. n) (λ n after. EndedRead worth touches step me n after)
+      → Allows (IsKeptTable subject (places subject) (worth subject) (touches subject) opening) slots id me
+      (3 * place + 1) (λ n. n) (λ n after. EndedRead worth touches step me n after)
   reads_mark word t kept deep at fits =
       let core : State E = kept.core in
       let honest = honest_state subject (places subject) (worth subject) (touches subject) opening t kept untouched in
@@ -227,30 +241,40 @@ module _ {S E : Type 0} (subject : S) (places : S → ℕ) (worth : S → List E
         with_step me.0 (with_mark_read me.0.doing place found) (next_number kept.events) (made_of (ReadMark id place) found),
         keeps,
         tt,
-        view_step subject (places subject) (worth subject) (touches subject) opening t kept id me.0 at live (ReadMark id place) found (AnswersMark (place_at core.places place).mark) (after_read_mark core id place) (with_read_end me.0.doing.view place found)
+        view_step subject (places subject) (worth subject) (touches subject) opening t kept id me.0 at live
+            (ReadMark id place) found (AnswersMark (place_at core.places place).mark) (after_read_mark core id place)
+            (with_read_end me.0.doing.view place found)
             (slice_set t.words (3 * place + 1) found) refl refl
             (record { allowed = record { there = lt; live = ap (λ (v : View (List E)). v.spent) same ∙ live }; gives = (refl, refl) })
             is
             (set-get_or t.words (3 * place + 1) 0 ∙ kept.words) refl refl
             (ap (λ (v : View (List E)). slice_set core.views id (with_read_end v place (place_at core.places place).mark)) same
             ∙ ap (λ m. slice_set core.views id (with_read_end me.0.doing.view place m)) (sym is))
-            (read_end_cases (λ (v : View (List E)). v.log ≡ me.0.doing.view.log) me.0.doing.view me.0.doing.view.half place found refl (λ half begun at'. refl)),
+            (read_end_cases (λ (v : View (List E)). v.log ≡ me.0.doing.view.log) me.0.doing.view me.0.doing.view.half
+            place found refl (λ half begun at'. refl)),
         record {
           slots = refl;
           rest =
               keeps_rest me.0.doing (with_read_end me.0.doing.view place found)
-              (read_end_cases (λ (v : View (List E)). v.spent ≡ me.0.doing.view.spent) me.0.doing.view me.0.doing.view.half place found refl (λ half begun at'. refl))
-              (read_end_cases (λ (v : View (List E)). v.log ≡ me.0.doing.view.log) me.0.doing.view me.0.doing.view.half place found refl (λ half begun at'. refl))
-              (read_end_cases (λ (v : View (List E)). v.seen ≡ me.0.doing.view.seen) me.0.doing.view me.0.doing.view.half place found refl (λ half begun at'. refl));
+              (read_end_cases (λ (v : View (List E)). v.spent ≡ me.0.doing.view.spent) me.0.doing.view
+              me.0.doing.view.half place found refl (λ half begun at'. refl))
+              (read_end_cases (λ (v : View (List E)). v.log ≡ me.0.doing.view.log) me.0.doing.view me.0.doing.view.half
+              place found refl (λ half begun at'. refl))
+              (read_end_cases (λ (v : View (List E)). v.seen ≡ me.0.doing.view.seen) me.0.doing.view
+              me.0.doing.view.half place found refl (λ half begun at'. refl));
           doing = λ place' word'. ap (λ p. with_mark_read me.0.doing p found) (here place' word');
-          one = λ place' word'. one_more me.0.steps id (next_number kept.events) (λ v. ReadMark v place') found (ReadMark id place) found (ap (λ p. ReadMark id p) (here place' word')) refl;
+          one = λ place' word'. one_more me.0.steps id (next_number kept.events) (λ v. ReadMark v place') found
+              (ReadMark id place) found (ap (λ p. ReadMark id p) (here place' word')) refl;
           within = subst (λ (v : View (List E)). length v.log ≤ v.seen) same seen;
           tells = λ place' subject' word' named half begun of.
               let of_place : half.place ≡ place = of ∙ sym (here place' word') in
               let told : TellsOf (worth subject) (touches subject) (view_at core id) half (place_at core.places half.place).mark =
               tells_of (places subject) (worth subject) (touches subject) (IsCodeless opening) untouched core honest id half
               (ap (λ (v : View (List E)). v.half) same ∙ begun) (omega (arith, of_place, there, kept.right.count)) in
-              subst (λ (x : S). TellsOf (worth x) (touches x) me.0.doing.view half found) (same_Some subject subject' (sym (same_subject subject (places subject) (worth subject) (touches subject) opening t kept id me.0 at live) ∙ named))
+              subst (λ (x : S). TellsOf (worth x) (touches x) me.0.doing.view half found)
+              (same_Some subject subject'
+              (sym (same_subject subject (places subject) (worth subject) (touches subject) opening t kept id me.0
+              at live) ∙ named))
               (subst (λ (v : View (List E)). TellsOf (worth subject) (touches subject) v half found) same
               (subst (λ (m : ℕ). TellsOf (worth subject) (touches subject) (view_at core id) half m)
               (ap (λ p. (place_at core.places p).mark) of_place ∙ sym is) told));

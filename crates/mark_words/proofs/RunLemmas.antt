@@ -20,7 +20,8 @@ use Rattle.mark_words.specs.Steps.{actor_of, is_single, steps_of, made_of, AreSt
 use Rattle.mark_words.proofs.StepLemmas.{doing_at, steps_more, others_same, steps_set, next_number, with_step}
 
 -- an event after those of a run
-run_more : {E : Type 0} (worth : List E → ℕ → ℕ) (touches : List E → E → ℕ → Type 0) (events : List (Made E)) (s before : State E) (made : Made E) (outcome : Outcome) (after : State E)
+run_more : {E : Type 0} (worth : List E → ℕ → ℕ) (touches : List E → E → ℕ → Type 0) (events : List (Made E))
+    (s before : State E) (made : Made E) (outcome : Outcome) (after : State E)
     → RunsWith worth touches s events before → Happens worth touches before made.event outcome after → made.word ≡ word_in before made.event
     → RunsWith worth touches s (events ++ made ∷ []) after
 run_more {E} worth touches [] s before made outcome after run happens word = (
@@ -42,12 +43,16 @@ run_of worth touches (first ∷ events) s after (next, outcome, happens, word, r
 module _ {S E : Type 0} (subject : S) (places : ℕ) (worth : List E → ℕ → ℕ) (touches : List E → E → ℕ → Type 0) (opening : List (Option ℕ))
     (t : TableState E (History S E)) (kept : IsKeptTable subject places worth touches opening t) where
   -- the run of the table with the event that happens next
-  pub next_run : (event : Event E) (word : ℕ) (outcome : Outcome) (after : State E) → Happens worth touches kept.core event outcome after → word ≡ word_in kept.core event
+  pub next_run : (event : Event E) (word : ℕ) (outcome : Outcome) (after : State E)
+      → Happens worth touches kept.core event outcome after → word ≡ word_in kept.core event
       → RunsWith worth touches (opening_state opening) (kept.events ++ made_of event word ∷ []) after
-  next_run event word outcome after happens is = run_more worth touches kept.events (opening_state opening) kept.core (made_of event word) outcome after kept.run happens is
+  next_run event word outcome after happens is =
+      run_more worth touches kept.events (opening_state opening) kept.core (made_of event word) outcome after kept.run
+      happens is
 
   -- the state of the table is honest, since a run leads to it
-  pub honest_state : ((log : List E) (entry : E) (place : ℕ) → place < places → (touches log entry place → ⊥) → worth (log ++ entry ∷ []) place ≡ worth log place)
+  pub honest_state : ((log : List E) (entry : E) (place : ℕ) → place < places → (touches log entry place → ⊥)
+      → worth (log ++ entry ∷ []) place ≡ worth log place)
       → IsHonest places worth touches (IsCodeless opening) kept.core
   honest_state untouched =
       honest_from_opening places worth touches untouched opening kept.right (map (λ (made : Made E). made.event) kept.events) kept.core
@@ -80,6 +85,8 @@ module _ {S E : Type 0} (subject : S) (places : ℕ) (worth : List E → ℕ →
       pub next_steps : (event : Event E) (word : ℕ) (doing : Doing S E) → is_single event ≡ true → actor_of event ≡ id → doing.gathered ≡ history.doing.gathered
           → AreStepsOf (kept.events ++ made_of event word ∷ []) (slice_set t.views id (with_step history doing (next_number kept.events) (made_of event word)))
       next_steps event word doing single own gathered =
-          steps_set kept.events (kept.events ++ made_of event word ∷ []) t.views kept.steps id history (with_step history doing (next_number kept.events) (made_of event word)) at
+          steps_set kept.events (kept.events ++ made_of event word ∷ []) t.views kept.steps id history
+          (with_step history doing (next_number kept.events) (made_of event word)) at
           (others_stay event word single own) gathered
-          (ap (λ l. l ++ record { number = next_number kept.events; made = made_of event word } ∷ []) same_steps ∙ sym (steps_more kept.events (made_of event word) id single own))
+          (ap (λ l. l ++ record { number = next_number kept.events; made = made_of event word } ∷ []) same_steps
+          ∙ sym (steps_more kept.events (made_of event word) id single own))

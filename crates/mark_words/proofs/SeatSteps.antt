@@ -33,8 +33,10 @@ shorter_prefix_of xs ys zs p q =
 shorter_below : {X : Type 0} (xs ys : List X) → length (shorter_of xs ys) ≤ length (longer xs ys)
 shorter_below xs ys =
     cond_both (nat_lt (length xs) (length ys)) xs ys (λ l. length l ≤ length (longer xs ys))
-    (λ e. cond_both (nat_lt (length xs) (length ys)) ys xs (λ l. length xs ≤ length l) (λ f. let lt : length xs < length ys = ltb-true (length xs) (length ys) e in omega arith) (λ f. omega arith))
-    (λ e. cond_both (nat_lt (length xs) (length ys)) ys xs (λ l. length ys ≤ length l) (λ f. omega arith) (λ f. let le : length ys ≤ length xs = ltb-false (length xs) (length ys) e in le))
+    (λ e. cond_both (nat_lt (length xs) (length ys)) ys xs (λ l. length xs ≤ length l)
+    (λ f. let lt : length xs < length ys = ltb-true (length xs) (length ys) e in omega arith) (λ f. omega arith))
+    (λ e. cond_both (nat_lt (length xs) (length ys)) ys xs (λ l. length ys ≤ length l) (λ f. omega arith)
+    (λ f. let le : length ys ≤ length xs = ltb-false (length xs) (length ys) e in le))
 
 module _ {S E : Type 0} (subject : S) (places : ℕ) (worth : List E → ℕ → ℕ) (touches : List E → E → ℕ → Type 0)
     (untouched : (log : List E) (entry : E) (place : ℕ) → place < places → (touches log entry place → ⊥) → worth (log ++ entry ∷ []) place ≡ worth log place)
@@ -61,7 +63,8 @@ module _ {S E : Type 0} (subject : S) (places : ℕ) (worth : List E → ℕ →
         subjects =
             subst (λ l. NameSubject subject (doings_of (l ++ new ∷ []))) (sym again)
             (doings_push (NameSubject subject) t.views new
-            (subject_added subject (doings_of t.views) (copy_of doing) kept.subjects (same_subject subject places worth touches opening t kept id history at live)));
+            (subject_added subject (doings_of t.views) (copy_of doing) kept.subjects
+            (same_subject subject places worth touches opening t kept id history at live)));
         steps =
             subst (λ l. AreStepsOf events' (l ++ new ∷ [])) (sym again)
             (steps_added kept.events events' t.views kept.steps new (seats_same kept.events (made_of (Split id) 0) refl) refl);
@@ -110,12 +113,14 @@ module _ {S E : Type 0} (subject : S) (places : ℕ) (worth : List E → ℕ →
         right = kept.right;
         core = after;
         events = events';
-        run = next_run subject places worth touches opening t kept (Join id other) 0 Done after (record { allowed = ((λ e. apart (sym e)), not_first, may); gives = (refl, refl) }) refl;
+        run = next_run subject places worth touches opening t kept (Join id other) 0 Done after
+            (record { allowed = ((λ e. apart (sym e)), not_first, may); gives = (refl, refl) }) refl;
         words = kept.words;
         subjects =
             doings_set_both (NameSubject subject) t.views id other both spent_history
             (subject_set subject (slice_set (doings_of t.views) id both.doing) other spent_doing
-            (subject_set subject (doings_of t.views) id both.doing kept.subjects (λ still. same_subject subject places worth touches opening t kept id history at live))
+            (subject_set subject (doings_of t.views) id both.doing kept.subjects
+            (λ still. same_subject subject places worth touches opening t kept id history at live))
             (λ off. absurd (cc)));
         steps =
             steps_set events' events' (slice_set t.views id both)
@@ -167,7 +172,8 @@ module _ {S E : Type 0} (subject : S) (places : ℕ) (worth : List E → ℕ →
         subjects =
             doings_set_both (NameSubject subject) t.views id other both spent_history
             (subject_set subject (slice_set (doings_of t.views) id both.doing) other spent_doing
-            (subject_set subject (doings_of t.views) id both.doing kept.subjects (λ still. same_subject subject places worth touches opening t kept id history at live))
+            (subject_set subject (doings_of t.views) id both.doing kept.subjects
+            (λ still. same_subject subject places worth touches opening t kept id history at live))
             (λ off. absurd (cc)));
         steps = steps_gathered kept.events t.views kept.steps id other history both spent_history at live apart refl (λ none. absurd (cc)) refl;
         seats =

@@ -48,15 +48,18 @@ module _ {S E : Type 0} (subject : S) (places : ℕ) (worth : List E → ℕ →
           right = kept.right;
           core = after_see core id;
           events = kept.events ++ made_of (See id) count ∷ [];
-          run = next_run subject places worth touches opening t kept (See id) count (Count (length core.edits.log)) (after_see core id) (record { allowed = live'; gives = (refl, refl) }) is;
+          run = next_run subject places worth touches opening t kept (See id) count (Count (length core.edits.log))
+              (after_see core id) (record { allowed = live'; gives = (refl, refl) }) is;
           words = first_again t.words (length core.edits.log) (words_of_places core.places) kept.words ∙ kept.words;
           subjects =
               doings_set (NameSubject subject) t.views id new
-              (subject_set subject (doings_of t.views) id doing kept.subjects (λ still. same_subject subject places worth touches opening t kept id me.0 at live));
+              (subject_set subject (doings_of t.views) id doing kept.subjects
+              (λ still. same_subject subject places worth touches opening t kept id me.0 at live));
           steps = next_steps subject places worth touches opening t kept id me.0 at live (See id) count doing refl refl refl;
           seats =
               doings_set (AreSeats (after_see core id) (kept.events ++ made_of (See id) count ∷ [])) t.views id new
-              (seat_changes core (after_see core id) kept.events (kept.events ++ made_of (See id) count ∷ []) (doings_of t.views) kept.seats id me.0.doing doing (doing_at t.views id me.0 at) live
+              (seat_changes core (after_see core id) kept.events (kept.events ++ made_of (See id) count
+              ∷ []) (doings_of t.views) kept.seats id me.0.doing doing (doing_at t.views id me.0 at) live
               (ap (λ (v : View (List E)). slice_set core.views id (with_count v (length core.edits.log))) same
               ∙ ap (λ n. slice_set core.views id (with_count me.0.doing.view n)) (sym is))
               (others_stay subject places worth touches opening t kept id me.0 at live (See id) count refl refl)

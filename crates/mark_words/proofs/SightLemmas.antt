@@ -1,5 +1,6 @@
 -- What the seat of a see has seen is the count that stood.
-use Rattle.std.proofs.Common.{◌≡◌, ◌≢◌, ◌<◌, ◌≤◌, ◌+◌, ℕ, List, Option, [], ◌∷◌, ◌++◌, max, length, get_or-set_same, get_or-set_other, length-append, true, false, refl, sym, ◌∙◌, ap, subst, inl, inr, arith}
+use Rattle.std.proofs.Common.{◌≡◌, ◌≢◌, ◌<◌, ◌≤◌, ◌+◌, ℕ, List, Option, [], ◌∷◌, ◌++◌, max, length, get_or-set_same}
+use Rattle.std.proofs.Common.{get_or-set_other, length-append, true, false, refl, sym, ◌∙◌, ap, subst, inl, inr, arith}
 use Rattle.std.specs.Prelude.{slice_index, slice_set}
 use Rattle.std.proofs.Math.ListN.{length-set}
 use Rattle.std.proofs.lemmas.List.{get_or_append_left, get_or_past}
@@ -66,7 +67,8 @@ module _ {E : Type 0} (s : State E) (view other : ℕ) (apart : view ≢ other) 
 module _ {E : Type 0} (worth : List E → ℕ → ℕ) (touches : List E → E → ℕ → Type 0) where
   -- through an event that is no single step a view stays there, and where it isn't spent then it wasn't before, and had
   -- seen no more
-  through : (s : State E) (event : Event E) (outcome : Outcome) (next : State E) (n : ℕ) → is_single event ≡ false → Happens worth touches s event outcome next → n < length s.views
+  through : (s : State E) (event : Event E) (outcome : Outcome) (next : State E) (n : ℕ) → is_single event ≡ false
+      → Happens worth touches s event outcome next → n < length s.views
       → (n < length next.views) × ((view_at next n).spent ≡ false → ((view_at s n).spent ≡ false) × ((view_at s n).seen ≤ (view_at next n).seen))
   through s (Split view) outcome next n quiet happens lt =
       let same : view_at next n ≡ view_at s n =
@@ -165,7 +167,8 @@ module _ {S E : Type 0} (subject : S) (places : ℕ) (worth : List E → ℕ →
   pub sees_the_count : after.doing.view.spent ≡ false → after.doing.view.seen ≡ slice_index t.words 0
   sees_the_count live =
       let last : IsLast worth touches kept.core kept'.core (made_of (See view) word) =
-      last_single worth touches kept.events kept'.events (opening_state opening) (opening_state opening) kept.core kept'.core (made_of (See view) word) kept.run kept'.run
+      last_single worth touches kept.events kept'.events (opening_state opening) (opening_state opening) kept.core
+      kept'.core (made_of (See view) word) kept.run kept'.run
       (record { edits = refl; places = refl }) seen_steps in
       let before : State E = last.before in
       let lt : view < length before.views = there_live before view last.happens.allowed in
@@ -176,7 +179,8 @@ module _ {S E : Type 0} (subject : S) (places : ℕ) (worth : List E → ℕ →
       ap (λ (x : State E). length x.views) last.happens.gives.1 ∙ length-set before.views view (with_count (view_at before view) count) in
       let own : view_at kept'.core view ≡ after.doing.view =
       ap (λ i. view_at kept'.core i) own_view ∙ same_view subject places worth touches opening t' kept' seat after at_after live in
-      let rest = later worth touches last.events last.next kept'.core view last.run last.none (omega (arith, lt, long)) (ap (λ (w : View (List E)). w.spent) own ∙ live) in
+      let rest = later worth touches last.events last.next kept'.core view last.run last.none (omega (arith, lt, long))
+      (ap (λ (w : View (List E)). w.spent) own ∙ live) in
       let seen : (view_at kept'.core view).seen ≡ after.doing.view.seen = ap (λ (w : View (List E)). w.seen) own in
       let least : (view_at last.next view).seen ≡ count = ap (λ (w : View (List E)). w.seen) counted in
       let most : (view_at kept'.core view).seen ≤ length kept'.core.edits.log =

@@ -1,5 +1,6 @@
 -- The single steps of a list of events, with one event more, and those of the seats of a table.
-use Rattle.std.proofs.Common.{◌≡◌, ◌≢◌, ◌<◌, ◌+◌, ◌==◌, ℕ, zero, suc, List, [], ◌∷◌, ◌++◌, Bool, length, length-append, false, true, sym, ◌∙◌, ap, subst, inl, inr, ⊎_elim, arith}
+use Rattle.std.proofs.Common.{◌≡◌, ◌≢◌, ◌<◌, ◌+◌, ◌==◌, ℕ, zero, suc, List, [], ◌∷◌, ◌++◌, Bool, length, length-append}
+use Rattle.std.proofs.Common.{false, true, sym, ◌∙◌, ap, subst, inl, inr, ⊎_elim, arith}
 use Rattle.std.specs.Prelude.{if◌then◌else◌, slice_set}
 use Rattle.std.proofs.Math.ListN.{length-set}
 use Rattle.std.proofs.lemmas.List.{map-set, map-append}
@@ -49,7 +50,8 @@ from_own {E} view number (first ∷ events) made own =
     let last : ℕ → List (OwnStep E) = λ n. record { number = n; made = made } ∷ [] in
     kept_more (actor_of first.event == view) here (record { number = suc number + length events; made = made })
     (steps_from view (suc number) events) (steps_from view (suc number) (events ++ made ∷ [])) (from_own view (suc number) events made own)
-    ∙ ap (λ n. (if actor_of first.event == view then here ∷ steps_from view (suc number) events else steps_from view (suc number) events) ++ last n) (omega arith)
+    ∙ ap (λ n. (if actor_of first.event == view then here ∷ steps_from view (suc number) events else steps_from view
+    (suc number) events) ++ last n) (omega arith)
 
 pub from_other : {E : Type 0} (view number : ℕ) (events : List (Made E)) (made : Made E) → actor_of made.event ≢ view
     → steps_from view number (events ++ made ∷ []) ≡ steps_from view number events
@@ -142,7 +144,8 @@ with_step history doing number made =
     record { doing = doing; steps = history.steps ++ record { number = number; made = made } ∷ [] }
 
 -- which is one step more
-pub one_more : {E : Type 0} (steps : List (OwnStep E)) (view number : ℕ) (event : ℕ → Event E) (word : ℕ) (made : Event E) (had : ℕ) → made ≡ event view → had ≡ word
+pub one_more : {E : Type 0} (steps : List (OwnStep E)) (view number : ℕ) (event : ℕ → Event E) (word : ℕ)
+    (made : Event E) (had : ℕ) → made ≡ event view → had ≡ word
     → OneMore steps (steps ++ record { number = number; made = made_of made had } ∷ []) event word
 one_more {E} steps view number event word made had same same_word =
     record {
@@ -165,25 +168,32 @@ doings_set_both {S} {E} P seats id other both spent holds =
     doings_set P (slice_set seats id both) other spent (doings_set (λ (l : List (Doing S E)). P (slice_set l other spent.doing)) seats id both holds)
 
 -- the steps of the seats after one was handed in to another
-pub steps_gathered : {S E : Type 0} (events : List (Made E)) (seats : List (History S E)) → AreStepsOf events seats → (id other : ℕ) (before after spent : History S E)
+pub steps_gathered : {S E : Type 0} (events : List (Made E)) (seats : List (History S E)) → AreStepsOf events seats
+    → (id other : ℕ) (before after spent : History S E)
     → get_elem? seats id ≡ some before → before.doing.view.spent ≡ false → other ≢ id → after.steps ≡ before.steps → (after.doing.gathered ≡ [] → ⊥)
     → spent.doing.view.spent ≡ true → AreStepsOf events (slice_set (slice_set seats id after) other spent)
 steps_gathered {S} {E} events seats are id other before after spent at live apart same full off =
     record {
       each =
-          each_set (λ j h. ((h.doing.view.spent ≡ true → NoneHandedIn (slice_set (slice_set seats id after) other spent)) → h.steps ≡ steps_of events j)) (slice_set seats id after) other spent
+          each_set
+          (λ j h. ((h.doing.view.spent ≡ true → NoneHandedIn (slice_set (slice_set seats id after) other spent))
+          → h.steps ≡ steps_of events j)) (slice_set seats id after) other spent
           (λ j h differs e.
-          each_set (λ j' h'. ((h'.doing.view.spent ≡ true → NoneHandedIn (slice_set (slice_set seats id after) other spent)) → h'.steps ≡ steps_of events j')) seats id after
+          each_set
+          (λ j' h'. ((h'.doing.view.spent ≡ true → NoneHandedIn (slice_set (slice_set seats id after) other spent))
+          → h'.steps ≡ steps_of events j')) seats id after
           (λ j' h' differs' e' known. are.each j' h' e' (λ gone. absurd (not_none (known gone))))
           (λ known. same ∙ are.each id before at (λ gone. absurd (cc)))
           j h e)
           (λ known. absurd (not_none (known off)));
       none = λ j past.
-          let long : length (slice_set (slice_set seats id after) other spent) ≡ length (slice_set seats id after) = length-set (slice_set seats id after) other spent in
+          let long : length (slice_set (slice_set seats id after) other spent) ≡ length (slice_set seats id after) =
+          length-set (slice_set seats id after) other spent in
           let first : length (slice_set seats id after) ≡ length seats = length-set seats id after in
           are.none j (omega (arith, past, long, first));
     }
   where
     not_none : NoneHandedIn (slice_set (slice_set seats id after) other spent) → ⊥
     not_none none =
-        full (none id after (set_else (slice_set seats id after) other id spent (λ e. apart (sym e)) ∙ set_here seats id after (some_within seats id before at)))
+        full (none id after (set_else (slice_set seats id after) other id spent (λ e. apart (sym e))
+        ∙ set_here seats id after (some_within seats id before at)))

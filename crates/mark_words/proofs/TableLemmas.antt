@@ -1,5 +1,7 @@
 -- Words and views of a table, through the change of one of them.
-use Rattle.std.proofs.Common.{◌≡◌, ◌≢◌, ◌<◌, ◌+◌, ◌*◌, ◌/◌, ◌%◌, ◌==◌, ◌⊎◌, ℕ, zero, suc, List, [], ◌∷◌, ◌++◌, Some, Bool, map, length, get_or, set, get_or-set_same, get_or-set_other, length-append, false, true, refl, sym, ◌∙◌, ap, subst, inl, inr, ⊎_elim, arith}
+use Rattle.std.proofs.Common.{◌≡◌, ◌≢◌, ◌<◌, ◌+◌, ◌*◌, ◌/◌, ◌%◌, ◌==◌, ◌⊎◌, ℕ, zero, suc, List, [], ◌∷◌, ◌++◌, Some}
+use Rattle.std.proofs.Common.{Bool, map, length, get_or, set, get_or-set_same, get_or-set_other, length-append, false}
+use Rattle.std.proofs.Common.{true, refl, sym, ◌∙◌, ap, subst, inl, inr, ⊎_elim, arith}
 use Rattle.std.specs.Prelude.{slice_index, slice_set}
 use Rattle.std.proofs.Math.ListN.{length-set}
 use Rattle.std.specs.Prelude.{Contains}
@@ -160,13 +162,15 @@ map_same f g (x ∷ xs) same =
     ∙ ap (λ l. g x ∷ l) (map_same f g xs (λ z among. same z (suc among.0, let lt : among.0 < length xs = among.1 in omega arith, among.2)))
 
 -- a seat that isn't spent
-pub not_spent : {S E : Type 0} (seats : List (Doing S E)) (id : ℕ) (doing : Doing S E) → get_elem? seats id ≡ some doing → doing.view.spent ≡ false → IsSpent seats id → ⊥
+pub not_spent : {S E : Type 0} (seats : List (Doing S E)) (id : ℕ) (doing : Doing S E) → get_elem? seats id ≡ some doing
+    → doing.view.spent ≡ false → IsSpent seats id → ⊥
 not_spent {S} {E} seats id doing at live was =
     let same : was.doing ≡ doing = some-injective was.doing doing (sym was.there ∙ at) in
     let spent : doing.view.spent ≡ true = ap (λ (d : Doing S E). d.view.spent) (sym same) ∙ was.spent in
     absurd (cc)
 
-spent_apart : {S E : Type 0} (seats : List (Doing S E)) (id n : ℕ) (doing : Doing S E) → get_elem? seats id ≡ some doing → doing.view.spent ≡ false → IsSpent seats n → n ≢ id
+spent_apart : {S E : Type 0} (seats : List (Doing S E)) (id n : ℕ) (doing : Doing S E) → get_elem? seats id ≡ some doing
+    → doing.view.spent ≡ false → IsSpent seats n → n ≢ id
 spent_apart seats id n doing at live was e = not_spent seats id doing at live (subst (λ (i : ℕ). IsSpent seats i) e was)
 
 spent_else : {S E : Type 0} (seats : List (Doing S E)) (id n : ℕ) (after : Doing S E) → n ≢ id → IsSpent seats n → IsSpent (slice_set seats id after) n
@@ -243,11 +247,13 @@ module _ {S E : Type 0} (core core' : State E) (events events' : List (Made E)) 
         gathered =
             each_set (λ j u. AreGathered core' events' (slice_set seats id after) u.gathered) seats id after
             (λ j u apart e. gathered_stays views steps u.gathered (are.gathered j u e))
-            (subst (λ l. AreGathered core' events' (slice_set seats id after) l) (sym gathered) (gathered_stays views steps doing.gathered (are.gathered id doing at)));
+            (subst (λ l. AreGathered core' events' (slice_set seats id after) l) (sym gathered)
+            (gathered_stays views steps doing.gathered (are.gathered id doing at)));
       }
 
 -- the seats with one more
-pub seat_added : {S E : Type 0} (core core' : State E) (events events' : List (Made E)) (seats : List (Doing S E)) (new : Doing S E) → AreSeats core events seats
+pub seat_added : {S E : Type 0} (core core' : State E) (events events' : List (Made E)) (seats : List (Doing S E))
+    (new : Doing S E) → AreSeats core events seats
     → core'.views ≡ core.views ++ new.view ∷ [] → ((j : ℕ) → steps_of events' j ≡ steps_of events j) → new.gathered ≡ []
     → ((j : ℕ) (u : Doing S E) → IsRightSeat core j u → IsRightSeat core' j u) → IsRightSeat core' (length seats) new
     → AreSeats core' events' (seats ++ new ∷ [])
@@ -287,7 +293,8 @@ seat_added {S} {E} core core' events events' seats new are views steps none othe
 
 -- the seats after one was handed in to another, which has its view from then on: the state keeps its view
 module _ {S E : Type 0} (core : State E) (events : List (Made E)) (seats : List (Doing S E)) (are : AreSeats core events seats)
-    (id other : ℕ) (doing note spent : Doing S E) (steps : List (OwnStep E)) (made : steps ≡ steps_of events other) (at : get_elem? seats id ≡ some doing) (live : doing.view.spent ≡ false)
+    (id other : ℕ) (doing note spent : Doing S E) (steps : List (OwnStep E)) (made : steps ≡ steps_of events other)
+    (at : get_elem? seats id ≡ some doing) (live : doing.view.spent ≡ false)
     (there : get_elem? seats other ≡ some note) (live' : note.view.spent ≡ false) (apart : other ≢ id) where
   abbrev after : Doing S E
   after = record doing { gathered = record { view = note.view; steps = steps } ∷ doing.gathered }
@@ -312,7 +319,12 @@ module _ {S E : Type 0} (core : State E) (events : List (Made E)) (seats : List 
         refl,
       )) g
 
-  pub seat_gathers : spent.view.spent ≡ true → spent.gathered ≡ [] → IsRightSeat core other spent → AreSeats core events (slice_set (slice_set seats id (record doing { gathered = record { view = note.view; steps = steps } ∷ doing.gathered })) other spent)
+  pub seat_gathers : spent.view.spent ≡ true → spent.gathered ≡ [] → IsRightSeat core other spent
+      → AreSeats core events
+      (slice_set (slice_set seats id (record doing {
+        gathered = record { view = note.view; steps = steps }
+            ∷ doing.gathered;
+      })) other spent)
   unfolding still_gathered gathered_moves
   seat_gathers off none gone =
       let right : IsRightSeat core id doing = are.each id doing at in
@@ -332,7 +344,12 @@ module _ {S E : Type 0} (core : State E) (events : List (Made E)) (seats : List 
         gathered =
             each_gathers (λ j u. AreGathered core events seats' u.gathered) (λ j u e. still_gathered u.gathered (are.gathered j u e))
             (more_gathered core events seats' other (record { view = note.view; steps = steps }) doing.gathered
-            (record { doing = spent; there = set_here (slice_set seats id after) other spent (some_within (slice_set seats id after) other note (set_else seats id other after apart ∙ there)); spent = off })
+            (record {
+              doing = spent;
+              there = set_here (slice_set seats id after) other spent (some_within (slice_set seats id after) other
+                  note (set_else seats id other after apart ∙ there));
+              spent = off;
+            })
             (ap (λ v. (let p : Past E = record { view = v; steps = steps_of events other } in p)) (are.views other note there live')
             ∙ ap (λ l. (let p : Past E = record { view = note.view; steps = l } in p)) (sym made))
             (still_gathered doing.gathered before)

@@ -1,5 +1,6 @@
 -- What the tests of reads and work rest on.
-use Rattle.std.proofs.Common.{◌≡◌, ◌≢◌, ◌<◌, ◌≤◌, ◌+◌, ◌==◌, ℕ, zero, suc, List, [], ◌∷◌, ◌++◌, Some, None, map, length, false, true, refl, sym, ◌∙◌, ap, subst, inl, inr, arith, length-append}
+use Rattle.std.proofs.Common.{◌≡◌, ◌≢◌, ◌<◌, ◌≤◌, ◌+◌, ◌==◌, ℕ, zero, suc, List, [], ◌∷◌, ◌++◌, Some, None, map, length}
+use Rattle.std.proofs.Common.{false, true, refl, sym, ◌∙◌, ap, subst, inl, inr, arith, length-append}
 use Rattle.std.specs.Prelude.{Contains, IfOk, Result, Ok, Err, if◌then◌else◌, ◌%◌}
 use Rattle.std.proofs.Math.Seq.{take-length}
 use Rattle.std.proofs.lemmas.List.Elements.{Contains-push}
@@ -30,7 +31,8 @@ use Rattle.mark_words.proofs.ReadSteps.{read_end_cases}
 use Rattle.mark_words.proofs.TokenLemmas.{begins}
 
 -- the three loads of a read, one after the other
-pub has_read : {S E : Type 0} (worth : List E → ℕ → ℕ) (touches : List E → E → ℕ → Type 0) (before begun valued after : Doing S E) (place : ℕ) (clean : Clean) (word mark : ℕ)
+pub has_read : {S E : Type 0} (worth : List E → ℕ → ℕ) (touches : List E → E → ℕ
+    → Type 0) (before begun valued after : Doing S E) (place : ℕ) (clean : Clean) (word mark : ℕ)
     → begun ≡ with_clean_read before place clean → valued ≡ with_value_read begun place word → after ≡ with_mark_read valued place mark
     → GoesOn begun place word valued → Ends valued place mark after → TellsOfRead worth touches valued place mark
     → HasReadPlace worth touches before place clean word mark after
@@ -55,8 +57,11 @@ has_read {S} {E} worth touches before begun valued after place clean word mark f
           ∙ ap (λ l. l ++ read_of valued.view.seen half mark ∷ []) reads
           ∙ ap (λ n. before.view.reads ++ read_of n half mark ∷ []) seen;
       learns = λ upto. end.known word refl upto;
-      log = ap (λ (d : Doing S E). d.view.log) third ∙ read_end_cases (λ (v : View (List E)). v.log ≡ valued.view.log) valued.view valued.view.half place mark refl (λ h b of. refl) ∙ log;
-      seen = ap (λ (d : Doing S E). d.view.seen) third ∙ read_end_cases (λ (v : View (List E)). v.seen ≡ valued.view.seen) valued.view valued.view.half place mark refl (λ h b of. refl) ∙ seen;
+      log = ap (λ (d : Doing S E). d.view.log) third ∙ read_end_cases (λ (v : View (List E)). v.log ≡ valued.view.log)
+          valued.view valued.view.half place mark refl (λ h b of. refl) ∙ log;
+      seen = ap (λ (d : Doing S E). d.view.seen) third
+          ∙ read_end_cases (λ (v : View (List E)). v.seen ≡ valued.view.seen) valued.view valued.view.half place mark
+          refl (λ h b of. refl) ∙ seen;
     }
   where
     -- what a read tells rests on the log and the count of its view alone
@@ -67,11 +72,16 @@ has_read {S} {E} worth touches before begun valued after place clean word mark f
           upto = told.upto;
           floor = told.floor;
           last = subst (λ (l : List E'). (mark' ≤ length l → IsLastMark touches' l half'.place mark')) log told.last;
-          later = subst (λ (l : List E'). ((w : ℕ) → half'.word ≡ Some w → half'.clean.upto ≡ mark' + 1 → (number : ℕ) × IsWorthAfter worth' touches' l number half'.place w mark')) log told.later;
+          later = subst (λ (l : List E'). ((w : ℕ) → half'.word ≡ Some w → half'.clean.upto ≡ mark' + 1 → (number : ℕ)
+              × IsWorthAfter worth' touches' l number half'.place w mark')) log told.later;
           seen =
-              subst (λ (n : ℕ). ((w : ℕ) → half'.word ≡ Some w → half'.clean.upto ≡ mark' + 1 → mark' ≤ n → IsWorthAfter worth' touches' view'.log n half'.place w mark')) seen
-              (subst (λ (l : List E'). ((w : ℕ) → half'.word ≡ Some w → half'.clean.upto ≡ mark' + 1 → mark' ≤ view.seen → IsWorthAfter worth' touches' l view.seen half'.place w mark')) log told.seen);
-          known = subst (λ (l : List E'). ((w : ℕ) → half'.word ≡ Some w → half'.clean.upto ≡ mark' + 1 → mark' ≤ length l → worth' l half'.place ≡ w)) log told.known;
+              subst (λ (n : ℕ). ((w : ℕ) → half'.word ≡ Some w → half'.clean.upto ≡ mark' + 1 → mark' ≤ n
+              → IsWorthAfter worth' touches' view'.log n half'.place w mark')) seen
+              (subst (λ (l : List E'). ((w : ℕ) → half'.word ≡ Some w → half'.clean.upto ≡ mark' + 1 → mark' ≤ view.seen
+              → IsWorthAfter worth' touches' l view.seen half'.place w mark')) log told.seen);
+          known =
+              subst (λ (l : List E'). ((w : ℕ) → half'.word ≡ Some w → half'.clean.upto ≡ mark' + 1 → mark' ≤ length l
+              → worth' l half'.place ≡ w)) log told.known;
         }
 
 module _ {S E : Type 0} (worth : List E → ℕ → ℕ) (touches : List E → E → ℕ → Type 0) (before after : Doing S E) (place : ℕ) (clean : Clean) (word mark : ℕ)
@@ -84,7 +94,8 @@ module _ {S E : Type 0} (worth : List E → ℕ → ℕ) (touches : List E → E
   last_read within = subst (λ (p : ℕ). IsLastMark touches before.view.log p mark) read.same_place (read.tells.last within)
 
   -- what is shown at the number that the seat has seen
-  pub worth_read : (log : List E) → before.view.log ≡ log → (number : ℕ) → before.view.seen ≡ number → (shown : Seen) → Shows number clean word mark shown → IsWorthOf worth touches log number place shown
+  pub worth_read : (log : List E) → before.view.log ≡ log → (number : ℕ) → before.view.seen ≡ number → (shown : Seen)
+      → Shows number clean word mark shown → IsWorthOf worth touches log number place shown
   worth_read log same number is (Value value) shows = (
     mark,
     subst (λ (l : List E). IsWorthAfter worth touches l number place value mark) same
@@ -104,7 +115,11 @@ module _ {S E : Type 0} (worth : List E → ℕ → ℕ) (touches : List E → E
         free = free;
         read = ended;
         among = subst (λ (l : List Finished). Contains l ended) (sym read.reads) (Contains-push before.view.reads ended);
-        ground = record { same_place = read.same_place; same_clean = read.same_clean; stale = let le : read.half.clean.upto ≤ mark + 1 = read.tells.upto in omega (arith, upto_is) };
+        ground = record {
+          same_place = read.same_place;
+          same_clean = read.same_clean;
+          stale = let le : read.half.clean.upto ≤ mark + 1 = read.tells.upto in omega (arith, upto_is);
+        };
       }
 
 contains_map : {X Y : Type 0} (f : X → Y) (xs : List X) (x : X) → Contains xs x → Contains (map f xs) (f x)
@@ -128,7 +143,8 @@ module _ {S E : Type 0} (worth : List E → ℕ → ℕ) (touches : List E → E
       (record { hold = empty; among = Contains-push before.view.holds empty; same_place = refl; known = whole before.view.log is })
 
   -- and the place finished then for its last mark
-  pub may_finish : IsLastMark touches before.view.log place mark → (put : Doing S E) → put ≡ with_word_put claimed place word → MayFinish worth touches put.view place mark
+  pub may_finish : IsLastMark touches before.view.log place mark → (put : Doing S E)
+      → put ≡ with_word_put claimed place word → MayFinish worth touches put.view place mark
   unfolding whole
   may_finish last put made =
       let filled : Held = record { place = place; word = Some word } in
@@ -145,7 +161,12 @@ module _ {S E : Type 0} (worth : List E → ℕ → ℕ) (touches : List E → E
               same_place = refl;
               word = word;
               put = refl;
-              computed = record { known = whole before.view.log is; last = subst (λ (l : List E). IsLastMark touches l place mark) (sym (take-length before.view.log)) last };
+              computed =
+                  record {
+                    known = whole before.view.log is;
+                    last = subst (λ (l : List E). IsLastMark touches l place mark) (sym (take-length before.view.log))
+                        last;
+                  };
             };
       })
 
@@ -163,7 +184,8 @@ module _ {S E : Type 0} (worth : List E → ℕ → ℕ) (touches : List E → E
             elim (cases_lt number mark') [
               | inl past ↦ past
               | inr le ↦
-                  let own : IsLastMark touches before.view.log place mark = last_read worth touches before between place clean word mark first (omega (arith, is)) in
+                  let own : IsLastMark touches before.view.log place mark =
+                  last_read worth touches before between place clean word mark first (omega (arith, is)) in
                   let other : IsLastMark touches before.view.log place mark' =
                   subst (λ (l : List E). IsLastMark touches l place mark') first.log
                   (last_read worth touches between after place clean' word' mark' second (omega (arith, is, ap length first.log))) in
@@ -217,7 +239,8 @@ ready_still {S} {E} marks before after count ready same kept =
     }
 
 -- the editor's seat that has marked both cells for an entry
-module _ {S E : Type 0} {G : Ghosts S E} (marks : Marks S E) (before first second : Seat S E G) (entry : E) (count number : ℕ) (ready : IsReadyEditor marks before count)
+module _ {S E : Type 0} {G : Ghosts S E} (marks : Marks S E) (before first second : Seat S E G) (entry : E)
+    (count number : ℕ) (ready : IsReadyEditor marks before count)
     (one : doing_of first ≡ with_mark (doing_of before) entry 0 number) (both : doing_of second ≡ with_mark (doing_of first) entry 1 number) where
   pub both_marked : (place : ℕ) → place < 2 → Contains (doing_of second).edits.marked place
   both_marked place there =

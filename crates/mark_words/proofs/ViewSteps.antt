@@ -58,11 +58,13 @@ module _ {S E : Type 0} (subject : S) (places : ℕ) (worth : List E → ℕ →
         words = words;
         subjects =
             doings_set (NameSubject subject) t.views id after
-            (subject_set subject (doings_of t.views) id doing kept.subjects (λ still. same_subject subject places worth touches opening t kept id history at live));
+            (subject_set subject (doings_of t.views) id doing kept.subjects (λ still. same_subject subject places worth
+            touches opening t kept id history at live));
         steps = next_steps subject places worth touches opening t kept id history at live event word doing single own refl;
         seats =
             doings_set (AreSeats core' (kept.events ++ made_of event word ∷ [])) t.views id after
-            (seat_changes kept.core core' kept.events (kept.events ++ made_of event word ∷ []) (doings_of t.views) kept.seats id history.doing doing (doing_at t.views id history at) live
+            (seat_changes kept.core core' kept.events (kept.events ++ made_of event word ∷ []) (doings_of t.views)
+            kept.seats id history.doing doing (doing_at t.views id history at) live
             views (others_stay subject places worth touches opening t kept id history at live event word single own) refl
             (λ j u apart stays. seat_stays kept.core core' j u edits marks stays)
             (record {

@@ -1,5 +1,6 @@
 -- Two runs with the same single steps lead to the same words, and the last single step happens on those before it.
-use Rattle.std.proofs.Common.{◌≡◌, ◌<◌, ◌+◌, ◌*◌, ◌⊎◌, ℕ, List, [], ◌∷◌, ◌++◌, Bool, length, length-append, get_or-set_same, arith, true, false, refl, sym, ◌∙◌, ap, subst, inl, inr}
+use Rattle.std.proofs.Common.{◌≡◌, ◌<◌, ◌+◌, ◌*◌, ◌⊎◌, ℕ, List, [], ◌∷◌, ◌++◌, Bool, length, length-append}
+use Rattle.std.proofs.Common.{get_or-set_same, arith, true, false, refl, sym, ◌∙◌, ap, subst, inl, inr}
 use Rattle.std.specs.Prelude.{if◌then◌else◌, slice_index, slice_set}
 use Rattle.std.proofs.Math.ListN.{length-set}
 use Rattle.mark_core.specs.declared.actors.Edits.{Edits}
@@ -27,7 +28,8 @@ alike_over : {E : Type 0} (s middle other : State E) → AreAlike s middle → A
 alike_over s middle other one two = record { edits = one.edits ∙ two.edits; places = one.places ∙ two.places }
 
 -- an event that is no single step leaves the words
-stays_alike : {E : Type 0} (s : State E) (event : Event E) (outcome : Outcome) (after : State E) → is_single event ≡ false → Gives s event outcome after → AreAlike s after
+stays_alike : {E : Type 0} (s : State E) (event : Event E) (outcome : Outcome) (after : State E)
+    → is_single event ≡ false → Gives s event outcome after → AreAlike s after
 stays_alike {E} s (Split view) outcome after none gives =
     record { edits = ap (λ (x : State E). x.edits) (sym gives.1); places = ap (λ (x : State E). x.places) (sym gives.1) }
 stays_alike {E} s (Join view other) outcome after none gives =
@@ -91,7 +93,8 @@ truth true = inl refl
 truth false = inr refl
 
 -- the first event among the single steps, or not
-pub singles_hit : {E : Type 0} (made : Made E) (events : List (Made E)) → is_single made.event ≡ true → single_steps (made ∷ events) ≡ made ∷ single_steps events
+pub singles_hit : {E : Type 0} (made : Made E) (events : List (Made E)) → is_single made.event ≡ true
+    → single_steps (made ∷ events) ≡ made ∷ single_steps events
 singles_hit made events counts = ap (λ b. if b then made ∷ single_steps events else single_steps events) counts
 
 pub singles_skip : {E : Type 0} (made : Made E) (events : List (Made E)) → is_single made.event ≡ false → single_steps (made ∷ events) ≡ single_steps events
@@ -222,7 +225,8 @@ module _ {E : Type 0} (worth : List E → ℕ → ℕ) (touches : List E → E �
             let first : IsFirst other after' made (single_steps events ++ last ∷ []) =
             first_single events' other after' made (single_steps events ++ last ∷ []) run' (is ∙ ap (λ l. l ++ last ∷ []) (singles_hit made events counts)) in
             last_single events first.events next first.next after after' last run first.run
-            (same_event s first.before next first.next (alike_over s other first.before alike first.alike) made.event outcome first.outcome happens.gives first.happens.gives)
+            (same_event s first.before next first.next (alike_over s other first.before alike first.alike) made.event
+            outcome first.outcome happens.gives first.happens.gives)
             first.rest
         | inr spares ↦
             let moved : AreAlike s next = stays_alike s made.event outcome next spares happens.gives in
@@ -236,7 +240,8 @@ module _ {E : Type 0} (worth : List E → ℕ → ℕ) (touches : List E → E �
       ap (λ (e : Edits E). length e.log ∷ words_of_places s.places) alike.edits ∙ ap (λ p. length other.edits.log ∷ words_of_places p) alike.places
 
   -- the word of an event stands where the event loads or stores it
-  word_stands : (s : State E) (event : Event E) (outcome : Outcome) (after : State E) (word : ℕ) (words words' : List ℕ) → Happens worth touches s event outcome after
+  word_stands : (s : State E) (event : Event E) (outcome : Outcome) (after : State E) (word : ℕ) (words words' : List ℕ)
+      → Happens worth touches s event outcome after
       → word ≡ word_in s event → words ≡ words_of_state s → words' ≡ words_of_state after → HasWord words words' event word
   word_stands s (See view) outcome after word words words' h same is is' = same ∙ ap (λ ws. slice_index ws 0) (sym is)
   word_stands s (Mark view entry place) outcome after word words words' h same is is' =

@@ -40,7 +40,8 @@ miss found old new differs = ap (λ b. either b new found) (ne_eqb found old dif
 
 module _ {S E : Type 0} (subject : S) (places : ℕ) (worth : List E → ℕ → ℕ) (touches : List E → E → ℕ → Type 0)
     (untouched : (log : List E) (entry : E) (place : ℕ) → place < places → (touches log entry place → ⊥) → worth (log ++ entry ∷ []) place ≡ worth log place)
-    (opening : List (Option ℕ)) (slots id : ℕ) (me : Me E (History S E)) (step : Step E) (place : ℕ) (live : me.0.doing.view.spent ≡ false) (there : place < length opening) where
+    (opening : List (Option ℕ)) (slots id : ℕ) (me : Me E (History S E)) (step : Step E) (place : ℕ)
+    (live : me.0.doing.view.spent ≡ false) (there : place < length opening) where
   module _ (t : TableState E (History S E)) (kept : IsKeptTable subject places worth touches opening t) (at : get_elem? t.views id ≡ some me.0) where
     abbrev core : State E
     core = kept.core
@@ -72,10 +73,17 @@ module _ {S E : Type 0} (subject : S) (places : ℕ) (worth : List E → ℕ →
 
     took : (seen : Clean) (stored : ℕ) → MayClaim me.0.doing.view place seen → slice_index t.words (3 * place + 2) ≡ word_of_clean seen
         → (let held : Clean = record { upto = seen.upto; held = true } in stored ≡ word_of_clean held)
-        → IsKeptTable subject places worth touches opening (record { words = slice_set t.words (3 * place + 2) stored; homes = t.homes; views = slice_set t.views id (with_step me.0 (with_claim me.0.doing place) (next_number kept.events) (made_of (Claim id place seen) (slice_index t.words (3 * place + 2)))) })
+        → IsKeptTable subject places worth touches opening (record {
+          words = slice_set t.words (3 * place + 2) stored;
+          homes = t.homes;
+          views = slice_set t.views id (with_step me.0 (with_claim me.0.doing place) (next_number kept.events)
+              (made_of (Claim id place seen) (slice_index t.words (3 * place + 2))));
+        })
     took seen stored ground found is =
         let held : Clean = record { upto = seen.upto; held = true } in
-        view_step subject places worth touches opening t kept id me.0 at live (Claim id place seen) (slice_index t.words (3 * place + 2)) (Claimed true) (after_claim core id place seen) (with_hold me.0.doing.view place)
+        view_step subject places worth touches opening t kept id me.0 at live (Claim id place seen)
+        (slice_index t.words (3 * place + 2)) (Claimed true) (after_claim core id place seen)
+        (with_hold me.0.doing.view place)
         (slice_set t.words (3 * place + 2) stored) refl refl
         (record {
           allowed = (may, subst (λ (v : View (List E)). MayClaim v place seen) (sym same) ground);
@@ -91,10 +99,17 @@ module _ {S E : Type 0} (subject : S) (places : ℕ) (worth : List E → ℕ →
     lost : (seen : Clean) (stored : ℕ) → MayClaim me.0.doing.view place seen → slice_index t.words (3 * place + 2) ≢ word_of_clean seen
         → stored ≡ slice_index t.words (3 * place + 2)
         → (let found : Clean = clean_at (slice_index t.words (3 * place + 2)) in
-        IsKeptTable subject places worth touches opening (record { words = slice_set t.words (3 * place + 2) stored; homes = t.homes; views = slice_set t.views id (with_step me.0 (with_refusal me.0.doing place found) (next_number kept.events) (made_of (Claim id place seen) (slice_index t.words (3 * place + 2)))) }))
+        IsKeptTable subject places worth touches opening (record {
+          words = slice_set t.words (3 * place + 2) stored;
+          homes = t.homes;
+          views = slice_set t.views id (with_step me.0 (with_refusal me.0.doing place found) (next_number kept.events)
+              (made_of (Claim id place seen) (slice_index t.words (3 * place + 2))));
+        }))
     lost seen stored ground differs is =
         let found : Clean = clean_at (slice_index t.words (3 * place + 2)) in
-        view_step subject places worth touches opening t kept id me.0 at live (Claim id place seen) (slice_index t.words (3 * place + 2)) (Claimed false) (after_refusal core id place) (with_loss me.0.doing.view place found)
+        view_step subject places worth touches opening t kept id me.0 at live (Claim id place seen)
+        (slice_index t.words (3 * place + 2)) (Claimed false) (after_refusal core id place)
+        (with_loss me.0.doing.view place found)
         (slice_set t.words (3 * place + 2) stored) refl refl
         (record {
           allowed = (may, subst (λ (v : View (List E)). MayClaim v place seen) (sym same) ground);
@@ -110,12 +125,17 @@ module _ {S E : Type 0} (subject : S) (places : ℕ) (worth : List E → ℕ →
   pub claims : (seen : Clean) (old new : ℕ) → MayClaim me.0.doing.view place seen → old ≡ word_of_clean seen
       → (let held : Clean = record { upto = seen.upto; held = true } in new ≡ word_of_clean held)
       → step.word ≡ 3 * place + 2 → step.first ≡ old
-      → Allows (IsKeptTable subject places worth touches opening) slots id me (3 * place + 2) (λ n. either (n == old) new n) (λ n after. TriedClaim step me n after)
+      → Allows (IsKeptTable subject places worth touches opening) slots id me (3 * place + 2)
+      (λ n. either (n == old) new n) (λ n after. TriedClaim step me n after)
   claims seen old new ground is next word first t kept deep at fits =
       let found : ℕ = slice_index t.words (3 * place + 2) in
       let here : (place' : ℕ) → step.word ≡ 3 * place' + 2 → place ≡ place' = λ place' word'. omega (arith, word, word') in
       let one : (place' : ℕ) (seen' : Clean) → step.word ≡ 3 * place' + 2 → step.first ≡ word_of_clean seen'
-      → OneMore me.0.steps (me.0.steps ++ record { number = next_number kept.events; made = made_of (Claim id place seen) found } ∷ []) (λ v. Claim v place' seen') found = λ place' seen' word' first'.
+      → OneMore me.0.steps (me.0.steps ++ record {
+        number = next_number kept.events;
+        made = made_of (Claim id place seen) found;
+      } ∷ []) (λ v. Claim v place' seen') found =
+      λ place' seen' word' first'.
       let same_clean : seen ≡ seen' =
       sym (clean_at-code_of seen) ∙ ap clean_at (sym is ∙ sym first ∙ first') ∙ clean_at-code_of seen' in
       one_more me.0.steps id (next_number kept.events) (λ v. Claim v place' seen') found (Claim id place seen) found
@@ -159,7 +179,8 @@ module _ {S E : Type 0} (subject : S) (places : ℕ) (worth : List E → ℕ →
         with_step me.0 (with_word_put me.0.doing place word) (next_number kept.events) (made_of (Put id place word) word),
         keeps,
         tt,
-        view_step subject places worth touches opening t kept id me.0 at live (Put id place word) word Done (after_put core id place word) (with_put me.0.doing.view place word)
+        view_step subject places worth touches opening t kept id me.0 at live (Put id place word) word Done
+            (after_put core id place word) (with_put me.0.doing.view place word)
             (slice_set t.words (3 * place + 3) word) refl refl
             (record { allowed = (may t kept at, subst (λ (v : View (List E)). MayPut worth v place word) (sym (same t kept at)) ground); gives = (refl, refl) })
             refl
@@ -193,9 +214,17 @@ module _ {S E : Type 0} (subject : S) (places : ℕ) (worth : List E → ℕ →
         with_step me.0 (with_finish me.0.doing place mark) (next_number kept.events) (made_of (Finish id place mark) stored),
         keeps,
         tt,
-        view_step subject places worth touches opening t kept id me.0 at live (Finish id place mark) stored Done (after_finish core id place mark) (without_hold me.0.doing.view place mark)
+        view_step subject places worth touches opening t kept id me.0 at live (Finish id place mark) stored Done
+            (after_finish core id place mark) (without_hold me.0.doing.view place mark)
             (slice_set t.words (3 * place + 2) stored) refl refl
-            (record { allowed = (may t kept at, subst (λ (v : View (List E)). MayFinish worth touches v place mark) (sym (same t kept at)) ground); gives = (refl, refl) })
+            (record {
+              allowed = (
+                may t kept at,
+                subst (λ (v : View (List E)). MayFinish worth touches v place mark)
+                    (sym (same t kept at)) ground,
+              );
+              gives = (refl, refl);
+            })
             is
             (ap (λ n. slice_set t.words (3 * place + 2) n) is ∙ clean_stored t kept at free)
             refl

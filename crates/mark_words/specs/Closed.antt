@@ -21,7 +21,9 @@ use Rattle.mark_words.specs.Token.{subject_of, topic_of, places_of, view_of, own
 -- views of all seats that were handed in, no two of which are one view of it. So it is honest. Each seat's single steps
 -- are those of its view among the events, each at its number and with its word. The state may have further views, of seats that were
 -- dropped.
-pub record HasClosed {S E : Type 0} {G : Ghosts S E} (places : S → ℕ) (worth : S → List E → ℕ → ℕ) (touches : S → List E → E → ℕ → Type 0) (marks : Marks S E) (editor : Seat S E G) (others : List (Seat S E G)) (words : Words S E G) : Type 0 where
+pub record HasClosed {S E : Type 0} {G : Ghosts S E} (places : S → ℕ) (worth : S → List E → ℕ → ℕ) (touches : S → List E
+    → E → ℕ → Type 0) (marks : Marks S E) (editor : Seat S E G) (others : List (Seat S E G))
+    (words : Words S E G) : Type 0 where
   pub same_count : closed_places words ≡ places_of marks
   pub same_log : closed_log words ≡ log_of editor
   pub core : State E
@@ -45,7 +47,8 @@ abbrev pub ArePrefixes : {S E : Type 0} {G : Ghosts S E} → List (Seat S E G) �
 ArePrefixes {S} {E} {G} others words = (other : Seat S E G) → Contains others other → IsPrefix (log_of other) (closed_log words)
 
 -- each read with a word of the seats is legal over the editor's edits: its log, and the pending entry if there is one
-abbrev pub AreLegal : {S E : Type 0} {G : Ghosts S E} → (S → List E → ℕ → ℕ) → (S → List E → E → ℕ → Type 0) → Marks S E → Seat S E G → List (Seat S E G) → Type 0
+abbrev pub AreLegal : {S E : Type 0} {G : Ghosts S E} → (S → List E → ℕ → ℕ) → (S → List E → E → ℕ → Type 0) → Marks S E
+    → Seat S E G → List (Seat S E G) → Type 0
 AreLegal {S} {E} {G} worth touches marks editor seats =
     (seat : Seat S E G) (read : Finished) (word : ℕ) → Contains seats seat → Contains (view_of seat).reads read → read.word ≡ Some word
     → IsLegalRead (worth (subject_of marks)) (touches (subject_of marks)) (IsCodeless (topic_of marks).opening.value) (edits_of editor) read word

@@ -19,7 +19,8 @@ use Rattle.mark_words.specs.Steps.{single_steps, made_of, OneMore, NoneHandedIn}
 use Rattle.mark_words.specs.Rule.{HoldsRule}
 
 -- the event happens in a state with these words, and leaves one with those
-pub record IsOneEvent {E : Type 0} (worth : List E → ℕ → ℕ) (touches : List E → E → ℕ → Type 0) (words : List ℕ) (event : Event E) (words' : List ℕ) : Type 0 where
+pub record IsOneEvent {E : Type 0} (worth : List E → ℕ → ℕ) (touches : List E → E → ℕ → Type 0) (words : List ℕ)
+    (event : Event E) (words' : List ℕ) : Type 0 where
   pub before : State E
   pub outcome : Outcome
   pub after : State E

@@ -8,7 +8,8 @@ use Rattle.mark_words.specs.Token.{subject_of, topic_of, places_of, doing_of, Is
 
 -- the table is about the subject with these codes and has its places, and the seat is one of it, with what the editor
 -- begins with
-pub record HasOpened {S E : Type 0} {G : Ghosts S E} (places : S → ℕ) (subject : S) (opening : List (Option ℕ)) (marks : Marks S E) (seat : Seat S E G) : Type 0 where
+pub record HasOpened {S E : Type 0} {G : Ghosts S E} (places : S → ℕ) (subject : S) (opening : List (Option ℕ))
+    (marks : Marks S E) (seat : Seat S E G) : Type 0 where
   pub same_subject : subject_of marks ≡ subject
   pub same_codes : (topic_of marks).opening.value ≡ opening
   pub sized : places_of marks ≡ places (subject_of marks)

@@ -76,7 +76,8 @@ pub record WentOn {S E : Type 0} (step : Step E) (before : Me E (History S E)) (
 -- The seat's begun read, if it is one of the place of the word, has ended with the mark that it found, and tells what
 -- it should of the subject that the seat names. The seat has seen at least as many entries as it knows. The editor's,
 -- with nothing pending, finds a mark within its log.
-pub record EndedRead {S E : Type 0} (worth : S → List E → ℕ → ℕ) (touches : S → List E → E → ℕ → Type 0) (step : Step E) (before : Me E (History S E)) (found : ℕ) (after : Me E (History S E)) : Type 0 where
+pub record EndedRead {S E : Type 0} (worth : S → List E → ℕ → ℕ) (touches : S → List E → E → ℕ → Type 0) (step : Step E)
+    (before : Me E (History S E)) (found : ℕ) (after : Me E (History S E)) : Type 0 where
   pub slots : after.1 ≡ before.1
   pub rest : KeepsRest before.0.doing after.0.doing
   pub doing : (place : ℕ) → step.word ≡ 3 * place + 1 → after.0.doing ≡ with_mark_read before.0.doing place found

@@ -75,7 +75,8 @@ doings_of seats = map (λ history. history.doing) seats
 -- The table is that of a run of the core: events have happened from the opening state on, each allowed where it
 -- happened, and have led to a state whose words are those of the table and whose views are its seats'. So that state
 -- is honest. The single steps of the run are those of the seats, each at its number and with its word.
-pub record IsKeptTable {S E : Type 0} (subject : S) (places : ℕ) (worth : List E → ℕ → ℕ) (touches : List E → E → ℕ → Type 0) (opening : List (Option ℕ)) (t : TableState E (History S E)) : Type 0 where
+pub record IsKeptTable {S E : Type 0} (subject : S) (places : ℕ) (worth : List E → ℕ → ℕ) (touches : List E → E → ℕ
+    → Type 0) (opening : List (Option ℕ)) (t : TableState E (History S E)) : Type 0 where
   pub right : IsOpening places worth opening
   pub core : State E
   pub events : List (Made E)

@@ -47,14 +47,18 @@ none_counted (suc n ∷ marks) none =
     absurd (omega (arith, whole, one, none))
 
 -- a turn clears one mark, where there is one
-turn_counted : (sheet : SheetValue) (old new : List ℕ) → length old ≡ cell_count sheet.sizes → 1 ≤ marked_count old → IsTurn sheet old new → marked_count new + 1 ≡ marked_count old
-turn_counted sheet old new count some (clears_ready cell first is) = ap (λ ms. marked_count ms + 1) is ∙ cleared_count sheet.sizes old cell count first.inside first.such.marked
-turn_counted sheet old new count some (clears_marked cell none first is) = ap (λ ms. marked_count ms + 1) is ∙ cleared_count sheet.sizes old cell count first.inside first.such
+turn_counted : (sheet : SheetValue) (old new : List ℕ) → length old ≡ cell_count sheet.sizes → 1 ≤ marked_count old
+    → IsTurn sheet old new → marked_count new + 1 ≡ marked_count old
+turn_counted sheet old new count some (clears_ready cell first is) = ap (λ ms. marked_count ms + 1) is
+    ∙ cleared_count sheet.sizes old cell count first.inside first.such.marked
+turn_counted sheet old new count some (clears_marked cell none first is) = ap (λ ms. marked_count ms + 1) is
+    ∙ cleared_count sheet.sizes old cell count first.inside first.such
 turn_counted sheet old new count some (clears_nothing nowhere is) =
     let none : marked_count old ≡ 0 = ap marked_count (zero_marks sheet.sizes old count nowhere) ∙ zeros_counted (length old) in
     absurd (omega (arith, none, some))
 
-pub turns_counted : (sheet : SheetValue) (turns : ℕ) (old new : List ℕ) → length old ≡ cell_count sheet.sizes → turns ≤ marked_count old → AreTurns sheet turns old new → marked_count new + turns ≡ marked_count old
+pub turns_counted : (sheet : SheetValue) (turns : ℕ) (old new : List ℕ) → length old ≡ cell_count sheet.sizes
+    → turns ≤ marked_count old → AreTurns sheet turns old new → marked_count new + turns ≡ marked_count old
 turns_counted sheet _ old _ count few (no_turns marks) = omega arith
 turns_counted sheet _ old _ count few (more_turns turns next start mid new before turn is) =
     let rest = turns_counted sheet turns start mid count (omega (arith, few, is)) before in

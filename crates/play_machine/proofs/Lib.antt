@@ -1,9 +1,9 @@
 pub mod FitLemmas
-pub mod CountLemmas
-pub mod MarkLemmas
+mod CountLemmas
+mod MarkLemmas
 pub mod OnePlay
-pub mod PlayLemmas
-pub mod QueueLemmas
-pub mod ReadyLemmas
-pub mod TurnLemmas
-pub mod WaiterLemmas
+mod PlayLemmas
+mod QueueLemmas
+mod ReadyLemmas
+mod TurnLemmas
+mod WaiterLemmas

@@ -1,5 +1,6 @@
 -- What turns go by, as marks are cleared and cells are placed.
-use Rattle.std.proofs.Common.{◌≡◌, ◌≢◌, ◌⊎◌, inl, inr, ℕ, ◌+◌, ◌<◌, ◌≤◌, true, false, List, [], ◌∷◌, ◌++◌, length, None, Some, IsTrue, IsFalse, Contains, arith, refl, sym, ap, subst, ◌∙◌}
+use Rattle.std.proofs.Common.{◌≡◌, ◌≢◌, ◌⊎◌, inl, inr, ℕ, ◌+◌, ◌<◌, ◌≤◌, true, false, List, [], ◌∷◌, ◌++◌, length, None}
+use Rattle.std.proofs.Common.{Some, IsTrue, IsFalse, Contains, arith, refl, sym, ap, subst, ◌∙◌}
 use Rattle.std.specs.Prelude.{nat_lt, Vec}
 use Rattle.std.specs.declared.alloc.Global.{Global}
 use Rattle.std.specs.Ordering.{is_gt, nat_cmp}
@@ -18,7 +19,9 @@ use Rattle.sheet_model.specs.Sheets.{SheetValue}
 use Rattle.sheet_model.proofs.EditLemmas.{one_or_two}
 use Rattle.play_machine.specs.Machine.{IsFirstCell, IsMarked, IsNowhere, IsReady, is_marked, mark_of, without_mark}
 use Rattle.play_machine.specs.Marking.{SetsMarks}
-use Rattle.play_machine.specs.Waiting.{AddsWaiter, AreWaiters, HasNoMarkedInput, IsKeptAt, IsMarkedInput, HasWaiter, IsQueue, IsUnplaced, IsWaiter, NoneMarked, Places, TakesWaiters, Unplaced, WaitAt, Waits, WaitsOn}
+use Rattle.play_machine.specs.Waiting.{AddsWaiter, AreWaiters, HasNoMarkedInput, IsKeptAt, IsMarkedInput, HasWaiter}
+use Rattle.play_machine.specs.Waiting.{IsQueue, IsUnplaced, IsWaiter, NoneMarked, Places, TakesWaiters, Unplaced}
+use Rattle.play_machine.specs.Waiting.{WaitAt, Waits, WaitsOn}
 use Rattle.play_machine.specs.Waiting.Unplaced.{nothing, one, waiting, from}
 use Rattle.play_machine.specs.declared.queue.Queue.{Queue}
 use Rattle.play_machine.specs.declared.waiter.Waiter.{Waiter}
@@ -52,7 +55,8 @@ module _ (sheet : SheetValue) (marks : List ℕ) where
   waiting_unready : (waits : Waits) (cell : Position) → WaitsOn sheet marks waits cell → ¬ IsReady sheet marks cell
   waiting_unready waits cell on ready = not_both (is_marked sheet.sizes marks on.input) on.is.marked (ready.inputs on.input on.is.step)
 
-  ready_held : (queue : Queue) → IsQueue sheet marks nothing queue → (cell : Position) → IsTrue (is_inside sheet.sizes cell) → IsReady sheet marks cell → Holds queue cell
+  ready_held : (queue : Queue) → IsQueue sheet marks nothing queue → (cell : Position)
+      → IsTrue (is_inside sheet.sizes cell) → IsReady sheet marks cell → Holds queue cell
   ready_held queue are cell inside ready = go (are.each cell inside ready.marked)
     where
       go : Holds queue cell ⊎ WaitsOn sheet marks queue.waits cell ⊎ IsUnplaced sheet.sizes nothing cell → Holds queue cell
@@ -61,18 +65,26 @@ module _ (sheet : SheetValue) (marks : List ℕ) where
       go (inr (inr none)) = absurd none
 
   -- the least place is that of the first ready cell
-  pub first_held : (queue : Queue) (place : ℕ) (cell : Position) → IsQueue sheet marks nothing queue → IsTrue (contains nat_cmp queue.ready place) → IsLowerBound nat_cmp queue.ready place → IsTrue (is_inside sheet.sizes cell) → place_of sheet.sizes cell ≡ place → IsFirstCell sheet.sizes (IsReady sheet marks) cell
+  pub first_held : (queue : Queue) (place : ℕ) (cell : Position) → IsQueue sheet marks nothing queue
+      → IsTrue (contains nat_cmp queue.ready place) → IsLowerBound nat_cmp queue.ready place
+      → IsTrue (is_inside sheet.sizes cell) → place_of sheet.sizes cell ≡ place
+      → IsFirstCell sheet.sizes (IsReady sheet marks) cell
   first_held queue place cell are held least inside here = record {
     inside = inside;
     such = are.ready cell inside (subst (λ p. IsTrue (contains nat_cmp queue.ready p)) (sym here) held);
-    first = λ other there before ready. not_before place (place_of sheet.sizes other) (least (place_of sheet.sizes other) (ready_held queue are other there ready)) (subst (λ p. place_of sheet.sizes other < p) here before);
+    first =
+        λ other there before ready. not_before place (place_of sheet.sizes other)
+        (least (place_of sheet.sizes other) (ready_held queue are other there ready))
+        (subst (λ p. place_of sheet.sizes other < p) here before);
   }
 
   pub none_held : (queue : Queue) → IsQueue sheet marks nothing queue → IsEmpty queue.ready → IsNowhere sheet.sizes (IsReady sheet marks)
   none_held queue are none cell inside ready = nothing_held queue.ready (place_of sheet.sizes cell) none (ready_held queue are cell inside ready)
 
   -- a cell that is no longer held as a ready one is to be placed
-  pub popped : (old new : Queue) (place : ℕ) (cell : Position) → IsQueue sheet marks nothing old → Updates nat_cmp old.ready new.ready place false → new.waits ≡ old.waits → new.first ≡ old.first → IsTrue (is_inside sheet.sizes cell) → place_of sheet.sizes cell ≡ place → IsQueue sheet marks (one cell) new
+  pub popped : (old new : Queue) (place : ℕ) (cell : Position) → IsQueue sheet marks nothing old
+      → Updates nat_cmp old.ready new.ready place false → new.waits ≡ old.waits → new.first ≡ old.first
+      → IsTrue (is_inside sheet.sizes cell) → place_of sheet.sizes cell ≡ place → IsQueue sheet marks (one cell) new
   popped old new place cell are updates waits_are first_is inside here = record {
     within = λ p held. are.within p (earlier p held);
     ready = λ c there held. are.ready c there (earlier (place_of sheet.sizes c) held);
@@ -91,17 +103,22 @@ module _ (sheet : SheetValue) (marks : List ℕ) where
           go (inl same) = absurd (not_both (contains nat_cmp new.ready place) (subst (λ q. IsTrue (contains nat_cmp new.ready q)) same held) updates.1)
           go (inr differs) = sym (apart p differs) ∙ held
 
-      each : (c : Position) → IsTrue (is_inside sheet.sizes c) → Holds old c ⊎ WaitsOn sheet marks old.waits c ⊎ IsUnplaced sheet.sizes nothing c → (place_of sheet.sizes c ≡ place) ⊎ (place_of sheet.sizes c ≡ place → ⊥) → Holds new c ⊎ WaitsOn sheet marks new.waits c ⊎ IsUnplaced sheet.sizes (one cell) c
+      each : (c : Position) → IsTrue (is_inside sheet.sizes c) → Holds old c ⊎ WaitsOn sheet marks old.waits c
+          ⊎ IsUnplaced sheet.sizes nothing c → (place_of sheet.sizes c ≡ place) ⊎ (place_of sheet.sizes c ≡ place → ⊥)
+          → Holds new c ⊎ WaitsOn sheet marks new.waits c ⊎ IsUnplaced sheet.sizes (one cell) c
       each c there (inl held) (inl same) = inr (inr (place_same sheet.sizes c cell there inside (same ∙ sym here)))
       each c there (inl held) (inr differs) = inl (apart (place_of sheet.sizes c) differs ∙ held)
       each c there (inr (inl on)) known = inr (inl (subst (λ w. WaitsOn sheet marks w c) (sym waits_are) on))
       each c there (inr (inr none)) known = absurd none
 
-  pub taken_out : (old new : Queue) (place : ℕ) (cell : Position) → Updates nat_cmp old.ready new.ready place false → place_of sheet.sizes cell ≡ place → contains nat_cmp new.ready (place_of sheet.sizes cell) ≡ false
+  pub taken_out : (old new : Queue) (place : ℕ) (cell : Position) → Updates nat_cmp old.ready new.ready place false
+      → place_of sheet.sizes cell ≡ place → contains nat_cmp new.ready (place_of sheet.sizes cell) ≡ false
   taken_out old new place cell updates here = ap (contains nat_cmp new.ready) here ∙ updates.1
 
   -- what is to be placed, seen otherwise
-  pub more_unplaced : (left rest : Unplaced) (queue : Queue) → ((cell : Position) → IsTrue (is_inside sheet.sizes cell) → IsMarked sheet.sizes marks cell → IsUnplaced sheet.sizes left cell → IsUnplaced sheet.sizes rest cell) → IsQueue sheet marks left queue → IsQueue sheet marks rest queue
+  pub more_unplaced : (left rest : Unplaced) (queue : Queue) → ((cell : Position) → IsTrue (is_inside sheet.sizes cell)
+      → IsMarked sheet.sizes marks cell → IsUnplaced sheet.sizes left cell → IsUnplaced sheet.sizes rest cell)
+      → IsQueue sheet marks left queue → IsQueue sheet marks rest queue
   more_unplaced left rest queue weaker are = record {
     within = are.within;
     ready = are.ready;
@@ -110,13 +127,16 @@ module _ (sheet : SheetValue) (marks : List ℕ) where
     first = are.first;
   }
     where
-      go : (cell : Position) → IsTrue (is_inside sheet.sizes cell) → IsMarked sheet.sizes marks cell → Holds queue cell ⊎ WaitsOn sheet marks queue.waits cell ⊎ IsUnplaced sheet.sizes left cell → Holds queue cell ⊎ WaitsOn sheet marks queue.waits cell ⊎ IsUnplaced sheet.sizes rest cell
+      go : (cell : Position) → IsTrue (is_inside sheet.sizes cell) → IsMarked sheet.sizes marks cell → Holds queue cell
+          ⊎ WaitsOn sheet marks queue.waits cell ⊎ IsUnplaced sheet.sizes left cell → Holds queue cell
+          ⊎ WaitsOn sheet marks queue.waits cell ⊎ IsUnplaced sheet.sizes rest cell
       go cell inside marked (inl held) = inl held
       go cell inside marked (inr (inl on)) = inr (inl on)
       go cell inside marked (inr (inr open_still)) = inr (inr (weaker cell inside marked open_still))
 
   -- at first all are to be placed, and in the end none is
-  pub empty_queue : (queue : Queue) → IsEmpty queue.ready → ((place : ℕ) → get nat_cmp queue.waits place ≡ None) → queue.first ≡ 0 → IsQueue sheet marks (from 0) queue
+  pub empty_queue : (queue : Queue) → IsEmpty queue.ready → ((place : ℕ) → get nat_cmp queue.waits place ≡ None)
+      → queue.first ≡ 0 → IsQueue sheet marks (from 0) queue
   empty_queue queue none no_waits first_is = record {
     within = λ place held. absurd (nothing_held queue.ready place none held);
     ready = λ cell inside held. absurd (nothing_held queue.ready (place_of sheet.sizes cell) none held);
@@ -129,7 +149,10 @@ module _ (sheet : SheetValue) (marks : List ℕ) where
       conflict h = cc
 
   pub all_placed : (place : ℕ) (queue : Queue) → cell_count sheet.sizes ≤ place → IsQueue sheet marks (from place) queue → IsQueue sheet marks nothing queue
-  all_placed place queue past are = more_unplaced (from place) nothing queue (λ cell inside marked later. (let below = place-lt sheet.sizes cell inside in absurd (omega (arith, below, past, later)))) are
+  all_placed place queue past are =
+      more_unplaced (from place) nothing queue
+      (λ cell inside marked later. (let below = place-lt sheet.sizes cell inside in
+      absurd (omega (arith, below, past, later)))) are
 
   pub list_placed : (list : List Waiter) (queue : Queue) → list ≡ [] → IsQueue sheet marks (waiting list) queue → IsQueue sheet marks nothing queue
   list_placed list queue none are = more_unplaced (waiting list) nothing queue (λ cell inside marked listed. empty cell listed) are
@@ -138,7 +161,9 @@ module _ (sheet : SheetValue) (marks : List ℕ) where
       empty cell is = (let there = subst (λ l. Contains l is.waiter) none is.listed in absurd (omega (arith, there)))
 
   -- the one at the place is placed; those from the next place on aren't yet
-  pub next_placed : (place : ℕ) (cell : Position) (old new : Queue) → place_of sheet.sizes cell ≡ place → IsTrue (is_inside sheet.sizes cell) → Places sheet marks cell old new → IsQueue sheet marks (from place) old → IsQueue sheet marks (from (place + 1)) new
+  pub next_placed : (place : ℕ) (cell : Position) (old new : Queue) → place_of sheet.sizes cell ≡ place
+      → IsTrue (is_inside sheet.sizes cell) → Places sheet marks cell old new → IsQueue sheet marks (from place) old
+      → IsQueue sheet marks (from (place + 1)) new
   next_placed place cell old new here inside places are = places (from place) (from (place + 1)) split are
     where
       split : (c : Position) → IsTrue (is_inside sheet.sizes c) → place ≤ place_of sheet.sizes c → (place + 1 ≤ place_of sheet.sizes c) ⊎ (c ≡ cell)
@@ -149,7 +174,9 @@ module _ (sheet : SheetValue) (marks : List ℕ) where
           go (inr past) = inl (omega (arith, past))
 
   -- the last of the list is placed
-  pub last_placed : (list whole : List Waiter) (waiter : Waiter) (old new : Queue) → whole ≡ list ++ waiter ∷ [] → Places sheet marks waiter.cell old new → IsQueue sheet marks (waiting whole) old → IsQueue sheet marks (waiting list) new
+  pub last_placed : (list whole : List Waiter) (waiter : Waiter) (old new : Queue) → whole ≡ list ++ waiter ∷ []
+      → Places sheet marks waiter.cell old new → IsQueue sheet marks (waiting whole) old
+      → IsQueue sheet marks (waiting list) new
   last_placed list whole waiter old new is places are = places (waiting whole) (waiting list) split are
     where
       split : (cell : Position) → IsTrue (is_inside sheet.sizes cell) → HasWaiter whole cell → HasWaiter list cell ⊎ (cell ≡ waiter.cell)
@@ -169,7 +196,9 @@ module _ (sheet : SheetValue) (marks : List ℕ) where
     first = are.first;
   }
     where
-      go : (c : Position) → IsTrue (is_inside sheet.sizes c) → IsMarked sheet.sizes marks c → Holds queue c ⊎ WaitsOn sheet marks queue.waits c ⊎ IsUnplaced sheet.sizes left c → Holds queue c ⊎ WaitsOn sheet marks queue.waits c ⊎ IsUnplaced sheet.sizes rest c
+      go : (c : Position) → IsTrue (is_inside sheet.sizes c) → IsMarked sheet.sizes marks c → Holds queue c
+          ⊎ WaitsOn sheet marks queue.waits c ⊎ IsUnplaced sheet.sizes left c → Holds queue c
+          ⊎ WaitsOn sheet marks queue.waits c ⊎ IsUnplaced sheet.sizes rest c
       go c inside marked (inl held) = inl held
       go c inside marked (inr (inl on)) = inr (inl on)
       go c inside marked (inr (inr still)) = at (split c inside still)
@@ -179,7 +208,10 @@ module _ (sheet : SheetValue) (marks : List ℕ) where
           at (inr same) = absurd (not_both (is_marked sheet.sizes marks cell) (subst (λ p. IsMarked sheet.sizes marks p) same marked) unmarked)
 
   -- a marked cell that refers to no marked one is put among the ready ones
-  pub placed_ready : (cell : Position) (old new : Queue) → IsTrue (is_inside sheet.sizes cell) → IsMarked sheet.sizes marks cell → HasNoMarkedInput sheet marks cell → Updates nat_cmp old.ready new.ready (place_of sheet.sizes cell) true → new.waits ≡ old.waits → new.first ≡ old.first → Places sheet marks cell old new
+  pub placed_ready : (cell : Position) (old new : Queue) → IsTrue (is_inside sheet.sizes cell)
+      → IsMarked sheet.sizes marks cell → HasNoMarkedInput sheet marks cell
+      → Updates nat_cmp old.ready new.ready (place_of sheet.sizes cell) true → new.waits ≡ old.waits
+      → new.first ≡ old.first → Places sheet marks cell old new
   placed_ready cell old new inside marked no_input updates waits_are first_is left rest split are = record {
     within = λ place held. within place held (cases_eq place (place_of sheet.sizes cell));
     ready = λ c there held. ready c there held (one_or_two c cell);
@@ -191,13 +223,17 @@ module _ (sheet : SheetValue) (marks : List ℕ) where
       apart : (p : ℕ) → (p ≡ place_of sheet.sizes cell → ⊥) → contains nat_cmp new.ready p ≡ contains nat_cmp old.ready p
       apart p differs = updates.2 p (not_at (place_of sheet.sizes cell) p differs)
 
-      within : (place : ℕ) → IsTrue (contains nat_cmp new.ready place) → (place ≡ place_of sheet.sizes cell) ⊎ (place ≡ place_of sheet.sizes cell → ⊥) → place < cell_count sheet.sizes
+      within : (place : ℕ) → IsTrue (contains nat_cmp new.ready place) → (place ≡ place_of sheet.sizes cell)
+          ⊎ (place ≡ place_of sheet.sizes cell → ⊥) → place < cell_count sheet.sizes
       within place held (inl same) = subst (λ p. p < cell_count sheet.sizes) (sym same) (place-lt sheet.sizes cell inside)
       within place held (inr differs) = are.within place (sym (apart place differs) ∙ held)
 
       ready : (c : Position) → IsTrue (is_inside sheet.sizes c) → Holds new c → (c ≡ cell) ⊎ (c ≢ cell) → IsReady sheet marks c
       ready c there held (inl same) = subst (λ p. IsReady sheet marks p) (sym same) (record { marked = marked; inputs = no_input })
-      ready c there held (inr differs) = are.ready c there (sym (apart (place_of sheet.sizes c) (λ here. differs (place_same sheet.sizes c cell there inside here))) ∙ held)
+      ready c there held (inr differs) =
+          are.ready c there
+          (sym (apart (place_of sheet.sizes c) (λ here. differs (place_same sheet.sizes c cell there inside here)))
+          ∙ held)
 
       kept : (c : Position) → Holds old c → Holds new c
       kept c held = go (cases_eq (place_of sheet.sizes c) (place_of sheet.sizes cell))
@@ -206,7 +242,9 @@ module _ (sheet : SheetValue) (marks : List ℕ) where
           go (inl same) = ap (contains nat_cmp new.ready) same ∙ updates.1
           go (inr differs) = apart (place_of sheet.sizes c) differs ∙ held
 
-      each : (c : Position) → IsTrue (is_inside sheet.sizes c) → Holds old c ⊎ WaitsOn sheet marks old.waits c ⊎ IsUnplaced sheet.sizes left c → Holds new c ⊎ WaitsOn sheet marks new.waits c ⊎ IsUnplaced sheet.sizes rest c
+      each : (c : Position) → IsTrue (is_inside sheet.sizes c) → Holds old c ⊎ WaitsOn sheet marks old.waits c
+          ⊎ IsUnplaced sheet.sizes left c → Holds new c ⊎ WaitsOn sheet marks new.waits c
+          ⊎ IsUnplaced sheet.sizes rest c
       each c there (inl held) = inl (kept c held)
       each c there (inr (inl on)) = inr (inl (subst (λ w. WaitsOn sheet marks w c) (sym waits_are) on))
       each c there (inr (inr still)) = at (split c there still)
@@ -219,14 +257,17 @@ some_same : {A : Type 0} {a b : A} → Some a ≡ Some b → a ≡ b
 some_same h = cc
 
 -- those that wait on the cell at a place, taken out and put back with one more
-pub taken_list : (old new : Waits) (place : ℕ) (list : Vec Waiter Global) → get nat_cmp old place ≡ Some list → MapUpdates nat_cmp old new place None → TakesWaiters old new place list.items
+pub taken_list : (old new : Waits) (place : ℕ) (list : Vec Waiter Global) → get nat_cmp old place ≡ Some list
+    → MapUpdates nat_cmp old new place None → TakesWaiters old new place list.items
 taken_list old new place list is updates = record {
   taken = record { all = λ kept at. ap (λ (v : Vec Waiter Global). v.items) (some_same (sym at ∙ is)); each = λ waiter listed. (list, is, listed) };
   gone = updates.1;
   others = λ other differs. updates.2 other (not_at place other differs);
 }
 
-pub added_waiter : (old mid new : Waits) (place : ℕ) (before : List Waiter) (list : Vec Waiter Global) (waiter : Waiter) → TakesWaiters old mid place before → list.items ≡ before ++ waiter ∷ [] → MapUpdates nat_cmp mid new place (Some list) → AddsWaiter old new place waiter
+pub added_waiter : (old mid new : Waits) (place : ℕ) (before : List Waiter) (list : Vec Waiter Global) (waiter : Waiter)
+    → TakesWaiters old mid place before → list.items ≡ before ++ waiter ∷ []
+    → MapUpdates nat_cmp mid new place (Some list) → AddsWaiter old new place waiter
 added_waiter old mid new place before list waiter takes items updates = record {
   before = before;
   list = list;
@@ -237,11 +278,19 @@ added_waiter old mid new place before list waiter takes items updates = record {
 }
 
 -- the last of a list, and those before it
-pub last_waiter : (sheet : SheetValue) (marks : List ℕ) (list whole : List Waiter) (waiter : Waiter) → whole ≡ list ++ waiter ∷ [] → AreWaiters sheet marks whole → IsWaiter sheet marks waiter
-last_waiter sheet marks list whole waiter is are = are waiter (subst (λ l. Contains l waiter) (sym is) (Contains-append_right list (waiter ∷ []) waiter (0, omega arith, refl)))
+pub last_waiter : (sheet : SheetValue) (marks : List ℕ) (list whole : List Waiter) (waiter : Waiter) → whole ≡ list
+    ++ waiter ∷ [] → AreWaiters sheet marks whole → IsWaiter sheet marks waiter
+last_waiter sheet marks list whole waiter is are =
+    are waiter (subst (λ l. Contains l waiter) (sym is) (Contains-append_right list (waiter ∷ []) waiter (
+      0,
+      omega arith,
+      refl,
+    )))
 
-pub other_waiters : (sheet : SheetValue) (marks : List ℕ) (list whole : List Waiter) (waiter : Waiter) → whole ≡ list ++ waiter ∷ [] → AreWaiters sheet marks whole → AreWaiters sheet marks list
-other_waiters sheet marks list whole waiter is are other listed = are other (subst (λ l. Contains l other) (sym is) (Contains-append_left list (waiter ∷ []) other listed))
+pub other_waiters : (sheet : SheetValue) (marks : List ℕ) (list whole : List Waiter) (waiter : Waiter) → whole ≡ list
+    ++ waiter ∷ [] → AreWaiters sheet marks whole → AreWaiters sheet marks list
+other_waiters sheet marks list whole waiter is are other listed =
+    are other (subst (λ l. Contains l other) (sym is) (Contains-append_left list (waiter ∷ []) other listed))
 
 -- those that wait on the cell at a place, and one more
 module _ (old new : Waits) (place : ℕ) (waiter : Waiter) (adds : AddsWaiter old new place waiter) where
@@ -255,7 +304,8 @@ module _ (old new : Waits) (place : ℕ) (waiter : Waiter) (adds : AddsWaiter ol
         listed = record {
           waiter = at.listed.waiter;
           listed = subst (λ l. Contains l at.listed.waiter) (sym adds.items)
-              (Contains-append_left adds.before (waiter ∷ []) at.listed.waiter (subst (λ l. Contains l at.listed.waiter) (adds.was.all at.list (sym (ap (get nat_cmp old) same) ∙ at.kept)) at.listed.listed));
+              (Contains-append_left adds.before (waiter ∷ []) at.listed.waiter (subst (λ l. Contains l at.listed.waiter)
+              (adds.was.all at.list (sym (ap (get nat_cmp old) same) ∙ at.kept)) at.listed.listed));
           cell_is = at.listed.cell_is;
         };
       }
@@ -265,16 +315,26 @@ module _ (old new : Waits) (place : ℕ) (waiter : Waiter) (adds : AddsWaiter ol
   waits_too = record {
     list = adds.list;
     kept = adds.kept;
-    listed = record { waiter = waiter; listed = subst (λ l. Contains l waiter) (sym adds.items) (Contains-append_right adds.before (waiter ∷ []) waiter (0, omega arith, refl)); cell_is = refl };
+    listed =
+        record {
+          waiter = waiter;
+          listed = subst (λ l. Contains l waiter) (sym adds.items) (Contains-append_right adds.before (waiter
+              ∷ []) waiter (0, omega arith, refl));
+          cell_is = refl;
+        };
   }
 
   -- each that waits now waited before, or is the one
-  pub waited : (Such : Waiter → Type 0) → Such waiter → ((p : ℕ) (list : Vec Waiter Global) (w : Waiter) → get nat_cmp old p ≡ Some list → Contains list.items w → Such w) → (p : ℕ) (list : Vec Waiter Global) (w : Waiter) → get nat_cmp new p ≡ Some list → Contains list.items w → Such w
+  pub waited : (Such : Waiter → Type 0) → Such waiter → ((p : ℕ) (list : Vec Waiter Global) (w : Waiter)
+      → get nat_cmp old p ≡ Some list → Contains list.items w → Such w)
+      → (p : ℕ) (list : Vec Waiter Global) (w : Waiter) → get nat_cmp new p ≡ Some list → Contains list.items w → Such w
   waited Such this others p list w kept listed = go (cases_eq p place)
     where
       go : (p ≡ place) ⊎ (p ≡ place → ⊥) → Such w
       go (inr differs) = others p list w (sym (adds.others p differs) ∙ kept) listed
-      go (inl same) = at (Contains-append_cases adds.before (waiter ∷ []) w (subst (λ l. Contains l w) (ap (λ (v : Vec Waiter Global). v.items) lists ∙ adds.items) listed))
+      go (inl same) =
+          at (Contains-append_cases adds.before (waiter
+          ∷ []) w (subst (λ l. Contains l w) (ap (λ (v : Vec Waiter Global). v.items) lists ∙ adds.items) listed))
         where
           lists : list ≡ adds.list
           lists = some_same (sym kept ∙ ap (get nat_cmp new) same ∙ adds.kept)
@@ -284,7 +344,10 @@ module _ (old new : Waits) (place : ℕ) (waiter : Waiter) (adds : AddsWaiter ol
           at (inr last) = subst Such (sym (only_member waiter w last)) this
 
 -- a cell waits on a marked one to which it refers
-pub placed_waiting : (sheet : SheetValue) (marks : List ℕ) (input : Position) (waiter : Waiter) (old new : Queue) → IsWaiter sheet marks waiter → IsMarkedInput sheet marks waiter.cell input → AddsWaiter old.waits new.waits (place_of sheet.sizes input) waiter → new.ready ≡ old.ready → new.first ≡ old.first → Places sheet marks waiter.cell old new
+pub placed_waiting : (sheet : SheetValue) (marks : List ℕ) (input : Position) (waiter : Waiter) (old new : Queue)
+    → IsWaiter sheet marks waiter → IsMarkedInput sheet marks waiter.cell input
+    → AddsWaiter old.waits new.waits (place_of sheet.sizes input) waiter → new.ready ≡ old.ready → new.first ≡ old.first
+    → Places sheet marks waiter.cell old new
 placed_waiting sheet marks input waiter old new is on adds ready_are first_is left rest split are = record {
   within = λ place held. are.within place (subst (λ r. IsTrue (contains nat_cmp r place)) ready_are held);
   ready = λ c there held. are.ready c there (subst (λ r. IsTrue (contains nat_cmp r (place_of sheet.sizes c))) ready_are held);
@@ -293,17 +356,33 @@ placed_waiting sheet marks input waiter old new is on adds ready_are first_is le
   first = subst (NoneMarked sheet.sizes marks) (sym first_is) are.first;
 }
   where
-    each : (c : Position) → IsTrue (is_inside sheet.sizes c) → Holds sheet marks old c ⊎ WaitsOn sheet marks old.waits c ⊎ IsUnplaced sheet.sizes left c → Holds sheet marks new c ⊎ WaitsOn sheet marks new.waits c ⊎ IsUnplaced sheet.sizes rest c
+    each : (c : Position) → IsTrue (is_inside sheet.sizes c) → Holds sheet marks old c ⊎ WaitsOn sheet marks old.waits c
+        ⊎ IsUnplaced sheet.sizes left c → Holds sheet marks new c ⊎ WaitsOn sheet marks new.waits c
+        ⊎ IsUnplaced sheet.sizes rest c
     each c there (inl held) = inl (subst (λ r. IsTrue (contains nat_cmp r (place_of sheet.sizes c))) (sym ready_are) held)
-    each c there (inr (inl other)) = inr (inl (record { input = other.input; is = other.is; at = still_waits old.waits new.waits (place_of sheet.sizes input) waiter adds (place_of sheet.sizes other.input) c other.at }))
+    each c there (inr (inl other)) =
+        inr
+        (inl (record {
+          input = other.input;
+          is = other.is;
+          at = still_waits old.waits new.waits (place_of sheet.sizes input) waiter adds (place_of sheet.sizes other.input)
+              c other.at;
+        }))
     each c there (inr (inr still)) = at (split c there still)
       where
         at : IsUnplaced sheet.sizes rest c ⊎ (c ≡ waiter.cell) → Holds sheet marks new c ⊎ WaitsOn sheet marks new.waits c ⊎ IsUnplaced sheet.sizes rest c
         at (inl open_still) = inr (inr open_still)
-        at (inr same) = inr (inl (subst (WaitsOn sheet marks new.waits) (sym same) (record { input = input; is = on; at = waits_too old.waits new.waits (place_of sheet.sizes input) waiter adds })))
+        at (inr same) =
+            inr
+            (inl (subst (WaitsOn sheet marks new.waits) (sym same) (record {
+              input = input;
+              is = on;
+              at = waits_too old.waits new.waits (place_of sheet.sizes input) waiter adds;
+            })))
 
 -- the mark of one cell is taken away
-module _ (sheet : SheetValue) (old : List ℕ) (cell : Position) (count : length old ≡ cell_count sheet.sizes) (inside : IsTrue (is_inside sheet.sizes cell)) where
+module _ (sheet : SheetValue) (old : List ℕ) (cell : Position) (count : length old ≡ cell_count sheet.sizes)
+    (inside : IsTrue (is_inside sheet.sizes cell)) where
   abbrev pub new_marks : List ℕ
   new_marks = without_mark sheet.sizes old cell
 
@@ -338,7 +417,10 @@ module _ (sheet : SheetValue) (old : List ℕ) (cell : Position) (count : length
   }
 
   -- those that waited on it are to be placed
-  pub woken : (queue next : Queue) (list : List Waiter) → IsQueue sheet old (one cell) queue → contains nat_cmp queue.ready (place_of sheet.sizes cell) ≡ false → TakesWaiters queue.waits next.waits (place_of sheet.sizes cell) list → next.ready ≡ queue.ready → next.first ≡ queue.first → IsQueue sheet new_marks (waiting list) next
+  pub woken : (queue next : Queue) (list : List Waiter) → IsQueue sheet old (one cell) queue
+      → contains nat_cmp queue.ready (place_of sheet.sizes cell) ≡ false
+      → TakesWaiters queue.waits next.waits (place_of sheet.sizes cell) list → next.ready ≡ queue.ready
+      → next.first ≡ queue.first → IsQueue sheet new_marks (waiting list) next
   woken queue next list are taken takes ready_are first_is = record {
     within = λ place held. are.within place (subst (λ r. IsTrue (contains nat_cmp r place)) ready_are held);
     ready = λ c there held. ready c there (subst (λ r. IsTrue (contains nat_cmp r (place_of sheet.sizes c))) ready_are held);
@@ -350,17 +432,23 @@ module _ (sheet : SheetValue) (old : List ℕ) (cell : Position) (count : length
       ready : (c : Position) → IsTrue (is_inside sheet.sizes c) → Holds sheet old queue c → IsReady sheet new_marks c
       ready c there held =
           let was = are.ready c there held in
-          let differs : c ≢ cell = (λ same. not_both (contains nat_cmp queue.ready (place_of sheet.sizes cell)) (subst (λ (p : Position). Holds sheet old queue p) same held) taken) in
+          let differs : c ≢ cell =
+          (λ same. not_both (contains nat_cmp queue.ready (place_of sheet.sizes cell))
+          (subst (λ (p : Position). Holds sheet old queue p) same held) taken) in
           record { marked = same_mark c differs ∙ was.marked; inputs = λ input step. still_unmarked input (was.inputs input step) }
 
-      waiters : (p : ℕ) (kept : Vec Waiter Global) (waiter : Waiter) → get nat_cmp next.waits p ≡ Some kept → Contains kept.items waiter → (p ≡ place_of sheet.sizes cell) ⊎ (p ≡ place_of sheet.sizes cell → ⊥) → IsWaiter sheet new_marks waiter
+      waiters : (p : ℕ) (kept : Vec Waiter Global) (waiter : Waiter) → get nat_cmp next.waits p ≡ Some kept
+          → Contains kept.items waiter → (p ≡ place_of sheet.sizes cell) ⊎ (p ≡ place_of sheet.sizes cell → ⊥)
+          → IsWaiter sheet new_marks waiter
       waiters p kept waiter at listed (inl same) = absurd (conflict (sym takes.gone ∙ sym (ap (get nat_cmp next.waits) same) ∙ at))
         where
           conflict : {A : Type 0} {a : A} → None ≡ Some a → ⊥
           conflict h = cc
       waiters p kept waiter at listed (inr differs) = still_waiter waiter (are.waiters p kept waiter (sym (takes.others p differs) ∙ at) listed)
 
-      each : (c : Position) → IsTrue (is_inside sheet.sizes c) → c ≢ cell → Holds sheet old queue c ⊎ WaitsOn sheet old queue.waits c ⊎ (c ≡ cell) → Holds sheet new_marks next c ⊎ WaitsOn sheet new_marks next.waits c ⊎ HasWaiter list c
+      each : (c : Position) → IsTrue (is_inside sheet.sizes c) → c ≢ cell → Holds sheet old queue c
+          ⊎ WaitsOn sheet old queue.waits c ⊎ (c ≡ cell) → Holds sheet new_marks next c
+          ⊎ WaitsOn sheet new_marks next.waits c ⊎ HasWaiter list c
       each c there differs (inl held) = inl (subst (λ r. IsTrue (contains nat_cmp r (place_of sheet.sizes c))) (sym ready_are) held)
       each c there differs (inr (inr same)) = absurd (differs same)
       each c there differs (inr (inl on)) = go (one_or_two on.input cell)
@@ -368,10 +456,16 @@ module _ (sheet : SheetValue) (old : List ℕ) (cell : Position) (count : length
           go : (on.input ≡ cell) ⊎ (on.input ≢ cell) → Holds sheet new_marks next c ⊎ WaitsOn sheet new_marks next.waits c ⊎ HasWaiter list c
           go (inl same) =
               let whole = takes.taken.all on.at.list (sym (ap (λ p. get nat_cmp queue.waits (place_of sheet.sizes p)) same) ∙ on.at.kept) in
-              inr (inr (record { waiter = on.at.listed.waiter; listed = subst (λ l. Contains l on.at.listed.waiter) whole on.at.listed.listed; cell_is = on.at.listed.cell_is }))
+              inr
+              (inr (record {
+                waiter = on.at.listed.waiter;
+                listed = subst (λ l. Contains l on.at.listed.waiter) whole on.at.listed.listed;
+                cell_is = on.at.listed.cell_is;
+              }))
           go (inr other) =
               let input_there = marked_inside sheet.sizes old on.input on.is.marked in
-              let apart : place_of sheet.sizes on.input ≡ place_of sheet.sizes cell → ⊥ = (λ same. other (place_same sheet.sizes on.input cell input_there inside same)) in
+              let apart : place_of sheet.sizes on.input ≡ place_of sheet.sizes cell
+              → ⊥ = (λ same. other (place_same sheet.sizes on.input cell input_there inside same)) in
               inr (inl (record {
                 input = on.input;
                 is = record { marked = same_mark on.input other ∙ on.is.marked; step = on.is.step };
@@ -379,7 +473,8 @@ module _ (sheet : SheetValue) (old : List ℕ) (cell : Position) (count : length
               }))
 
   -- and each of them looks as before
-  pub woken_waiters : (queue : Queue) (list : List Waiter) (left : Unplaced) → IsQueue sheet old left queue → WaitAt queue.waits (place_of sheet.sizes cell) list → AreWaiters sheet new_marks list
+  pub woken_waiters : (queue : Queue) (list : List Waiter) (left : Unplaced) → IsQueue sheet old left queue
+      → WaitAt queue.waits (place_of sheet.sizes cell) list → AreWaiters sheet new_marks list
   woken_waiters queue list left are taken waiter listed =
       let had = taken.each waiter listed in
       still_waiter waiter (are.waiters (place_of sheet.sizes cell) had.0 waiter had.1 had.2)

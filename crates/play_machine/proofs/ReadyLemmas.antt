@@ -1,5 +1,6 @@
 -- Which cells are ready, and the first cell that is such as is asked for.
-use Rattle.std.proofs.Common.{◌≡◌, ◌⊎◌, inl, inr, ℕ, ◌+◌, ◌<◌, ◌≤◌, Bool, true, false, List, [], ◌∷◌, ◌++◌, length, IsTrue, IsFalse, Contains, arith, refl, sym, ap, subst, ◌∙◌}
+use Rattle.std.proofs.Common.{◌≡◌, ◌⊎◌, inl, inr, ℕ, ◌+◌, ◌<◌, ◌≤◌, Bool, true, false, List, [], ◌∷◌, ◌++◌, length}
+use Rattle.std.proofs.Common.{IsTrue, IsFalse, Contains, arith, refl, sym, ap, subst, ◌∙◌}
 use Rattle.std.specs.Prelude.{slice_get, Some}
 use Rattle.std.proofs.Math.Nat.{eq-or-lt_of_le}
 use Rattle.std.proofs.lemmas.List.Elements.{Contains-append_cases}
@@ -21,7 +22,9 @@ pub outside_unmarked : (sizes : Sizes) (marks : List ℕ) (cell : Position) → 
 outside_unmarked sizes marks cell outside = unmarked_from (mark_of sizes marks cell) (mark_outside sizes marks cell outside)
 
 -- no cell of a range is marked where none of its part in the rectangle is
-pub part_unmarked : (sizes : Sizes) (marks : List ℕ) (range part : Corners) (place : ℕ) → HoldsPart sizes range part → ListsCells (cells_of part) part → length (cells_of part) ≤ place → ((k : ℕ) (cell : Position) → k < place → slice_get (cells_of part) k ≡ Some cell → IsFalse (is_marked sizes marks cell)) → HasNoMark sizes marks range
+pub part_unmarked : (sizes : Sizes) (marks : List ℕ) (range part : Corners) (place : ℕ) → HoldsPart sizes range part
+    → ListsCells (cells_of part) part → length (cells_of part) ≤ place → ((k : ℕ) (cell : Position) → k < place
+    → slice_get (cells_of part) k ≡ Some cell → IsFalse (is_marked sizes marks cell)) → HasNoMark sizes marks range
 part_unmarked sizes marks range part place holds lists past unmarked cell there = go (is_inside sizes cell) refl
   where
     go : (b : Bool) → is_inside sizes cell ≡ b → IsFalse (is_marked sizes marks cell)
@@ -42,17 +45,26 @@ unready sheet marks cell none ready = not_both (is_marked sheet.sizes marks cell
 module _ (sheet : SheetValue) (marks : List ℕ) (cell : Position) where
   -- a cell without references is ready where it is marked
   pub ready_alone : ranges_in (content_of sheet cell) ≡ [] → IsTrue (is_marked sheet.sizes marks cell) → IsReady sheet marks cell
-  ready_alone none marked = record { marked = marked; inputs = λ input step. absurd (no_range step.pair.range (subst (λ rs. Contains rs step.pair.range) none (subst (λ (c : Position). Contains (ranges_in (content_of sheet c)) step.pair.range) step.cell_is step.of_sheet))) }
+  ready_alone none marked =
+      record {
+        marked = marked;
+        inputs = λ input step. absurd
+            (no_range step.pair.range (subst (λ rs. Contains rs step.pair.range) none
+            (subst (λ (c : Position). Contains (ranges_in (content_of sheet c)) step.pair.range) step.cell_is step.of_sheet)));
+      }
     where
       no_range : (range : Corners) → Contains [] range → ⊥
       no_range range there = absurd (omega (arith, there))
 
   -- a marked cell none of whose ranges has a marked one is
-  pub ready_all : (ranges : List Corners) → IsOnceEach (ranges_in (content_of sheet cell)) ranges → NoneHasMark sheet.sizes marks ranges → IsTrue (is_marked sheet.sizes marks cell) → IsReady sheet marks cell
+  pub ready_all : (ranges : List Corners) → IsOnceEach (ranges_in (content_of sheet cell)) ranges
+      → NoneHasMark sheet.sizes marks ranges → IsTrue (is_marked sheet.sizes marks cell) → IsReady sheet marks cell
   ready_all ranges once none marked = record {
     marked = marked;
     inputs = λ input step.
-        let listed = once_all (ranges_in (content_of sheet cell)) ranges step.pair.range once (subst (λ (c : Position). Contains (ranges_in (content_of sheet c)) step.pair.range) step.cell_is step.of_sheet) in
+        let listed = once_all (ranges_in (content_of sheet cell)) ranges step.pair.range once
+        (subst (λ (c : Position). Contains (ranges_in (content_of sheet c)) step.pair.range) step.cell_is
+        step.of_sheet) in
         none step.pair.range listed input step.inside;
   }
 
@@ -61,7 +73,8 @@ module _ (sizes : Sizes) (Such : Position → Type 0) where
   abbrev pub NoneBefore : ℕ → Type 0
   NoneBefore place = (cell : Position) → IsTrue (is_inside sizes cell) → place_of sizes cell < place → ¬ Such cell
 
-  pub none_more : (place : ℕ) (cell : Position) → NoneBefore place → IsTrue (is_inside sizes cell) → place_of sizes cell ≡ place → ¬ Such cell → NoneBefore (place + 1)
+  pub none_more : (place : ℕ) (cell : Position) → NoneBefore place → IsTrue (is_inside sizes cell)
+      → place_of sizes cell ≡ place → ¬ Such cell → NoneBefore (place + 1)
   none_more place cell none inside here not other there below such = go (eq-or-lt_of_le up_to)
     where
       up_to : place_of sizes other ≤ place
@@ -74,7 +87,8 @@ module _ (sizes : Sizes) (Such : Position → Type 0) where
   pub none_at_all : (place : ℕ) → cell_count sizes ≤ place → NoneBefore place → IsNowhere sizes Such
   none_at_all place past none cell inside = none cell inside (let below = place-lt sizes cell inside in omega (arith, below, past))
 
-  pub first_here : (place : ℕ) (cell : Position) → NoneBefore place → IsTrue (is_inside sizes cell) → place_of sizes cell ≡ place → Such cell → IsFirstCell sizes Such cell
+  pub first_here : (place : ℕ) (cell : Position) → NoneBefore place → IsTrue (is_inside sizes cell)
+      → place_of sizes cell ≡ place → Such cell → IsFirstCell sizes Such cell
   first_here place cell none inside here such = record {
     inside = inside;
     such = such;
@@ -82,7 +96,8 @@ module _ (sizes : Sizes) (Such : Position → Type 0) where
   }
 
 -- one range more, of which none is marked
-pub none_pushed : (sizes : Sizes) (marks : List ℕ) (ranges : List Corners) (range : Corners) → NoneHasMark sizes marks ranges → HasNoMark sizes marks range → NoneHasMark sizes marks (ranges ++ range ∷ [])
+pub none_pushed : (sizes : Sizes) (marks : List ℕ) (ranges : List Corners) (range : Corners)
+    → NoneHasMark sizes marks ranges → HasNoMark sizes marks range → NoneHasMark sizes marks (ranges ++ range ∷ [])
 none_pushed sizes marks ranges range none last other listed = go (Contains-append_cases ranges (range ∷ []) other listed)
   where
     go : Contains ranges other ⊎ Contains (range ∷ []) other → HasNoMark sizes marks other

@@ -1,5 +1,7 @@
 -- Turns can be made from any marks, and as many turns as there are cells leave no cell marked.
-use Rattle.std.proofs.Common.{◌≡◌, ◌⊎◌, inl, inr, ℕ, zero, suc, ◌+◌, ◌-◌, ◌*◌, ◌/◌, ◌%◌, ◌<◌, ◌≤◌, Bool, true, false, cond, List, [], ◌∷◌, length, get_or, replicate, IsTrue, IsFalse, Contains, arith, refl, sym, ap, subst, ◌∙◌}
+use Rattle.std.proofs.Common.{◌≡◌, ◌⊎◌, inl, inr, ℕ, zero, suc, ◌+◌, ◌-◌, ◌*◌, ◌/◌, ◌%◌, ◌<◌, ◌≤◌, Bool, true, false}
+use Rattle.std.proofs.Common.{cond, List, [], ◌∷◌, length, get_or, replicate, IsTrue, IsFalse, Contains, arith, refl}
+use Rattle.std.proofs.Common.{sym, ap, subst, ◌∙◌}
 use Rattle.std.specs.Prelude.{nat_lt}
 use Rattle.std.proofs.lemmas.Bool.{cases_lt, cases_eq}
 use Rattle.std.proofs.lemmas.Grind.{same_number_lists}
@@ -25,22 +27,34 @@ use Rattle.play_machine.proofs.ReadyLemmas.{outside_unmarked}
 split_place : (cols count place : ℕ) → place < count * cols → (place / cols < count) × (place % cols < cols) × (place / cols * cols + place % cols ≡ place)
 split_place cols count place below = grind arith
 
-pub there : (sizes : Sizes) (place : ℕ) → place < cell_count sizes → IsTrue (is_inside sizes (cell_at sizes place)) × (place_of sizes (cell_at sizes place) ≡ place)
+pub there : (sizes : Sizes) (place : ℕ) → place < cell_count sizes → IsTrue (is_inside sizes (cell_at sizes place))
+    × (place_of sizes (cell_at sizes place) ≡ place)
 there sizes place below =
     let parts = split_place sizes.cols sizes.rows place below in
     let row = parts.0 in
     let col = parts.1 in
     let row_at : place / sizes.cols + 1 - 1 ≡ place / sizes.cols = omega arith in
-    let col_at : place % sizes.cols + 1 - 1 ≡ place % sizes.cols = omega arith in
-    (inside_from sizes (cell_at sizes place) (record { row_from = omega arith; row_to = omega (arith, row); col_from = omega arith; col_to = omega (arith, col) }), rw (row_at, col_at) parts.2)
+    let col_at : place % sizes.cols + 1 - 1 ≡ place % sizes.cols = omega arith in (
+      inside_from sizes (cell_at sizes place) (record {
+        row_from = omega arith;
+        row_to = omega (arith, row);
+        col_from = omega arith;
+        col_to = omega (arith, col);
+      }),
+      rw (row_at, col_at) parts.2,
+    )
 
 -- of the cells of the rectangle there is a first one that is such as can be decided, or none is
 module _ (sizes : Sizes) (Such : Position → Type 0) (decide : (cell : Position) → Such cell ⊎ (¬ Such cell)) where
-  below_or_none : (n : ℕ) → ((k : ℕ) × (k < n) × Such (cell_at sizes k) × ((j : ℕ) → j < k → ¬ Such (cell_at sizes j))) ⊎ ((k : ℕ) → k < n → ¬ Such (cell_at sizes k))
+  below_or_none : (n : ℕ) → ((k : ℕ) × (k < n) × Such (cell_at sizes k) × ((j : ℕ) → j < k → ¬ Such (cell_at sizes j)))
+      ⊎ ((k : ℕ) → k < n → ¬ Such (cell_at sizes k))
   below_or_none zero = inr (λ k below. absurd (omega (arith, below)))
   below_or_none (suc n) = more (below_or_none n) (decide (cell_at sizes n))
     where
-      more : ((k : ℕ) × (k < n) × Such (cell_at sizes k) × ((j : ℕ) → j < k → ¬ Such (cell_at sizes j))) ⊎ ((k : ℕ) → k < n → ¬ Such (cell_at sizes k)) → Such (cell_at sizes n) ⊎ (¬ Such (cell_at sizes n)) → ((k : ℕ) × (k < suc n) × Such (cell_at sizes k) × ((j : ℕ) → j < k → ¬ Such (cell_at sizes j))) ⊎ ((k : ℕ) → k < suc n → ¬ Such (cell_at sizes k))
+      more : ((k : ℕ) × (k < n) × Such (cell_at sizes k) × ((j : ℕ) → j < k → ¬ Such (cell_at sizes j)))
+          ⊎ ((k : ℕ) → k < n → ¬ Such (cell_at sizes k)) → Such (cell_at sizes n) ⊎ (¬ Such (cell_at sizes n))
+          → ((k : ℕ) × (k < suc n) × Such (cell_at sizes k) × ((j : ℕ) → j < k → ¬ Such (cell_at sizes j)))
+          ⊎ ((k : ℕ) → k < suc n → ¬ Such (cell_at sizes k))
       more (inl (k, below, such, none)) here = inl (k, (omega (arith, below)), such, none)
       more (inr none) (inl such) = inl (n, (omega arith), such, none)
       more (inr none) (inr not) = inr (λ k below. at k below (cases_eq k n))
@@ -55,7 +69,9 @@ module _ (sizes : Sizes) (Such : Position → Type 0) (decide : (cell : Position
   pub first_or_none : ((cell : Position) × IsFirstCell sizes Such cell) ⊎ IsNowhere sizes Such
   first_or_none = go (below_or_none (cell_count sizes))
     where
-      go : ((k : ℕ) × (k < cell_count sizes) × Such (cell_at sizes k) × ((j : ℕ) → j < k → ¬ Such (cell_at sizes j))) ⊎ ((k : ℕ) → k < cell_count sizes → ¬ Such (cell_at sizes k)) → ((cell : Position) × IsFirstCell sizes Such cell) ⊎ IsNowhere sizes Such
+      go : ((k : ℕ) × (k < cell_count sizes) × Such (cell_at sizes k) × ((j : ℕ) → j < k → ¬ Such (cell_at sizes j)))
+          ⊎ ((k : ℕ) → k < cell_count sizes → ¬ Such (cell_at sizes k))
+          → ((cell : Position) × IsFirstCell sizes Such cell) ⊎ IsNowhere sizes Such
       go (inl (k, below, such, none)) = inl (
         cell_at sizes k,
         record {
@@ -81,9 +97,13 @@ true_or_not b = go (true_or_false b)
     go (inr other) = inr (λ is. not_both b is other)
 
 in_or_out : (cell : Position) (range : Corners) → IsIn cell range ⊎ (¬ IsIn cell range)
-in_or_out cell range = go (cases_lt cell.row range.head.row) (cases_lt range.tail.row cell.row) (cases_lt cell.col range.head.col) (cases_lt range.tail.col cell.col)
+in_or_out cell range =
+    go (cases_lt cell.row range.head.row) (cases_lt range.tail.row cell.row) (cases_lt cell.col range.head.col)
+    (cases_lt range.tail.col cell.col)
   where
-    go : (cell.row < range.head.row) ⊎ (range.head.row ≤ cell.row) → (range.tail.row < cell.row) ⊎ (cell.row ≤ range.tail.row) → (cell.col < range.head.col) ⊎ (range.head.col ≤ cell.col) → (range.tail.col < cell.col) ⊎ (cell.col ≤ range.tail.col) → IsIn cell range ⊎ (¬ IsIn cell range)
+    go : (cell.row < range.head.row) ⊎ (range.head.row ≤ cell.row) → (range.tail.row < cell.row)
+        ⊎ (cell.row ≤ range.tail.row) → (cell.col < range.head.col) ⊎ (range.head.col ≤ cell.col)
+        → (range.tail.col < cell.col) ⊎ (cell.col ≤ range.tail.col) → IsIn cell range ⊎ (¬ IsIn cell range)
     go (inl a) b c d = inr (λ is. let h = is.row_from in absurd (omega (arith, a, h)))
     go (inr a) (inl b) c d = inr (λ is. let h = is.row_to in absurd (omega (arith, b, h)))
     go (inr a) (inr b) (inl c) d = inr (λ is. let h = is.col_from in absurd (omega (arith, c, h)))
@@ -105,7 +125,8 @@ module _ (sizes : Sizes) (marks : List ℕ) where
   marked_in : (range : Corners) (cell : Position) → MarkedIn range cell ⊎ (¬ MarkedIn range cell)
   marked_in range cell = go (in_or_out cell range) (true_or_not (is_marked sizes marks cell))
     where
-      go : IsIn cell range ⊎ (¬ IsIn cell range) → IsTrue (is_marked sizes marks cell) ⊎ (¬ IsTrue (is_marked sizes marks cell)) → MarkedIn range cell ⊎ (¬ MarkedIn range cell)
+      go : IsIn cell range ⊎ (¬ IsIn cell range) → IsTrue (is_marked sizes marks cell)
+          ⊎ (¬ IsTrue (is_marked sizes marks cell)) → MarkedIn range cell ⊎ (¬ MarkedIn range cell)
       go (inl is) (inl marked) = inl (is, marked)
       go (inl is) (inr not) = inr (λ both. not both.1)
       go (inr out) m = inr (λ both. out both.0)
@@ -113,11 +134,14 @@ module _ (sizes : Sizes) (marks : List ℕ) where
   has_or_none : (range : Corners) → HasMark sizes marks range ⊎ HasNoMark sizes marks range
   has_or_none range = go (first_or_none sizes (MarkedIn range) (marked_in range))
     where
-      go : ((cell : Position) × IsFirstCell sizes (MarkedIn range) cell) ⊎ IsNowhere sizes (MarkedIn range) → HasMark sizes marks range ⊎ HasNoMark sizes marks range
+      go : ((cell : Position) × IsFirstCell sizes (MarkedIn range) cell) ⊎ IsNowhere sizes (MarkedIn range)
+          → HasMark sizes marks range ⊎ HasNoMark sizes marks range
       go (inl (cell, first)) = inl (cell, first.such.0, first.such.1)
       go (inr nowhere) = inr (λ cell is. at cell is (true_or_false (is_inside sizes cell)) (true_or_false (is_marked sizes marks cell)))
         where
-          at : (cell : Position) → IsIn cell range → IsTrue (is_inside sizes cell) ⊎ IsFalse (is_inside sizes cell) → IsTrue (is_marked sizes marks cell) ⊎ IsFalse (is_marked sizes marks cell) → IsFalse (is_marked sizes marks cell)
+          at : (cell : Position) → IsIn cell range → IsTrue (is_inside sizes cell) ⊎ IsFalse (is_inside sizes cell)
+              → IsTrue (is_marked sizes marks cell) ⊎ IsFalse (is_marked sizes marks cell)
+              → IsFalse (is_marked sizes marks cell)
           at cell is (inl inside) (inl marked) = absurd (nowhere cell inside (is, marked))
           at cell is (inl inside) (inr unmarked) = unmarked
           at cell is (inr outside) m = outside_unmarked sizes marks cell outside
@@ -126,7 +150,9 @@ module _ (sizes : Sizes) (marks : List ℕ) where
   some_or_none [] = inr (λ range listed. absurd (omega (arith, listed)))
   some_or_none (first ∷ ranges) = go (has_or_none first) (some_or_none ranges)
     where
-      go : HasMark sizes marks first ⊎ HasNoMark sizes marks first → SomeHasMark sizes marks ranges ⊎ NoneHasMark sizes marks ranges → SomeHasMark sizes marks (first ∷ ranges) ⊎ NoneHasMark sizes marks (first ∷ ranges)
+      go : HasMark sizes marks first ⊎ HasNoMark sizes marks first → SomeHasMark sizes marks ranges
+          ⊎ NoneHasMark sizes marks ranges → SomeHasMark sizes marks (first ∷ ranges)
+          ⊎ NoneHasMark sizes marks (first ∷ ranges)
       go (inl has) rest = inl (first, (0, omega arith, refl), has)
       go (inr none) (inl (range, (k, below, at), has)) = inl (range, (suc k, omega (arith, below), at), has)
       go (inr none) (inr others) = inr each
@@ -139,19 +165,34 @@ module _ (sizes : Sizes) (marks : List ℕ) where
 ready_or_not : (sheet : SheetValue) (marks : List ℕ) (cell : Position) → IsReady sheet marks cell ⊎ (¬ IsReady sheet marks cell)
 ready_or_not sheet marks cell = go (true_or_not (is_marked sheet.sizes marks cell)) (some_or_none sheet.sizes marks (ranges_in (content_of sheet cell)))
   where
-    go : IsTrue (is_marked sheet.sizes marks cell) ⊎ (¬ IsTrue (is_marked sheet.sizes marks cell)) → SomeHasMark sheet.sizes marks (ranges_in (content_of sheet cell)) ⊎ NoneHasMark sheet.sizes marks (ranges_in (content_of sheet cell)) → IsReady sheet marks cell ⊎ (¬ IsReady sheet marks cell)
+    go : IsTrue (is_marked sheet.sizes marks cell) ⊎ (¬ IsTrue (is_marked sheet.sizes marks cell))
+        → SomeHasMark sheet.sizes marks (ranges_in (content_of sheet cell))
+        ⊎ NoneHasMark sheet.sizes marks (ranges_in (content_of sheet cell)) → IsReady sheet marks cell
+        ⊎ (¬ IsReady sheet marks cell)
     go (inr not) some = inr (λ ready. not ready.marked)
-    go (inl marked) (inl (range, listed, has)) = inr (λ ready. not_both (is_marked sheet.sizes marks has.0) has.2 (ready.inputs has.0 (record { pair = record { range = range; cell = cell }; of_sheet = listed; inside = has.1; cell_is = refl })))
+    go (inl marked) (inl (range, listed, has)) =
+        inr (λ ready. not_both (is_marked sheet.sizes marks has.0) has.2
+        (ready.inputs has.0 (record {
+          pair = record { range = range; cell = cell };
+          of_sheet = listed;
+          inside = has.1;
+          cell_is = refl;
+        })))
     go (inl marked) (inr none) = inl (record {
       marked = marked;
-      inputs = λ input step. none step.pair.range (subst (λ (c : Position). Contains (ranges_in (content_of sheet c)) step.pair.range) step.cell_is step.of_sheet) input step.inside;
+      inputs =
+          λ input step. none step.pair.range
+          (subst (λ (c : Position). Contains (ranges_in (content_of sheet c)) step.pair.range) step.cell_is
+          step.of_sheet) input step.inside;
     })
 
 abbrev one_of : Bool → ℕ
 one_of b = cond b 1 0
 
 -- it falls by one where a marked cell is cleared
-pub cleared_count : (sizes : Sizes) (marks : List ℕ) (cell : Position) → length marks ≡ cell_count sizes → IsTrue (is_inside sizes cell) → IsTrue (is_marked sizes marks cell) → marked_count (without_mark sizes marks cell) + 1 ≡ marked_count marks
+pub cleared_count : (sizes : Sizes) (marks : List ℕ) (cell : Position) → length marks ≡ cell_count sizes
+    → IsTrue (is_inside sizes cell) → IsTrue (is_marked sizes marks cell)
+    → marked_count (without_mark sizes marks cell) + 1 ≡ marked_count marks
 cleared_count sizes marks cell count inside marked =
     let place = place_of sizes cell in
     let below : place < length marks = (let h = place-lt sizes cell inside in omega (arith, h, count)) in
@@ -166,14 +207,16 @@ record Turned (sheet : SheetValue) (old : List ℕ) : Type 0 where
   new : List ℕ
   turn : IsTurn sheet old new
   count : length new ≡ length old
-  falls : ((cell : Position) × IsTrue (is_inside sheet.sizes cell) × IsMarked sheet.sizes old cell × (marked_count new + 1 ≡ marked_count old)) ⊎ (IsNowhere sheet.sizes (IsMarked sheet.sizes old) × (new ≡ old))
+  falls : ((cell : Position) × IsTrue (is_inside sheet.sizes cell) × IsMarked sheet.sizes old cell
+      × (marked_count new + 1 ≡ marked_count old)) ⊎ (IsNowhere sheet.sizes (IsMarked sheet.sizes old) × (new ≡ old))
 
 turn_exists : (sheet : SheetValue) (old : List ℕ) → length old ≡ cell_count sheet.sizes → Turned sheet old
 turn_exists sheet old count =
     go (first_or_none sheet.sizes (IsMarked sheet.sizes old) (λ cell. true_or_not (is_marked sheet.sizes old cell)))
     (first_or_none sheet.sizes (IsReady sheet old) (ready_or_not sheet old))
   where
-    clear : (cell : Position) → IsTrue (is_inside sheet.sizes cell) → IsMarked sheet.sizes old cell → IsTurn sheet old (without_mark sheet.sizes old cell) → Turned sheet old
+    clear : (cell : Position) → IsTrue (is_inside sheet.sizes cell) → IsMarked sheet.sizes old cell
+        → IsTurn sheet old (without_mark sheet.sizes old cell) → Turned sheet old
     clear cell inside marked turn = record {
       new = without_mark sheet.sizes old cell;
       turn = turn;
@@ -181,7 +224,10 @@ turn_exists sheet old count =
       falls = inl (cell, inside, marked, cleared_count sheet.sizes old cell count inside marked);
     }
 
-    go : ((cell : Position) × IsFirstCell sheet.sizes (IsMarked sheet.sizes old) cell) ⊎ IsNowhere sheet.sizes (IsMarked sheet.sizes old) → ((cell : Position) × IsFirstCell sheet.sizes (IsReady sheet old) cell) ⊎ IsNowhere sheet.sizes (IsReady sheet old) → Turned sheet old
+    go : ((cell : Position) × IsFirstCell sheet.sizes (IsMarked sheet.sizes old) cell)
+        ⊎ IsNowhere sheet.sizes (IsMarked sheet.sizes old)
+        → ((cell : Position) × IsFirstCell sheet.sizes (IsReady sheet old) cell)
+        ⊎ IsNowhere sheet.sizes (IsReady sheet old) → Turned sheet old
     go (inr nowhere) ready = record { new = old; turn = clears_nothing nowhere refl; count = refl; falls = inr (nowhere, refl) }
     go (inl (cell, first)) (inl (chosen, is)) = clear chosen is.inside is.such.marked (clears_ready chosen is refl)
     go (inl (cell, first)) (inr none) = clear cell first.inside first.such (clears_marked cell none first refl)
@@ -208,20 +254,28 @@ turns_exist sheet (suc count) old filled = more (turns_exist sheet count old fil
           falls = fall before.falls next.falls;
         }
           where
-            fall : (marked_count before.new + count ≤ marked_count old) ⊎ IsNowhere sheet.sizes (IsMarked sheet.sizes before.new) → ((cell : Position) × IsTrue (is_inside sheet.sizes cell) × IsMarked sheet.sizes before.new cell × (marked_count next.new + 1 ≡ marked_count before.new)) ⊎ (IsNowhere sheet.sizes (IsMarked sheet.sizes before.new) × (next.new ≡ before.new)) → (marked_count next.new + suc count ≤ marked_count old) ⊎ IsNowhere sheet.sizes (IsMarked sheet.sizes next.new)
+            fall : (marked_count before.new + count ≤ marked_count old)
+                ⊎ IsNowhere sheet.sizes (IsMarked sheet.sizes before.new)
+                → ((cell : Position) × IsTrue (is_inside sheet.sizes cell) × IsMarked sheet.sizes before.new cell
+                × (marked_count next.new + 1 ≡ marked_count before.new))
+                ⊎ (IsNowhere sheet.sizes (IsMarked sheet.sizes before.new) × (next.new ≡ before.new))
+                → (marked_count next.new + suc count ≤ marked_count old)
+                ⊎ IsNowhere sheet.sizes (IsMarked sheet.sizes next.new)
             fall (inl less) (inl (cell, inside, marked, one)) = inl (omega (arith, less, one))
             fall (inr nowhere) (inl (cell, inside, marked, one)) = absurd (nowhere cell inside marked)
             fall from (inr (nowhere, same)) = inr (subst (λ ms. IsNowhere sheet.sizes (IsMarked sheet.sizes ms)) (sym same) nowhere)
 
 -- marks none of which is one
-pub zero_marks : (sizes : Sizes) (marks : List ℕ) → length marks ≡ cell_count sizes → IsNowhere sizes (IsMarked sizes marks) → marks ≡ replicate (length marks) 0
+pub zero_marks : (sizes : Sizes) (marks : List ℕ) → length marks ≡ cell_count sizes
+    → IsNowhere sizes (IsMarked sizes marks) → marks ≡ replicate (length marks) 0
 zero_marks sizes marks filled nowhere = same_number_lists marks (replicate (length marks) 0) (sym (length-replicate (length marks) 0)) at
   where
     at : (k : ℕ) → k < length marks → get_or marks k 0 ≡ get_or (replicate (length marks) 0) k 0
     at k below =
         let place = there sizes k (omega (arith, below, filled)) in
         let none : mark_of sizes marks (cell_at sizes k) ≡ 0 = unmarked (mark_of sizes marks (cell_at sizes k)) (nowhere (cell_at sizes k) place.0) in
-        ap (λ n. get_or marks n 0) (sym place.1) ∙ sym (mark_inside sizes marks (cell_at sizes k) place.0) ∙ none ∙ sym (get_or-replicate (length marks) k 0 0 below)
+        ap (λ n. get_or marks n 0) (sym place.1) ∙ sym (mark_inside sizes marks (cell_at sizes k) place.0) ∙ none
+        ∙ sym (get_or-replicate (length marks) k 0 0 below)
       where
         unmarked : (mark : ℕ) → ¬ IsTrue (nat_lt 0 mark) → mark ≡ 0
         unmarked zero not = refl
@@ -231,7 +285,9 @@ abbrev zeros : ℕ → List ℕ
 zeros n = replicate n 0
 
 pub none_marked : (sizes : Sizes) (count : ℕ) → IsNowhere sizes (IsMarked sizes (replicate count 0))
-none_marked sizes count cell inside = not_marked (mark_of sizes (replicate count 0) cell) (mark_inside sizes (replicate count 0) cell inside ∙ nothing (place_of sizes cell) count)
+none_marked sizes count cell inside =
+    not_marked (mark_of sizes (replicate count 0) cell) (mark_inside sizes (replicate count 0) cell inside
+    ∙ nothing (place_of sizes cell) count)
   where
     nothing : (k n : ℕ) → get_or (zeros n) k 0 ≡ 0
     nothing k n = go (cases_lt k n)
@@ -249,12 +305,15 @@ none_marked sizes count cell inside = not_marked (mark_of sizes (replicate count
     not_marked mark none is = not_both (nat_lt 0 mark) is (unmarked_from mark none)
 
 -- as many turns as there are marks clear all of them
-pub turns_clear : (sheet : SheetValue) (turns : ℕ) (marks : List ℕ) → length marks ≡ cell_count sheet.sizes → marked_count marks ≤ turns → AreTurns sheet turns marks (replicate (length marks) 0)
+pub turns_clear : (sheet : SheetValue) (turns : ℕ) (marks : List ℕ) → length marks ≡ cell_count sheet.sizes
+    → marked_count marks ≤ turns → AreTurns sheet turns marks (replicate (length marks) 0)
 turns_clear sheet turns marks filled enough =
     let made = turns_exist sheet turns marks filled in
-    subst (AreTurns sheet turns marks) (zero_marks sheet.sizes made.new (made.length_is ∙ filled) (nowhere made made.falls) ∙ ap (λ n. replicate n 0) made.length_is) made.turns
+    subst (AreTurns sheet turns marks) (zero_marks sheet.sizes made.new (made.length_is
+    ∙ filled) (nowhere made made.falls) ∙ ap (λ n. replicate n 0) made.length_is) made.turns
   where
-    nowhere : (made : HasTurned sheet turns marks) → (marked_count made.new + turns ≤ marked_count marks) ⊎ IsNowhere sheet.sizes (IsMarked sheet.sizes made.new) → IsNowhere sheet.sizes (IsMarked sheet.sizes made.new)
+    nowhere : (made : HasTurned sheet turns marks) → (marked_count made.new + turns ≤ marked_count marks)
+        ⊎ IsNowhere sheet.sizes (IsMarked sheet.sizes made.new) → IsNowhere sheet.sizes (IsMarked sheet.sizes made.new)
     nowhere made (inr none) = none
     nowhere made (inl less) = λ cell inside marked.
         let one = cleared_count sheet.sizes made.new cell (made.length_is ∙ filled) inside marked in

@@ -1,5 +1,6 @@
 -- The play machine: a sheet whose cells are marked by edits and cleared by turns of work, one command after the other.
-use Rattle.std.specs.Prelude.{◌≡◌, ◌<◌, ℕ, suc, ◌+◌, Bool, false, true, nat_lt, if◌then◌else◌, IsTrue, IsFalse, List, [], ◌∷◌, ◌++◌, length, map, replicate, slice_index_or, slice_set}
+use Rattle.std.specs.Prelude.{◌≡◌, ◌<◌, ℕ, suc, ◌+◌, Bool, false, true, nat_lt, if◌then◌else◌, IsTrue, IsFalse, List}
+use Rattle.std.specs.Prelude.{[], ◌∷◌, ◌++◌, length, map, replicate, slice_index_or, slice_set}
 use Rattle.sheet_refs.specs.Cells.{Position, Corners, cells_of}
 use Rattle.sheet_refs.specs.Sizes.{is_inside, cell_count, place_of}
 use Rattle.sheet_refs.specs.declared.sizes.Sizes.{Sizes}
@@ -58,7 +59,9 @@ without_mark sizes marks cell = slice_set marks (place_of sizes cell) 0
 -- a turn clears the first ready cell; or the first marked one, where none is ready; or nothing, where none is marked
 pub data IsTurn (sheet : SheetValue) (old new : List ℕ) : Type 0 where
   clears_ready : (cell : Position) → IsFirstCell sheet.sizes (IsReady sheet old) cell → new ≡ without_mark sheet.sizes old cell → IsTurn sheet old new
-  clears_marked : (cell : Position) → IsNowhere sheet.sizes (IsReady sheet old) → IsFirstCell sheet.sizes (IsMarked sheet.sizes old) cell → new ≡ without_mark sheet.sizes old cell → IsTurn sheet old new
+  clears_marked : (cell : Position) → IsNowhere sheet.sizes (IsReady sheet old)
+      → IsFirstCell sheet.sizes (IsMarked sheet.sizes old) cell → new ≡ without_mark sheet.sizes old cell
+      → IsTurn sheet old new
   clears_nothing : IsNowhere sheet.sizes (IsMarked sheet.sizes old) → new ≡ old → IsTurn sheet old new
 
 -- so many turns
@@ -69,7 +72,8 @@ pub data AreTurns (sheet : SheetValue) : ℕ → List ℕ → List ℕ → Type 
 -- an edit marks its cells and all that depend on them with its number, and no other cell
 pub record MarksTouched (sheet : SheetValue) (client : ℕ) (edit : EditValue) (number : ℕ) (old new : List ℕ) : Type 0 where
   pub count : length new ≡ length old
-  pub touched : (cell : Position) → IsTrue (is_inside sheet.sizes cell) → Touches sheet [] (client_entry client edit) cell → mark_of sheet.sizes new cell ≡ number
+  pub touched : (cell : Position) → IsTrue (is_inside sheet.sizes cell)
+      → Touches sheet [] (client_entry client edit) cell → mark_of sheet.sizes new cell ≡ number
   pub others : (cell : Position) → ¬ Touches sheet [] (client_entry client edit) cell → mark_of sheet.sizes new cell ≡ mark_of sheet.sizes old cell
 
 -- the machine after an edit, and with other marks

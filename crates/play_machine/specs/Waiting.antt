@@ -19,7 +19,8 @@ use Rattle.play_machine.specs.declared.waiter.Waiter.{Waiter}
 
 -- of a range's cells in the rectangle the first ones, up to a place, aren't marked
 abbrev pub IsSeen : Sizes → List ℕ → Corners → ℕ → Type 0
-IsSeen sizes marks range place = (k : ℕ) (cell : Position) → k < place → slice_get (cells_of (part_inside sizes range)) k ≡ Some cell → IsFalse (is_marked sizes marks cell)
+IsSeen sizes marks range place = (k : ℕ) (cell : Position) → k < place
+    → slice_get (cells_of (part_inside sizes range)) k ≡ Some cell → IsFalse (is_marked sizes marks cell)
 
 -- a place of a range, and the marked cell there, before which none is marked
 pub record IsNextMarked (sizes : Sizes) (marks : List ℕ) (range : Corners) (found : ℕ × Position) : Type 0 where
@@ -107,15 +108,20 @@ IsUnplaced sizes (from place) cell = place ≤ place_of sizes cell
 -- each marked cell is among the ready ones, or waits on a marked one to which it refers, or is still to be placed
 pub record IsQueue (sheet : SheetValue) (marks : List ℕ) (left : Unplaced) (queue : Queue) : Type 0 where
   pub within : (place : ℕ) → IsTrue (contains nat_cmp queue.ready place) → place < cell_count sheet.sizes
-  pub ready : (cell : Position) → IsTrue (is_inside sheet.sizes cell) → IsTrue (contains nat_cmp queue.ready (place_of sheet.sizes cell)) → IsReady sheet marks cell
-  pub waiters : (place : ℕ) (list : Vec Waiter Global) (waiter : Waiter) → get nat_cmp queue.waits place ≡ Some list → Contains list.items waiter → IsWaiter sheet marks waiter
-  pub each : (cell : Position) → IsTrue (is_inside sheet.sizes cell) → IsMarked sheet.sizes marks cell → IsTrue (contains nat_cmp queue.ready (place_of sheet.sizes cell)) ⊎ WaitsOn sheet marks queue.waits cell ⊎ IsUnplaced sheet.sizes left cell
+  pub ready : (cell : Position) → IsTrue (is_inside sheet.sizes cell)
+      → IsTrue (contains nat_cmp queue.ready (place_of sheet.sizes cell)) → IsReady sheet marks cell
+  pub waiters : (place : ℕ) (list : Vec Waiter Global) (waiter : Waiter) → get nat_cmp queue.waits place ≡ Some list
+      → Contains list.items waiter → IsWaiter sheet marks waiter
+  pub each : (cell : Position) → IsTrue (is_inside sheet.sizes cell) → IsMarked sheet.sizes marks cell
+      → IsTrue (contains nat_cmp queue.ready (place_of sheet.sizes cell)) ⊎ WaitsOn sheet marks queue.waits cell
+      ⊎ IsUnplaced sheet.sizes left cell
   pub first : NoneMarked sheet.sizes marks queue.first
 
 -- a cell that was still to be placed is placed, if it is marked; all others stay so
 abbrev pub Places : SheetValue → List ℕ → Position → Queue → Queue → Type 0
 Places sheet marks cell old new =
-    (left rest : Unplaced) → ((other : Position) → IsTrue (is_inside sheet.sizes other) → IsUnplaced sheet.sizes left other → IsUnplaced sheet.sizes rest other ⊎ (other ≡ cell))
+    (left rest : Unplaced) → ((other : Position) → IsTrue (is_inside sheet.sizes other)
+    → IsUnplaced sheet.sizes left other → IsUnplaced sheet.sizes rest other ⊎ (other ≡ cell))
     → IsQueue sheet marks left old → IsQueue sheet marks rest new
 
 -- there is a mark for each cell, those that are set are counted, and turns go by what the marks say

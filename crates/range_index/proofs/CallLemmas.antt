@@ -33,7 +33,9 @@ others_are : (id : ℕ) (entries : List Entry) → Removes entries (others id en
 others_are id [] entry = (λ there. absurd (omega (arith, there.1)), λ stood. stood.1)
 others_are id (e ∷ entries) entry = by_id (eqb_tells e.id id) (others_are id entries entry)
   where
-    by_id : (((e.id == id) ≡ true) × (e.id ≡ id)) ⊎ (((e.id == id) ≡ false) × (e.id ≢ id)) → Contains (others id entries) entry ↔ ((entry.id ≢ id) × Contains entries entry) → Contains (others id (e ∷ entries)) entry ↔ ((entry.id ≢ id) × Contains (e ∷ entries) entry)
+    by_id : (((e.id == id) ≡ true) × (e.id ≡ id)) ⊎ (((e.id == id) ≡ false) × (e.id ≢ id))
+        → Contains (others id entries) entry ↔ ((entry.id ≢ id) × Contains entries entry)
+        → Contains (others id (e ∷ entries)) entry ↔ ((entry.id ≢ id) × Contains (e ∷ entries) entry)
     by_id (inl (equal, same)) known =
         let gone : others id (e ∷ entries) ≡ others id entries = ap (λ (b : Bool). cond (not b) (e ∷ others id entries) (others id entries)) equal in (
           λ there. let stood = known.0 (subst (λ (es : List Entry). Contains es entry) gone there) in (stood.0, later e entry entries stood.1),
@@ -76,9 +78,12 @@ changed entries id range entry = (
 
 absent : (calls : List Call) (entries : List Entry) (id : ℕ) → After calls entries → last_range calls id ≡ None → HasNoId entries id
 absent calls entries id after none entry there same =
-    none-some entry.range (sym none ∙ (entries_last calls entries id entry.range after).0 (subst (λ (i : ℕ). Contains entries (entry_of i entry.range)) same there))
+    none-some entry.range (sym none
+    ∙ (entries_last calls entries id entry.range after).0
+    (subst (λ (i : ℕ). Contains entries (entry_of i entry.range)) same there))
 
-leads_on : (call : Call) (calls : List Call) (entries : List Entry) → After calls entries → MayBeMade call (last_range calls (id_of call)) → (new : List Entry) × Does call entries new
+leads_on : (call : Call) (calls : List Call) (entries : List Entry) → After calls entries
+    → MayBeMade call (last_range calls (id_of call)) → (new : List Entry) × Does call entries new
 leads_on (insertion id range) calls entries after none = (entry_of id range ∷ entries, (absent calls entries id after none, inserted entries id range))
 leads_on (removal id) calls entries after some = (others id entries, others_are id entries)
 leads_on (change id range) calls entries after some = (entry_of id range ∷ others id entries, changed entries id range)

@@ -1,5 +1,6 @@
 -- Tables after an entry came or went.
-use Rattle.std.proofs.Common.{◌≡◌, ◌≢◌, ◌↔◌, ◌⊎◌, inl, inr, ℕ, ◌+◌, ◌-◌, ◌<◌, ◌≤◌, Bool, true, false, true≢false, Option, Some, None, refl, sym, ◌∙◌, ap, subst, arith}
+use Rattle.std.proofs.Common.{◌≡◌, ◌≢◌, ◌↔◌, ◌⊎◌, inl, inr, ℕ, ◌+◌, ◌-◌, ◌<◌, ◌≤◌, Bool, true, false, true≢false}
+use Rattle.std.proofs.Common.{Option, Some, None, refl, sym, ◌∙◌, ap, subst, arith}
 use Rattle.std.specs.Option.{IsSome}
 use Rattle.sheet_refs.specs.Cells.{Corners}
 use Rattle.range_index.specs.declared.tiles.Home.{Home}
@@ -42,15 +43,23 @@ own_place a home place is = ap (λ (s : Slot). s.place) is
 
 -- an entry more
 
-pub grid_with : (at new_at : Slot → Option Entry) (count new_count : Home → ℕ) (stands new_stands : ℕ → Option Slot) (tallest widest new_tallest new_widest id : ℕ) (range : Corners) → IsGrid at count stands tallest widest → FitsNames range → ((s : Slot) (e : Entry) → at s ≡ Some e → e.id ≢ id) → SetsKey at new_at (slot_of (home_of range) (count (home_of range))) (Some (entry_of id range)) → SetsKey count new_count (home_of range) (count (home_of range) + 1) → SetsKey stands new_stands id (Some (slot_of (home_of range) (count (home_of range)))) → tallest ≤ new_tallest → widest ≤ new_widest → IsReachedKind new_tallest new_widest (home_of range) → IsGrid new_at new_count new_stands new_tallest new_widest
-grid_with at new_at count new_count stands new_stands tallest widest new_tallest new_widest id range grid fits absent items counts slots higher wider reached = record {
-  full = full;
-  counted = λ s e is. counted s e (stood s e is);
-  at_home = λ s e is. at_home s e (stood s e is);
-  fits = λ s e is. fits_names s e (stood s e is);
-  reached = λ s e is. is_reached s e (stood s e is);
-  noted = λ s e is. noted s e (stood s e is);
-}
+pub grid_with : (at new_at : Slot → Option Entry) (count new_count : Home → ℕ) (stands new_stands : ℕ
+    → Option Slot) (tallest widest new_tallest new_widest id : ℕ) (range : Corners)
+    → IsGrid at count stands tallest widest → FitsNames range → ((s : Slot) (e : Entry) → at s ≡ Some e → e.id ≢ id)
+    → SetsKey at new_at (slot_of (home_of range) (count (home_of range))) (Some (entry_of id range))
+    → SetsKey count new_count (home_of range) (count (home_of range) + 1)
+    → SetsKey stands new_stands id (Some (slot_of (home_of range) (count (home_of range)))) → tallest ≤ new_tallest
+    → widest ≤ new_widest → IsReachedKind new_tallest new_widest (home_of range)
+    → IsGrid new_at new_count new_stands new_tallest new_widest
+grid_with at new_at count new_count stands new_stands tallest widest new_tallest new_widest id range grid fits absent
+    items counts slots higher wider reached = record {
+      full = full;
+      counted = λ s e is. counted s e (stood s e is);
+      at_home = λ s e is. at_home s e (stood s e is);
+      fits = λ s e is. fits_names s e (stood s e is);
+      reached = λ s e is. is_reached s e (stood s e is);
+      noted = λ s e is. noted s e (stood s e is);
+    }
   where
     home : Home
     home = home_of range
@@ -114,7 +123,8 @@ abbrev pub Stands : (Slot → Option Entry) → Entry → Type 0
 Stands at entry = (slot : Slot) × (at slot ≡ Some entry)
 
 -- what stands after that stood before, or is the entry
-pub stands_with : (at new_at : Slot → Option Entry) (slot : Slot) (added entry : Entry) → at slot ≡ None → SetsKey at new_at slot (Some added) → Stands new_at entry ↔ (Stands at entry ⊎ (entry ≡ added))
+pub stands_with : (at new_at : Slot → Option Entry) (slot : Slot) (added entry : Entry) → at slot ≡ None
+    → SetsKey at new_at slot (Some added) → Stands new_at entry ↔ (Stands at entry ⊎ (entry ≡ added))
 stands_with at new_at slot added entry free items = (to, from)
   where
     to : Stands new_at entry → Stands at entry ⊎ (entry ≡ added)
@@ -129,7 +139,8 @@ stands_with at new_at slot added entry free items = (to, from)
     from (inr same) = (slot, items.here ∙ ap (λ (e : Entry). Some e) (sym same))
 
 -- nothing stands behind the last place of a home
-pub free_place : (at : Slot → Option Entry) (count : Home → ℕ) (stands : ℕ → Option Slot) (tallest widest : ℕ) (home : Home) → IsGrid at count stands tallest widest → at (slot_of home (count home)) ≡ None
+pub free_place : (at : Slot → Option Entry) (count : Home → ℕ) (stands : ℕ → Option Slot) (tallest widest : ℕ)
+    (home : Home) → IsGrid at count stands tallest widest → at (slot_of home (count home)) ≡ None
 free_place at count stands tallest widest home grid = by (at (slot_of home (count home))) refl
   where
     by : (o : Option Entry) → at (slot_of home (count home)) ≡ o → o ≡ None
@@ -137,7 +148,8 @@ free_place at count stands tallest widest home grid = by (at (slot_of home (coun
     by (Some e) is = absurd (omega (arith, grid.counted (slot_of home (count home)) e is))
 
 -- an entry less: the last one of its home has taken its place
-pub record TakesOut (at new_at : Slot → Option Entry) (count new_count : Home → ℕ) (stands new_stands : ℕ → Option Slot) (slot last : Slot) (out moved : Entry) : Type 0 where
+pub record TakesOut (at new_at : Slot → Option Entry) (count new_count : Home → ℕ) (stands new_stands : ℕ
+    → Option Slot) (slot last : Slot) (out moved : Entry) : Type 0 where
   pub last_is : last ≡ slot_of slot.home (count slot.home - 1)
   pub there : at slot ≡ Some out
   pub at_last : at last ≡ Some moved
@@ -152,7 +164,9 @@ pub record TakesOut (at new_at : Slot → Option Entry) (count new_count : Home 
 abbrev pub Stays : (Slot → Option Entry) → Slot → Slot → Entry → Slot → Entry → Type 0
 Stays at slot last moved s e = ((s ≡ slot) × (slot ≢ last) × (e ≡ moved)) ⊎ ((at s ≡ Some e) × (s ≢ last) × (s ≢ slot))
 
-pub stays : (at new_at : Slot → Option Entry) (count new_count : Home → ℕ) (stands new_stands : ℕ → Option Slot) (slot last : Slot) (out moved : Entry) → TakesOut at new_at count new_count stands new_stands slot last out moved → (s : Slot) (e : Entry) → new_at s ≡ Some e → Stays at slot last moved s e
+pub stays : (at new_at : Slot → Option Entry) (count new_count : Home → ℕ) (stands new_stands : ℕ
+    → Option Slot) (slot last : Slot) (out moved : Entry) → TakesOut at new_at count new_count stands new_stands slot
+    last out moved → (s : Slot) (e : Entry) → new_at s ≡ Some e → Stays at slot last moved s e
 stays at new_at count new_count stands new_stands slot last out moved takes s e is = elim (slot_cases s last) [
   | inl at_end ↦ absurd (none_is_some e (sym takes.gone ∙ ap new_at (sym at_end) ∙ is))
   | inr before ↦ elim (slot_cases s slot) [
@@ -163,7 +177,10 @@ stays at new_at count new_count stands new_stands slot last out moved takes s e 
   ]
 ]
 
-pub grid_without : (at new_at : Slot → Option Entry) (count new_count : Home → ℕ) (stands new_stands : ℕ → Option Slot) (tallest widest : ℕ) (slot last : Slot) (out moved : Entry) → IsGrid at count stands tallest widest → TakesOut at new_at count new_count stands new_stands slot last out moved → IsGrid new_at new_count new_stands tallest widest
+pub grid_without : (at new_at : Slot → Option Entry) (count new_count : Home → ℕ) (stands new_stands : ℕ
+    → Option Slot) (tallest widest : ℕ) (slot last : Slot) (out moved : Entry) → IsGrid at count stands tallest widest
+    → TakesOut at new_at count new_count stands new_stands slot last out moved
+    → IsGrid new_at new_count new_stands tallest widest
 grid_without at new_at count new_count stands new_stands tallest widest slot last out moved grid takes = record {
   full = full;
   counted = λ s e is. counted s e (now s e is);
@@ -210,7 +227,8 @@ grid_without at new_at count new_count stands new_stands tallest widest slot las
 
     at_home : (s : Slot) (e : Entry) → Stays at slot last moved s e → s.home ≡ home_of e.range
     at_home s e (inl (same, apart, is)) =
-        ap (λ (x : Slot). x.home) same ∙ (sym (ap (λ (x : Slot). x.home) takes.last_is) ∙ (grid.at_home last moved takes.at_last ∙ ap (λ (x : Entry). home_of x.range) (sym is)))
+        ap (λ (x : Slot). x.home) same ∙ (sym (ap (λ (x : Slot). x.home) takes.last_is)
+        ∙ (grid.at_home last moved takes.at_last ∙ ap (λ (x : Entry). home_of x.range) (sym is)))
     at_home s e (inr (before, _, _)) = grid.at_home s e before
 
     fits_names : (s : Slot) (e : Entry) → Stays at slot last moved s e → FitsNames e.range
@@ -228,8 +246,15 @@ grid_without at new_at count new_count stands new_stands tallest widest slot las
         ∙ grid.noted s e before
 
 -- what stands after that stood before, and isn't the one that was taken out
-pub stands_without : (at new_at : Slot → Option Entry) (count new_count : Home → ℕ) (stands new_stands : ℕ → Option Slot) (slot last : Slot) (out moved entry : Entry) → HasOnePlace at → TakesOut at new_at count new_count stands new_stands slot last out moved → Stands new_at entry ↔ ((entry.id ≢ out.id) × Stands at entry)
-stands_without at new_at count new_count stands new_stands slot last out moved entry one takes = (λ there. to there.0 (stays at new_at count new_count stands new_stands slot last out moved takes there.0 entry there.1), from)
+pub stands_without : (at new_at : Slot → Option Entry) (count new_count : Home → ℕ) (stands new_stands : ℕ
+    → Option Slot) (slot last : Slot) (out moved entry : Entry) → HasOnePlace at
+    → TakesOut at new_at count new_count stands new_stands slot last out moved → Stands new_at entry
+    ↔ ((entry.id ≢ out.id) × Stands at entry)
+stands_without at new_at count new_count stands new_stands slot last out moved entry one takes = (
+  λ there. to there.0 (stays at new_at count new_count stands new_stands slot last out moved takes there.0 entry
+      there.1),
+  from,
+)
   where
     to : (s : Slot) → Stays at slot last moved s entry → (entry.id ≢ out.id) × Stands at entry
     to s (inl (same, apart, is)) = (

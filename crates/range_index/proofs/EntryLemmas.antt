@@ -14,7 +14,8 @@ use Rattle.range_index.specs.Entries.{Entry, entry_of, HaveOneRange, HasNoId, In
 
 pub one_more : (entries : List Entry) (id : ℕ) (range : Corners) → HasNoId entries id → HaveOneRange entries → HaveOneRange (entries ++ entry_of id range ∷ [])
 one_more entries id range absent one =
-    all_pairs_push (λ (a b : Entry). a.id ≢ b.id) entries (entry_of id range) one (λ k d within. absent (get_or entries k d) (Contains-get_or entries k d within))
+    all_pairs_push (λ (a b : Entry). a.id ≢ b.id) entries (entry_of id range) one
+    (λ k d within. absent (get_or entries k d) (Contains-get_or entries k d within))
 
 pub inserts : (entries : List Entry) (id : ℕ) (range : Corners) → Inserts entries (entries ++ entry_of id range ∷ []) id range
 inserts entries id range entry =
@@ -54,9 +55,15 @@ one_less old new place inside took one i j d before within same =
     distinct a b less in_old = one a b d less in_old
 
     apart : (a b : ℕ) → StoodAt old new place i d a → StoodAt old new place j d b → ⊥
-    apart _ _ (there _ is_i) (there _ is_j) = distinct i j before (omega (arith, within, took.length_is)) (sym (ap (λ (e : Entry). e.id) is_i) ∙ same ∙ ap (λ (e : Entry). e.id) is_j)
-    apart _ _ (there other is_i) (last at is_j) = distinct i (length old - 1) (omega (arith, before, within, took.length_is)) (omega (arith, inside)) (sym (ap (λ (e : Entry). e.id) is_i) ∙ same ∙ ap (λ (e : Entry). e.id) is_j)
-    apart _ _ (last at is_i) (there other is_j) = distinct j (length old - 1) (omega (arith, within, took.length_is)) (omega (arith, inside)) (sym (ap (λ (e : Entry). e.id) is_j) ∙ sym same ∙ ap (λ (e : Entry). e.id) is_i)
+    apart _ _ (there _ is_i) (there _ is_j) =
+        distinct i j before (omega (arith, within, took.length_is)) (sym (ap (λ (e : Entry). e.id) is_i) ∙ same
+        ∙ ap (λ (e : Entry). e.id) is_j)
+    apart _ _ (there other is_i) (last at is_j) =
+        distinct i (length old - 1) (omega (arith, before, within, took.length_is)) (omega (arith, inside))
+        (sym (ap (λ (e : Entry). e.id) is_i) ∙ same ∙ ap (λ (e : Entry). e.id) is_j)
+    apart _ _ (last at is_i) (there other is_j) =
+        distinct j (length old - 1) (omega (arith, within, took.length_is)) (omega (arith, inside))
+        (sym (ap (λ (e : Entry). e.id) is_j) ∙ sym same ∙ ap (λ (e : Entry). e.id) is_i)
     apart _ _ (last at_i is_i) (last at_j is_j) = omega (arith, before, at_i, at_j)
 
 -- the entries but the one that stood there
@@ -107,16 +114,26 @@ none_found query out = record {
 }
 
 -- an id of the entries with one more is one of those before, or its id
-next_found : (entries : List Entry) (entry : Entry) (query : Corners) (id : ℕ) → IsOverlapping (entries ++ entry ∷ []) query id → IsOverlapping entries query id ⊎ ((id ≡ entry.id) × Overlap entry.range query)
+next_found : (entries : List Entry) (entry : Entry) (query : Corners) (id : ℕ)
+    → IsOverlapping (entries ++ entry ∷ []) query id → IsOverlapping entries query id
+    ⊎ ((id ≡ entry.id) × Overlap entry.range query)
 next_found entries entry query id is = elim (Contains-push_cases entries entry (entry_of id is.range) is.listed) [
   | inl before ↦ inl (record { range = is.range; listed = before; overlaps = is.overlaps })
   | inr same ↦ inr (ap (λ (e : Entry). e.id) (sym same), subst (λ (e : Entry). Overlap e.range query) (sym same) is.overlaps)
 ]
 
-still_found : (entries : List Entry) (entry : Entry) (query : Corners) (id : ℕ) → IsOverlapping entries query id → IsOverlapping (entries ++ entry ∷ []) query id
-still_found entries entry query id is = record { range = is.range; listed = Contains-append_left entries (entry ∷ []) (entry_of id is.range) is.listed; overlaps = is.overlaps }
+still_found : (entries : List Entry) (entry : Entry) (query : Corners) (id : ℕ) → IsOverlapping entries query id
+    → IsOverlapping (entries ++ entry ∷ []) query id
+still_found entries entry query id is =
+    record {
+      range = is.range;
+      listed = Contains-append_left entries (entry ∷ []) (entry_of id is.range) is.listed;
+      overlaps = is.overlaps;
+    }
 
-pub not_found : (entries : List Entry) (entry : Entry) (query : Corners) (old new : List ℕ) → ¬ Overlap entry.range query → AddsOverlapping entries query old new → AddsOverlapping (entries ++ entry ∷ []) query old new
+pub not_found : (entries : List Entry) (entry : Entry) (query : Corners) (old new : List ℕ)
+    → ¬ Overlap entry.range query → AddsOverlapping entries query old new
+    → AddsOverlapping (entries ++ entry ∷ []) query old new
 not_found entries entry query old new apart adds = record {
   added = adds.added;
   whole = adds.whole;
@@ -127,11 +144,15 @@ not_found entries entry query old new apart adds = record {
   );
 }
 
-pub one_found : (entries : List Entry) (entry : Entry) (query : Corners) (old new newer : List ℕ) → HasNoId entries entry.id → Overlap entry.range query → newer ≡ new ++ entry.id ∷ [] → AddsOverlapping entries query old new → AddsOverlapping (entries ++ entry ∷ []) query old newer
+pub one_found : (entries : List Entry) (entry : Entry) (query : Corners) (old new newer : List ℕ)
+    → HasNoId entries entry.id → Overlap entry.range query → newer ≡ new ++ entry.id ∷ []
+    → AddsOverlapping entries query old new → AddsOverlapping (entries ++ entry ∷ []) query old newer
 one_found entries entry query old new newer absent overlaps pushed adds = record {
   added = adds.added ++ entry.id ∷ [];
   whole = pushed ∙ (ap (λ (l : List ℕ). l ++ entry.id ∷ []) adds.whole ∙ append_assoc old adds.added (entry.id ∷ []));
-  once = all_pairs_push (λ (a b : ℕ). a ≢ b) adds.added entry.id adds.once (λ k d within. is_other (get_or adds.added k d) (Contains-get_or adds.added k d within));
+  once =
+      all_pairs_push (λ (a b : ℕ). a ≢ b) adds.added entry.id adds.once (λ k d within. is_other (get_or adds.added k d)
+      (Contains-get_or adds.added k d within));
   exact = λ id. (to id, λ is. from id (next_found entries entry query id is));
 }
   where
@@ -141,7 +162,13 @@ one_found entries entry query old new newer absent overlaps pushed adds = record
     to : (id : ℕ) → Contains (adds.added ++ entry.id ∷ []) id → IsOverlapping (entries ++ entry ∷ []) query id
     to id listed = elim (Contains-push_cases adds.added entry.id id listed) [
       | inl before ↦ still_found entries entry query id ((adds.exact id).0 before)
-      | inr same ↦ record { range = entry.range; listed = subst (λ (i : ℕ). Contains (entries ++ entry ∷ []) (entry_of i entry.range)) same (Contains-push entries entry); overlaps = overlaps }
+      | inr same ↦
+          record {
+            range = entry.range;
+            listed = subst (λ (i : ℕ). Contains (entries ++ entry ∷ []) (entry_of i entry.range)) same
+                (Contains-push entries entry);
+            overlaps = overlaps;
+          }
     ]
 
     from : (id : ℕ) → IsOverlapping entries query id ⊎ ((id ≡ entry.id) × Overlap entry.range query) → Contains (adds.added ++ entry.id ∷ []) id
@@ -149,10 +176,12 @@ one_found entries entry query old new newer absent overlaps pushed adds = record
     from id (inr own) = subst (λ (i : ℕ). Contains (adds.added ++ entry.id ∷ []) i) (sym own.0) (Contains-push adds.added entry.id)
 
 -- of the entries before a place none has the id that stands there
-pub absent_before : (entries : List Entry) (place : ℕ) (entry : Entry) → HaveOneRange entries → place < length entries → entry ≡ get_or entries place entry → HasNoId (take place entries) entry.id
+pub absent_before : (entries : List Entry) (place : ℕ) (entry : Entry) → HaveOneRange entries → place < length entries
+    → entry ≡ get_or entries place entry → HasNoId (take place entries) entry.id
 absent_before entries place entry one within here other (k, below, is) same =
     let before : k < place = omega (arith, below, length-take place entries) in
-    one k place other before within (ap (λ (e : Entry). e.id) (sym (get_or-take place entries k other before) ∙ is) ∙ same ∙ ap (λ (e : Entry). e.id) (here ∙ get_or_default entries place entry other within))
+    one k place other before within (ap (λ (e : Entry). e.id) (sym (get_or-take place entries k other before) ∙ is)
+    ∙ same ∙ ap (λ (e : Entry). e.id) (here ∙ get_or_default entries place entry other within))
 
 pub found_keeps : (entries : List Entry) (query : Corners) (old new : List ℕ) → AddsOverlapping entries query old new → KeepsIds old new
 found_keeps entries query old new adds = record { added = adds.added; whole = adds.whole }
@@ -167,18 +196,30 @@ keeps_on old mid new first second = record {
 -- one entry further
 
 within_of : (entries : List Entry) (place : ℕ) (entry : Entry) → slice_get entries place ≡ Some entry → place < length entries
-within_of entries place entry here = elim (slice_get_cases entries place).1 [ inl inside ↦ inside.1 | inr past ↦ absurd (let none : Some entry ≡ None = sym here ∙ past.1 in cc) ]
+within_of entries place entry here = elim (slice_get_cases entries place).1 [
+  | inl inside ↦ inside.1
+  | inr past ↦
+      absurd (let none : Some entry ≡ None = sym here ∙ past.1 in cc)
+]
 
-take_one : (entries : List Entry) (place next : ℕ) (entry : Entry) → next ≡ place + 1 → slice_get entries place ≡ Some entry → take next entries ≡ take place entries ++ entry ∷ []
+take_one : (entries : List Entry) (place next : ℕ) (entry : Entry) → next ≡ place + 1
+    → slice_get entries place ≡ Some entry → take next entries ≡ take place entries ++ entry ∷ []
 take_one entries place next entry is_next here =
     ap (λ n. take n entries) is_next ∙ (take_more entries place entry (within_of entries place entry here)
     ∙ ap (λ (e : Entry). take place entries ++ e ∷ []) (get_or_from_slice_get entries place entry entry here))
 
-pub passes_by : (entries : List Entry) (place next : ℕ) (entry : Entry) (query : Corners) (old new : List ℕ) → next ≡ place + 1 → slice_get entries place ≡ Some entry → ¬ Overlap entry.range query → AddsOverlapping (take place entries) query old new → AddsOverlapping (take next entries) query old new
+pub passes_by : (entries : List Entry) (place next : ℕ) (entry : Entry) (query : Corners) (old new : List ℕ)
+    → next ≡ place + 1 → slice_get entries place ≡ Some entry → ¬ Overlap entry.range query
+    → AddsOverlapping (take place entries) query old new → AddsOverlapping (take next entries) query old new
 passes_by entries place next entry query old new is_next here apart adds =
-    subst (λ (l : List Entry). AddsOverlapping l query old new) (sym (take_one entries place next entry is_next here)) (not_found (take place entries) entry query old new apart adds)
+    subst (λ (l : List Entry). AddsOverlapping l query old new) (sym (take_one entries place next entry is_next here))
+    (not_found (take place entries) entry query old new apart adds)
 
-pub adds_next : (entries : List Entry) (place next : ℕ) (entry : Entry) (query : Corners) (old new newer : List ℕ) → HaveOneRange entries → next ≡ place + 1 → slice_get entries place ≡ Some entry → Overlap entry.range query → newer ≡ new ++ entry.id ∷ [] → AddsOverlapping (take place entries) query old new → AddsOverlapping (take next entries) query old newer
+pub adds_next : (entries : List Entry) (place next : ℕ) (entry : Entry) (query : Corners) (old new newer : List ℕ)
+    → HaveOneRange entries → next ≡ place + 1 → slice_get entries place ≡ Some entry → Overlap entry.range query
+    → newer ≡ new ++ entry.id ∷ [] → AddsOverlapping (take place entries) query old new
+    → AddsOverlapping (take next entries) query old newer
 adds_next entries place next entry query old new newer one is_next here overlaps pushed adds =
     let absent = absent_before entries place entry one (within_of entries place entry here) (sym (get_or_from_slice_get entries place entry entry here)) in
-    subst (λ (l : List Entry). AddsOverlapping l query old newer) (sym (take_one entries place next entry is_next here)) (one_found (take place entries) entry query old new newer absent overlaps pushed adds)
+    subst (λ (l : List Entry). AddsOverlapping l query old newer) (sym (take_one entries place next entry is_next here))
+    (one_found (take place entries) entry query old new newer absent overlaps pushed adds)

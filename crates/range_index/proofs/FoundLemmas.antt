@@ -14,7 +14,10 @@ use Rattle.range_index.proofs.SlotLemmas.{stands_somewhere}
 abbrev pub IsNearAny : Corners → Slot → Type 0
 IsNearAny query slot = IsNearAt query 8 slot ⊎ (IsNearAt query 1024 slot ⊎ (IsNearAt query 32768 slot ⊎ IsNearAt query 1048576 slot))
 
-pub all_found : {items : List (Slot × Entry)} {counts : List (Home × ℕ)} {slots : List (ℕ × Slot)} {tallest widest : ℕ} (query : Corners) (old new : List ℕ) → AreGrid items counts slots tallest widest → AddsFound (λ slot. lookup (same_slot slot) items) (IsNearAny query) query old new → AddsOverlapping (values_of items) query old new
+pub all_found : {items : List (Slot × Entry)} {counts : List (Home × ℕ)} {slots : List (ℕ × Slot)} {tallest widest : ℕ}
+    (query : Corners) (old new : List ℕ) → AreGrid items counts slots tallest widest
+    → AddsFound (λ slot. lookup (same_slot slot) items) (IsNearAny query) query old new
+    → AddsOverlapping (values_of items) query old new
 all_found {items} {counts} {slots} {tallest} {widest} query old new are found = record {
   added = found.added;
   whole = found.whole;
@@ -28,7 +31,8 @@ all_found {items} {counts} {slots} {tallest} {widest} query old new are found = 
     to : (id : ℕ) → IsFound at (IsNearAny query) query id → IsOverlapping (values_of items) query id
     to id f = record {
       range = f.entry.range;
-      listed = subst (λ (i : ℕ). Contains (values_of items) (entry_of i f.entry.range)) f.id_is ((stands_somewhere items are.unique f.entry).1 (f.slot, f.here));
+      listed = subst (λ (i : ℕ). Contains (values_of items) (entry_of i f.entry.range)) f.id_is
+          ((stands_somewhere items are.unique f.entry).1 (f.slot, f.here));
       overlaps = f.overlaps;
     }
 

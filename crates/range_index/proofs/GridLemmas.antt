@@ -1,9 +1,11 @@
 -- Which ids are found at the places of homes.
-use Rattle.std.proofs.Common.{◌≡◌, ◌≢◌, ◌↔◌, ◌⊎◌, inl, inr, ℕ, ◌+◌, ◌-◌, ◌<◌, ◌≤◌, ◌/◌, List, [], ◌∷◌, ◌++◌, Option, Some, length, get_or, refl, sym, ◌∙◌, ap, subst, arith, nat_eq}
+use Rattle.std.proofs.Common.{◌≡◌, ◌≢◌, ◌↔◌, ◌⊎◌, inl, inr, ℕ, ◌+◌, ◌-◌, ◌<◌, ◌≤◌, ◌/◌, List, [], ◌∷◌, ◌++◌, Option}
+use Rattle.std.proofs.Common.{Some, length, get_or, refl, sym, ◌∙◌, ap, subst, arith, nat_eq}
 use Rattle.std.specs.List.{Contains}
 use Rattle.std.specs.Map.{lookup}
 use Rattle.std.proofs.lemmas.List.{append-nil, append_assoc}
-use Rattle.std.proofs.lemmas.List.Elements.{Contains-push_cases, Contains-append_left, Contains-append_right, Contains-append_cases, Contains-push, Contains-get_or}
+use Rattle.std.proofs.lemmas.List.Elements.{Contains-push_cases, Contains-append_left, Contains-append_right}
+use Rattle.std.proofs.lemmas.List.Elements.{Contains-append_cases, Contains-push, Contains-get_or}
 use Rattle.std.proofs.Math.Nat.{eq-or-lt_of_le}
 use Rattle.sheet_refs.proofs.Tiles.{AllPairs-append}
 use Rattle.sheet_refs.specs.Cells.{Corners}
@@ -17,16 +19,21 @@ use Rattle.range_index.specs.Grids.{IsGrid, AreGrid, IsFound, AddsFound, IsInRow
 abbrev pub HasOnePlace : (Slot → Option Entry) → Type 0
 HasOnePlace at = (a b : Slot) (e f : Entry) → at a ≡ Some e → at b ≡ Some f → e.id ≡ f.id → a ≡ b
 
-pub one_place : (at : Slot → Option Entry) (count : Home → ℕ) (stands : ℕ → Option Slot) (tallest widest : ℕ) → IsGrid at count stands tallest widest → HasOnePlace at
+pub one_place : (at : Slot → Option Entry) (count : Home → ℕ) (stands : ℕ → Option Slot) (tallest widest : ℕ)
+    → IsGrid at count stands tallest widest → HasOnePlace at
 one_place at count stands tallest widest grid a b e f here there same =
     let both : Some a ≡ Some b = sym (grid.noted a e here) ∙ ap stands same ∙ grid.noted b f there in cc
 
-pub places_of : {items : List (Slot × Entry)} {counts : List (Home × ℕ)} {slots : List (ℕ × Slot)} {tallest widest : ℕ} → AreGrid items counts slots tallest widest → HasOnePlace (λ slot. lookup (same_slot slot) items)
+pub places_of : {items : List (Slot × Entry)} {counts : List (Home × ℕ)} {slots : List (ℕ × Slot)} {tallest widest : ℕ}
+    → AreGrid items counts slots tallest widest → HasOnePlace (λ slot. lookup (same_slot slot) items)
 places_of {items} {counts} {slots} {tallest} {widest} are =
-    one_place (λ slot. lookup (same_slot slot) items) (λ home. or_none (lookup (same_home home) counts)) (λ id. lookup (nat_eq id) slots) tallest widest are.grid
+    one_place (λ slot. lookup (same_slot slot) items) (λ home. or_none (lookup (same_home home) counts))
+    (λ id. lookup (nat_eq id) slots) tallest widest are.grid
 
 -- ids that are found do not turn on places at which nothing stands
-pub found_same : (at : Slot → Option Entry) (V W : Slot → Type 0) (query : Corners) (old new : List ℕ) → ((slot : Slot) (entry : Entry) → at slot ≡ Some entry → V slot ↔ W slot) → AddsFound at V query old new → AddsFound at W query old new
+pub found_same : (at : Slot → Option Entry) (V W : Slot → Type 0) (query : Corners) (old new : List ℕ)
+    → ((slot : Slot) (entry : Entry) → at slot ≡ Some entry → V slot ↔ W slot) → AddsFound at V query old new
+    → AddsFound at W query old new
 found_same at V W query old new same adds = record {
   added = adds.added;
   whole = adds.whole;
@@ -35,13 +42,29 @@ found_same at V W query old new same adds = record {
 }
   where
     to : (id : ℕ) → IsFound at V query id → IsFound at W query id
-    to id f = record { slot = f.slot; entry = f.entry; visited = (same f.slot f.entry f.here).0 f.visited; here = f.here; id_is = f.id_is; overlaps = f.overlaps }
+    to id f = record {
+      slot = f.slot;
+      entry = f.entry;
+      visited = (same f.slot f.entry f.here).0 f.visited;
+      here = f.here;
+      id_is = f.id_is;
+      overlaps = f.overlaps;
+    }
 
     from : (id : ℕ) → IsFound at W query id → IsFound at V query id
-    from id f = record { slot = f.slot; entry = f.entry; visited = (same f.slot f.entry f.here).1 f.visited; here = f.here; id_is = f.id_is; overlaps = f.overlaps }
+    from id f = record {
+      slot = f.slot;
+      entry = f.entry;
+      visited = (same f.slot f.entry f.here).1 f.visited;
+      here = f.here;
+      id_is = f.id_is;
+      overlaps = f.overlaps;
+    }
 
 -- at no place nothing is found
-pub found_nowhere : (at : Slot → Option Entry) (V : Slot → Type 0) (query : Corners) (out : List ℕ) → ((slot : Slot) (entry : Entry) → V slot → at slot ≡ Some entry → Overlap entry.range query → ⊥) → AddsFound at V query out out
+pub found_nowhere : (at : Slot → Option Entry) (V : Slot → Type 0) (query : Corners) (out : List ℕ)
+    → ((slot : Slot) (entry : Entry) → V slot → at slot ≡ Some entry → Overlap entry.range query → ⊥)
+    → AddsFound at V query out out
 found_nowhere at V query out none = record {
   added = [];
   whole = sym (append-nil out);
@@ -50,7 +73,9 @@ found_nowhere at V query out none = record {
 }
 
 -- at one place
-pub found_here : (at : Slot → Option Entry) (slot : Slot) (entry : Entry) (query : Corners) (old new : List ℕ) → at slot ≡ Some entry → Overlap entry.range query → new ≡ old ++ entry.id ∷ [] → AddsFound at (λ s. s ≡ slot) query old new
+pub found_here : (at : Slot → Option Entry) (slot : Slot) (entry : Entry) (query : Corners) (old new : List ℕ)
+    → at slot ≡ Some entry → Overlap entry.range query → new ≡ old ++ entry.id ∷ []
+    → AddsFound at (λ s. s ≡ slot) query old new
 found_here at slot entry query old new here overlaps pushed = record {
   added = entry.id ∷ [];
   whole = pushed;
@@ -73,7 +98,9 @@ found_here at slot entry query old new here overlaps pushed = record {
         subst (λ (i : ℕ). Contains (entry.id ∷ []) i) (sym (ap (λ (e : Entry). e.id) same) ∙ found.id_is) (Contains-push [] entry.id)
 
 -- at two sets of places that share none
-pub found_both : (at : Slot → Option Entry) (V W : Slot → Type 0) (query : Corners) (old mid new : List ℕ) → HasOnePlace at → ((slot : Slot) → V slot → W slot → ⊥) → AddsFound at V query old mid → AddsFound at W query mid new → AddsFound at (λ s. V s ⊎ W s) query old new
+pub found_both : (at : Slot → Option Entry) (V W : Slot → Type 0) (query : Corners) (old mid new : List ℕ)
+    → HasOnePlace at → ((slot : Slot) → V slot → W slot → ⊥) → AddsFound at V query old mid
+    → AddsFound at W query mid new → AddsFound at (λ s. V s ⊎ W s) query old new
 found_both at V W query old mid new grid apart first second = record {
   added = first.added ++ second.added;
   whole = second.whole ∙ (ap (λ (l : List ℕ). l ++ second.added) first.whole ∙ append_assoc old first.added second.added);
@@ -91,16 +118,52 @@ found_both at V W query old mid new grid apart first second = record {
         ((second.exact (get_or second.added j d)).0 (Contains-get_or second.added j d in_second))
 
     to : (id : ℕ) → Contains first.added id ⊎ Contains second.added id → IsFound at (λ s. V s ⊎ W s) query id
-    to id (inl listed) = let f = (first.exact id).0 listed in record { slot = f.slot; entry = f.entry; visited = inl f.visited; here = f.here; id_is = f.id_is; overlaps = f.overlaps }
-    to id (inr listed) = let f = (second.exact id).0 listed in record { slot = f.slot; entry = f.entry; visited = inr f.visited; here = f.here; id_is = f.id_is; overlaps = f.overlaps }
+    to id (inl listed) =
+        let f = (first.exact id).0 listed in record {
+          slot = f.slot;
+          entry = f.entry;
+          visited = inl f.visited;
+          here = f.here;
+          id_is = f.id_is;
+          overlaps = f.overlaps;
+        }
+    to id (inr listed) =
+        let f = (second.exact id).0 listed in record {
+          slot = f.slot;
+          entry = f.entry;
+          visited = inr f.visited;
+          here = f.here;
+          id_is = f.id_is;
+          overlaps = f.overlaps;
+        }
 
     from : (id : ℕ) → (f : IsFound at (λ s. V s ⊎ W s) query id) → V f.slot ⊎ W f.slot → Contains (first.added ++ second.added) id
-    from id f (inl visited) = Contains-append_left first.added second.added id ((first.exact id).1 (record { slot = f.slot; entry = f.entry; visited = visited; here = f.here; id_is = f.id_is; overlaps = f.overlaps }))
-    from id f (inr visited) = Contains-append_right first.added second.added id ((second.exact id).1 (record { slot = f.slot; entry = f.entry; visited = visited; here = f.here; id_is = f.id_is; overlaps = f.overlaps }))
+    from id f (inl visited) =
+        Contains-append_left first.added second.added id ((first.exact id).1 (record {
+          slot = f.slot;
+          entry = f.entry;
+          visited = visited;
+          here = f.here;
+          id_is = f.id_is;
+          overlaps = f.overlaps;
+        }))
+    from id f (inr visited) =
+        Contains-append_right first.added second.added id ((second.exact id).1 (record {
+          slot = f.slot;
+          entry = f.entry;
+          visited = visited;
+          here = f.here;
+          id_is = f.id_is;
+          overlaps = f.overlaps;
+        }))
 
 -- at two such sets, which are together all places of a third at which something stands
-pub found_more : (at : Slot → Option Entry) (V W T : Slot → Type 0) (query : Corners) (old mid new : List ℕ) → HasOnePlace at → ((slot : Slot) → V slot → W slot → ⊥) → ((slot : Slot) (entry : Entry) → at slot ≡ Some entry → (V slot ⊎ W slot) ↔ T slot) → AddsFound at V query old mid → AddsFound at W query mid new → AddsFound at T query old new
-found_more at V W T query old mid new grid apart same first second = found_same at (λ s. V s ⊎ W s) T query old new same (found_both at V W query old mid new grid apart first second)
+pub found_more : (at : Slot → Option Entry) (V W T : Slot → Type 0) (query : Corners) (old mid new : List ℕ)
+    → HasOnePlace at → ((slot : Slot) → V slot → W slot → ⊥) → ((slot : Slot) (entry : Entry) → at slot ≡ Some entry
+    → (V slot ⊎ W slot) ↔ T slot) → AddsFound at V query old mid → AddsFound at W query mid new
+    → AddsFound at T query old new
+found_more at V W T query old mid new grid apart same first second =
+    found_same at (λ s. V s ⊎ W s) T query old new same (found_both at V W query old mid new grid apart first second)
 
 -- places of a home
 
@@ -134,14 +197,19 @@ home_at height width row col = record { height = height; width = width; row = ro
 abbrev pub IsLeftOf : Corners → ℕ → ℕ → ℕ → ℕ → Slot → Type 0
 IsLeftOf query height width row col slot = IsInRow query height width row slot × (slot.home.col < col)
 
-pub home_is : (home : Home) (height width row col : ℕ) → home.height ≡ height → home.width ≡ width → home.row ≡ row → home.col ≡ col → home ≡ home_at height width row col
+pub home_is : (home : Home) (height width row col : ℕ) → home.height ≡ height → home.width ≡ width → home.row ≡ row
+    → home.col ≡ col → home ≡ home_at height width row col
 home_is home height width row col h w r c =
-    ap (λ n. home_at n home.width home.row home.col) h ∙ (ap (λ n. home_at height n home.row home.col) w ∙ (ap (λ n. home_at height width n home.col) r ∙ ap (λ n. home_at height width row n) c))
+    ap (λ n. home_at n home.width home.row home.col) h ∙ (ap (λ n. home_at height n home.row home.col) w
+    ∙ (ap (λ n. home_at height width n home.col) r ∙ ap (λ n. home_at height width row n) c))
 
-pub not_left : (query : Corners) (height width row col : ℕ) (slot : Slot) → IsLeftOf query height width row col slot → slot.home ≡ home_at height width row col → ⊥
+pub not_left : (query : Corners) (height width row col : ℕ) (slot : Slot) → IsLeftOf query height width row col slot
+    → slot.home ≡ home_at height width row col → ⊥
 not_left query height width row col slot left same = omega (arith, left.1, ap (λ (h : Home). h.col) same)
 
-pub left_next : (query : Corners) (height width row col : ℕ) (slot : Slot) → (query.head.col - width) / width ≤ col → col ≤ (query.tail.col - 1) / width → (IsLeftOf query height width row col slot ⊎ (slot.home ≡ home_at height width row col)) ↔ IsLeftOf query height width row (col + 1) slot
+pub left_next : (query : Corners) (height width row col : ℕ) (slot : Slot) → (query.head.col - width) / width ≤ col
+    → col ≤ (query.tail.col - 1) / width → (IsLeftOf query height width row col slot
+    ⊎ (slot.home ≡ home_at height width row col)) ↔ IsLeftOf query height width row (col + 1) slot
 left_next query height width row col slot from_first to_last = (to, from)
   where
     to : IsLeftOf query height width row col slot ⊎ (slot.home ≡ home_at height width row col) → IsLeftOf query height width row (col + 1) slot
@@ -172,7 +240,9 @@ IsAbove query height width row slot = IsNear query height width slot × (slot.ho
 pub not_above : (query : Corners) (height width row : ℕ) (slot : Slot) → IsAbove query height width row slot → IsInRow query height width row slot → ⊥
 not_above query height width row slot above here = omega (arith, above.1, here.row_is)
 
-pub above_next : (query : Corners) (height width row : ℕ) (slot : Slot) → (query.head.row - height) / height ≤ row → row ≤ (query.tail.row - 1) / height → (IsAbove query height width row slot ⊎ IsInRow query height width row slot) ↔ IsAbove query height width (row + 1) slot
+pub above_next : (query : Corners) (height width row : ℕ) (slot : Slot) → (query.head.row - height) / height ≤ row
+    → row ≤ (query.tail.row - 1) / height → (IsAbove query height width row slot ⊎ IsInRow query height width row slot)
+    ↔ IsAbove query height width (row + 1) slot
 above_next query height width row slot from_first to_last = (to, from)
   where
     to : IsAbove query height width row slot ⊎ IsInRow query height width row slot → IsAbove query height width (row + 1) slot
@@ -191,7 +261,13 @@ above_next query height width row slot from_first to_last = (to, from)
 
     from : IsAbove query height width (row + 1) slot → IsAbove query height width row slot ⊎ IsInRow query height width row slot
     from above = elim (eq-or-lt_of_le (omega (arith, above.1))) [
-      | inl same ↦ inr (record { height_is = above.0.height_is; width_is = above.0.width_is; row_is = same; col_from = above.0.col_from; col_to = above.0.col_to })
+      | inl same ↦ inr (record {
+        height_is = above.0.height_is;
+        width_is = above.0.width_is;
+        row_is = same;
+        col_from = above.0.col_from;
+        col_to = above.0.col_to;
+      })
       | inr less ↦ inl (above.0, less)
     ]
 
@@ -223,7 +299,10 @@ one_of_three {A} {B} {C} = (to, from)
     from (inr (inr c)) = inr c
 
 -- at three sets of places, no two of which share one
-pub found_thrice : (at : Slot → Option Entry) (A B C : Slot → Type 0) (query : Corners) (old first second new : List ℕ) → HasOnePlace at → ((slot : Slot) → A slot → B slot → ⊥) → ((slot : Slot) → A slot → C slot → ⊥) → ((slot : Slot) → B slot → C slot → ⊥) → AddsFound at A query old first → AddsFound at B query first second → AddsFound at C query second new → AddsFound at (λ s. A s ⊎ (B s ⊎ C s)) query old new
+pub found_thrice : (at : Slot → Option Entry) (A B C : Slot → Type 0) (query : Corners) (old first second new : List ℕ)
+    → HasOnePlace at → ((slot : Slot) → A slot → B slot → ⊥) → ((slot : Slot) → A slot → C slot → ⊥)
+    → ((slot : Slot) → B slot → C slot → ⊥) → AddsFound at A query old first → AddsFound at B query first second
+    → AddsFound at C query second new → AddsFound at (λ s. A s ⊎ (B s ⊎ C s)) query old new
 found_thrice at A B C query old first second new grid ab ac bc one two three =
     found_more at (λ s. A s ⊎ B s) C (λ s. A s ⊎ (B s ⊎ C s)) query old second new grid apart (λ slot entry here. one_of_three)
     (found_both at A B query old first second grid ab one two) three
@@ -233,7 +312,11 @@ found_thrice at A B C query old first second new grid ab ac bc one two three =
     apart slot (inr b) c = bc slot b c
 
 -- at one set of places and at three others, none of which shares one with it
-pub found_once_more : (at : Slot → Option Entry) (A B C D : Slot → Type 0) (query : Corners) (old first new : List ℕ) → HasOnePlace at → ((slot : Slot) → A slot → B slot → ⊥) → ((slot : Slot) → A slot → C slot → ⊥) → ((slot : Slot) → A slot → D slot → ⊥) → AddsFound at A query old first → AddsFound at (λ s. B s ⊎ (C s ⊎ D s)) query first new → AddsFound at (λ s. A s ⊎ (B s ⊎ (C s ⊎ D s))) query old new
+pub found_once_more : (at : Slot → Option Entry) (A B C D : Slot → Type 0) (query : Corners) (old first new : List ℕ)
+    → HasOnePlace at → ((slot : Slot) → A slot → B slot → ⊥) → ((slot : Slot) → A slot → C slot → ⊥)
+    → ((slot : Slot) → A slot → D slot → ⊥) → AddsFound at A query old first
+    → AddsFound at (λ s. B s ⊎ (C s ⊎ D s)) query first new
+    → AddsFound at (λ s. A s ⊎ (B s ⊎ (C s ⊎ D s))) query old new
 found_once_more at A B C D query old first new grid ab ac ad one others =
     found_both at A (λ s. B s ⊎ (C s ⊎ D s)) query old first new grid apart one others
   where
@@ -243,7 +326,9 @@ found_once_more at A B C D query old first new grid ab ac ad one others =
     apart slot a (inr (inr d)) = ad slot a d
 
 -- at homes that are higher or wider than all at which something stands
-pub found_past : (at : Slot → Option Entry) (count : Home → ℕ) (stands : ℕ → Option Slot) (tallest widest : ℕ) (query : Corners) (height width : ℕ) (out : List ℕ) → IsGrid at count stands tallest widest → (tallest < height) ⊎ (widest < width) → AddsFound at (IsNear query height width) query out out
+pub found_past : (at : Slot → Option Entry) (count : Home → ℕ) (stands : ℕ → Option Slot) (tallest widest : ℕ)
+    (query : Corners) (height width : ℕ) (out : List ℕ) → IsGrid at count stands tallest widest → (tallest < height)
+    ⊎ (widest < width) → AddsFound at (IsNear query height width) query out out
 found_past at count stands tallest widest query height width out grid past =
     found_nowhere at (IsNear query height width) query out (λ slot entry near here overlap. elim past [
       | inl high ↦ omega (arith, high, (grid.reached slot entry here).high, near.height_is)

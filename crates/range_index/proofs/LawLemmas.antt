@@ -1,5 +1,7 @@
 -- What is there after a list of calls, and how many ids a query adds.
-use Rattle.std.proofs.Common.{◌≡◌, ◌≢◌, ◌↔◌, ◌⊎◌, inl, inr, ℕ, zero, suc, ◌+◌, ◌<◌, ◌≤◌, ◌==◌, cond, Bool, true, false, List, [], ◌∷◌, ◌++◌, map, length, get_or, Some, slice_get, refl, sym, ◌∙◌, ap, subst, arith}
+use Rattle.std.proofs.Common.{◌≡◌, ◌≢◌, ◌↔◌, ◌⊎◌, inl, inr, ℕ, zero, suc, ◌+◌, ◌<◌, ◌≤◌, ◌==◌, cond, Bool, true, false}
+use Rattle.std.proofs.Common.{List, [], ◌∷◌, ◌++◌, map, length, get_or, Some, slice_get, refl, sym, ◌∙◌, ap, subst}
+use Rattle.std.proofs.Common.{arith}
 use Rattle.std.specs.List.{Contains}
 use Rattle.std.proofs.lemmas.Bool.{cases_eq, cases_lt}
 use Rattle.std.proofs.lemmas.Bool.Decides.{eqb_tells}
@@ -31,7 +33,11 @@ done (insertion own given) old new (absent, inserts) = record {
     λ before. (inserts (entry_of id range)).1 (inl before),
   );
   own = λ range. (
-    λ there. elim ((inserts (entry_of own range)).0 there) [ inl before ↦ absurd (absent (entry_of own range) before refl) | inr is ↦ ap Some (sym (same_range is)) ],
+    λ there. elim ((inserts (entry_of own range)).0 there) [
+      | inl before ↦
+          absurd (absent (entry_of own range) before refl)
+      | inr is ↦ ap Some (sym (same_range is))
+    ],
     λ gives. (inserts (entry_of own range)).1 (inr (ap (entry_of own) (sym (same_Some given range gives)))),
   );
 }
@@ -50,11 +56,19 @@ done (change own given) old new changes = record {
   );
 }
 
-pub entries_last : (calls : List Call) (entries : List Entry) (id : ℕ) (range : Corners) → After calls entries → Contains entries (entry_of id range) ↔ (last_range calls id ≡ Some range)
-entries_last [] entries id range none = (λ there. absurd (let there_then : Contains [] (entry_of id range) = subst (λ (es : List Entry). Contains es (entry_of id range)) none there in omega (arith, there_then.1)), λ gives. absurd (none-some range gives))
-entries_last (call ∷ calls) entries id range (before, after, does) = by_id (eqb_tells (id_of call) id) (entries_last calls before id range after) (done call before entries does)
+pub entries_last : (calls : List Call) (entries : List Entry) (id : ℕ) (range : Corners) → After calls entries
+    → Contains entries (entry_of id range) ↔ (last_range calls id ≡ Some range)
+entries_last [] entries id range none = (
+  λ there. absurd (let there_then : Contains [] (entry_of id range) = subst (λ (es : List Entry). Contains es
+      (entry_of id range)) none there in omega (arith, there_then.1)),
+  λ gives. absurd (none-some range gives),
+)
+entries_last (call ∷ calls) entries id range (before, after, does) =
+    by_id (eqb_tells (id_of call) id) (entries_last calls before id range after) (done call before entries does)
   where
-    by_id : (((id_of call == id) ≡ true) × (id_of call ≡ id)) ⊎ (((id_of call == id) ≡ false) × (id_of call ≢ id)) → Contains before (entry_of id range) ↔ (last_range calls id ≡ Some range) → IsDone call before entries → Contains entries (entry_of id range) ↔ (last_range (call ∷ calls) id ≡ Some range)
+    by_id : (((id_of call == id) ≡ true) × (id_of call ≡ id)) ⊎ (((id_of call == id) ≡ false) × (id_of call ≢ id))
+        → Contains before (entry_of id range) ↔ (last_range calls id ≡ Some range) → IsDone call before entries
+        → Contains entries (entry_of id range) ↔ (last_range (call ∷ calls) id ≡ Some range)
     by_id (inl (equal, same)) known is =
         let last : last_range (call ∷ calls) id ≡ left_by call = ap (λ (b : Bool). cond b (left_by call) (last_range calls id)) equal in (
           λ there. last ∙ (is.own range).0 (subst (λ (i : ℕ). Contains entries (entry_of i range)) (sym same) there),
@@ -69,7 +83,8 @@ entries_last (call ∷ calls) entries id range (before, after, does) = by_id (eq
 
 -- ---- one range each
 
-pub ids_one : (entries : List Entry) (id : ℕ) (range other : Corners) → HaveOneRange entries → Contains entries (entry_of id range) → Contains entries (entry_of id other) → range ≡ other
+pub ids_one : (entries : List Entry) (id : ℕ) (range other : Corners) → HaveOneRange entries
+    → Contains entries (entry_of id range) → Contains entries (entry_of id other) → range ≡ other
 ids_one entries id range other one (i, i_in, at_i) (j, j_in, at_j) = elim (cases_lt i j) [
   | inl before ↦ absurd (one i j (entry_of id range) before j_in (same_id at_i ∙ sym (same_id (at j j_in at_j))))
   | inr after ↦ elim (cases_eq i j) [
@@ -91,8 +106,11 @@ found_few entries query old new adds =
     there : (id : ℕ) → Contains adds.added id → Contains (map (λ (e : Entry). e.id) entries) id
     there id listed =
         let found = (adds.exact id).0 listed in
-        let (k, below, is) = found.listed in
-        (k, omega (arith, below, length-map entries (λ (e : Entry). e.id)), get_or-map (λ (e : Entry). e.id) entries k (entry_of id found.range) id below ∙ same_id is)
+        let (k, below, is) = found.listed in (
+          k,
+          omega (arith, below, length-map entries (λ (e : Entry). e.id)),
+          get_or-map (λ (e : Entry). e.id) entries k (entry_of id found.range) id below ∙ same_id is,
+        )
 
 -- ---- what was held
 

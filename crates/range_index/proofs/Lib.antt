@@ -2,12 +2,12 @@ mod CallLemmas
 pub mod ChangeLemmas
 pub mod DistinctLemmas
 pub mod EntryLemmas
-pub mod FoundLemmas
-pub mod GridLemmas
-pub mod LawLemmas
+mod FoundLemmas
+mod GridLemmas
+mod LawLemmas
 pub mod ListedLemmas
-pub mod NearLemmas
-pub mod SlotLemmas
+mod NearLemmas
+mod SlotLemmas
 pub mod TableLemmas
-pub mod TakeLemmas
+mod TakeLemmas
 pub mod RangeLemmas

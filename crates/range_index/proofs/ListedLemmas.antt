@@ -18,7 +18,9 @@ absent_listed old ranges place listed entry there same = omega (arith, ((listed 
 entry_is : (entry : Entry) (place : ℕ) (range : Corners) → entry.id ≡ place → entry.range ≡ range → entry ≡ entry_of place range
 entry_is entry place range i r = ap (λ n. entry_of n entry.range) i ∙ ap (λ (x : Corners). entry_of place x) r
 
-pub one_listed : (old new : List Entry) (ranges : List Corners) (place : ℕ) (range : Corners) → AreListed old ranges 0 place → slice_get ranges place ≡ Some range → Inserts old new place range → AreListed new ranges 0 (place + 1)
+pub one_listed : (old new : List Entry) (ranges : List Corners) (place : ℕ) (range : Corners)
+    → AreListed old ranges 0 place → slice_get ranges place ≡ Some range → Inserts old new place range
+    → AreListed new ranges 0 (place + 1)
 one_listed old new ranges place range listed here inserted entry = (λ there. to ((inserted entry).0 there), λ is. (inserted entry).1 (from is))
   where
     to : Contains old entry ⊎ (entry ≡ entry_of place range) → IsListedRange ranges 0 (place + 1) entry
@@ -34,11 +36,22 @@ one_listed old new ranges place range listed here inserted entry = (λ there. to
       | inr less ↦ inl ((listed entry).1 (record { from = is.from; below = less; range_is = is.range_is }))
     ]
 
-pub first_listed : (old : List Entry) (ranges : List Corners) (place end : ℕ) (range : Corners) → AreListed old ranges place end → place < end → slice_get ranges place ≡ Some range → Contains old (entry_of place range)
+pub first_listed : (old : List Entry) (ranges : List Corners) (place end : ℕ) (range : Corners)
+    → AreListed old ranges place end → place < end → slice_get ranges place ≡ Some range
+    → Contains old (entry_of place range)
 first_listed old ranges place end range listed within here = (listed (entry_of place range)).1 (record { from = omega arith; below = within; range_is = here })
 
-pub next_listed : (old new : List Entry) (ranges : List Corners) (place end : ℕ) → AreListed old ranges place end → Removes old new place → AreListed new ranges (place + 1) end
+pub next_listed : (old new : List Entry) (ranges : List Corners) (place end : ℕ) → AreListed old ranges place end
+    → Removes old new place → AreListed new ranges (place + 1) end
 next_listed old new ranges place end listed removed entry = (
-  λ there. let both = (removed entry).0 there in let is = (listed entry).0 both.1 in record { from = omega (arith, is.from, both.0); below = is.below; range_is = is.range_is },
-  λ is. (removed entry).1 (λ same. omega (arith, same, is.from), (listed entry).1 (record { from = omega (arith, is.from); below = is.below; range_is = is.range_is })),
+  λ there. let both = (removed entry).0 there in
+      let is = (listed entry).0 both.1 in record {
+        from = omega (arith, is.from, both.0);
+        below = is.below;
+        range_is = is.range_is;
+      },
+  λ is. (removed entry).1 (
+    λ same. omega (arith, same, is.from),
+    (listed entry).1 (record { from = omega (arith, is.from); below = is.below; range_is = is.range_is }),
+  ),
 )

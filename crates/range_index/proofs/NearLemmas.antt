@@ -37,7 +37,8 @@ widths cols = choose 1 64 16384 (nat_le cols 1) (nat_le cols 64)
 high_enough : (rows : ℕ) → rows ≤ 1048576 → rows ≤ tile_height rows
 high_enough rows small = by (nat_le rows 8) (nat_le rows 1024) (nat_le rows 32768) refl refl refl
   where
-    by : (a b c : Bool) → nat_le rows 8 ≡ a → nat_le rows 1024 ≡ b → nat_le rows 32768 ≡ c → rows ≤ (if a then 8 else (if b then 1024 else (if c then 32768 else 1048576)))
+    by : (a b c : Bool) → nat_le rows 8 ≡ a → nat_le rows 1024 ≡ b → nat_le rows 32768 ≡ c
+        → rows ≤ (if a then 8 else (if b then 1024 else (if c then 32768 else 1048576)))
     by true b c e f g = grind (arith, nat_tests, e)
     by false true c e f g = grind (arith, nat_tests, f)
     by false false true e f g = grind (arith, nat_tests, g)
@@ -67,14 +68,36 @@ some_width cols = elim (widths cols) [
 ]
 
 -- the home of a range that overlaps a query is near the query, among those of its kind
-near_of_kind : (query range : Corners) (slot : Slot) → height range ≤ 1048576 → width range ≤ 16384 → slot.home ≡ home_of range → Overlap range query → IsNear query (tile_height (height range)) (tile_width (width range)) slot
+near_of_kind : (query range : Corners) (slot : Slot) → height range ≤ 1048576 → width range ≤ 16384
+    → slot.home ≡ home_of range → Overlap range query
+    → IsNear query (tile_height (height range)) (tile_width (width range)) slot
 near_of_kind query range slot high wide here (cell, both) = record {
   height_is = ap (λ (h : Home). h.height) here;
   width_is = ap (λ (h : Home). h.width) here;
-  row_from = subst (λ n. (query.head.row - H) / H ≤ n) (sym row) (div_grows (query.head.row - H) (range.head.row - 1) H (some_height (height range)) (omega (arith, both.first.row_from, both.first.row_to, both.second.row_from, high_enough (height range) high)));
-  row_to = subst (λ n. n ≤ (query.tail.row - 1) / H) (sym row) (div_grows (range.head.row - 1) (query.tail.row - 1) H (some_height (height range)) (omega (arith, both.first.row_from, both.second.row_to)));
-  col_from = subst (λ n. (query.head.col - W) / W ≤ n) (sym col) (div_grows (query.head.col - W) (range.head.col - 1) W (some_width (width range)) (omega (arith, both.first.col_from, both.first.col_to, both.second.col_from, wide_enough (width range) wide)));
-  col_to = subst (λ n. n ≤ (query.tail.col - 1) / W) (sym col) (div_grows (range.head.col - 1) (query.tail.col - 1) W (some_width (width range)) (omega (arith, both.first.col_from, both.second.col_to)));
+  row_from =
+      subst (λ n. (query.head.row - H) / H ≤ n) (sym row) (div_grows (query.head.row - H) (range.head.row - 1) H
+      (some_height (height range)) (omega (
+        arith,
+        both.first.row_from,
+        both.first.row_to,
+        both.second.row_from,
+        high_enough (height range) high,
+      )));
+  row_to =
+      subst (λ n. n ≤ (query.tail.row - 1) / H) (sym row) (div_grows (range.head.row - 1) (query.tail.row - 1) H
+      (some_height (height range)) (omega (arith, both.first.row_from, both.second.row_to)));
+  col_from =
+      subst (λ n. (query.head.col - W) / W ≤ n) (sym col) (div_grows (query.head.col - W) (range.head.col - 1) W
+      (some_width (width range)) (omega (
+        arith,
+        both.first.col_from,
+        both.first.col_to,
+        both.second.col_from,
+        wide_enough (width range) wide,
+      )));
+  col_to =
+      subst (λ n. n ≤ (query.tail.col - 1) / W) (sym col) (div_grows (range.head.col - 1) (query.tail.col - 1) W
+      (some_width (width range)) (omega (arith, both.first.col_from, both.second.col_to)));
 }
   where
     H : ℕ
@@ -95,11 +118,15 @@ near_at query H W slot (inl e) near = inl (subst (λ w. IsNear query H w slot) e
 near_at query H W slot (inr (inl e)) near = inr (inl (subst (λ w. IsNear query H w slot) e near))
 near_at query H W slot (inr (inr e)) near = inr (inr (subst (λ w. IsNear query H w slot) e near))
 
-pub near : (query range : Corners) (slot : Slot) → height range ≤ 1048576 → width range ≤ 16384 → slot.home ≡ home_of range → Overlap range query → IsNearAt query 8 slot ⊎ (IsNearAt query 1024 slot ⊎ (IsNearAt query 32768 slot ⊎ IsNearAt query 1048576 slot))
+pub near : (query range : Corners) (slot : Slot) → height range ≤ 1048576 → width range ≤ 16384
+    → slot.home ≡ home_of range → Overlap range query → IsNearAt query 8 slot
+    ⊎ (IsNearAt query 1024 slot ⊎ (IsNearAt query 32768 slot ⊎ IsNearAt query 1048576 slot))
 near query range slot high wide here overlap =
-    by (tile_height (height range)) (heights (height range)) (near_at query (tile_height (height range)) (tile_width (width range)) slot (widths (width range)) (near_of_kind query range slot high wide here overlap))
+    by (tile_height (height range)) (heights (height range)) (near_at query (tile_height (height range))
+    (tile_width (width range)) slot (widths (width range)) (near_of_kind query range slot high wide here overlap))
   where
-    by : (H : ℕ) → IsHeight H → IsNearAt query H slot → IsNearAt query 8 slot ⊎ (IsNearAt query 1024 slot ⊎ (IsNearAt query 32768 slot ⊎ IsNearAt query 1048576 slot))
+    by : (H : ℕ) → IsHeight H → IsNearAt query H slot → IsNearAt query 8 slot
+        ⊎ (IsNearAt query 1024 slot ⊎ (IsNearAt query 32768 slot ⊎ IsNearAt query 1048576 slot))
     by H (inl e) n = inl (subst (λ h. IsNearAt query h slot) e n)
     by H (inr (inl e)) n = inr (inl (subst (λ h. IsNearAt query h slot) e n))
     by H (inr (inr (inl e))) n = inr (inr (inl (subst (λ h. IsNearAt query h slot) e n)))

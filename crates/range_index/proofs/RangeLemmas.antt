@@ -26,7 +26,8 @@ changes_by old less new id range removes inserts entry = (
 )
 
 -- an entry whose range changes at its place
-module _ (at new_at : Slot → Option Entry) (slot : Slot) (id : ℕ) (was range : Corners) (there : at slot ≡ Some (entry_of id was)) (items : SetsKey at new_at slot (Some (entry_of id range))) where
+module _ (at new_at : Slot → Option Entry) (slot : Slot) (id : ℕ) (was range : Corners)
+    (there : at slot ≡ Some (entry_of id was)) (items : SetsKey at new_at slot (Some (entry_of id range))) where
   -- what stands at a place is the entry, or stood there before
   abbrev Stood : Slot → Entry → Type 0
   Stood s e = ((s ≡ slot) × (e ≡ entry_of id range)) ⊎ ((s ≢ slot) × (at s ≡ Some e))
@@ -37,7 +38,9 @@ module _ (at new_at : Slot → Option Entry) (slot : Slot) (id : ℕ) (was range
     | inr other ↦ inr (other, sym (items.others s other) ∙ is)
   ]
 
-  pub grid_changed : (count : Home → ℕ) (stands : ℕ → Option Slot) (tallest widest : ℕ) → IsGrid at count stands tallest widest → slot.home ≡ home_of range → FitsNames range → IsGrid new_at count stands tallest widest
+  pub grid_changed : (count : Home → ℕ) (stands : ℕ → Option Slot) (tallest widest : ℕ)
+      → IsGrid at count stands tallest widest → slot.home ≡ home_of range → FitsNames range
+      → IsGrid new_at count stands tallest widest
   grid_changed count stands tallest widest grid home_is fits = record {
     full = full;
     counted = λ s e is. counted s e (stood s e is);
@@ -87,36 +90,42 @@ module _ (at new_at : Slot → Option Entry) (slot : Slot) (id : ℕ) (was range
       from (inr same) = (slot, items.here ∙ ap (λ (e : Entry). Some e) (sym same))
 
 -- the same of maps
-module _ {items : List (Slot × Entry)} {counts : List (Home × ℕ)} {slots : List (ℕ × Slot)} {tallest widest : ℕ} (new_items : List (Slot × Entry)) (id : ℕ) (range : Corners) (slot : Slot) (are : AreGrid items counts slots tallest widest) (is : HasId (values_of items) id) (noted : lookup (nat_eq id) slots ≡ Some slot) (unique : IsDistinct same_slot (keys_of new_items)) (with_item : (q : Slot) → lookup (same_slot q) new_items ≡ cond (same_slot slot q) (Some (entry_of id range)) (lookup (same_slot q) items)) where
-  abbrev at : Slot → Option Entry
-  at s = lookup (same_slot s) items
+module _ {items : List (Slot × Entry)} {counts : List (Home × ℕ)} {slots : List (ℕ × Slot)} {tallest widest : ℕ}
+    (new_items : List (Slot × Entry)) (id : ℕ) (range : Corners) (slot : Slot) (are : AreGrid items counts slots tallest
+    widest) (is : HasId (values_of items) id) (noted : lookup (nat_eq id) slots ≡ Some slot)
+    (unique : IsDistinct same_slot (keys_of new_items)) (with_item : (q : Slot)
+    → lookup (same_slot q) new_items ≡ cond (same_slot slot q) (Some (entry_of id range)) (lookup (same_slot q) items))
+  where
+    abbrev at : Slot → Option Entry
+    at s = lookup (same_slot s) items
 
-  abbrev new_at : Slot → Option Entry
-  new_at s = lookup (same_slot s) new_items
+    abbrev new_at : Slot → Option Entry
+    new_at s = lookup (same_slot s) new_items
 
-  there : at slot ≡ Some (entry_of id is.range)
-  there = noted_there id slot are is noted
+    there : at slot ≡ Some (entry_of id is.range)
+    there = noted_there id slot are is noted
 
-  sets : SetsKey at new_at slot (Some (entry_of id range))
-  sets = sets_slot at new_at slot (Some (entry_of id range)) with_item
+    sets : SetsKey at new_at slot (Some (entry_of id range))
+    sets = sets_slot at new_at slot (Some (entry_of id range)) with_item
 
-  pub are_changed : slot.home ≡ home_of range → FitsNames range → AreGrid new_items counts slots tallest widest
-  are_changed home_is fits = record {
-    unique = unique;
-    grid = grid_changed at new_at slot id is.range range there sets (λ h. or_none (lookup (same_home h) counts)) (λ i. lookup (nat_eq i) slots) tallest widest are.grid home_is fits;
-  }
+    pub are_changed : slot.home ≡ home_of range → FitsNames range → AreGrid new_items counts slots tallest widest
+    are_changed home_is fits = record {
+      unique = unique;
+      grid = grid_changed at new_at slot id is.range range there sets (λ h. or_none (lookup (same_home h) counts))
+          (λ i. lookup (nat_eq i) slots) tallest widest are.grid home_is fits;
+    }
 
-  pub entries_changed : ChangesRange (values_of items) (values_of new_items) id range
-  entries_changed entry = (
-    λ now. elim (changed.0 ((stands_somewhere new_items unique entry).0 now)) [
-      | inl before ↦ inl (before.0, (stands_somewhere items are.unique entry).1 before.1)
-      | inr same ↦ inr same
-    ],
-    λ either. (stands_somewhere new_items unique entry).1 (changed.1 (elim either [
-      | inl before ↦ inl (before.0, (stands_somewhere items are.unique entry).0 before.1)
-      | inr same ↦ inr same
-    ])),
-  )
-    where
-      changed : Stands new_at entry ↔ (((entry.id ≢ id) × Stands at entry) ⊎ (entry ≡ entry_of id range))
-      changed = stands_changed at new_at slot id is.range range there sets entry (places_of are)
+    pub entries_changed : ChangesRange (values_of items) (values_of new_items) id range
+    entries_changed entry = (
+      λ now. elim (changed.0 ((stands_somewhere new_items unique entry).0 now)) [
+        | inl before ↦ inl (before.0, (stands_somewhere items are.unique entry).1 before.1)
+        | inr same ↦ inr same
+      ],
+      λ either. (stands_somewhere new_items unique entry).1 (changed.1 (elim either [
+        | inl before ↦ inl (before.0, (stands_somewhere items are.unique entry).0 before.1)
+        | inr same ↦ inr same
+      ])),
+    )
+      where
+        changed : Stands new_at entry ↔ (((entry.id ≢ id) × Stands at entry) ⊎ (entry ≡ entry_of id range))
+        changed = stands_changed at new_at slot id is.range range there sets entry (places_of are)

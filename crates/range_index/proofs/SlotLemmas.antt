@@ -69,7 +69,8 @@ pub homes_equal : IsEquivalence same_home
 homes_equal = exact_equivalence same_home home_same home_self
 
 -- an entry is among the values exactly where it stands at a place
-pub stands_somewhere : (items : List (Slot × Entry)) → IsDistinct same_slot (keys_of items) → (entry : Entry) → Contains (values_of items) entry ↔ ((slot : Slot) × (lookup (same_slot slot) items ≡ Some entry))
+pub stands_somewhere : (items : List (Slot × Entry)) → IsDistinct same_slot (keys_of items) → (entry : Entry)
+    → Contains (values_of items) entry ↔ ((slot : Slot) × (lookup (same_slot slot) items ≡ Some entry))
 stands_somewhere items unique entry = (
   λ there. let at = Contains-from_values_of items entry there in (at.0, lookup-from_Contains slots_equal at.0 entry items unique at.1),
   λ at. Contains-values_of items at.0 entry (Contains-from_lookup slot_same at.0 entry items at.1),

@@ -19,7 +19,10 @@ same_id : (a b : Entry) → Some a ≡ Some b → a.id ≡ b.id
 same_id a b is = let same : a ≡ b = cc in ap (λ (e : Entry). e.id) same
 
 -- it stood at the last place of its home
-pub took_last : (old mid new : Tables) (slot : Slot) (out moved : Entry) → HoldGrid old → entry_at old slot ≡ Some out → Forgets old mid out.id → TakesLast mid new slot.home → entry_at mid (last_slot mid slot.home) ≡ Some moved → moved.id ≡ out.id → TakesOut (entry_at old) (entry_at new) (count_at old) (count_at new) (stands_at old) (stands_at new) slot (last_slot mid slot.home) out moved
+pub took_last : (old mid new : Tables) (slot : Slot) (out moved : Entry) → HoldGrid old → entry_at old slot ≡ Some out
+    → Forgets old mid out.id → TakesLast mid new slot.home → entry_at mid (last_slot mid slot.home) ≡ Some moved
+    → moved.id ≡ out.id → TakesOut (entry_at old) (entry_at new) (count_at old) (count_at new) (stands_at old)
+    (stands_at new) slot (last_slot mid slot.home) out moved
 took_last old mid new slot out moved are there forgets takes at_last same = record {
   last_is = ap (λ n. slot_of slot.home (n - 1)) (forgets.count slot.home);
   there = there;
@@ -42,7 +45,11 @@ took_last old mid new slot out moved are there forgets takes at_last same = reco
     stands i = let e = takes.slots in cc
 
 -- the last one took its place
-pub moved_last : (old mid less new : Tables) (slot : Slot) (out moved : Entry) → HoldGrid old → entry_at old slot ≡ Some out → Forgets old mid out.id → TakesLast mid less slot.home → entry_at mid (last_slot mid slot.home) ≡ Some moved → moved.id ≢ out.id → PutsAt less new slot moved → TakesOut (entry_at old) (entry_at new) (count_at old) (count_at new) (stands_at old) (stands_at new) slot (last_slot mid slot.home) out moved
+pub moved_last : (old mid less new : Tables) (slot : Slot) (out moved : Entry) → HoldGrid old
+    → entry_at old slot ≡ Some out → Forgets old mid out.id → TakesLast mid less slot.home
+    → entry_at mid (last_slot mid slot.home) ≡ Some moved → moved.id ≢ out.id → PutsAt less new slot moved
+    → TakesOut (entry_at old) (entry_at new) (count_at old) (count_at new) (stands_at old) (stands_at new) slot
+    (last_slot mid slot.home) out moved
 moved_last old mid less new slot out moved are there forgets takes at_last other puts = record {
   last_is = ap (λ n. slot_of slot.home (n - 1)) (forgets.count slot.home);
   there = there;
@@ -71,7 +78,9 @@ moved_last old mid less new slot out moved are there forgets takes at_last other
     stands i = let e = takes.slots in cc
 
 -- something stands at its place still, before the last one takes it
-pub still_there : (old mid less : Tables) (slot : Slot) (out moved : Entry) → entry_at old slot ≡ Some out → Forgets old mid out.id → TakesLast mid less slot.home → entry_at mid (last_slot mid slot.home) ≡ Some moved → moved.id ≢ out.id → entry_at less slot ≡ Some out
+pub still_there : (old mid less : Tables) (slot : Slot) (out moved : Entry) → entry_at old slot ≡ Some out
+    → Forgets old mid out.id → TakesLast mid less slot.home → entry_at mid (last_slot mid slot.home) ≡ Some moved
+    → moved.id ≢ out.id → entry_at less slot ≡ Some out
 still_there old mid less slot out moved there forgets takes at_last other =
     takes.items.others slot (λ same. other (sym (same_id out moved (sym there ∙ (sym (forgets.at slot) ∙ (ap (entry_at mid) same ∙ at_last))))))
     ∙ (forgets.at slot ∙ there)

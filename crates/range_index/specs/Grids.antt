@@ -1,5 +1,6 @@
 -- An index by tiles: where a range stands, and what the tables hold.
-use Rattle.std.specs.Prelude.{◌≡◌, ◌≢◌, ◌⊎◌, ℕ, ◌-◌, ◌/◌, ◌<◌, ◌≤◌, ◌↔◌, Bool, ◌&&◌, nat_le, nat_eq, if◌then◌else◌, List, ◌++◌, Option, Some, None, IsSome, Contains, AllPairs, min}
+use Rattle.std.specs.Prelude.{◌≡◌, ◌≢◌, ◌⊎◌, ℕ, ◌-◌, ◌/◌, ◌<◌, ◌≤◌, ◌↔◌, Bool, ◌&&◌, nat_le, nat_eq, if◌then◌else◌}
+use Rattle.std.specs.Prelude.{List, ◌++◌, Option, Some, None, IsSome, Contains, AllPairs, min}
 use Rattle.std.specs.HashMap.{get, values, spare}
 use Rattle.std.specs.Map.{lookup, keys_of}
 use Rattle.std.specs.List.{IsDistinct}

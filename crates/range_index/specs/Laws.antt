@@ -40,7 +40,8 @@ last_range (call ∷ calls) id = if id_of call == id then left_by call else last
 -- after every list of calls an entry is there exactly where the last call of its id left it that range
 abbrev pub EntriesAreTheLast : Type 0
 EntriesAreTheLast =
-    (calls : List Call) (entries : List Entry) (id : ℕ) (range : Corners) → After calls entries → Contains entries (entry_of id range) ↔ (last_range calls id ≡ Some range)
+    (calls : List Call) (entries : List Entry) (id : ℕ) (range : Corners) → After calls entries
+    → Contains entries (entry_of id range) ↔ (last_range calls id ≡ Some range)
 
 -- a call may be made after calls that left its id this range, if any: only an id without a range is inserted, and only one with a range is removed or changed
 abbrev pub MayBeMade : Call → Option Corners → Type 0
@@ -59,7 +60,8 @@ LawfulCallsHaveEntries = (calls : List Call) → AreLawful calls → (entries : 
 -- where no id stands twice, each has one range
 abbrev pub IdsHaveOneRange : Type 0
 IdsHaveOneRange =
-    (entries : List Entry) (id : ℕ) (range other : Corners) → HaveOneRange entries → Contains entries (entry_of id range) → Contains entries (entry_of id other) → range ≡ other
+    (entries : List Entry) (id : ℕ) (range other : Corners) → HaveOneRange entries
+    → Contains entries (entry_of id range) → Contains entries (entry_of id other) → range ≡ other
 
 -- a query adds no more ids than there are entries
 abbrev pub FoundAreFew : Type 0

@@ -42,7 +42,9 @@ module _ (step : Position → Position → Type 0) where
   abbrev pub AllLead : List Position → Type 0
   AllLead cells = (cell : Position) → Contains cells cell → LeadsIntoCycle step cell
 
-  module _ (head : Position) (cells : List Position) (goes : (cell : Position) → Contains (head ∷ cells) cell → Goes (head ∷ cells) cell) (rest : ((cell : Position) → Contains cells cell → Goes cells cell) → AllLead cells) where
+  module _ (head : Position) (cells : List Position) (goes : (cell : Position) → Contains (head ∷ cells) cell
+      → Goes (head ∷ cells) cell) (rest : ((cell : Position) → Contains cells cell → Goes cells cell)
+      → AllLead cells) where
     -- the first one leads into a cycle, so the others needn't go there
     without_head : LeadsIntoCycle step head → (other : Position) → Contains cells other → Goes cells other
     without_head into other listed = elim (goes other (later head other cells listed)) [
@@ -89,7 +91,8 @@ module _ (step : Position → Position → Type 0) where
 -- ---- levels
 
 module _ (pairs : List Pair) (stale : List Position) (levels : List (List Position)) (are : AreLevels pairs stale levels) where
-  goes_down : (from to : Position) (cells : List Position) (number : ℕ) → InLevel levels number from → IsPath (back (StaleStep pairs stale)) from cells to → (lower : ℕ) × (lower ≤ number) × InLevel levels lower to
+  goes_down : (from to : Position) (cells : List Position) (number : ℕ) → InLevel levels number from
+      → IsPath (back (StaleStep pairs stale)) from cells to → (lower : ℕ) × (lower ≤ number) × InLevel levels lower to
   goes_down from to [] number here same = (number, omega arith, subst (InLevel levels number) same here)
   goes_down from to (next ∷ cells) number here (one, path) =
       let below = are.earlier number next from here one in

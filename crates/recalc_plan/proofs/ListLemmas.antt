@@ -1,5 +1,6 @@
 -- What stands at a place of a list.
-use Rattle.std.proofs.Common.{◌≡◌, ◌≢◌, ◌⊎◌, inl, inr, ℕ, zero, suc, ◌+◌, ◌<◌, List, [], ◌∷◌, ◌++◌, length, get_or, take, take-suc, get_or-take, length-take-le, Some, slice_get, arith, refl, sym, ap, ◌∙◌}
+use Rattle.std.proofs.Common.{◌≡◌, ◌≢◌, ◌⊎◌, inl, inr, ℕ, zero, suc, ◌+◌, ◌<◌, List, [], ◌∷◌, ◌++◌, length, get_or}
+use Rattle.std.proofs.Common.{take, take-suc, get_or-take, length-take-le, Some, slice_get, arith, refl, sym, ap, ◌∙◌}
 use Rattle.std.specs.List.{AllPairs, Contains}
 use Rattle.std.proofs.lemmas.List.{get_or_default}
 use Rattle.std.proofs.lemmas.Option.{get_or_from_slice_get, slice_get-get_or}
@@ -19,7 +20,8 @@ pub at_last : {A : Type 0} (xs : List A) (y : A) → slice_get (xs ++ y ∷ []) 
 at_last [] y = refl
 at_last (x ∷ xs) y = at_last xs y
 
-pub at_pushed : {A : Type 0} (xs : List A) (y : A) (i : ℕ) (x : A) → slice_get (xs ++ y ∷ []) i ≡ Some x → (slice_get xs i ≡ Some x) ⊎ ((i ≡ length xs) × (y ≡ x))
+pub at_pushed : {A : Type 0} (xs : List A) (y : A) (i : ℕ) (x : A) → slice_get (xs ++ y ∷ []) i ≡ Some x
+    → (slice_get xs i ≡ Some x) ⊎ ((i ≡ length xs) × (y ≡ x))
 at_pushed [] y zero x at = inr (refl, cc)
 at_pushed [] y (suc i) x at = absurd (cc)
 at_pushed (z ∷ zs) y zero x at = inl at

@@ -35,7 +35,8 @@ module _ (opens : Opens) (are : AreCells opens) (range : Corners) (up_to : ℕ) 
   NoneBehind col = (other : Position) → IsIn other range → other.col ≤ up_to → IsOpen opens other → other.col ≤ col
 
   -- the last one up to the bottom of a column: all others up to this column are at places before it
-  before_last : (col : ℕ) (last other : Position) → NoneBehind col → IsLastUpTo opens (place_at col range.tail.row) last → IsIn other range → other.col ≤ up_to → IsOpen opens other → name_place other ≤ name_place last
+  before_last : (col : ℕ) (last other : Position) → NoneBehind col → IsLastUpTo opens (place_at col range.tail.row) last
+      → IsIn other range → other.col ≤ up_to → IsOpen opens other → name_place other ≤ name_place last
   before_last col last other none is inside within there =
       let named = open_named opens other are there in
       let near = none other inside within there in
@@ -54,7 +55,9 @@ module _ (opens : Opens) (are : AreCells opens) (range : Corners) (up_to : ℕ) 
           conflict : IsSome {T = Open} None → ⊥
           conflict h = cc
 
-  pub last_is : (col : ℕ) (last : Position) → NoneBehind col → IsLastUpTo opens (place_at col range.tail.row) last → col ≤ up_to → last.col ≡ col → range.head.row ≤ last.row → range.head.col ≤ col → col ≤ range.tail.col → IsLastIn opens range up_to last
+  pub last_is : (col : ℕ) (last : Position) → NoneBehind col → IsLastUpTo opens (place_at col range.tail.row) last
+      → col ≤ up_to → last.col ≡ col → range.head.row ≤ last.row → range.head.col ≤ col → col ≤ range.tail.col
+      → IsLastIn opens range up_to last
   last_is col last none is within here below from to = record {
     is_open = is.is_open;
     inside = record {
@@ -70,20 +73,46 @@ module _ (opens : Opens) (are : AreCells opens) (range : Corners) (up_to : ℕ) 
   pub go_left : (col : ℕ) (last : Position) → NoneBehind col → IsLastUpTo opens (place_at col range.tail.row) last → last.col < col → NoneBehind last.col
   go_left col last none is left other inside within there =
       let named = open_named opens other are there in
-      omega (arith, before_last col last other none is inside within there, named.row_from, named.row_to, named.col_from, is.named.row_from, is.named.row_to, is.named.col_from)
+      omega (
+        arith,
+        before_last col last other none is inside within there,
+        named.row_from,
+        named.row_to,
+        named.col_from,
+        is.named.row_from,
+        is.named.row_to,
+        is.named.col_from,
+      )
 
-  pub go_on : (col : ℕ) (last : Position) → NoneBehind col → IsLastUpTo opens (place_at col range.tail.row) last → 1 ≤ col → last.col ≡ col → last.row < range.head.row → NoneBehind (col - 1)
+  pub go_on : (col : ℕ) (last : Position) → NoneBehind col → IsLastUpTo opens (place_at col range.tail.row) last
+      → 1 ≤ col → last.col ≡ col → last.row < range.head.row → NoneBehind (col - 1)
   go_on col last none is from here above other inside within there =
       let named = open_named opens other are there in
       let near = none other inside within there in
-      omega (arith, before_last col last other none is inside within there, near, inside.row_from, above, here, from, named.row_from, named.row_to, named.col_from, is.named.row_from, is.named.row_to, is.named.col_from)
+      omega (
+        arith,
+        before_last col last other none is inside within there,
+        near,
+        inside.row_from,
+        above,
+        here,
+        from,
+        named.row_from,
+        named.row_to,
+        named.col_from,
+        is.named.row_from,
+        is.named.row_to,
+        is.named.col_from,
+      )
 
   pub not_right : (col : ℕ) (last : Position) → 1 ≤ col → IsLastUpTo opens (place_at col range.tail.row) last → last.col ≤ col
   not_right col last from is = omega (arith, is.within, from, high, low, is.named.row_from, is.named.row_to, is.named.col_from)
 
 -- ---- the last entry up to a place
 
-pub last_open : (opens : Opens) → AreCells opens → (key : ℕ) (entry : Open) (place : ℕ) → get nat_cmp opens key ≡ Some entry → key ≤ place → ((other : ℕ) → other ≤ place → IsSome (get nat_cmp opens other) → other ≤ key) → IsLastUpTo opens place entry.cell
+pub last_open : (opens : Opens) → AreCells opens → (key : ℕ) (entry : Open) (place : ℕ)
+    → get nat_cmp opens key ≡ Some entry → key ≤ place → ((other : ℕ) → other ≤ place → IsSome (get nat_cmp opens other)
+    → other ≤ key) → IsLastUpTo opens place entry.cell
 last_open opens are key entry place kept within last =
     let here = (are key entry kept).0 in
     record {

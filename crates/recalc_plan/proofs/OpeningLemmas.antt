@@ -26,7 +26,9 @@ none_open opens none = record {
   nobody = λ input waiter on. none-some on.entry (sym (none (name_place input)) ∙ on.kept);
 }
 
-module _ (old new : Opens) (cells : List Position) (cell : Position) (entry : Open) (are : AreOpenedFor cells old) (named : IsNamed cell.row cell.col) (cell_is : entry.cell ≡ cell) (none : entry.waiters.items ≡ []) (updates : MapUpdates nat_cmp old new (name_place cell) (Some entry)) where
+module _ (old new : Opens) (cells : List Position) (cell : Position) (entry : Open) (are : AreOpenedFor cells old)
+    (named : IsNamed cell.row cell.col) (cell_is : entry.cell ≡ cell) (none : entry.waiters.items ≡ [])
+    (updates : MapUpdates nat_cmp old new (name_place cell) (Some entry)) where
   others : (place : ℕ) → (place ≡ name_place cell → ⊥) → get nat_cmp new place ≡ get nat_cmp old place
   others place differs = updates.2 place (not_at (name_place cell) place differs)
 
@@ -35,7 +37,8 @@ module _ (old new : Opens) (cells : List Position) (cell : Position) (entry : Op
 
   new_cells : AreCells new
   new_cells place found is = elim (cases_eq place (name_place cell)) [
-    | inl same ↦ subst (λ (c : Position). (name_place c ≡ place) × IsNamed c.row c.col) (sym (ap (λ (e : Open). e.cell) (entry_at place found same is) ∙ cell_is)) (sym same, named)
+    | inl same ↦ subst (λ (c : Position). (name_place c ≡ place) × IsNamed c.row c.col)
+        (sym (ap (λ (e : Open). e.cell) (entry_at place found same is) ∙ cell_is)) (sym same, named)
     | inr differs ↦ are.cells place found (sym (others place differs) ∙ is)
   ]
 
@@ -44,8 +47,17 @@ module _ (old new : Opens) (cells : List Position) (cell : Position) (entry : Op
 
   listed : (other : Position) → IsOpen new other → Contains (cells ++ cell ∷ []) other
   listed other is = elim (cases_eq (name_place other) (name_place cell)) [
-    | inl same ↦ subst (Contains (cells ++ cell ∷ [])) (sym cell_is ∙ (sym (ap (λ (e : Open). e.cell) (entry_at (name_place other) is.entry same is.kept)) ∙ is.cell_is)) (Contains-push cells cell)
-    | inr differs ↦ Contains-append_left cells (cell ∷ []) other ((are.exact other).0 (record { entry = is.entry; kept = sym (others (name_place other) differs) ∙ is.kept; cell_is = is.cell_is }))
+    | inl same ↦ subst (Contains (cells ++ cell ∷ [])) (sym cell_is
+        ∙ (sym (ap (λ (e : Open). e.cell) (entry_at (name_place other) is.entry same is.kept)) ∙ is.cell_is))
+        (Contains-push cells cell)
+    | inr differs ↦
+        Contains-append_left cells (cell
+        ∷ []) other ((are.exact other).0 (record {
+          entry = is.entry;
+          kept = sym (others (name_place other) differs)
+              ∙ is.kept;
+          cell_is = is.cell_is;
+        }))
   ]
 
   opened : (other : Position) → Contains (cells ++ cell ∷ []) other → IsOpen new other
@@ -64,8 +76,17 @@ module _ (old new : Opens) (cells : List Position) (cell : Position) (entry : Op
     cells = new_cells;
     exact = λ other. (listed other, opened other);
     nobody = λ input waiter on. elim (cases_eq (name_place input) (name_place cell)) [
-      | inl same ↦ nothing_listed waiter (subst (λ (l : List Waiter). Contains l waiter) none (subst (λ (e : Open). Contains e.waiters.items waiter) (entry_at (name_place input) on.entry same on.kept) on.listed))
-      | inr differs ↦ are.nobody input waiter (record { entry = on.entry; kept = sym (others (name_place input) differs) ∙ on.kept; cell_is = on.cell_is; listed = on.listed })
+      | inl same ↦
+          nothing_listed waiter (subst (λ (l : List Waiter). Contains l waiter) none
+          (subst (λ (e : Open). Contains e.waiters.items waiter) (entry_at (name_place input) on.entry same on.kept)
+          on.listed))
+      | inr differs ↦ are.nobody input waiter (record {
+        entry = on.entry;
+        kept = sym (others (name_place input) differs)
+            ∙ on.kept;
+        cell_is = on.cell_is;
+        listed = on.listed;
+      })
     ];
   }
 
@@ -87,10 +108,15 @@ pub record AreStillOpen (opens : Opens) (cells left : List Position) : Type 0 wh
   pub distinct : AllPairs (λ a b. a ≢ b) left
 
 pub none_still_open : (opens : Opens) → AreStillOpen opens [] []
-none_still_open opens = record { exact = λ cell. (λ there. absurd (nothing_listed cell there), λ both. absurd (nothing_listed cell both.0)); distinct = λ i j d before within. absurd (omega (arith, before, within)) }
+none_still_open opens =
+    record {
+      exact = λ cell. (λ there. absurd (nothing_listed cell there), λ both. absurd (nothing_listed cell both.0));
+      distinct = λ i j d before within. absurd (omega (arith, before, within));
+    }
 
 module _ (opens : Opens) (cells left : List Position) (cell : Position) (are : AreStillOpen opens cells left) where
-  pub one_more_open : IsOpen opens cell → ((other : Position) → Contains cells other → other ≢ cell) → AreStillOpen opens (cells ++ cell ∷ []) (left ++ cell ∷ [])
+  pub one_more_open : IsOpen opens cell → ((other : Position) → Contains cells other → other ≢ cell)
+      → AreStillOpen opens (cells ++ cell ∷ []) (left ++ cell ∷ [])
   one_more_open is others = record {
     exact = λ other. (
       λ there. elim (Contains-push_cases left cell other there) [
@@ -102,7 +128,9 @@ module _ (opens : Opens) (cells left : List Position) (cell : Position) (are : A
         | inr same ↦ subst (Contains (left ++ cell ∷ [])) same (Contains-push left cell)
       ],
     );
-    distinct = all_pairs_push (λ (a b : Position). a ≢ b) left cell are.distinct (λ k d within. others (get_or left k d) ((are.exact (get_or left k d)).0 (Contains-get_or left k d within)).0);
+    distinct =
+        all_pairs_push (λ (a b : Position). a ≢ b) left cell are.distinct (λ k d within. others (get_or left k d)
+        ((are.exact (get_or left k d)).0 (Contains-get_or left k d within)).0);
   }
 
   pub no_more_open : ¬ IsOpen opens cell → AreStillOpen opens (cells ++ cell ∷ []) left
@@ -129,16 +157,21 @@ only_cell range cell other smallest inside =
     let col : other.col ≡ cell.col = omega (arith, at.col_from, at.col_to) in
     ap (λ (r : ℕ). record { row = r; col = other.col }) row ∙ ap (λ (c : ℕ). record { row = cell.row; col = c }) col
 
-pub exact_precedents : (pairs : List Pair) (range : Corners) (cell : Position) (ranges : List Corners) → IsIn cell range → IsSmallestWith cell cell range → AddsDirectPrecedents pairs range [] ranges → (from : Position) → IsAmong ranges from ↔ Step pairs from cell
+pub exact_precedents : (pairs : List Pair) (range : Corners) (cell : Position) (ranges : List Corners) → IsIn cell range
+    → IsSmallestWith cell cell range → AddsDirectPrecedents pairs range [] ranges → (from : Position)
+    → IsAmong ranges from ↔ Step pairs from cell
 exact_precedents pairs range cell ranges inside smallest adds from = (
-  λ among. let found = adds.only from (subst (λ (l : List Corners). IsAmong l from) adds.whole among) in subst (Step pairs from) (only_cell range cell found.0 smallest found.1) found.2,
+  λ among. let found = adds.only from (subst (λ (l : List Corners). IsAmong l from) adds.whole among) in
+      subst (Step pairs from) (only_cell range cell found.0 smallest found.1) found.2,
   λ step. subst (λ (l : List Corners). IsAmong l from) (sym adds.whole) (adds.all from (cell, inside, step)),
 )
 
 pub no_firsts : (pairs : List Pair) → AreFirstWaiters pairs [] []
 no_firsts pairs = record { each = λ waiter there. absurd (nothing_listed waiter there); all = λ cell there. absurd (nothing_listed cell there) }
 
-module _ (pairs : List Pair) (cells : List Position) (waiters : List Waiter) (waiter : Waiter) (are : AreFirstWaiters pairs cells waiters) (whole : waiter.up_to ≡ 16384) (exact : (from : Position) → IsAmong waiter.left.items from ↔ Step pairs from waiter.cell) where
+module _ (pairs : List Pair) (cells : List Position) (waiters : List Waiter) (waiter : Waiter)
+    (are : AreFirstWaiters pairs cells waiters) (whole : waiter.up_to ≡ 16384) (exact : (from : Position)
+    → IsAmong waiter.left.items from ↔ Step pairs from waiter.cell) where
   sound : (from : Position) → IsLeft waiter from → Step pairs from waiter.cell
   sound from left = (exact from).0 (record { range = left.range; listed = at_listed waiter.left.items left.place left.range left.listed; inside = left.inside })
 
@@ -152,7 +185,9 @@ module _ (pairs : List Pair) (cells : List Position) (waiters : List Waiter) (wa
   one_more_first = record {
     each = λ other there. elim (Contains-push_cases waiters waiter other there) [
       | inl before ↦ let known = are.each other before in (Contains-append_left cells (waiter.cell ∷ []) other.cell known.0, known.1, known.2)
-      | inr same ↦ subst (λ (w : Waiter). Contains (cells ++ waiter.cell ∷ []) w.cell × ((from : Position) → IsLeft w from → Step pairs from w.cell) × ((from : Position) → from.col ≤ 16384 → Step pairs from w.cell → IsLeft w from)) same (Contains-push cells waiter.cell, sound, enough)
+      | inr same ↦ subst (λ (w : Waiter). Contains (cells ++ waiter.cell ∷ []) w.cell
+          × ((from : Position) → IsLeft w from → Step pairs from w.cell) × ((from : Position) → from.col ≤ 16384
+          → Step pairs from w.cell → IsLeft w from)) same (Contains-push cells waiter.cell, sound, enough)
     ];
     all = λ cell there. elim (Contains-push_cases cells waiter.cell cell there) [
       | inl before ↦ let known = are.all cell before in (known.0, Contains-append_left waiters (waiter ∷ []) known.0 known.1, known.2)
@@ -160,6 +195,10 @@ module _ (pairs : List Pair) (cells : List Position) (waiters : List Waiter) (wa
     ];
   }
 
-pub lists_more : (opens : Opens) (cells old new : List Position) (cell : Position) → AreStillOpen opens cells old → ((other : Position) → Contains cells other → other ≢ cell) → ListsOpen opens cell old new → AreStillOpen opens (cells ++ cell ∷ []) new
-lists_more opens cells old new cell are others (inl (is, same)) = subst (AreStillOpen opens (cells ++ cell ∷ [])) (sym same) (one_more_open opens cells old cell are is others)
-lists_more opens cells old new cell are others (inr (not, same)) = subst (AreStillOpen opens (cells ++ cell ∷ [])) (sym same) (no_more_open opens cells old cell are not)
+pub lists_more : (opens : Opens) (cells old new : List Position) (cell : Position) → AreStillOpen opens cells old
+    → ((other : Position) → Contains cells other → other ≢ cell) → ListsOpen opens cell old new
+    → AreStillOpen opens (cells ++ cell ∷ []) new
+lists_more opens cells old new cell are others (inl (is, same)) =
+    subst (AreStillOpen opens (cells ++ cell ∷ [])) (sym same) (one_more_open opens cells old cell are is others)
+lists_more opens cells old new cell are others (inr (not, same)) =
+    subst (AreStillOpen opens (cells ++ cell ∷ [])) (sym same) (no_more_open opens cells old cell are not)

@@ -45,24 +45,32 @@ module _ (pairs : List Pair) (stale : List Position) where
   step_to : (from a b : Position) → a ≡ b → Step pairs from a → Step pairs from b
   step_to from a b same step = subst (λ (c : Position). Step pairs from c) same step
 
-  pub looked_on : (old mid new : Opens) (waiter next : Waiter) (input : Position) → IsWaiter pairs stale old waiter → ((cell : Position) → IsOpen new cell → IsOpen mid cell) → ((cell : Position) → IsOpen mid cell → IsOpen old cell) → (again : WaitsAgain mid new waiter input next) → IsWaiter pairs stale new next × Step pairs input next.cell
+  pub looked_on : (old mid new : Opens) (waiter next : Waiter) (input : Position) → IsWaiter pairs stale old waiter
+      → ((cell : Position) → IsOpen new cell → IsOpen mid cell)
+      → ((cell : Position) → IsOpen mid cell → IsOpen old cell) → (again : WaitsAgain mid new waiter input next)
+      → IsWaiter pairs stale new next × Step pairs input next.cell
   looked_on old mid new waiter next input valid to_mid to_old again = (
     record {
       of_stale = subst (Contains stale) (sym again.looked.cell_is) valid.of_stale;
       sound = λ cell left. step_to cell waiter.cell next.cell (sym again.looked.cell_is) (valid.sound cell (again.looked.less cell left));
-      all = λ cell there step. again.looked.enough cell (to_mid cell there) (valid.all cell (to_old cell (to_mid cell there)) (step_to cell next.cell waiter.cell again.looked.cell_is step));
+      all =
+          λ cell there step. again.looked.enough cell (to_mid cell there)
+          (valid.all cell (to_old cell (to_mid cell there)) (step_to cell next.cell waiter.cell again.looked.cell_is
+          step));
     },
     step_to input waiter.cell next.cell (sym again.looked.cell_is) (valid.sound input again.found),
   )
 
   -- ---- from level to level
 
-  module _ (levels : List (List Position)) (old mid : Opens) (ready level : List Position) (woken : List Waiter) (state : IsPlanning pairs stale levels old ready) (takes : TakesOut old mid ready level woken) where
+  module _ (levels : List (List Position)) (old mid : Opens) (ready level : List Position) (woken : List Waiter)
+      (state : IsPlanning pairs stale levels old ready) (takes : TakesOut old mid ready level woken) where
     was_open : (cell : Position) → IsOpen mid cell → IsOpen old cell
     was_open cell there = (takes.left cell there).0
 
     -- what woken waiters knew
-    pub knew : (waiter : Waiter) → Contains woken waiter → (input : Position) × Contains level input × IsWaiter pairs stale old waiter × Step pairs input waiter.cell
+    pub knew : (waiter : Waiter) → Contains woken waiter → (input : Position) × Contains level input
+        × IsWaiter pairs stale old waiter × Step pairs input waiter.cell
     knew waiter there = let waited = takes.waited waiter there in let known = state.waiters waited.0 waiter waited.2 in (waited.0, waited.1, known.0, known.1)
 
     of_level : (cell : Position) → Contains level cell → Contains stale cell
@@ -74,7 +82,8 @@ module _ (pairs : List Pair) (stale : List Position) where
     not_both : (number : ℕ) (cell : Position) → InLevel levels number cell → Contains level cell → ⊥
     not_both number cell here listed = state.apart number cell here (takes.taken cell listed).0
 
-    earlier : (number : ℕ) (from to : Position) → InLevel (More levels level) number to → StaleStep pairs stale from to → (before : ℕ) × (before < number) × InLevel (More levels level) before from
+    earlier : (number : ℕ) (from to : Position) → InLevel (More levels level) number to → StaleStep pairs stale from to
+        → (before : ℕ) × (before < number) × InLevel (More levels level) before from
     earlier number from to here step = elim (in_more levels level number to here) [
       | inl stood ↦ let known = state.sorted.earlier number from to stood step in (known.0, known.1, stood_in levels level known.0 from known.2)
       | inr last ↦ elim (state.parts from step.before) [
@@ -83,18 +92,31 @@ module _ (pairs : List Pair) (stale : List Position) where
       ]
     ]
 
-    least : (number : ℕ) (to : Position) → InLevel (More levels level) (suc number) to → (from : Position) × StaleStep pairs stale from to × InLevel (More levels level) number from
+    least : (number : ℕ) (to : Position) → InLevel (More levels level) (suc number) to → (from : Position)
+        × StaleStep pairs stale from to × InLevel (More levels level) number from
     least number to here = elim (in_more levels level (suc number) to here) [
       | inl stood ↦ let known = state.sorted.least number to stood in (known.0, known.1, stood_in levels level number known.0 known.2)
       | inr last ↦ elim ((ready_level to last.1).1) [
         | inl none ↦ absurd (omega (arith, last.0, ap length none))
-        | inr before ↦ (before.1, before.4, stood_in levels level number before.1 (subst (λ (n : ℕ). InLevel levels n before.1) (omega (arith, before.2, last.0)) before.3))
+        | inr before ↦ (
+          before.1,
+          before.4,
+          stood_in levels level number before.1 (subst (λ (n : ℕ). InLevel levels n before.1) (omega (
+            arith,
+            before.2,
+            last.0,
+          )) before.3),
+        )
       ]
     ]
 
     sorted : level ≢ [] → AreLevels pairs stale (More levels level)
     sorted filled = record {
-      of_stale = λ number cell here. elim (in_more levels level number cell here) [ inl stood ↦ state.sorted.of_stale number cell stood | inr last ↦ of_level cell last.1 ];
+      of_stale = λ number cell here. elim (in_more levels level number cell here) [
+        | inl stood ↦
+            state.sorted.of_stale number cell stood
+        | inr last ↦ of_level cell last.1
+      ];
       once = All-push (AllPairs (λ a b. a ≢ b)) levels level state.sorted.once takes.distinct;
       apart = λ i j cell one other. elim (in_more levels level i cell one) [
         | inl stood ↦ elim (in_more levels level j cell other) [
@@ -122,11 +144,13 @@ module _ (pairs : List Pair) (stale : List Position) where
         all = λ cell there step. valid.all cell (was_open cell (to_mid cell there)) step;
       }
 
-      free : (cell : Position) → Contains next_ready cell → ((from : Position) → Step pairs from cell → ¬ IsOpen new from) × FollowsLast pairs stale (More levels level) cell
+      free : (cell : Position) → Contains next_ready cell → ((from : Position) → Step pairs from cell
+          → ¬ IsOpen new from) × FollowsLast pairs stale (More levels level) cell
       free cell listed =
           let found = wakes.free cell listed in
           let known = knew found.0 found.1 in (
-            λ from step there. found.3 from (known.2.all from (was_open from (to_mid from there)) (step_to from cell found.0.cell (sym found.2) step)) (to_mid from there),
+            λ from step there. found.3 from (known.2.all from (was_open from (to_mid from there))
+                (step_to from cell found.0.cell (sym found.2) step)) (to_mid from there),
             inr (
               length levels,
               known.0,
@@ -140,7 +164,8 @@ module _ (pairs : List Pair) (stale : List Position) where
             ),
           )
 
-      placed : (cell : Position) → IsOpen new cell → Contains next_ready cell ⊎ ((input : Position) × (waiter : Waiter) × WaitsOn new input waiter × (waiter.cell ≡ cell))
+      placed : (cell : Position) → IsOpen new cell → Contains next_ready cell ⊎ ((input : Position) × (waiter : Waiter)
+          × WaitsOn new input waiter × (waiter.cell ≡ cell))
       placed cell there = elim (state.placed cell (was_open cell (to_mid cell there))) [
         | inl was_ready ↦ absurd ((takes.left cell (to_mid cell there)).1 was_ready)
         | inr waits ↦ elim (takes.stays waits.0 waits.1 waits.2) [
@@ -178,7 +203,8 @@ module _ (pairs : List Pair) (stale : List Position) where
 
   -- ---- before the first level
 
-  module _ (opens new : Opens) (waiters : List Waiter) (ready : List Position) (opened : AreOpenedFor stale opens) (firsts : AreFirstWaiters pairs stale waiters) (wakes : Wakes opens new waiters ready) where
+  module _ (opens new : Opens) (waiters : List Waiter) (ready : List Position) (opened : AreOpenedFor stale opens)
+      (firsts : AreFirstWaiters pairs stale waiters) (wakes : Wakes opens new waiters ready) where
     valid_first : (waiter : Waiter) → Contains waiters waiter → IsWaiter pairs stale opens waiter
     valid_first waiter there = let known = firsts.each waiter there in record {
       of_stale = known.0;
@@ -215,14 +241,17 @@ module _ (pairs : List Pair) (stale : List Position) where
         | inr again ↦ inr (again.0, again.1, again.2.waits, again.2.looked.cell_is ∙ first_one.2)
       ];
       free = λ cell listed. let found = wakes.free cell listed in (
-        λ from step there. found.3 from ((valid_first found.0 found.1).all from (was from there) (step_to from cell found.0.cell (sym found.2) step)) (was from there),
+        λ from step there. found.3 from ((valid_first found.0 found.1).all from (was from there)
+            (step_to from cell found.0.cell (sym found.2) step)) (was from there),
         inl refl,
       );
     }
 
   -- ---- behind the last level
 
-  module _ (levels : List (List Position)) (old mid : Opens) (ready circular : List Position) (woken : List Waiter) (state : IsPlanning pairs stale levels old ready) (takes : TakesOut old mid ready [] woken) (exact : (cell : Position) → Contains circular cell ↔ IsOpen mid cell) where
+  module _ (levels : List (List Position)) (old mid : Opens) (ready circular : List Position) (woken : List Waiter)
+      (state : IsPlanning pairs stale levels old ready) (takes : TakesOut old mid ready [] woken)
+      (exact : (cell : Position) → Contains circular cell ↔ IsOpen mid cell) where
     open_before : (cell : Position) → IsOpen mid cell → (input : Position) × IsOpen mid input × StaleStep pairs stale input cell
     open_before cell there = elim (state.placed cell (takes.left cell there).0) [
       | inl was_ready ↦ absurd ((takes.left cell there).1 was_ready)

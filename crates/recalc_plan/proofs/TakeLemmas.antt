@@ -5,7 +5,8 @@ use Rattle.std.specs.Ordering.{nat_cmp}
 use Rattle.std.specs.BTreeMap.{get}
 use Rattle.std.proofs.lemmas.Bool.{cases_eq}
 use Rattle.std.proofs.lemmas.Option.{none-some, same_Some}
-use Rattle.std.proofs.lemmas.List.Elements.{Contains-append_left, Contains-append_right, Contains-append_cases, Contains-push, Contains-push_cases, Contains-get_or}
+use Rattle.std.proofs.lemmas.List.Elements.{Contains-append_left, Contains-append_right, Contains-append_cases}
+use Rattle.std.proofs.lemmas.List.Elements.{Contains-push, Contains-push_cases, Contains-get_or}
 use Rattle.std.proofs.lemmas.List.Quantifiers.{all_pairs_push}
 use Rattle.sheet_refs.specs.Cells.{Position}
 use Rattle.recalc_plan.specs.Opens.{AreCells, IsOpen, Opens, TakesOut, WaitsOn, name_place}
@@ -28,7 +29,8 @@ none_taken opens are = record {
   waited = λ waiter there. absurd (nothing_listed waiter there);
 }
 
-module _ (old mid new : Opens) (cells : List Position) (cell : Position) (before after : Taken) (takes : TakesOut old mid cells before.level.items before.woken.items) where
+module _ (old mid new : Opens) (cells : List Position) (cell : Position) (before after : Taken)
+    (takes : TakesOut old mid cells before.level.items before.woken.items) where
   -- the cell is open
   module _ (one : TakesOpen mid new cell before after) where
     at_cell : one.entry.cell ≡ cell
@@ -67,7 +69,8 @@ module _ (old mid new : Opens) (cells : List Position) (cell : Position) (before
           (takes.taken (get_or before.level.items k d) (Contains-get_or before.level.items k d within)).2 (subst (IsOpen mid) (sym same) opened));
       taken = λ other there. elim (Contains-push_cases before.level.items cell other there) [
         | inl stood ↦ let known = takes.taken other stood in (known.0, Contains-append_left cells (cell ∷ []) other known.1, λ is. known.2 (was_open other is))
-        | inr same ↦ subst (λ (c : Position). IsOpen old c × Contains (cells ++ cell ∷ []) c × (¬ IsOpen new c)) same ((takes.left cell opened).0, Contains-push cells cell, gone cell refl)
+        | inr same ↦ subst (λ (c : Position). IsOpen old c × Contains (cells ++ cell ∷ []) c × (¬ IsOpen new c)) same
+            ((takes.left cell opened).0, Contains-push cells cell, gone cell refl)
       ];
       left = λ other is. let known = takes.left other (was_open other is) in (
         known.0,
@@ -78,7 +81,9 @@ module _ (old mid new : Opens) (cells : List Position) (cell : Position) (before
       );
       parts = λ other is. elim (takes.parts other is) [
         | inl there ↦ elim (cases_eq (name_place other) (name_place cell)) [
-          | inl same ↦ inr (subst (Contains (before.level.items ++ cell ∷ [])) (sym (one_at mid other cell same there opened)) (Contains-push before.level.items cell))
+          | inl same ↦
+              inr (subst (Contains (before.level.items ++ cell ∷ [])) (sym (one_at mid other cell same there opened))
+              (Contains-push before.level.items cell))
           | inr differs ↦ inl (record { entry = there.entry; kept = one.others (name_place other) differs ∙ there.kept; cell_is = there.cell_is })
         ]
         | inr stood ↦ inr (Contains-append_left before.level.items (cell ∷ []) other stood)
@@ -86,14 +91,26 @@ module _ (old mid new : Opens) (cells : List Position) (cell : Position) (before
       waits = λ input waiter on. takes.waits input waiter (was_waiting input waiter on);
       stays = λ input waiter on. elim (takes.stays input waiter on) [
         | inl there ↦ elim (cases_eq (name_place input) (name_place cell)) [
-          | inl same ↦ inr (Contains-append_right before.woken.items one.entry.waiters.items waiter (subst (λ (e : Open). Contains e.waiters.items waiter) (same_Some there.entry one.entry (sym there.kept ∙ (ap (get nat_cmp mid) same ∙ one.kept))) there.listed))
-          | inr differs ↦ inl (record { entry = there.entry; kept = one.others (name_place input) differs ∙ there.kept; cell_is = there.cell_is; listed = there.listed })
+          | inl same ↦
+              inr (Contains-append_right before.woken.items one.entry.waiters.items waiter
+              (subst (λ (e : Open). Contains e.waiters.items waiter) (same_Some there.entry one.entry (sym there.kept
+              ∙ (ap (get nat_cmp mid) same ∙ one.kept))) there.listed))
+          | inr differs ↦ inl (record {
+            entry = there.entry;
+            kept = one.others (name_place input) differs ∙ there.kept;
+            cell_is = there.cell_is;
+            listed = there.listed;
+          })
         ]
         | inr stood ↦ inr (Contains-append_left before.woken.items one.entry.waiters.items waiter stood)
       ];
       waited = λ waiter there. elim (Contains-append_cases before.woken.items one.entry.waiters.items waiter there) [
         | inl stood ↦ let known = takes.waited waiter stood in (known.0, Contains-append_left before.level.items (cell ∷ []) known.0 known.1, known.2)
-        | inr waits ↦ (cell, Contains-push before.level.items cell, takes.waits cell waiter (record { entry = one.entry; kept = one.kept; cell_is = at_cell; listed = waits }))
+        | inr waits ↦ (
+          cell,
+          Contains-push before.level.items cell,
+          takes.waits cell waiter (record { entry = one.entry; kept = one.kept; cell_is = at_cell; listed = waits }),
+        )
       ];
     }
 
@@ -106,7 +123,8 @@ module _ (old mid new : Opens) (cells : List Position) (cell : Position) (before
     took_none = record {
       entries = λ place entry is. takes.entries place entry (sym (same place) ∙ is);
       distinct = takes.distinct;
-      taken = λ other there. let known = takes.taken other there in (known.0, Contains-append_left cells (cell ∷ []) other known.1, λ is. known.2 (was other is));
+      taken = λ other there. let known = takes.taken other there in
+          (known.0, Contains-append_left cells (cell ∷ []) other known.1, λ is. known.2 (was other is));
       left = λ other is. let known = takes.left other (was other is) in (
         known.0,
         λ there. elim (Contains-push_cases cells cell other there) [
@@ -118,7 +136,14 @@ module _ (old mid new : Opens) (cells : List Position) (cell : Position) (before
         | inl there ↦ inl (record { entry = there.entry; kept = same (name_place other) ∙ there.kept; cell_is = there.cell_is })
         | inr stood ↦ inr stood
       ];
-      waits = λ input waiter on. takes.waits input waiter (record { entry = on.entry; kept = sym (same (name_place input)) ∙ on.kept; cell_is = on.cell_is; listed = on.listed });
+      waits =
+          λ input waiter on. takes.waits input waiter (record {
+            entry = on.entry;
+            kept = sym (same (name_place input))
+                ∙ on.kept;
+            cell_is = on.cell_is;
+            listed = on.listed;
+          });
       stays = λ input waiter on. elim (takes.stays input waiter on) [
         | inl there ↦ inl (record { entry = there.entry; kept = same (name_place input) ∙ there.kept; cell_is = there.cell_is; listed = there.listed })
         | inr stood ↦ inr stood
@@ -127,5 +152,7 @@ module _ (old mid new : Opens) (cells : List Position) (cell : Position) (before
     }
 
   pub took : TakesOne mid new cell before after → TakesOut old new (cells ++ cell ∷ []) after.level.items after.woken.items
-  took (inl one) = subst (λ (l : List Position). TakesOut old new (cells ++ cell ∷ []) l after.woken.items) (sym one.level) (subst (λ (w : List Waiter). TakesOut old new (cells ++ cell ∷ []) (before.level.items ++ cell ∷ []) w) (sym one.woken) (took_open one))
+  took (inl one) = subst (λ (l : List Position). TakesOut old new (cells ++ cell ∷ []) l after.woken.items)
+      (sym one.level) (subst (λ (w : List Waiter). TakesOut old new (cells ++ cell ∷ []) (before.level.items ++ cell
+      ∷ []) w) (sym one.woken) (took_open one))
   took (inr (none, same, is)) = subst (λ (t : Taken). TakesOut old new (cells ++ cell ∷ []) t.level.items t.woken.items) (sym is) (took_none none same)

@@ -1,5 +1,6 @@
 -- What a waiter has left, as it looks on.
-use Rattle.std.proofs.Common.{◌≡◌, ◌⊎◌, inl, inr, ℕ, suc, ◌+◌, ◌-◌, ◌<◌, ◌≤◌, ◌==◌, true, false, List, [], ◌∷◌, ◌++◌, length, get_or, Option, Some, slice_get, arith, refl, sym, ap, subst, ◌∙◌}
+use Rattle.std.proofs.Common.{◌≡◌, ◌⊎◌, inl, inr, ℕ, suc, ◌+◌, ◌-◌, ◌<◌, ◌≤◌, ◌==◌, true, false, List, [], ◌∷◌, ◌++◌}
+use Rattle.std.proofs.Common.{length, get_or, Option, Some, slice_get, arith, refl, sym, ap, subst, ◌∙◌}
 use Rattle.std.specs.Prelude.{option_to_list}
 use Rattle.std.proofs.lemmas.Bool.Decides.{nat_tests}
 use Rattle.std.proofs.lemmas.Option.{same_Some, slice_get-get_or}
@@ -21,7 +22,9 @@ looks_more opens a b c first second = record {
 }
 
 -- the last range is passed, since none of its cells is open
-module _ (opens : Opens) (are : AreCells opens) (old new : Waiter) (range : Corners) (parts : old.left.items ≡ new.left.items ++ range ∷ []) (whole : new.up_to ≡ 16384) (none : IsNowhereIn opens range old.up_to) where
+module _ (opens : Opens) (are : AreCells opens) (old new : Waiter) (range : Corners)
+    (parts : old.left.items ≡ new.left.items ++ range ∷ []) (whole : new.up_to ≡ 16384)
+    (none : IsNowhereIn opens range old.up_to) where
   longer : length old.left.items ≡ length new.left.items + 1
   longer = ap length parts ∙ length-append new.left.items (range ∷ [])
 
@@ -51,7 +54,10 @@ module _ (opens : Opens) (are : AreCells opens) (old new : Waiter) (range : Corn
   passed same = record { cell_is = same; less = less; enough = enough }
 
 -- an open cell is found in the last range
-module _ (opens : Opens) (old new : Waiter) (range : Corners) (found : Position) (last_place : ℕ) (kept : new.left.items ≡ old.left.items) (up_to : new.up_to ≡ found.col) (ends : suc last_place ≡ length old.left.items) (here : slice_get old.left.items last_place ≡ Some range) (is : IsLastIn opens range old.up_to found) where
+module _ (opens : Opens) (old new : Waiter) (range : Corners) (found : Position) (last_place : ℕ)
+    (kept : new.left.items ≡ old.left.items) (up_to : new.up_to ≡ found.col)
+    (ends : suc last_place ≡ length old.left.items) (here : slice_get old.left.items last_place ≡ Some range)
+    (is : IsLastIn opens range old.up_to found) where
   pub narrowed : new.cell ≡ old.cell → LooksOn opens old new
   narrowed same = record {
     cell_is = same;
@@ -84,18 +90,23 @@ is_zero n is = grind (arith, nat_tests)
 
 -- nothing is left in no ranges
 pub none_left : (opens : Opens) (waiter : Waiter) (count : ℕ) → count ≡ length waiter.left.items → true ≡ (count == 0) → HasNoneLeft opens waiter
-none_left opens waiter count counted empty cell left there = absurd (omega (arith, at_within waiter.left.items left.place left.range left.listed, counted, is_zero count empty))
+none_left opens waiter count counted empty cell left there =
+    absurd (omega (arith, at_within waiter.left.items left.place left.range left.listed, counted, is_zero count empty))
 
 pub not_zero : (n : ℕ) → false ≡ (n == 0) → 0 < n
 not_zero n is = grind (arith, nat_tests)
 
 -- the last element, which is taken off a list, was the one at its last place
-pub popped : {A : Type 0} (old new : List A) (count : ℕ) (last : A) (found : Option A) → count ≡ length old → 0 < length old → old ≡ new ++ option_to_list found → ((d : A) → 0 < length old → found ≡ Some (get_or old (length old - 1) d)) → last ≡ get_or old (count - 1) last → old ≡ new ++ last ∷ []
+pub popped : {A : Type 0} (old new : List A) (count : ℕ) (last : A) (found : Option A) → count ≡ length old
+    → 0 < length old → old ≡ new ++ option_to_list found
+    → ((d : A) → 0 < length old → found ≡ Some (get_or old (length old - 1) d)) → last ≡ get_or old (count - 1) last
+    → old ≡ new ++ last ∷ []
 popped old new count last found counted some parts value read =
     let is : found ≡ Some last = value last some ∙ ap Some (ap (λ n. get_or old (n - 1) last) (sym counted) ∙ sym read) in
     parts ∙ ap (λ o. new ++ option_to_list o) is
 
-pub last_at : {A : Type 0} (old : List A) (count : ℕ) (last : A) → count ≡ length old → 0 < length old → last ≡ get_or old (count - 1) last → slice_get old (length old - 1) ≡ Some last
+pub last_at : {A : Type 0} (old : List A) (count : ℕ) (last : A) → count ≡ length old → 0 < length old
+    → last ≡ get_or old (count - 1) last → slice_get old (length old - 1) ≡ Some last
 last_at old count last counted some read =
     slice_get-get_or old (length old - 1) last (omega (arith, some)) ∙ ap Some (ap (λ n. get_or old (n - 1) last) (sym counted) ∙ sym read)
 

@@ -16,7 +16,11 @@ use Rattle.recalc_plan.proofs.ListLemmas.{first, first_or_later, later, nothing_
 
 -- ---- an entry that gains a waiter
 
-module _ (old new : Opens) (cell : Position) (waiter : Waiter) (entry pushed : Open) (are : AreCells old) (here : get nat_cmp old (name_place cell) ≡ Some entry) (at_cell : entry.cell ≡ cell) (kept : get nat_cmp new (name_place cell) ≡ Some pushed) (others : (place : ℕ) → (place ≡ name_place cell → ⊥) → get nat_cmp new place ≡ get nat_cmp old place) (cell_is : pushed.cell ≡ entry.cell) (items : pushed.waiters.items ≡ entry.waiters.items ++ waiter ∷ []) where
+module _ (old new : Opens) (cell : Position) (waiter : Waiter) (entry pushed : Open) (are : AreCells old)
+    (here : get nat_cmp old (name_place cell) ≡ Some entry) (at_cell : entry.cell ≡ cell)
+    (kept : get nat_cmp new (name_place cell) ≡ Some pushed) (others : (place : ℕ) → (place ≡ name_place cell → ⊥)
+    → get nat_cmp new place ≡ get nat_cmp old place) (cell_is : pushed.cell ≡ entry.cell)
+    (items : pushed.waiters.items ≡ entry.waiters.items ++ waiter ∷ []) where
   old_entry : (place : ℕ) (found : Open) → place ≡ name_place cell → get nat_cmp old place ≡ Some found → found ≡ entry
   old_entry place found same is = same_Some found entry (sym is ∙ (ap (get nat_cmp old) same ∙ here))
 
@@ -62,7 +66,9 @@ module _ (old new : Opens) (cell : Position) (waiter : Waiter) (entry pushed : O
           entry = pushed;
           kept = ap (get nat_cmp new) same ∙ kept;
           cell_is = cell_is ∙ (sym (ap (λ (e : Open). e.cell) known) ∙ on.cell_is);
-          listed = subst (λ (l : List Waiter). Contains l other) (sym items) (Contains-append_left entry.waiters.items (waiter ∷ []) other (subst (λ (e : Open). Contains e.waiters.items other) known on.listed));
+          listed =
+              subst (λ (l : List Waiter). Contains l other) (sym items) (Contains-append_left entry.waiters.items
+              (waiter ∷ []) other (subst (λ (e : Open). Contains e.waiters.items other) known on.listed));
         }
     | inr differs ↦ record { entry = on.entry; kept = others (name_place input) differs ∙ on.kept; cell_is = on.cell_is; listed = on.listed }
   ]
@@ -93,10 +99,16 @@ module _ (old new : Opens) (cell : Position) (waiter : Waiter) (entry pushed : O
   }
 
 -- taken out, and put back with one waiter more
-pub added : (old mid new : Opens) (cell : Position) (waiter : Waiter) (entry pushed : Open) → AreCells old → IsOpen old cell → get nat_cmp old (name_place cell) ≡ Some entry → MapUpdates nat_cmp old mid (name_place cell) None → MapUpdates nat_cmp mid new (name_place cell) (Some pushed) → pushed.cell ≡ entry.cell → pushed.waiters.items ≡ entry.waiters.items ++ waiter ∷ [] → AddsWaiter old new cell waiter
+pub added : (old mid new : Opens) (cell : Position) (waiter : Waiter) (entry pushed : Open) → AreCells old
+    → IsOpen old cell → get nat_cmp old (name_place cell) ≡ Some entry
+    → MapUpdates nat_cmp old mid (name_place cell) None → MapUpdates nat_cmp mid new (name_place cell) (Some pushed)
+    → pushed.cell ≡ entry.cell → pushed.waiters.items ≡ entry.waiters.items ++ waiter ∷ []
+    → AddsWaiter old new cell waiter
 added old mid new cell waiter entry pushed are is here out back cell_is items =
     let at_cell : entry.cell ≡ cell = ap (λ (e : Open). e.cell) (same_Some entry is.entry (sym here ∙ is.kept)) ∙ is.cell_is in
-    adds old new cell waiter entry pushed are here at_cell back.1 (λ place differs. back.2 place (not_at (name_place cell) place differs) ∙ out.2 place (not_at (name_place cell) place differs)) cell_is items
+    adds old new cell waiter entry pushed are here at_cell back.1
+    (λ place differs. back.2 place (not_at (name_place cell) place differs)
+    ∙ out.2 place (not_at (name_place cell) place differs)) cell_is items
 
 -- ---- one more that looks on
 
@@ -121,7 +133,9 @@ none_woken opens are = record {
 module _ (old mid new : Opens) (woken : List Waiter) (before ready : List Position) (waiter : Waiter) (wakes : Wakes old mid woken before) where
   -- it has nothing open left
   ready_one : HasNoneLeft mid waiter → new ≡ mid → ready ≡ before ++ waiter.cell ∷ [] → Wakes old new (waiter ∷ woken) ready
-  ready_one none same is = subst (λ (m : Opens). Wakes old m (waiter ∷ woken) ready) (sym same) (subst (λ (r : List Position). Wakes old mid (waiter ∷ woken) r) (sym is) one_more)
+  ready_one none same is =
+      subst (λ (m : Opens). Wakes old m (waiter ∷ woken) ready) (sym same)
+      (subst (λ (r : List Position). Wakes old mid (waiter ∷ woken) r) (sym is) one_more)
     where
       one_more : Wakes old mid (waiter ∷ woken) (before ++ waiter.cell ∷ [])
       one_more = record {
@@ -163,7 +177,8 @@ module _ (old mid new : Opens) (woken : List Waiter) (before ready : List Positi
     waits_one = record {
       keeps = keeps_more old mid new wakes.keeps one.adds.keeps;
       each = λ other there. elim (first_or_later waiter other woken there) [
-        | inl same_one ↦ subst (λ (w : Waiter). Contains before w.cell ⊎ ((input : Position) × (next : Waiter) × WaitsAgain old new w input next)) same_one (inr (one.input, one.next, this_one))
+        | inl same_one ↦ subst (λ (w : Waiter). Contains before w.cell ⊎ ((input : Position) × (next : Waiter)
+            × WaitsAgain old new w input next)) same_one (inr (one.input, one.next, this_one))
         | inr after ↦ elim (wakes.each other after) [
           | inl listed ↦ inl listed
           | inr again ↦ inr (again.0, again.1, moved other again.0 again.1 again.2)
@@ -175,7 +190,13 @@ module _ (old mid new : Opens) (woken : List Waiter) (before ready : List Positi
           | inl at_first ↦ inl at_first
           | inr again ↦ inr (again.0, later waiter again.0 woken again.1, moved again.0 input next again.2)
         ]
-        | inr this ↦ inr (waiter, first waiter woken, subst (λ (n : Waiter). WaitsAgain old new waiter input n) (sym this.1) (subst (λ (p : Position). WaitsAgain old new waiter p one.next) (sym this.0) this_one))
+        | inr this ↦
+            inr (
+              waiter,
+              first waiter woken,
+              subst (λ (n : Waiter). WaitsAgain old new waiter input n) (sym this.1)
+                  (subst (λ (p : Position). WaitsAgain old new waiter p one.next) (sym this.0) this_one),
+            )
       ];
     }
 

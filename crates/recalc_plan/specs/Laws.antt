@@ -24,7 +24,8 @@ PlansAgree =
     (pairs like_pairs : List Pair) (stale like_stale : List Position) (levels like_levels : List (List Position)) (circular like_circular : List Position)
     → SamePairs pairs like_pairs → ((cell : Position) → Contains like_stale cell ↔ Contains stale cell)
     → IsPlan pairs stale levels circular → IsPlan like_pairs like_stale like_levels like_circular
-    → (length like_levels ≡ length levels) × ((number : ℕ) (cell : Position) → InLevel like_levels number cell ↔ InLevel levels number cell) × ((cell : Position) → Contains like_circular cell ↔ Contains circular cell)
+    → (length like_levels ≡ length levels) × ((number : ℕ) (cell : Position) → InLevel like_levels number cell
+    ↔ InLevel levels number cell) × ((cell : Position) → Contains like_circular cell ↔ Contains circular cell)
 
 -- the cells of a plan are the stale ones
 abbrev pub PlansHaveTheStale : Type 0
@@ -36,7 +37,9 @@ PlansHaveTheStale =
 abbrev pub CellsStandOnce : Type 0
 CellsStandOnce =
     (pairs : List Pair) (stale : List Position) (levels : List (List Position)) (circular : List Position) → IsPlan pairs stale levels circular
-    → (m n i j : ℕ) (one other : List Position) (cell : Position) → slice_get levels m ≡ Some one → slice_get levels n ≡ Some other → slice_get one i ≡ Some cell → slice_get other j ≡ Some cell → (m ≡ n) × (i ≡ j)
+    → (m n i j : ℕ) (one other : List Position) (cell : Position) → slice_get levels m ≡ Some one
+    → slice_get levels n ≡ Some other → slice_get one i ≡ Some cell → slice_get other j ≡ Some cell → (m ≡ n)
+    × (i ≡ j)
 
 -- where one cell is the i-th and the j-th of the circular ones, i is j
 abbrev pub CircularStandOnce : Type 0

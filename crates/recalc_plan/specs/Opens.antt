@@ -84,7 +84,9 @@ pub record LooksOn (opens : Opens) (old new : Waiter) : Type 0 where
 
 -- one for each of some cells, with all its direct precedents left
 pub record AreFirstWaiters (pairs : List Pair) (cells : List Position) (waiters : List Waiter) : Type 0 where
-  pub each : (waiter : Waiter) → Contains waiters waiter → Contains cells waiter.cell × ((cell : Position) → IsLeft waiter cell → Step pairs cell waiter.cell) × ((cell : Position) → cell.col ≤ 16384 → Step pairs cell waiter.cell → IsLeft waiter cell)
+  pub each : (waiter : Waiter) → Contains waiters waiter → Contains cells waiter.cell
+      × ((cell : Position) → IsLeft waiter cell → Step pairs cell waiter.cell) × ((cell : Position) → cell.col ≤ 16384
+      → Step pairs cell waiter.cell → IsLeft waiter cell)
   pub all : (cell : Position) → Contains cells cell → (waiter : Waiter) × Contains waiters waiter × (waiter.cell ≡ cell)
 
 -- the open cells stay, and so do all that wait
@@ -108,9 +110,11 @@ pub record WaitsAgain (opens new : Opens) (waiter : Waiter) (input : Position) (
 -- each of some waiters has nothing open left, and its cell is listed, or waits again; nothing else has changed
 pub record Wakes (old new : Opens) (woken : List Waiter) (ready : List Position) : Type 0 where
   pub keeps : KeepsOpen old new
-  pub each : (waiter : Waiter) → Contains woken waiter → Contains ready waiter.cell ⊎ ((input : Position) × (next : Waiter) × WaitsAgain old new waiter input next)
+  pub each : (waiter : Waiter) → Contains woken waiter → Contains ready waiter.cell
+      ⊎ ((input : Position) × (next : Waiter) × WaitsAgain old new waiter input next)
   pub free : (cell : Position) → Contains ready cell → (waiter : Waiter) × Contains woken waiter × (waiter.cell ≡ cell) × HasNoneLeft old waiter
-  pub only : (input : Position) (next : Waiter) → WaitsOn new input next → WaitsOn old input next ⊎ ((waiter : Waiter) × Contains woken waiter × WaitsAgain old new waiter input next)
+  pub only : (input : Position) (next : Waiter) → WaitsOn new input next → WaitsOn old input next
+      ⊎ ((waiter : Waiter) × Contains woken waiter × WaitsAgain old new waiter input next)
 
 -- the open ones of some cells are taken out, with those that waited on them
 pub record TakesOut (old new : Opens) (cells level : List Position) (woken : List Waiter) : Type 0 where

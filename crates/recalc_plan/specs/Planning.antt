@@ -25,5 +25,6 @@ pub record IsPlanning (pairs : List Pair) (stale : List Position) (levels : List
   pub of_stale : (cell : Position) → IsOpen opens cell → Contains stale cell
   pub apart : (number : ℕ) (cell : Position) → InLevel levels number cell → ¬ IsOpen opens cell
   pub waiters : (input : Position) (waiter : Waiter) → WaitsOn opens input waiter → IsWaiter pairs stale opens waiter × Step pairs input waiter.cell
-  pub placed : (cell : Position) → IsOpen opens cell → Contains ready cell ⊎ ((input : Position) × (waiter : Waiter) × WaitsOn opens input waiter × (waiter.cell ≡ cell))
+  pub placed : (cell : Position) → IsOpen opens cell → Contains ready cell ⊎ ((input : Position) × (waiter : Waiter)
+      × WaitsOn opens input waiter × (waiter.cell ≡ cell))
   pub free : (cell : Position) → Contains ready cell → ((from : Position) → Step pairs from cell → ¬ IsOpen opens from) × FollowsLast pairs stale levels cell

@@ -27,13 +27,15 @@ pub record InLevel (levels : List (List Position)) (number : ℕ) (cell : Positi
   pub at : slice_get levels number ≡ Some level
   pub listed : Contains level cell
 
--- levels of stale cells, none of them empty: each cell at one place of one level alone, its stale direct precedents in earlier ones, and one of these just before
+-- levels of stale cells, none of them empty: each cell at one place of one level alone, its stale direct precedents in
+-- earlier ones, and one of these just before
 pub record AreLevels (pairs : List Pair) (stale : List Position) (levels : List (List Position)) : Type 0 where
   pub of_stale : (number : ℕ) (cell : Position) → InLevel levels number cell → Contains stale cell
   pub once : All (AllPairs (λ a b. a ≢ b)) levels
   pub apart : (i j : ℕ) (cell : Position) → InLevel levels i cell → InLevel levels j cell → i ≡ j
   pub filled : All (λ level. level ≢ []) levels
-  pub earlier : (number : ℕ) (from to : Position) → InLevel levels number to → StaleStep pairs stale from to → (before : ℕ) × (before < number) × InLevel levels before from
+  pub earlier : (number : ℕ) (from to : Position) → InLevel levels number to → StaleStep pairs stale from to
+      → (before : ℕ) × (before < number) × InLevel levels before from
   pub least : (number : ℕ) (to : Position) → InLevel levels (suc number) to → (from : Position) × StaleStep pairs stale from to × InLevel levels number from
 
 -- each stale cell once, in a level or, exactly where it leads into a cycle, among the circular ones

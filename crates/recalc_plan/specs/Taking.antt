@@ -34,7 +34,8 @@ pub record TakesOpen (old new : Opens) (cell : Position) (before after : Taken) 
 -- a cell that isn't open changes nothing
 abbrev pub TakesOne : Opens → Opens → Position → Taken → Taken → Type 0
 TakesOne old new cell before after =
-    TakesOpen old new cell before after ⊎ ((get nat_cmp old (name_place cell) ≡ None) × ((place : ℕ) → get nat_cmp new place ≡ get nat_cmp old place) × (after ≡ before))
+    TakesOpen old new cell before after ⊎ ((get nat_cmp old (name_place cell) ≡ None)
+    × ((place : ℕ) → get nat_cmp new place ≡ get nat_cmp old place) × (after ≡ before))
 
 -- a cell is listed where it is open
 abbrev pub ListsOpen : Opens → Position → List Position → List Position → Type 0

@@ -1,4 +1,4 @@
-pub mod OfficeLemmas
-pub mod OpenedLemmas
-pub mod OpeningLemmas
-pub mod SettleLemmas
+mod OfficeLemmas
+mod OpenedLemmas
+mod OpeningLemmas
+mod SettleLemmas

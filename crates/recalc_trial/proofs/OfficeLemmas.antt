@@ -25,7 +25,9 @@ if_ok : {T E : Type 0} (P Q : T → Type 0) (r : Result T E) → ((x : T) → P 
 if_ok P Q (Ok x) on given = on x given
 if_ok P Q (Err e) on given = given
 
-pub tells_cycle : {S M : Type 0} {G : Ghosts S Entry} (opening sheet : SheetValue) (log : List Entry) (pairs : List Pair) (cell : Position) (seat : Seat S Entry G) (result : Result Bool M) → IsBookOf opening sheet log pairs
+pub tells_cycle : {S M : Type 0} {G : Ghosts S Entry} (opening sheet : SheetValue) (log : List Entry)
+    (pairs : List Pair) (cell : Position) (seat : Seat S Entry G) (result : Result Bool M)
+    → IsBookOf opening sheet log pairs
     → log_of seat ≡ log → IfOk result (λ on. IsTrue on ↔ IsOnCycle pairs cell) → IfOk result (TellsCycle opening cell seat)
 tells_cycle opening sheet log pairs cell seat result book same given =
     if_ok (λ on. IsTrue on ↔ IsOnCycle pairs cell) (TellsCycle opening cell seat) result
@@ -38,9 +40,12 @@ tells_cycle opening sheet log pairs cell seat result book same given =
     }) given
 
 -- an entry touches the place of the first cell that it changes
-pub touches_first : (opening : SheetValue) (log : List Entry) (entry : Entry) (first : ChangeValue) (sizes : Sizes) (place : ℕ) → TouchedPlacesAreTouchedCells → ChangedCellsAreTouched → sizes ≡ opening.sizes
-    → IsTrue (is_inside sizes first.cell) → first ≡ get_or entry.edit 0 first → 0 < length entry.edit → place ≡ place_of sizes first.cell → TouchesPlace opening log entry place
+pub touches_first : (opening : SheetValue) (log : List Entry) (entry : Entry) (first : ChangeValue) (sizes : Sizes)
+    (place : ℕ) → TouchedPlacesAreTouchedCells → ChangedCellsAreTouched → sizes ≡ opening.sizes
+    → IsTrue (is_inside sizes first.cell) → first ≡ get_or entry.edit 0 first → 0 < length entry.edit
+    → place ≡ place_of sizes first.cell → TouchesPlace opening log entry place
 touches_first opening log entry first sizes place places changed same inside at some placed =
     let among : Contains entry.edit first = subst (Contains entry.edit) (sym at) (Contains-get_or entry.edit 0 first some) in
     let there : IsTrue (is_inside opening.sizes first.cell) = subst (λ (s : Sizes). IsTrue (is_inside s first.cell)) same inside in
-    subst (TouchesPlace opening log entry) (sym (placed ∙ ap (λ (s : Sizes). place_of s first.cell) same)) ((places opening log entry first.cell there).1 (changed opening log entry first among))
+    subst (TouchesPlace opening log entry) (sym (placed ∙ ap (λ (s : Sizes). place_of s first.cell) same))
+    ((places opening log entry first.cell there).1 (changed opening log entry first among))

@@ -12,7 +12,8 @@ use Rattle.recalc_workers.specs.Settling.{IsEditorOf}
 use Rattle.recalc_trial.specs.Opened.{IsOpenedOver}
 
 -- the seat is the editor's, over the sheet
-pub is_editor_of : (sheet : SheetValue) (marks : Marks SheetValue Entry) (editor : Seat SheetValue Entry ghosts) → IsOpenedOver sheet (marks, editor) → IsEditorOf marks (subject_of marks) sheet editor
+pub is_editor_of : (sheet : SheetValue) (marks : Marks SheetValue Entry) (editor : Seat SheetValue Entry ghosts)
+    → IsOpenedOver sheet (marks, editor) → IsEditorOf marks (subject_of marks) sheet editor
 is_editor_of sheet marks editor opened = record {
   table = opened.seat;
   editor = opened.editor;
@@ -21,5 +22,6 @@ is_editor_of sheet marks editor opened = record {
 }
 
 -- there is a place for each cell
-pub places_are : (sheet : SheetValue) (marks : Marks SheetValue Entry) (editor : Seat SheetValue Entry ghosts) → IsOpenedOver sheet (marks, editor) → places_of marks ≡ cell_count sheet.sizes
+pub places_are : (sheet : SheetValue) (marks : Marks SheetValue Entry) (editor : Seat SheetValue Entry ghosts)
+    → IsOpenedOver sheet (marks, editor) → places_of marks ≡ cell_count sheet.sizes
 places_are sheet marks editor opened = opened.seat.same_places ∙ ap (λ (s : SheetValue). cell_count s.sizes) opened.subject

@@ -30,7 +30,8 @@ use Rattle.recalc_workers.specs.declared.turns.Turn.{Turn}
 use Rattle.recalc_workers.specs.declared.turns.Turn.TheVariants.{Done, Idle, Nothing, Later, Stale, Busy, Memory}
 use Rattle.recalc_workers.specs.Inputs.{IsInputUnread, IsOutdated, StopsReading, WasUnread}
 use Rattle.recalc_workers.specs.Seats.{Keeps, HasDoneNothing, HoldsNothing, HasRead}
-use Rattle.recalc_workers.specs.Turns.{WasAdded, HasMetAt, IsDone, IsNothing, IsLater, IsOnCycle, IsBusy, HasCause, IsStillIdle, HasReadAs, IsAbout, IsAnswerAt, IsDue, ComesTo}
+use Rattle.recalc_workers.specs.Turns.{WasAdded, HasMetAt, IsDone, IsNothing, IsLater, IsOnCycle, IsBusy, HasCause}
+use Rattle.recalc_workers.specs.Turns.{IsStillIdle, HasReadAs, IsAbout, IsAnswerAt, IsDue, ComesTo}
 use Rattle.recalc_workers.specs.Work.{ClaimsPutsFinishes, HasFinished, HasLost}
 use Rattle.recalc_workers.proofs.SeatLemmas.{keeps_on, nothing_done, one_step_more, prefix_of_more, prefix_of_same}
 use Rattle.recalc_workers.proofs.ReadingLemmas.{added_since, added_still, outdated_later, read_later, read_still}
@@ -43,15 +44,22 @@ module _ {S E : Type 0} {G : Ghosts S E} where
   still_idle start old new p keeps idle = record { keeps = keeps_on start old new p.keeps keeps; idle = nothing_done start old new p.idle idle }
 
   -- the read that is made now was made since the start
-  pub read_as : (start old new : Seat S E G) (place : ℕ) (reading : Reading) → Keeps start old → HasRead old place reading new → HasReadAs start new place reading
+  pub read_as : (start old new : Seat S E G) (place : ℕ) (reading : Reading) → Keeps start old
+      → HasRead old place reading new → HasReadAs start new place reading
   read_as start old new place reading keeps r =
       record {
-        of = read_later start old new place keeps (record { read = r.read; added = record { added = r.read ∷ []; all = r.one; among = Contains-push [] r.read }; place_is = r.is.place_is });
+        of =
+            read_later start old new place keeps (record {
+              read = r.read;
+              added = record { added = r.read ∷ []; all = r.one; among = Contains-push [] r.read };
+              place_is = r.is.place_is;
+            });
         clean = r.is.clean;
         mark = r.is.mark;
       }
 
-  pub still_read_as : (start old new : Seat S E G) (place : ℕ) (reading : Reading) → HasReadAs start old place reading → Keeps old new → HasReadAs start new place reading
+  pub still_read_as : (start old new : Seat S E G) (place : ℕ) (reading : Reading) → HasReadAs start old place reading
+      → Keeps old new → HasReadAs start new place reading
   still_read_as start old new place reading rd keeps = record { of = read_still start old new place rd.of keeps; clean = rd.clean; mark = rd.mark }
 
   pub met_still : (start old new : Seat S E G) (met : ℕ) → HasMetAt start old met → Keeps old new → HasMetAt start new met
@@ -64,13 +72,21 @@ module _ {S E : Type 0} {G : Ghosts S E} where
       }
 
   -- a place that was read as due may be claimed
-  pub may_claim : (start now : Seat S E G) (place met : ℕ) (reading : Reading) → HasReadAs start now place reading → reading.clean.upto ≤ reading.mark + 1 → IsDue reading met → MayClaim (view_of now) place reading.clean
+  pub may_claim : (start now : Seat S E G) (place met : ℕ) (reading : Reading) → HasReadAs start now place reading
+      → reading.clean.upto ≤ reading.mark + 1 → IsDue reading met → MayClaim (view_of now) place reading.clean
   may_claim start now place met reading rd upto due =
       record {
         free = due.free;
         read = rd.of.read;
-        among = subst (λ reads. Contains reads rd.of.read) (sym rd.of.added.all) (Contains-append_right (view_of start).reads rd.of.added.added rd.of.read rd.of.added.among);
-        ground = record { same_place = rd.of.place_is; same_clean = rd.clean; stale = below reading.clean.upto (rd.of.read.mark) (omega (arith, upto, rd.mark)) (λ e. due.stale (e ∙ ap (λ n. n + 1) rd.mark)) };
+        among =
+            subst (λ reads. Contains reads rd.of.read) (sym rd.of.added.all)
+            (Contains-append_right (view_of start).reads rd.of.added.added rd.of.read rd.of.added.among);
+        ground = record {
+          same_place = rd.of.place_is;
+          same_clean = rd.clean;
+          stale = below reading.clean.upto (rd.of.read.mark) (omega (arith, upto, rd.mark))
+              (λ e. due.stale (e ∙ ap (λ n. n + 1) rd.mark));
+        };
       }
 
 -- an answer to a read of the cell is about it
@@ -84,7 +100,8 @@ answer_about cell reading met (Busy other seen found) a = a.0
 answer_about cell reading met (Memory other) a = absurd a
 
 module _ {S : Type 0} {G : Ghosts S Entry} (opening : SheetValue) (cell : Position) where
-  pub done_comes : (old new : Seat S Entry G) (place : ℕ) (reading : Reading) (word : ℕ) → place ≡ place_of opening.sizes cell → HoldsNothing old → reading.clean.upto ≢ reading.mark + 1
+  pub done_comes : (old new : Seat S Entry G) (place : ℕ) (reading : Reading) (word : ℕ)
+      → place ≡ place_of opening.sizes cell → HoldsNothing old → reading.clean.upto ≢ reading.mark + 1
       → HasFinished old place reading.clean word reading.mark new → ComesTo opening old cell (λ start. HasReadAs start old place reading) new (Done cell)
   done_comes old new place reading word is free stale f =
       record {
@@ -103,7 +120,8 @@ module _ {S : Type 0} {G : Ghosts S Entry} (opening : SheetValue) (cell : Positi
                   subst (λ m. ClaimsPutsFinishes (own_steps old) (own_steps new) place rd.of.read.clean word m) (sym rd.mark)
                   (subst (λ k. ClaimsPutsFinishes (own_steps old) (own_steps new) place k word reading.mark) (sym rd.clean) f.steps);
               holds = f.holds ∙ sym free ∙ idle.idle.holds;
-              done = f.done ∙ ap (λ l. l ++ record { place = place; mark = reading.mark } ∷ []) idle.idle.done ∙ ap (λ m. (view_of start).done ++ record { place = place; mark = m } ∷ []) (sym rd.mark);
+              done = f.done ∙ ap (λ l. l ++ record { place = place; mark = reading.mark } ∷ []) idle.idle.done
+                  ∙ ap (λ m. (view_of start).done ++ record { place = place; mark = m } ∷ []) (sym rd.mark);
               lost = f.lost ∙ idle.idle.lost;
             });
       }
@@ -130,7 +148,8 @@ module _ {S : Type 0} {G : Ghosts S Entry} (opening : SheetValue) (cell : Positi
       }
 
   -- want of memory
-  pub memory_comes : (old new : Seat S Entry G) (Given : Seat S Entry G → Type 0) → HoldsNothing old → Keeps old new → HasDoneNothing old new → ComesTo opening old cell Given new (Memory cell)
+  pub memory_comes : (old new : Seat S Entry G) (Given : Seat S Entry G → Type 0) → HoldsNothing old → Keeps old new
+      → HasDoneNothing old new → ComesTo opening old cell Given new (Memory cell)
   memory_comes old new Given free keeps idle =
       record {
         keeps = keeps;
@@ -151,7 +170,8 @@ module _ {S : Type 0} {G : Ghosts S Entry} (opening : SheetValue) (cell : Positi
         cause = λ start still has. comes.cause start (still_idle start old mid still keeps idle) (given start still has);
       }
 
-  answer_cause : (start new : Seat S Entry G) (reading : Reading) (met : ℕ) (turn : Turn) → IsAnswerAt cell reading met turn → HasReadAs start new (place_of opening.sizes cell) reading
+  answer_cause : (start new : Seat S Entry G) (reading : Reading) (met : ℕ) (turn : Turn)
+      → IsAnswerAt cell reading met turn → HasReadAs start new (place_of opening.sizes cell) reading
       → HasMetAt start new met → HasDoneNothing start new → HasCause opening start new turn
   answer_cause start new reading met (Done other) a rd bound idle = absurd a
   answer_cause start new reading met Idle a rd bound idle = absurd a
@@ -172,7 +192,8 @@ module _ {S : Type 0} {G : Ghosts S Entry} (opening : SheetValue) (cell : Positi
       })
   answer_cause start new reading met (Memory other) a rd bound idle = absurd a
 
-  pub answer_comes : (old new : Seat S Entry G) (place : ℕ) (reading : Reading) (met : ℕ) (turn : Turn) → place ≡ place_of opening.sizes cell → HoldsNothing old → HasRead old place reading new
+  pub answer_comes : (old new : Seat S Entry G) (place : ℕ) (reading : Reading) (met : ℕ) (turn : Turn)
+      → place ≡ place_of opening.sizes cell → HoldsNothing old → HasRead old place reading new
       → IsAnswerAt cell reading met turn → ComesTo opening old cell (λ start. HasMetAt start old met) new turn
   answer_comes old new place reading met turn is free r a =
       record {
@@ -185,11 +206,14 @@ module _ {S : Type 0} {G : Ghosts S Entry} (opening : SheetValue) (cell : Positi
       }
 
   -- an input that is out of date, of a cell that isn't on a cycle
-  pub stale_comes : (old new : Seat S Entry G) (input : Position) (met : ℕ) → HoldsNothing old → met ≡ length (log_of old) → IsInput (after opening (log_of old)) cell input → Keeps old new → HasDoneNothing old new
+  pub stale_comes : (old new : Seat S Entry G) (input : Position) (met : ℕ) → HoldsNothing old
+      → met ≡ length (log_of old) → IsInput (after opening (log_of old)) cell input → Keeps old new
+      → HasDoneNothing old new
       → ¬ IsOnCycle (after opening (log_of new)) cell
       → ComesTo opening old cell (λ start. HasMetAt start old met × IsOutdated start old (place_of opening.sizes input) met) new (Stale cell input met)
   stale_comes old new input met free met_is named keeps idle on_none =
-      let first : take met (log_of new) ≡ log_of old = take-prefix (log_of old) (log_of new) met keeps.log (omega (arith, met_is)) ∙ take_all met (log_of old) (omega (arith, met_is)) in
+      let first : take met (log_of new) ≡ log_of old = take-prefix (log_of old) (log_of new) met keeps.log
+      (omega (arith, met_is)) ∙ take_all met (log_of old) (omega (arith, met_is)) in
       record {
         keeps = keeps;
         free = idle.holds ∙ free;
@@ -206,7 +230,9 @@ module _ {S : Type 0} {G : Ghosts S Entry} (opening : SheetValue) (cell : Positi
       }
 
 -- what ended the reading of a cell's inputs is an input of the cell,
-pub unread_input : {S E : Type 0} {G : Ghosts S E} (sheet : SheetValue) (sizes : Sizes) (content : ContentValue) (cell : Position) (old new : Seat S E G) (met : ℕ) (unread : Unread) → sheet.sizes ≡ sizes → content ≡ content_of sheet cell
+pub unread_input : {S E : Type 0} {G : Ghosts S E} (sheet : SheetValue) (sizes : Sizes) (content : ContentValue)
+    (cell : Position) (old new : Seat S E G) (met : ℕ) (unread : Unread) → sheet.sizes ≡ sizes
+    → content ≡ content_of sheet cell
     → StopsReading sizes (λ input. IsNamedBy (content_references content) input) old new met unread → IsInputUnread sheet cell unread
 unread_input sheet sizes content cell old new met (Outdated input) same_sizes is s =
     record {
@@ -216,7 +242,9 @@ unread_input sheet sizes content cell old new met (Outdated input) same_sizes is
 unread_input sheet sizes content cell old new met unread.Memory same_sizes is s = s
 
 -- and was read since the start of the turn
-pub unread_since : {S E : Type 0} {G : Ghosts S E} (sizes : Sizes) (Named : Position → Type 0) (start old new : Seat S E G) (met : ℕ) (unread : Unread) → Keeps start old → StopsReading sizes Named old new met unread → WasUnread sizes start new met unread
+pub unread_since : {S E : Type 0} {G : Ghosts S E} (sizes : Sizes) (Named : Position
+    → Type 0) (start old new : Seat S E G) (met : ℕ) (unread : Unread) → Keeps start old
+    → StopsReading sizes Named old new met unread → WasUnread sizes start new met unread
 unread_since sizes Named start old new met (Outdated input) keeps s = outdated_later start old new (place_of sizes input) met keeps s.2
 unread_since sizes Named start old new met unread.Memory keeps s = s
 
@@ -236,14 +264,22 @@ module _ {S E : Type 0} {G : Ghosts S E} (s0 s1 : Seat S E G) (count : ℕ) (saw
       }
 
   pub see_idle : HasDoneNothing s0 s1
-  see_idle = record { holds = ap (λ (d : Doing S E). d.view.holds) saw; done = ap (λ (d : Doing S E). d.view.done) saw; lost = ap (λ (d : Doing S E). d.view.lost) saw }
+  see_idle = record {
+    holds = ap (λ (d : Doing S E). d.view.holds) saw;
+    done = ap (λ (d : Doing S E). d.view.done) saw;
+    lost = ap (λ (d : Doing S E). d.view.lost) saw;
+  }
 
   pub met_by : (start s2 : Seat S E G) (met : ℕ) → Keeps start s0 → Keeps s1 s2 → seen_of s1 ≤ met → met ≡ length (log_of s2) → HasMetAt start s2 met
   met_by start s2 met before later most is =
-      let one : WasAdded (view_of s0).sees (view_of s1).sees count = record { added = count ∷ []; all = ap (λ (d : Doing S E). d.view.sees) saw; among = Contains-push [] count } in
+      let one : WasAdded (view_of s0).sees (view_of s1).sees count =
+      record { added = count ∷ []; all = ap (λ (d : Doing S E). d.view.sees) saw; among = Contains-push [] count }
+      in
       record {
         count = count;
-        added = added_still (view_of start).sees (view_of s1).sees (view_of s2).sees count (added_since (view_of start).sees (view_of s0).sees (view_of s1).sees count before.sees one) later.sees;
+        added =
+            added_still (view_of start).sees (view_of s1).sees (view_of s2).sees count
+            (added_since (view_of start).sees (view_of s0).sees (view_of s1).sees count before.sees one) later.sees;
         most = omega (arith, most, ap (λ (d : Doing S E). d.view.seen) saw);
         known = omega (arith, is);
       }

@@ -13,7 +13,8 @@ use Rattle.recalc_workers.specs.declared.hands.Hand.{Hand}
 use Rattle.recalc_workers.specs.Rule.{FitsSheet, AllFit, PutsEntry, TakesEntry, KnowsHeld}
 use Rattle.recalc_workers.specs.Hands.{jobs_of, put_of, taken_of, HasHeld, HasPut, HasRefused, HasTaken, HasFoundNone}
 
-fit_jobs : (sizes : Sizes) (entries : List Entry) → AllFit sizes entries → (place : ℕ) (job : Job) → get_elem? (jobs_of entries) place ≡ some job → FitsSheet sizes job
+fit_jobs : (sizes : Sizes) (entries : List Entry) → AllFit sizes entries → (place : ℕ) (job : Job)
+    → get_elem? (jobs_of entries) place ≡ some job → FitsSheet sizes job
 fit_jobs sizes [] all place job e = absurd (some-ne-none job (sym e))
 fit_jobs sizes (x ∷ xs) all zero job e = subst (λ (y : Job). FitsSheet sizes y) (some-injective x.job job e) (all 0 x refl)
 fit_jobs sizes (x ∷ xs) all (suc place) job e = fit_jobs sizes xs (λ q y at. all (suc q) y at) place job e

@@ -1,5 +1,6 @@
 -- From what each desk knows to what the editor's seat knows of a level.
-use Rattle.std.proofs.Common.{◌≡◌, ◌⊎◌, inl, inr, ◌<◌, ◌≤◌, ◌+◌, ◌-◌, ◌*◌, ◌/◌, ℕ, zero, suc, List, [], ◌∷◌, ◌++◌, length, get_or, take, drop, refl, sym, ◌∙◌, ap, subst, arith}
+use Rattle.std.proofs.Common.{◌≡◌, ◌⊎◌, inl, inr, ◌<◌, ◌≤◌, ◌+◌, ◌-◌, ◌*◌, ◌/◌, ℕ, zero, suc, List, [], ◌∷◌, ◌++◌}
+use Rattle.std.proofs.Common.{length, get_or, take, drop, refl, sym, ◌∙◌, ap, subst, arith}
 use Rattle.std.specs.Prelude.{All}
 use Rattle.std.proofs.Math.Nat.{mod-lt, lt_of_mul-lt-mul_right, mul_comm}
 use Rattle.std.proofs.lemmas.Nat.{div-add-mod'}
@@ -18,7 +19,8 @@ use Rattle.sheet_model.specs.Logs.{after}
 use Rattle.sheet_model.specs.Sheets.{SheetValue}
 use Rattle.recalc_workers.specs.declared.desk.Desk.{Desk}
 use Rattle.recalc_workers.specs.Desks.{seat_of}
-use Rattle.recalc_workers.specs.Settling.{AllSettledShares, Each, IsCovered, IsDeskAfter, IsLent, KeepsDesk, KnowsCells, KnowsNoLess, KnowsOfAll, MaySettle, NoneWantsMemory, WorksAt}
+use Rattle.recalc_workers.specs.Settling.{AllSettledShares, Each, IsCovered, IsDeskAfter, IsLent, KeepsDesk, KnowsCells}
+use Rattle.recalc_workers.specs.Settling.{KnowsNoLess, KnowsOfAll, MaySettle, NoneWantsMemory, WorksAt}
 use Rattle.recalc_workers.proofs.SeatLemmas.{keeps_on}
 use Rattle.recalc_workers.proofs.SettlingLemmas.{knows_still, worked_not}
 
@@ -85,7 +87,8 @@ module _ {S E : Type 0} {G : Ghosts S E} where
       }
 
   -- desks that were lent what the view knows may settle what it covers
-  pub ready : (marks : Marks S E) (cells : List Position) (count : ℕ) (Covers : View (List E) → Position → Type 0) (view : View (List E)) (old new : List (Desk S E G))
+  pub ready : (marks : Marks S E) (cells : List Position) (count : ℕ) (Covers : View (List E) → Position
+      → Type 0) (view : View (List E)) (old new : List (Desk S E G))
       → ((a b : View (List E)) (cell : Position) → KnowsNoLess a b → Covers a cell → Covers b cell)
       → count ≡ length view.log → All (Covers view) cells → Each (IsLent marks view) old new
       → (k : ℕ) (d : Desk S E G) → k < length new → MaySettle marks cells count Covers (get_or new k d)
@@ -97,7 +100,9 @@ module _ {S E : Type 0} {G : Ghosts S E} where
         covered = λ j cell below. stays view (view_of (seat_of (get_or new k d))) (get_or cells j cell) is.knows (covered j cell below);
       }
 
-  module _ (marks : Marks S E) (touches : List E → E → ℕ → Type 0) (sizes : Sizes) (cells : List Position) (size : ℕ) (view : View (List E)) (d₀ d₁ d₂ d₃ : List (Desk S E G)) (lent : Each (IsLent marks view) d₀ d₁) (count : length d₂ ≡ length d₁) (shares : AllSettledShares marks touches sizes cells size d₁ d₂) where
+  module _ (marks : Marks S E) (touches : List E → E → ℕ → Type 0) (sizes : Sizes) (cells : List Position) (size : ℕ)
+      (view : View (List E)) (d₀ d₁ d₂ d₃ : List (Desk S E G)) (lent : Each (IsLent marks view) d₀ d₁)
+      (count : length d₂ ≡ length d₁) (shares : AllSettledShares marks touches sizes cells size d₁ d₂) where
     -- what settling leaves of the desks
     pub desks_after : Each (IsDeskAfter marks) d₂ d₃ → Each (IsDeskAfter marks) d₀ d₃
     desks_after gathered = (
@@ -109,12 +114,14 @@ module _ {S E : Type 0} {G : Ghosts S E} where
           record {
             table = three.table;
             kept = keeps_desk_on (get_or d₀ place d) (get_or d₁ place d) (get_or d₃ place d) one.kept
-                (keeps_desk_on (get_or d₁ place d) (get_or d₂ place d) (get_or d₃ place d) (kept_by_work (get_or d₁ place d) (get_or d₂ place d) two.works) three.kept);
+                (keeps_desk_on (get_or d₁ place d) (get_or d₂ place d) (get_or d₃ place d)
+                (kept_by_work (get_or d₁ place d) (get_or d₂ place d) two.works) three.kept);
           },
     )
 
     -- and what the editor's seat knows then
-    pub all_clean : (after : View (List E)) → after.log ≡ view.log → length cells ≤ size * length d₀ → KnowsOfAll d₂ after → NoneWantsMemory d₂ → KnowsCells touches sizes after cells
+    pub all_clean : (after : View (List E)) → after.log ≡ view.log → length cells ≤ size * length d₀
+        → KnowsOfAll d₂ after → NoneWantsMemory d₂ → KnowsCells touches sizes after cells
     all_clean after log enough knows none k cell inside =
         let at = share_of size (length d₀) (length cells) k enough inside in
         let within₁ : k / size < length d₁ = omega (arith, lent.0, at.0) in

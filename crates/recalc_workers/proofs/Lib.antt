@@ -1,17 +1,17 @@
-pub mod AgainLemmas
-pub mod CauseLemmas
-pub mod HandLemmas
-pub mod LawLemmas
+mod AgainLemmas
+mod CauseLemmas
+mod HandLemmas
+mod LawLemmas
 pub mod LevelLemmas
-pub mod ListedLemmas
-pub mod LookupLemmas
-pub mod PartLemmas
-pub mod QueueLemmas
+mod ListedLemmas
+mod LookupLemmas
+mod PartLemmas
+mod QueueLemmas
 pub mod ReadingLemmas
 pub mod SeatLemmas
-pub mod SettleLawLemmas
+mod SettleLawLemmas
 pub mod SettlingLemmas
 pub mod SharingLemmas
-pub mod TurnLawLemmas
-pub mod WorkLemmas
-pub mod WorthLemmas
+mod TurnLawLemmas
+mod WorkLemmas
+mod WorthLemmas

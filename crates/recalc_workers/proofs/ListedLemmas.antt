@@ -1,5 +1,6 @@
 -- A list of words that are those of the cells of its parts, in order.
-use Rattle.std.proofs.Common.{◌≡◌, ◌<◌, ◌+◌, ◌-◌, ◌*◌, ◌/◌, ◌%◌, ℕ, zero, suc, List, [], ◌∷◌, ◌++◌, Option, Some, Bool, true, false, length, map, drop, refl, sym, ◌∙◌, ap, subst, inl, inr, arith}
+use Rattle.std.proofs.Common.{◌≡◌, ◌<◌, ◌+◌, ◌-◌, ◌*◌, ◌/◌, ◌%◌, ℕ, zero, suc, List, [], ◌∷◌, ◌++◌, Option, Some, Bool}
+use Rattle.std.proofs.Common.{true, false, length, map, drop, refl, sym, ◌∙◌, ap, subst, inl, inr, arith}
 use Rattle.std.specs.Prelude.{slice_get}
 use Rattle.std.proofs.lemmas.List.{map-append, length-map}
 use Rattle.std.specs.Option.{option_map}
@@ -44,16 +45,21 @@ stands_there range cell inside =
     at.cell ∙ ap Some (λ i. record { row = same_row i; col = same_col i })
 
 -- a cell of some parts that isn't one of the first is one of the others
-later : (part : Part) (parts : List Part) (cell : Position) (place : ℕ) (other : Part) → slice_get (part ∷ parts) place ≡ Some other → IsIn cell other.range → ¬ IsIn cell part.range → IsInParts parts cell
+later : (part : Part) (parts : List Part) (cell : Position) (place : ℕ) (other : Part)
+    → slice_get (part ∷ parts) place ≡ Some other → IsIn cell other.range → ¬ IsIn cell part.range
+    → IsInParts parts cell
 later part parts cell zero other listed within outside = absurd (outside (subst (λ (p : Part). IsIn cell p.range) (sym (same_Some part other listed)) within))
 later part parts cell (suc place) other listed within outside = record { place = place; part = other; listed = listed; within = within }
 
 module _ (f : Position → ℕ) where
   -- the word of a cell of the range, in words that begin with those of its cells
-  first_words : (range : Corners) (rest : List Position) (cell : Position) → IsIn cell range → slice_get (map f (cells_of range ++ rest)) (place_in range cell) ≡ Some (f cell)
+  first_words : (range : Corners) (rest : List Position) (cell : Position) → IsIn cell range
+      → slice_get (map f (cells_of range ++ rest)) (place_in range cell) ≡ Some (f cell)
   first_words range rest cell inside =
       ap (λ l. slice_get l (place_in range cell)) (map-append f (cells_of range) rest)
-      ∙ slice_get-append (map f (cells_of range)) (map f rest) (place_in range cell) (f cell) (slice_get-map f (cells_of range) (place_in range cell) ∙ ap (λ (o : Option Position). option_map f o) (stands_there range cell inside))
+      ∙ slice_get-append (map f (cells_of range)) (map f rest) (place_in range cell) (f cell)
+      (slice_get-map f (cells_of range) (place_in range cell)
+      ∙ ap (λ (o : Option Position). option_map f o) (stands_there range cell inside))
 
   -- the words behind them
   further_words : (range : Corners) (rest : List Position) → drop (length (cells_of range)) (map f (cells_of range ++ rest)) ≡ map f rest
@@ -69,7 +75,8 @@ module _ (f : Position → ℕ) where
       subst P (sym (word_here part parts (map f (all_cells (part ∷ parts))) cell inside ∙ first_words part.range (all_cells parts) cell inside)) here
   here_or_further part parts cell P false is here further =
       let outside : ¬ IsIn cell part.range = λ inside. false≢true (sym is ∙ is_in_true part.range cell inside) in
-      subst P (sym (word_further part parts (map f (all_cells (part ∷ parts))) cell outside ∙ ap (λ words. word_in parts words cell) (further_words part.range (all_cells parts)))) (further outside)
+      subst P (sym (word_further part parts (map f (all_cells (part ∷ parts))) cell outside
+      ∙ ap (λ words. word_in parts words cell) (further_words part.range (all_cells parts)))) (further outside)
 
   pub word_there : (parts : List Part) (cell : Position) → IsInParts parts cell → word_in parts (map f (all_cells parts)) cell ≡ Some (f cell)
   word_there [] cell at = let h = at.listed in absurd (cc)
@@ -80,7 +87,8 @@ module _ (f : Position → ℕ) where
   pub word_is : (parts : List Part) (cell : Position) (word : ℕ) → word_in parts (map f (all_cells parts)) cell ≡ Some word → word ≡ f cell
   word_is [] cell word is = absurd (none-some word is)
   word_is (part ∷ parts) cell word is =
-      here_or_further part parts cell (λ o. (o ≡ Some word → word ≡ f cell)) (is_in part.range cell) refl (λ same. sym (same_Some (f cell) word same)) (λ outside. word_is parts cell word) is
+      here_or_further part parts cell (λ o. (o ≡ Some word → word ≡ f cell)) (is_in part.range cell) refl
+      (λ same. sym (same_Some (f cell) word same)) (λ outside. word_is parts cell word) is
 
 -- a cell that stands among those of a range is one of them
 listed_inside : (range : Corners) (k : ℕ) (cell : Position) → slice_get (cells_of range) k ≡ Some cell → IsIn cell range
@@ -110,5 +118,10 @@ module _ (f : Position → ℕ) where
   codes_of_parts (part ∷ parts) codes =
       subst AreCodes (sym (map-append f (cells_of part.range) (all_cells parts)))
       (codes_append (map f (cells_of part.range)) (map f (all_cells parts))
-      (codes_map (cells_of part.range) (λ k cell listed. codes cell (record { place = 0; part = part; listed = refl; within = listed_inside part.range k cell listed })))
+      (codes_map (cells_of part.range) (λ k cell listed. codes cell (record {
+        place = 0;
+        part = part;
+        listed = refl;
+        within = listed_inside part.range k cell listed;
+      })))
       (codes_of_parts parts (λ cell at. codes cell (record { place = suc at.place; part = at.part; listed = at.listed; within = at.within }))))

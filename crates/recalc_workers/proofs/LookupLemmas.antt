@@ -1,5 +1,6 @@
 -- The word of a cell in a list of words, part by part.
-use Rattle.std.proofs.Common.{◌≡◌, ◌<◌, ◌+◌, ℕ, zero, suc, List, [], ◌∷◌, Option, Some, None, Bool, true, false, length, drop, get_or, refl, sym, ◌∙◌, ap, subst, arith}
+use Rattle.std.proofs.Common.{◌≡◌, ◌<◌, ◌+◌, ℕ, zero, suc, List, [], ◌∷◌, Option, Some, None, Bool, true, false, length}
+use Rattle.std.proofs.Common.{drop, get_or, refl, sym, ◌∙◌, ap, subst, arith}
 use Rattle.std.specs.Prelude.{slice_get, IfSome, if◌then◌else◌, nat_le, ◌&&◌}
 use Rattle.std.proofs.lemmas.Bool.{le-leb, leb-true, false_from_ne_true}
 use Rattle.std.proofs.Math.Seq.{drop-cons}
@@ -31,7 +32,8 @@ is_in_true range cell inside =
 
 pub is_in_tells : (range : Corners) (cell : Position) → is_in range cell ≡ true → IsIn cell range
 is_in_tells range cell is =
-    let split = both_true (nat_le range.head.row cell.row && nat_le cell.row range.tail.row) (nat_le range.head.col cell.col && nat_le cell.col range.tail.col) is in
+    let split = both_true (nat_le range.head.row cell.row && nat_le cell.row range.tail.row)
+    (nat_le range.head.col cell.col && nat_le cell.col range.tail.col) is in
     let rows = both_true (nat_le range.head.row cell.row) (nat_le cell.row range.tail.row) split.0 in
     let cols = both_true (nat_le range.head.col cell.col) (nat_le cell.col range.tail.col) split.1 in
     record { row_from = leb-true _ _ rows.0; row_to = leb-true _ _ rows.1; col_from = leb-true _ _ cols.0; col_to = leb-true _ _ cols.1 }
@@ -57,11 +59,14 @@ parts_left parts k part within is =
     drop-cons parts k part within ∙ ap (λ p. p ∷ drop (suc k) parts) (sym is) ∙ ap (λ n. part ∷ drop n parts) count
 
 -- the word of a cell of the first part, and of another cell
-pub word_here : (part : Part) (parts : List Part) (words : List ℕ) (cell : Position) → IsIn cell part.range → word_in (part ∷ parts) words cell ≡ slice_get words (place_in part.range cell)
+pub word_here : (part : Part) (parts : List Part) (words : List ℕ) (cell : Position) → IsIn cell part.range
+    → word_in (part ∷ parts) words cell ≡ slice_get words (place_in part.range cell)
 word_here part parts words cell inside =
-    ap (λ (b : Bool). if b then slice_get words (place_in part.range cell) else word_in parts (drop (length (cells_of part.range)) words) cell) (is_in_true part.range cell inside)
+    ap (λ (b : Bool). if b then slice_get words (place_in part.range cell) else word_in parts
+    (drop (length (cells_of part.range)) words) cell) (is_in_true part.range cell inside)
 
-pub word_further : (part : Part) (parts : List Part) (words : List ℕ) (cell : Position) → ¬ IsIn cell part.range → word_in (part ∷ parts) words cell ≡ word_in parts (drop (length (cells_of part.range)) words) cell
+pub word_further : (part : Part) (parts : List Part) (words : List ℕ) (cell : Position) → ¬ IsIn cell part.range
+    → word_in (part ∷ parts) words cell ≡ word_in parts (drop (length (cells_of part.range)) words) cell
 word_further part parts words cell outside =
     ap (λ (b : Bool). if b then slice_get words (place_in part.range cell) else word_in parts (drop (length (cells_of part.range)) words) cell)
     (false_from_ne_true (is_in part.range cell) (λ e. outside (is_in_tells part.range cell e)))
@@ -72,14 +77,18 @@ pub found_here : (parts : List Part) (words rest : List ℕ) (cell : Position) (
 found_here parts words rest cell k part so_far within is inside =
     so_far ∙ ap (λ l. word_in l rest cell) (parts_left parts k part within is) ∙ word_here part (drop (k + 1) parts) rest cell inside
 
-pub goes_further : (parts : List Part) (words rest : List ℕ) (cell : Position) (k : ℕ) (part : Part) → word_in parts words cell ≡ word_in (drop k parts) rest cell
-    → k < length parts → part ≡ get_or parts k part → ¬ IsIn cell part.range → word_in parts words cell ≡ word_in (drop (k + 1) parts) (drop (length (cells_of part.range)) rest) cell
+pub goes_further : (parts : List Part) (words rest : List ℕ) (cell : Position) (k : ℕ) (part : Part)
+    → word_in parts words cell ≡ word_in (drop k parts) rest cell
+    → k < length parts → part ≡ get_or parts k part → ¬ IsIn cell part.range
+    → word_in parts words cell ≡ word_in (drop (k + 1) parts) (drop (length (cells_of part.range)) rest) cell
 goes_further parts words rest cell k part so_far within is outside =
     so_far ∙ ap (λ l. word_in l rest cell) (parts_left parts k part within is) ∙ word_further part (drop (k + 1) parts) rest cell outside
 
 -- a formula's value over the words of a list, whatever the list is called
-pub over_these : (sizes other : Sizes) (parts parts' : List Part) (words words' : List ℕ) (formula : Tree) (value : Value) → other ≡ sizes → parts' ≡ parts → words' ≡ words
+pub over_these : (sizes other : Sizes) (parts parts' : List Part) (words words' : List ℕ) (formula : Tree)
+    (value : Value) → other ≡ sizes → parts' ≡ parts → words' ≡ words
     → IsFormulaValue other (word_in parts' words') formula value → IsFormulaValue sizes (word_in parts words) formula value
 over_these sizes other parts parts' words words' formula value same_sizes same_parts same_words is =
     subst (λ s. IsFormulaValue s (word_in parts words) formula value) same_sizes
-    (subst (λ p. IsFormulaValue other (word_in p words) formula value) same_parts (subst (λ w. IsFormulaValue other (word_in parts' w) formula value) same_words is))
+    (subst (λ p. IsFormulaValue other (word_in p words) formula value) same_parts
+    (subst (λ w. IsFormulaValue other (word_in parts' w) formula value) same_words is))

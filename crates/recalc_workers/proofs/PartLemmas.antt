@@ -25,7 +25,8 @@ module _ {S E : Type 0} {G : Ghosts S E} where
   works_on a b c p q = record { seat = worked_on (seat_of a) (seat_of b) (seat_of c) p.seat q.seat; hand = q.hand ∙ p.hand }
 
   -- the desk has worked, and knows the cells from one place up to another
-  pub record PartSoFar (marks : Marks S E) (touches : List E → E → ℕ → Type 0) (sizes : Sizes) (cells : List Position) (old desk : Desk S E G) (start place : ℕ) : Type 0 where
+  pub record PartSoFar (marks : Marks S E) (touches : List E → E → ℕ → Type 0) (sizes : Sizes) (cells : List Position)
+      (old desk : Desk S E G) (start place : ℕ) : Type 0 where
     pub table : IsSeatOf marks (seat_of desk)
     pub works : WorksAt old desk
     pub known : KnowsPart touches sizes (view_of (seat_of desk)) cells start place

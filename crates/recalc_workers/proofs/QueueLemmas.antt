@@ -1,5 +1,6 @@
 -- Each call keeps the rule of the queue.
-use Rattle.std.proofs.Common.{◌≡◌, ◌≢◌, ℕ, zero, suc, ◌+◌, ◌<◌, ◌≤◌, nat_le, ◌&&◌, IsTrue, true, true≢false, List, [], ◌∷◌, ◌++◌, length, drop, set, sym, refl, ap, ◌∙◌, subst, ⊎_elim, append_assoc, arith}
+use Rattle.std.proofs.Common.{◌≡◌, ◌≢◌, ℕ, zero, suc, ◌+◌, ◌<◌, ◌≤◌, nat_le, ◌&&◌, IsTrue, true, true≢false, List, []}
+use Rattle.std.proofs.Common.{◌∷◌, ◌++◌, length, drop, set, sym, refl, ap, ◌∙◌, subst, ⊎_elim, append_assoc, arith}
 use Rattle.std.proofs.lemmas.List.{length-append}
 use mathlib.Core.Option.{some, some-injective, some-ne-none}
 use lib.ListN.{get_elem?}
@@ -8,7 +9,9 @@ use Rattle.crossbeam_queue.proofs.Lists.{at_set, at_snoc}
 use Rattle.sheet_refs.specs.declared.sizes.Sizes.{Sizes}
 use Rattle.recalc_workers.specs.declared.rules.Entry.{Entry}
 use Rattle.recalc_workers.specs.declared.rules.HandView.{HandView}
-use Rattle.recalc_workers.specs.Rule.{FitsSheet, AllFit, AccountsFor, FitsQueue, HoldsJobs, one_cell, sole_view, first_view, with_put, with_taken, not_sole, further_view, PutsEntry, TakesEntry, LearnsSizes, KnowsHeld}
+use Rattle.recalc_workers.specs.Rule.{FitsSheet, AllFit, AccountsFor, FitsQueue, HoldsJobs, one_cell, sole_view}
+use Rattle.recalc_workers.specs.Rule.{first_view, with_put, with_taken, not_sole, further_view, PutsEntry, TakesEntry}
+use Rattle.recalc_workers.specs.Rule.{LearnsSizes, KnowsHeld}
 
 -- a list of one has its element at the first place, and no other
 only : (u v : HandView) (port : ℕ) → get_elem? (u ∷ []) port ≡ some v → (port ≡ 0) × (u ≡ v)
@@ -35,7 +38,10 @@ moves : (sizes : Sizes) (entries after : List Entry) (views : List HandView) (po
     → (j : ℕ) (u : HandView) → get_elem? (set views port w) j ≡ some u → FitsQueue sizes after (set views port w) u
 moves sizes entries after views port v w fits at same_sizes same_sole accounts j u e =
     ⊎_elim (λ (x : (j ≡ port) × (w ≡ u)). subst (λ (y : HandView). FitsQueue sizes after (set views port w) y) x.1 mine)
-    (λ (x : (j ≢ port) × (get_elem? views j ≡ some u)). ((fits j u x.1).0, λ sole. absurd (not_alone sizes entries views port j v u (fits j u x.1) at x.1 x.0 sole)))
+    (λ (x : (j ≢ port) × (get_elem? views j ≡ some u)). (
+      (fits j u x.1).0,
+      λ sole. absurd (not_alone sizes entries views port j v u (fits j u x.1) at x.1 x.0 sole),
+    ))
     (at_set views port j w u e)
   where
     mine : FitsQueue sizes after (set views port w) w
@@ -66,7 +72,8 @@ puts n port v x full fits entries views room h at =
       (
         h.0,
         all_more h.0 entries x h.1 (subst (λ (s : Sizes). FitsSheet s x.job) mine.0 fits),
-        moves h.0 entries (entries ++ x ∷ []) views port v (with_put v x) h.2 at refl refl (λ a. ap (λ l. l ++ x ∷ []) a ∙ append_assoc v.taken entries (x ∷ [])),
+        moves h.0 entries (entries ++ x ∷ []) views port v (with_put v x) h.2 at refl refl (λ a. ap (λ l. l ++ x ∷ []) a
+            ∙ append_assoc v.taken entries (x ∷ [])),
       ),
       (refl, λ sole. has_room v.put v.taken entries n (mine.1 sole).1 room full),
     )
@@ -99,7 +106,8 @@ learns port v first is = subst (λ (y : HandView). Pops HoldsJobs port y (Learns
 pub first_fits : (v : HandView) (x : Entry) → v ≡ first_view → x.job.cell.row ≡ 1 → x.job.cell.col ≡ 1 → x.job.tries ≡ 0 → FitsSheet v.sizes x.job
 first_fits v x is row col tries =
     subst (λ (y : HandView). FitsSheet y.sizes x.job) (sym is)
-    (subst (λ (p : ℕ × (ℕ × ℕ)). IsTrue ((nat_le 1 p.0 && nat_le p.0 1) && (nat_le 1 p.1.0 && nat_le p.1.0 1)) × (p.1.1 ≤ 16)) (λ i. (sym row i, (sym col i, sym tries i))) (refl, omega arith))
+    (subst (λ (p : ℕ × (ℕ × ℕ)). IsTrue ((nat_le 1 p.0 && nat_le p.0 1) && (nat_le 1 p.1.0 && nat_le p.1.0 1))
+    × (p.1.1 ≤ 16)) (λ i. (sym row i, (sym col i, sym tries i))) (refl, omega arith))
 
 pub forks : (port : ℕ) (v : HandView) → Forks HoldsJobs port v (not_sole v) (further_view v)
 forks port v entries views h at = (h.0, h.1, λ j u e. ⊎_elim (old j u) (new u) (at_snoc (set views port (not_sole v)) (further_view v) u j e))
@@ -112,8 +120,12 @@ forks port v entries views h at = (h.0, h.1, λ j u e. ⊎_elim (old j u) (new u
 
     old : (j : ℕ) (u : HandView) → get_elem? (set views port (not_sole v)) j ≡ some u → FitsQueue h.0 entries views₂ u
     old j u e =
-        ⊎_elim (λ (x : (j ≡ port) × (not_sole v ≡ u)). subst (λ (y : HandView). FitsQueue h.0 entries views₂ y) x.1 ((h.2 port v at).0, λ sole. absurd (true≢false (sym sole))))
-        (λ (x : (j ≢ port) × (get_elem? views j ≡ some u)). ((h.2 j u x.1).0, λ sole. absurd (not_alone h.0 entries views port j v u (h.2 j u x.1) at x.1 x.0 sole)))
+        ⊎_elim (λ (x : (j ≡ port) × (not_sole v ≡ u)). subst (λ (y : HandView). FitsQueue h.0 entries views₂ y) x.1
+        ((h.2 port v at).0, λ sole. absurd (true≢false (sym sole))))
+        (λ (x : (j ≢ port) × (get_elem? views j ≡ some u)). (
+          (h.2 j u x.1).0,
+          λ sole. absurd (not_alone h.0 entries views port j v u (h.2 j u x.1) at x.1 x.0 sole),
+        ))
         (at_set views port j (not_sole v) u e)
 
 pub knows : (port : ℕ) (v : HandView) → Learns HoldsJobs port v (KnowsHeld v)

@@ -1,5 +1,6 @@
 -- What reads of inputs come to.
-use Rattle.std.proofs.Common.{◌≡◌, ◌≢◌, ◌<◌, ◌+◌, ℕ, zero, suc, List, [], ◌∷◌, ◌++◌, Some, length, map, take, get_or, refl, sym, ◌∙◌, ap, inl, inr, arith, append_assoc}
+use Rattle.std.proofs.Common.{◌≡◌, ◌≢◌, ◌<◌, ◌+◌, ℕ, zero, suc, List, [], ◌∷◌, ◌++◌, Some, length, map, take, get_or}
+use Rattle.std.proofs.Common.{refl, sym, ◌∙◌, ap, inl, inr, arith, append_assoc}
 use Rattle.std.specs.Prelude.{◌↔◌, slice_get, Bool, false, IsTrue, IfErr, Result, Ok, Err}
 use Rattle.std.proofs.lemmas.Bool.{false≢true}
 use Rattle.std.proofs.lemmas.List.{append-nil, map-append}
@@ -60,15 +61,20 @@ take_next (y ∷ ys) zero x at = let same : y ≡ x = cc in ap (λ z. z ∷ []) 
 take_next (y ∷ ys) (suc k) x at = ap (λ zs. y ∷ zs) (take_next ys k x at)
 
 -- what a function gives of them, behind other elements
-pub one_more : {X Y : Type 0} (f : X → Y) (xs : List X) (k : ℕ) (x : X) (y : Y) (old now next : List Y) → slice_get xs k ≡ Some x → y ≡ f x → now ≡ old ++ map f (take k xs) → next ≡ now ++ y ∷ [] → next ≡ old ++ map f (take (k + 1) xs)
+pub one_more : {X Y : Type 0} (f : X → Y) (xs : List X) (k : ℕ) (x : X) (y : Y) (old now next : List Y)
+    → slice_get xs k ≡ Some x → y ≡ f x → now ≡ old ++ map f (take k xs) → next ≡ now ++ y ∷ [] → next ≡ old
+    ++ map f (take (k + 1) xs)
 one_more f xs k x y old now next at is so_far pushed =
     let count : suc k ≡ k + 1 = omega arith in
     let given : map f (take (k + 1) xs) ≡ map f (take k xs) ++ y ∷ [] =
-    ap (λ n. map f (take n xs)) (sym count) ∙ ap (map f) (take_next xs k x at) ∙ map-append f (take k xs) (x ∷ []) ∙ ap (λ z. map f (take k xs) ++ z ∷ []) (sym is) in
+    ap (λ n. map f (take n xs)) (sym count) ∙ ap (map f) (take_next xs k x at) ∙ map-append f (take k xs) (x ∷ [])
+    ∙ ap (λ z. map f (take k xs) ++ z ∷ []) (sym is) in
     pushed ∙ ap (λ l. l ++ y ∷ []) so_far ∙ append_assoc old (map f (take k xs)) (y ∷ []) ∙ ap (λ l. old ++ l) (sym given)
 
 -- what it gives of the cells of the first parts, and of the one that comes next
-pub part_more : {Y : Type 0} (f : Position → Y) (parts more : List Part) (part : Part) (old now next : List Y) → more ≡ parts ++ part ∷ [] → now ≡ old ++ map f (all_cells parts) → next ≡ now ++ map f (cells_of part.range) → next ≡ old ++ map f (all_cells more)
+pub part_more : {Y : Type 0} (f : Position → Y) (parts more : List Part) (part : Part) (old now next : List Y)
+    → more ≡ parts ++ part ∷ [] → now ≡ old ++ map f (all_cells parts) → next ≡ now ++ map f (cells_of part.range)
+    → next ≡ old ++ map f (all_cells more)
 part_more f parts more part old now next is so_far added =
     let cells : all_cells more ≡ all_cells parts ++ cells_of part.range =
     ap all_cells is ∙ flat_map-append (λ (p : Part). cells_of p.range) parts (part ∷ []) ∙ ap (λ l. all_cells parts ++ l) (append-nil (cells_of part.range)) in
@@ -81,11 +87,13 @@ if_err P Q (Ok x) on given = given
 if_err P Q (Err e) on given = on e given
 
 -- the cells of the parts of ranges are named by these
-pub named_in_parts : (sizes : Sizes) (references : List Reference) (parts : List Part) → AddsParts sizes references [] parts → (cell : Position) → IsInParts parts cell → IsNamedBy references cell
+pub named_in_parts : (sizes : Sizes) (references : List Reference) (parts : List Part)
+    → AddsParts sizes references [] parts → (cell : Position) → IsInParts parts cell → IsNamedBy references cell
 named_in_parts sizes references parts gains cell at =
     (gains.parts at.place at.part (ap (λ l. slice_get l at.place) (sym gains.behind) ∙ at.listed)).named cell at.within
 
-pub inside_parts : (sizes : Sizes) (references : List Reference) (parts : List Part) → AddsParts sizes references [] parts → (cell : Position) → IsInParts parts cell → IsTrue (is_inside sizes cell)
+pub inside_parts : (sizes : Sizes) (references : List Reference) (parts : List Part)
+    → AddsParts sizes references [] parts → (cell : Position) → IsInParts parts cell → IsTrue (is_inside sizes cell)
 inside_parts sizes references parts gains cell at =
     (gains.parts at.place at.part (ap (λ l. slice_get l at.place) (sym gains.behind) ∙ at.listed)).inside cell at.within
 
@@ -99,14 +107,16 @@ module _ {S E : Type 0} {G : Ghosts S E} where
         place_is = r.is.place_is;
       }
 
-  pub outdated_word : (old new : Seat S E G) (place met : ℕ) (reading : Reading) → HasRead old place reading new → reading.clean.upto ≢ reading.mark + 1 → IsOutdated old new place met
+  pub outdated_word : (old new : Seat S E G) (place met : ℕ) (reading : Reading) → HasRead old place reading new
+      → reading.clean.upto ≢ reading.mark + 1 → IsOutdated old new place met
   outdated_word old new place met reading r differs =
       record {
         of = read_added old new place reading r;
         why = inl (λ e. differs (ap (λ (x : Clean). x.upto) (sym r.is.clean) ∙ e ∙ ap (λ n. n + 1) r.is.mark));
       }
 
-  pub outdated_mark : (old new : Seat S E G) (place met : ℕ) (reading : Reading) → HasRead old place reading new → met < reading.mark → IsOutdated old new place met
+  pub outdated_mark : (old new : Seat S E G) (place met : ℕ) (reading : Reading) → HasRead old place reading new
+      → met < reading.mark → IsOutdated old new place met
   outdated_mark old new place met reading r past =
       record { of = read_added old new place reading r; why = inr (omega (arith, r.is.mark, past)) }
 
@@ -132,7 +142,8 @@ module _ {S E : Type 0} {G : Ghosts S E} where
   outdated_later a b c place met keeps o = record { of = read_later a b c place keeps o.of; why = o.why }
 
   -- reading that ends early in a part of what is named ends early in all that is named
-  pub stops_there : (sizes : Sizes) (Named Wider : Position → Type 0) → ((cell : Position) → Named cell → Wider cell) → (a b c : Seat S E G) (met : ℕ) (unread : Unread)
+  pub stops_there : (sizes : Sizes) (Named Wider : Position → Type 0) → ((cell : Position) → Named cell → Wider cell)
+      → (a b c : Seat S E G) (met : ℕ) (unread : Unread)
       → Keeps a b → StopsReading sizes Named b c met unread → StopsReading sizes Wider a c met unread
   stops_there sizes Named Wider wider a b c met (Outdated cell) keeps s = (wider cell s.0, s.1, outdated_later a b c (place_of sizes cell) met keeps s.2)
   stops_there sizes Named Wider wider a b c met Memory keeps s = s

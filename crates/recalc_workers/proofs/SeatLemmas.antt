@@ -62,7 +62,10 @@ pub one_step_more : {E : Type 0} {event : ℕ → Event E} {word : ℕ} (before 
 one_step_more before after one = prefix_of_more before _ after one.is
 
 -- the three loads of a read
-module _ {S E : Type 0} {G : Ghosts S E} (s0 s1 s2 s3 : Seat S E G) (place : ℕ) (reading : Reading) (d1 : doing_of s1 ≡ with_clean_read (doing_of s0) place reading.clean) (d2 : doing_of s2 ≡ with_value_read (doing_of s1) place reading.word) (d3 : doing_of s3 ≡ with_mark_read (doing_of s2) place reading.mark) where
+module _ {S E : Type 0} {G : Ghosts S E} (s0 s1 s2 s3 : Seat S E G) (place : ℕ) (reading : Reading)
+    (d1 : doing_of s1 ≡ with_clean_read (doing_of s0) place reading.clean)
+    (d2 : doing_of s2 ≡ with_value_read (doing_of s1) place reading.word)
+    (d3 : doing_of s3 ≡ with_mark_read (doing_of s2) place reading.mark) where
   abbrev half : Half
   half = record (new_half (view_of s0) place reading.clean) { word = Some reading.word }
 
@@ -95,32 +98,36 @@ module _ {S E : Type 0} {G : Ghosts S E} (s0 s1 s2 s3 : Seat S E G) (place : ℕ
       ap (λ (v : View (List E)). v.known) ended
       ∙ ap (λ known. known ++ known_from half reading.mark) (ap (λ (d : Doing S E). d.view.known) d2 ∙ ap (λ (d : Doing S E). d.view.known) d1)
 
-  module _ (table : seat_table s3 ≡ seat_table s0) {e1 e2 e3 : ℕ → Event E} {w1 w2 w3 : ℕ} (step1 : OneMore (own_steps s0) (own_steps s1) e1 w1) (step2 : OneMore (own_steps s1) (own_steps s2) e2 w2) (step3 : OneMore (own_steps s2) (own_steps s3) e3 w3) (ends : Ends (doing_of s2) place reading.mark (doing_of s3)) where
-    pub has_read : HasRead s0 place reading s3
-    has_read =
-        record {
-          keeps = record {
-            table = table;
-            subject = ap (λ (d : Doing S E). d.subject) d3 ∙ ap (λ (d : Doing S E). d.subject) d2 ∙ ap (λ (d : Doing S E). d.subject) d1;
-            log = prefix_of_same _ _ same_log;
-            seen = omega (arith, stays (λ v. v.seen) (λ v. refl) refl refl);
-            known = prefix_of_more _ _ _ all_known;
-            reads = prefix_of_more _ _ _ all_reads;
-            sees = prefix_of_same _ _ (stays (λ v. v.sees) (λ v. refl) refl refl);
-            steps = prefix_of_prefix _ _ _ (one_step_more _ _ step1) (prefix_of_prefix _ _ _ (one_step_more _ _ step2) (one_step_more _ _ step3));
-          };
-          idle = record {
-            holds = stays (λ v. v.holds) (λ v. refl) refl refl;
-            done = stays (λ v. v.done) (λ v. refl) refl refl;
-            lost = stays (λ v. v.lost) (λ v. refl) refl refl;
-          };
-          log = same_log;
-          sees = stays (λ v. v.sees) (λ v. refl) refl refl;
-          read = read;
-          is = record { place_is = refl; clean = refl; word = refl; mark = refl };
-          one = all_reads;
-          number = subst (λ (l : List E). length l ≤ read.number) (ap (λ (d : Doing S E). d.view.log) d2 ∙ ap (λ (d : Doing S E). d.view.log) d1) (ends half begun refl).past_log;
-        }
+  module _ (table : seat_table s3 ≡ seat_table s0) {e1 e2 e3 : ℕ → Event E} {w1 w2 w3 : ℕ}
+      (step1 : OneMore (own_steps s0) (own_steps s1) e1 w1) (step2 : OneMore (own_steps s1) (own_steps s2) e2 w2)
+      (step3 : OneMore (own_steps s2) (own_steps s3) e3 w3) (ends : Ends (doing_of s2) place reading.mark (doing_of s3))
+    where
+      pub has_read : HasRead s0 place reading s3
+      has_read =
+          record {
+            keeps = record {
+              table = table;
+              subject = ap (λ (d : Doing S E). d.subject) d3 ∙ ap (λ (d : Doing S E). d.subject) d2 ∙ ap (λ (d : Doing S E). d.subject) d1;
+              log = prefix_of_same _ _ same_log;
+              seen = omega (arith, stays (λ v. v.seen) (λ v. refl) refl refl);
+              known = prefix_of_more _ _ _ all_known;
+              reads = prefix_of_more _ _ _ all_reads;
+              sees = prefix_of_same _ _ (stays (λ v. v.sees) (λ v. refl) refl refl);
+              steps = prefix_of_prefix _ _ _ (one_step_more _ _ step1) (prefix_of_prefix _ _ _ (one_step_more _ _ step2) (one_step_more _ _ step3));
+            };
+            idle = record {
+              holds = stays (λ v. v.holds) (λ v. refl) refl refl;
+              done = stays (λ v. v.done) (λ v. refl) refl refl;
+              lost = stays (λ v. v.lost) (λ v. refl) refl refl;
+            };
+            log = same_log;
+            sees = stays (λ v. v.sees) (λ v. refl) refl refl;
+            read = read;
+            is = record { place_is = refl; clean = refl; word = refl; mark = refl };
+            one = all_reads;
+            number = subst (λ (l : List E). length l ≤ read.number) (ap (λ (d : Doing S E). d.view.log) d2
+                ∙ ap (λ (d : Doing S E). d.view.log) d1) (ends half begun refl).past_log;
+          }
 
   pub tells_over : (worth : List E → ℕ → ℕ) (touches : List E → E → ℕ → Type 0)
       → TellsOfRead worth touches (doing_of s2) place reading.mark
@@ -133,5 +140,7 @@ module _ {S E : Type 0} {G : Ghosts S E} (s0 s1 s2 s3 : Seat S E G) (place : ℕ
         upto = told.upto;
         last = subst (λ (l : List E). reading.mark ≤ length l → IsLastMark touches l place reading.mark) log told.last;
         worth_is = λ is. subst (λ (l : List E). reading.mark ≤ length l → worth l place ≡ reading.word) log (told.known reading.word refl is);
-        known = λ is. subst (λ (l : List E). reading.mark ≤ length l → KnowsClean touches l (view_of s3) place reading.mark) log (learns half begun refl reading.word refl is);
+        known =
+            λ is. subst (λ (l : List E). reading.mark ≤ length l → KnowsClean touches l (view_of s3) place reading.mark)
+            log (learns half begun refl reading.word refl is);
       }

@@ -15,7 +15,8 @@ use Rattle.mark_words.specs.Token.{view_of}
 use Rattle.sheet_model.specs.declared.entry.Entry.{Entry}
 use Rattle.sheet_model.proofs.ListLemmas.{slice_get-append}
 use Rattle.recalc_workers.specs.Settling.{KnowsCells, KnowsPlace}
-use Rattle.recalc_workers.specs.SettleLaws.{CellsStayKnown, DesksStand, EditorStands, HasItsMark, KnownCellsAreKnownInputs, KnownCellsHaveTheirMarks, StandsStill}
+use Rattle.recalc_workers.specs.SettleLaws.{CellsStayKnown, DesksStand, EditorStands, HasItsMark}
+use Rattle.recalc_workers.specs.SettleLaws.{KnownCellsAreKnownInputs, KnownCellsHaveTheirMarks, StandsStill}
 use Rattle.recalc_workers.proofs.SettlingLemmas.{knows_still}
 use Rattle.recalc_workers.proofs.SharingLemmas.{editor_knows}
 

@@ -31,7 +31,9 @@ pub lends : {S E : Type 0} (e₀ d₀ e₁ d₁ : Doing S E) → HasMet e₀ d�
 lends {S} {E} e₀ d₀ e₁ d₁ first second editor =
     record {
       log =
-          ⊎_elim (λ (own : d₁.view.log ≡ d₀.view.log). own ∙ sym (one_list d₀.view.log e₁.view.log first.other_log (subst (λ (l : List E). IsPrefix e₁.view.log l) own second.other_log)) ∙ first.log_stays editor)
+          ⊎_elim (λ (own : d₁.view.log ≡ d₀.view.log). own
+          ∙ sym (one_list d₀.view.log e₁.view.log first.other_log (subst (λ (l : List E). IsPrefix e₁.view.log l)
+          own second.other_log)) ∙ first.log_stays editor)
           (λ (other : d₁.view.log ≡ e₁.view.log). other ∙ first.log_stays editor)
           second.one_log;
       known = λ pair has.
@@ -56,7 +58,8 @@ module _ {E : Type 0} where
       }
 
 -- a place that is known stays so
-pub knows_still : {E : Type 0} (touches : List E → E → ℕ → Type 0) (a b : View (List E)) (place : ℕ) → KnowsNoLess a b → KnowsPlace touches a place → KnowsPlace touches b place
+pub knows_still : {E : Type 0} (touches : List E → E → ℕ → Type 0) (a b : View (List E)) (place : ℕ) → KnowsNoLess a b
+    → KnowsPlace touches a place → KnowsPlace touches b place
 knows_still {E} touches a b place less k =
     (k.0, record { known = less.known _ k.1.known; last = subst (λ (l : List E). IsLastMark touches l place k.0) (sym less.log) k.1.last })
 
@@ -90,10 +93,13 @@ module _ {S E : Type 0} {G : Ghosts S E} where
       record { keeps = r.keeps; log = r.log; free = r.idle.holds ∙ free; done = prefix_of_same _ _ r.idle.done; lost = prefix_of_same _ _ r.idle.lost }
 
   -- after a read, and a claim that took the place or was refused
-  pub read_and_worked : (a b c : Seat S E G) (place : ℕ) (reading : Reading) (word : ℕ) (answer : Result (Unit {0}) Clean) → HoldsNothing a → HasRead a place reading b
+  pub read_and_worked : (a b c : Seat S E G) (place : ℕ) (reading : Reading) (word : ℕ)
+      (answer : Result (Unit {0}) Clean) → HoldsNothing a → HasRead a place reading b
       → OnOk answer (HasFinished b place reading.clean word reading.mark c) → IfErr answer (λ found. HasLost b place reading.clean found c) → HasWorked a c
-  read_and_worked a b c place reading word answer free r finished refused = worked_on a b c (read_worked a b place reading free r) (by_answer answer finished refused)
+  read_and_worked a b c place reading word answer free r finished refused =
+      worked_on a b c (read_worked a b place reading free r) (by_answer answer finished refused)
     where
-      by_answer : (x : Result (Unit {0}) Clean) → OnOk x (HasFinished b place reading.clean word reading.mark c) → IfErr x (λ found. HasLost b place reading.clean found c) → HasWorked b c
+      by_answer : (x : Result (Unit {0}) Clean) → OnOk x (HasFinished b place reading.clean word reading.mark c)
+          → IfErr x (λ found. HasLost b place reading.clean found c) → HasWorked b c
       by_answer (Ok v) f l = record { keeps = f.keeps; log = f.log; free = f.holds; done = prefix_of_more _ _ _ f.done; lost = prefix_of_same _ _ f.lost }
       by_answer (Err v) f l = record { keeps = l.keeps; log = l.log; free = l.holds; done = prefix_of_same _ _ l.done; lost = prefix_of_more _ _ _ l.lost }

@@ -1,5 +1,6 @@
 -- What is so of the first desks while they are gone through, one after the other.
-use Rattle.std.proofs.Common.{◌≡◌, ◌≢◌, ◌⊎◌, inl, inr, ◌<◌, ◌≤◌, ◌+◌, ℕ, Bool, true, false, true≢false, List, length, get_or, set, refl, sym, ◌∙◌, ap, subst, arith}
+use Rattle.std.proofs.Common.{◌≡◌, ◌≢◌, ◌⊎◌, inl, inr, ◌<◌, ◌≤◌, ◌+◌, ℕ, Bool, true, false, true≢false, List, length}
+use Rattle.std.proofs.Common.{get_or, set, refl, sym, ◌∙◌, ap, subst, arith}
 use Rattle.std.specs.Prelude.{◌||◌}
 use Rattle.std.proofs.lemmas.List.{get_or-set_same, get_or-set_other, length-set, get_or_default}
 use Rattle.std.proofs.lemmas.Bool.{cases_eq}
@@ -38,10 +39,15 @@ module _ {X : Type 0} (Change : X → X → Type 0) where
         rest = λ place x from. get_or-set_other new n place y x (λ same. omega arith) ∙ so.rest place x (omega arith);
       }
     where
-      by_place : (place : ℕ) (x : X) → place < n + 1 → place < length old → (place ≡ n) ⊎ (place ≢ n) → Change (get_or old place x) (get_or (set new n y) place x)
+      by_place : (place : ℕ) (x : X) → place < n + 1 → place < length old → (place ≡ n) ⊎ (place ≢ n)
+          → Change (get_or old place x) (get_or (set new n y) place x)
       by_place place x below within (inl same) =
           subst (λ (k : ℕ). Change (get_or old k x) (get_or (set new n y) k x)) (sym same)
-          (subst (λ (z : X × X). Change z.0 z.1) (λ i. ((get_or_default new n d x (omega (arith, so.count)) ∙ so.rest n x (omega arith)) i, sym (get_or-set_same new n y x (omega (arith, so.count))) i)) change)
+          (subst (λ (z : X × X). Change z.0 z.1)
+          (λ i. (
+            (get_or_default new n d x (omega (arith, so.count)) ∙ so.rest n x (omega arith)) i,
+            sym (get_or-set_same new n y x (omega (arith, so.count))) i,
+          )) change)
       by_place place x below within (inr other) =
           subst (λ (z : X). Change (get_or old place x) z) (sym (get_or-set_other new n place y x other)) (so.first place x (omega arith) within)
 
@@ -74,7 +80,8 @@ module _ {S E : Type 0} {G : Ghosts S E} where
   editor_knows a b kept = no_less (view_of a) (view_of b) kept.log kept.keeps.known
 
   -- the editor's seat and the desks as they were, where so many of the first have changed
-  pub record GoneThrough (marks : Marks S E) (Change : Desk S E G → Desk S E G → Type 0) (editor₀ editor : Seat S E G) (old new : List (Desk S E G)) (n : ℕ) : Type 0 where
+  pub record GoneThrough (marks : Marks S E) (Change : Desk S E G → Desk S E G → Type 0) (editor₀ editor : Seat S E G)
+      (old new : List (Desk S E G)) (n : ℕ) : Type 0 where
     pub table : IsSeatOf marks editor
     pub editor_is : is_editor editor ≡ true
     pub kept : KeepsEditor editor₀ editor
@@ -87,14 +94,16 @@ module _ {S E : Type 0} {G : Ghosts S E} where
       record { table = table; editor_is = is; kept = keeps_editor_itself editor; desks = all; changed = none_changed Change desks }
 
   -- the next desk is of the table
-  pub next_of_table : (marks : Marks S E) (Change : Desk S E G → Desk S E G → Type 0) (editor₀ editor : Seat S E G) (old new : List (Desk S E G)) (n : ℕ) (d : Desk S E G)
+  pub next_of_table : (marks : Marks S E) (Change : Desk S E G → Desk S E G → Type 0) (editor₀ editor : Seat S E G)
+      (old new : List (Desk S E G)) (n : ℕ) (d : Desk S E G)
       → GoneThrough marks Change editor₀ editor old new n → n < length old → IsSeatOf marks (seat_of (get_or new n d))
   next_of_table marks Change editor₀ editor old new n d gone inside =
       subst (λ (desk : Desk S E G). IsSeatOf marks (seat_of desk)) (sym (gone.changed.rest n d (omega arith)))
       (All-get_or (λ (desk : Desk S E G). IsSeatOf marks (seat_of desk)) old n d inside gone.desks)
 
   -- and after it is gone through
-  pub goes_on : (marks : Marks S E) (Change : Desk S E G → Desk S E G → Type 0) (editor₀ editor editor₁ : Seat S E G) (old new : List (Desk S E G)) (n : ℕ) (d desk : Desk S E G)
+  pub goes_on : (marks : Marks S E) (Change : Desk S E G → Desk S E G → Type 0) (editor₀ editor editor₁ : Seat S E G)
+      (old new : List (Desk S E G)) (n : ℕ) (d desk : Desk S E G)
       → GoneThrough marks Change editor₀ editor old new n → n < length old → IsSeatOf marks editor₁ → KeepsEditor editor editor₁
       → Change (get_or new n d) desk
       → GoneThrough marks Change editor₀ editor₁ old (set new n desk) (n + 1)
@@ -123,7 +132,8 @@ module _ {S E : Type 0} {G : Ghosts S E} where
     pub knows : (place : ℕ) (desk : Desk S E G) → place < n → place < length old → KnowsOf (get_or old place desk) (view_of editor)
     pub wanted : wants ≡ false → (place : ℕ) (desk : Desk S E G) → place < n → place < length old → wants_memory (get_or old place desk) ≡ false
 
-  pub none_gathered : (marks : Marks S E) (editor : Seat S E G) (desks : List (Desk S E G)) → IsSeatOf marks editor → is_editor editor ≡ true → AreDesksOf marks desks
+  pub none_gathered : (marks : Marks S E) (editor : Seat S E G) (desks : List (Desk S E G)) → IsSeatOf marks editor
+      → is_editor editor ≡ true → AreDesksOf marks desks
       → GatheredSo marks editor editor desks desks 0 false
   none_gathered marks editor desks table is all =
       record {
@@ -151,7 +161,9 @@ module _ {S E : Type 0} {G : Ghosts S E} where
           subst (λ (k : ℕ). KnowsOf (get_or old k d) (view_of editor₁)) (sym same) (subst (λ (x : Desk S E G). KnowsOf x (view_of editor₁)) (was d) of)
       knows_at place d below within (inr other) = λ pair has. (editor_knows editor editor₁ kept).known pair (so.knows place d (omega arith) within pair has)
 
-      wanted_at : (wants || more) ≡ false → (place : ℕ) (d : Desk S E G) → place < n + 1 → place < length old → (place ≡ n) ⊎ (place ≢ n) → wants_memory (get_or old place d) ≡ false
+      wanted_at : (wants || more) ≡ false → (place : ℕ) (d : Desk S E G) → place < n + 1 → place < length old
+          → (place ≡ n) ⊎ (place ≢ n) → wants_memory (get_or old place d) ≡ false
       wanted_at none place d below within (inl same) =
-          subst (λ (k : ℕ). wants_memory (get_or old k d) ≡ false) (sym same) (ap (λ (x : Desk S E G). wants_memory x) (sym (was d)) ∙ sym want ∙ (or_false wants more none).1)
+          subst (λ (k : ℕ). wants_memory (get_or old k d) ≡ false) (sym same) (ap (λ (x : Desk S E G). wants_memory x)
+          (sym (was d)) ∙ sym want ∙ (or_false wants more none).1)
       wanted_at none place d below within (inr other) = so.wanted (or_false wants more none).0 place d (omega arith) within

@@ -25,13 +25,19 @@ use Rattle.recalc_workers.specs.declared.turns.Turn.{Turn}
 use Rattle.recalc_workers.specs.declared.turns.Turn.TheVariants.{Done, Idle, Nothing, Later, Stale, Busy, Memory}
 use Rattle.recalc_workers.specs.Again.{HasTakenOne, comes_again}
 use Rattle.recalc_workers.specs.Hands.{put_of, refused_of, taken_of}
-use Rattle.recalc_workers.specs.TurnLaws.{StandsLater, WasReadSo, SawNoMore, EndsWithWork, DoneIsOneFinish, OthersFinishNothing, HoldsStay, NothingWasClean, LaterIsPast, StaleHasAnInput, BusyFoundAnother, IdleTakesNone, TakesOneAndOffersNone, TakesOneAndOffersIt}
+use Rattle.recalc_workers.specs.TurnLaws.{StandsLater, WasReadSo, SawNoMore, EndsWithWork, DoneIsOneFinish}
+use Rattle.recalc_workers.specs.TurnLaws.{OthersFinishNothing, HoldsStay, NothingWasClean, LaterIsPast, StaleHasAnInput}
+use Rattle.recalc_workers.specs.TurnLaws.{BusyFoundAnother, IdleTakesNone, TakesOneAndOffersNone, TakesOneAndOffersIt}
 use Rattle.recalc_workers.specs.Turns.{WasAdded, HasReadOf, HasMetAt, IsBusy, IsDone}
 
 stands_later : {X : Type 0} (old new : List X) (x : X) → WasAdded old new x → StandsLater old new x
 stands_later old new x w =
-    let k = w.among.0 in
-    (length old + k, omega arith, ap (λ l. slice_get l (length old + k)) w.all ∙ slice_get-behind old w.added k x (slice_get-get_or w.added k x w.among.1 ∙ ap Some w.among.2))
+    let k = w.among.0 in (
+      length old + k,
+      omega arith,
+      ap (λ l. slice_get l (length old + k)) w.all
+          ∙ slice_get-behind old w.added k x (slice_get-get_or w.added k x w.among.1 ∙ ap Some w.among.2),
+    )
 
 module _ {S E : Type 0} {G : Ghosts S E} (old new : Seat S E G) where
   was_read : (place : ℕ) (of : HasReadOf old new place) (Is : Finished → Type 0) → Is of.read → WasReadSo old new place Is
@@ -62,7 +68,9 @@ module _ {S E : Type 0} {G : Ghosts S E} (old new : Seat S E G) where
         finishes = (s.finish.view, refl);
       }
 
-busy_holds : {S E : Type 0} {G : Ghosts S E} (old new : Seat S E G) (place : ℕ) (seen found : Clean) → IsBusy old new place seen found → ((view_of new).done ≡ (view_of old).done) × ((view_of new).holds ≡ (view_of old).holds)
+busy_holds : {S E : Type 0} {G : Ghosts S E} (old new : Seat S E G) (place : ℕ) (seen found : Clean)
+    → IsBusy old new place seen found → ((view_of new).done ≡ (view_of old).done)
+    × ((view_of new).holds ≡ (view_of old).holds)
 busy_holds old new place seen found b = elim b.why [ inl h ↦ (h.idle.done, h.idle.holds) | inr r ↦ (r.done, r.holds) ]
 
 module _ {S : Type 0} {G : Ghosts S Entry} (opening : SheetValue) (old : Seat S Entry G) where
@@ -108,16 +116,26 @@ module _ {S : Type 0} {G : Ghosts S Entry} (opening : SheetValue) (old : Seat S 
 pub idle_takes_none : IdleTakesNone
 idle_takes_none sizes old new h = (h.same.taken, h.same.put, h.same.refused)
 
-takes_none : (sizes : Sizes) (old new : Hand) (turn : Turn) (cell : Position) (h : HasTakenOne sizes old new turn) → cell ≡ h.job.cell → (put_of new ≡ put_of h.mid) × (refused_of new ≡ refused_of h.mid) × (taken_of new ≡ taken_of h.mid)
+takes_none : (sizes : Sizes) (old new : Hand) (turn : Turn) (cell : Position) (h : HasTakenOne sizes old new turn)
+    → cell ≡ h.job.cell → (put_of new ≡ put_of h.mid) × (refused_of new ≡ refused_of h.mid)
+    × (taken_of new ≡ taken_of h.mid)
     → (tries : ℕ) × (taken_of new ≡ taken_of old ++ record { cell = cell; tries = tries } ∷ []) × (put_of new ≡ put_of old) × (refused_of new ≡ refused_of old)
-takes_none sizes old new turn cell h about same =
-    (h.job.tries, same.2 ∙ h.taken.taken ∙ ap (λ p. taken_of old ++ record { cell = p; tries = h.job.tries } ∷ []) (sym about), same.0 ∙ h.taken.put, same.1 ∙ h.taken.refused)
+takes_none sizes old new turn cell h about same = (
+  h.job.tries,
+  same.2 ∙ h.taken.taken ∙ ap (λ p. taken_of old ++ record { cell = p; tries = h.job.tries }
+      ∷ []) (sym about),
+  same.0 ∙ h.taken.put,
+  same.1 ∙ h.taken.refused,
+)
 
 pub takes_one_and_offers_none : TakesOneAndOffersNone
-takes_one_and_offers_none sizes old new cell (inl h) = let s = h.offered.done refl in takes_none sizes old new (Done cell) cell h h.about (s.put, s.refused, s.taken)
-takes_one_and_offers_none sizes old new cell (inr h) = let s = h.offered.done refl in takes_none sizes old new (Nothing cell) cell h h.about (s.put, s.refused, s.taken)
+takes_one_and_offers_none sizes old new cell (inl h) =
+    let s = h.offered.done refl in takes_none sizes old new (Done cell) cell h h.about (s.put, s.refused, s.taken)
+takes_one_and_offers_none sizes old new cell (inr h) =
+    let s = h.offered.done refl in takes_none sizes old new (Nothing cell) cell h h.about (s.put, s.refused, s.taken)
 
-module _ (sizes : Sizes) (old new : Hand) (turn : Turn) (cell : Position) (h : HasTakenOne sizes old new turn) (about : cell ≡ h.job.cell) (again : comes_again turn ≡ true) where
+module _ (sizes : Sizes) (old new : Hand) (turn : Turn) (cell : Position) (h : HasTakenOne sizes old new turn)
+    (about : cell ≡ h.job.cell) (again : comes_again turn ≡ true) where
   job_of : ℕ → Job
   job_of tries = record { cell = cell; tries = tries }
 
@@ -147,9 +165,18 @@ module _ (sizes : Sizes) (old new : Hand) (turn : Turn) (cell : Position) (h : H
       h.job.tries - 1,
       omega (arith, more),
       elim (h.offered.again again more) [
-        | inl put ↦ inl (put.put ∙ ap (λ l. l ++ record { cell = h.job.cell; tries = h.job.tries - 1 } ∷ []) h.taken.put ∙ with_cell (put_of old) (h.job.tries - 1), put.refused ∙ h.taken.refused)
+        | inl put ↦ inl (
+          put.put ∙ ap (λ l. l ++ record { cell = h.job.cell; tries = h.job.tries - 1 } ∷ []) h.taken.put
+              ∙ with_cell (put_of old) (h.job.tries - 1),
+          put.refused ∙ h.taken.refused,
+        )
         | inr refused ↦
-            inr (refused.put ∙ h.taken.put, refused.refused ∙ ap (λ l. l ++ record { cell = h.job.cell; tries = h.job.tries - 1 } ∷ []) h.taken.refused ∙ with_cell (refused_of old) (h.job.tries - 1))
+            inr (
+              refused.put ∙ h.taken.put,
+              refused.refused
+                  ∙ ap (λ l. l ++ record { cell = h.job.cell; tries = h.job.tries - 1 } ∷ []) h.taken.refused
+                  ∙ with_cell (refused_of old) (h.job.tries - 1),
+            )
       ],
     )),
     (λ few. let s = h.offered.last few in (s.put ∙ h.taken.put, s.refused ∙ h.taken.refused)),

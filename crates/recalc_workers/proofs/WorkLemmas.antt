@@ -65,7 +65,9 @@ module _ {S E : Type 0} {G : Ghosts S E} (s0 s1 : Seat S E G) (place : ℕ) (fre
     same_log : log_of s2 ≡ log_of s0
     same_log = ap (λ (d : Doing S E). d.view.log) d2 ∙ ap (λ (d : Doing S E). d.view.log) d1
 
-    pub may_finish : (worth : List E → ℕ → ℕ) (touches : List E → E → ℕ → Type 0) (mark : ℕ) → worth (log_of s0) place ≡ word → IsLastMark touches (log_of s0) place mark → MayFinish worth touches (view_of s2) place mark
+    pub may_finish : (worth : List E → ℕ → ℕ) (touches : List E → E → ℕ → Type 0) (mark : ℕ)
+        → worth (log_of s0) place ≡ word → IsLastMark touches (log_of s0) place mark
+        → MayFinish worth touches (view_of s2) place mark
     may_finish worth touches mark is last =
         record {
           hold = filled_hold place word;
@@ -100,7 +102,9 @@ module _ {S E : Type 0} {G : Ghosts S E} (s0 s1 : Seat S E G) (place : ℕ) (fre
               subject = ap (λ (d : Doing S E). d.subject) d3 ∙ ap (λ (d : Doing S E). d.subject) d2 ∙ ap (λ (d : Doing S E). d.subject) d1;
               log = prefix_of_same _ _ (stays (λ v. v.log) refl refl refl);
               seen = omega (arith, stays (λ v. v.seen) refl refl refl);
-              known = prefix_of_more _ _ _ (ap (λ (d : Doing S E). d.view.known) d3 ∙ ap (λ known. known ++ record { place = place; mark = mark } ∷ []) (ap (λ (d : Doing S E). d.view.known) d2 ∙ ap (λ (d : Doing S E). d.view.known) d1));
+              known = prefix_of_more _ _ _ (ap (λ (d : Doing S E). d.view.known) d3
+                  ∙ ap (λ known. known ++ record { place = place; mark = mark }
+                  ∷ []) (ap (λ (d : Doing S E). d.view.known) d2 ∙ ap (λ (d : Doing S E). d.view.known) d1));
               reads = prefix_of_same _ _ (stays (λ v. v.reads) refl refl refl);
               sees = prefix_of_same _ _ (stays (λ v. v.sees) refl refl refl);
               steps = prefix_of_prefix _ _ _ (one_step_more _ _ claim) (prefix_of_prefix _ _ _ (one_step_more _ _ put) (one_step_more _ _ finish));
@@ -109,7 +113,8 @@ module _ {S E : Type 0} {G : Ghosts S E} (s0 s1 : Seat S E G) (place : ℕ) (fre
             holds = ap (λ (d : Doing S E). d.view.holds) d3 ∙ ap (filter (λ (hold : Held). not (hold.place == place))) filled ∙ frees place word;
             reads = stays (λ v. v.reads) refl refl refl;
             sees = stays (λ v. v.sees) refl refl refl;
-            done = ap (λ (d : Doing S E). d.view.done) d3 ∙ ap (λ done. done ++ record { place = place; mark = mark } ∷ []) (ap (λ (d : Doing S E). d.view.done) d2 ∙ ap (λ (d : Doing S E). d.view.done) d1);
+            done = ap (λ (d : Doing S E). d.view.done) d3 ∙ ap (λ done. done ++ record { place = place; mark = mark }
+                ∷ []) (ap (λ (d : Doing S E). d.view.done) d2 ∙ ap (λ (d : Doing S E). d.view.done) d1);
             lost = stays (λ v. v.lost) refl refl refl;
             steps = record { claimed = own_steps s1; claim = claim; filled = own_steps s2; put = put; finish = finish };
           }

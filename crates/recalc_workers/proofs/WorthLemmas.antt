@@ -21,14 +21,18 @@ use Rattle.recalc_workers.proofs.ListedLemmas.{IsCodeOf, codes_of_parts, word_is
 use Rattle.recalc_workers.proofs.ReadingLemmas.{inside_parts}
 use Rattle.recalc_workers.specs.Turns.{IsOnCycle}
 
-module _ (opening : SheetValue) (places : ℕ) (worth : List Entry → ℕ → ℕ) (of : IsOfSheet opening places worth) (log : List Entry) (cell : Position) (place : ℕ) (is : place ≡ place_of opening.sizes cell) (inside : IsTrue (is_inside opening.sizes cell)) (sheet : IsSheet (after opening log)) where
+module _ (opening : SheetValue) (places : ℕ) (worth : List Entry → ℕ → ℕ) (of : IsOfSheet opening places worth)
+    (log : List Entry) (cell : Position) (place : ℕ) (is : place ≡ place_of opening.sizes cell)
+    (inside : IsTrue (is_inside opening.sizes cell)) (sheet : IsSheet (after opening log)) where
   -- the worth of a cell on a cycle
   pub circular_worth : IsOnCycle (after opening log) cell → worth log place ≡ code_of (Error Circ)
   circular_worth cycle =
       ap (worth log) is ∙ of.values log cell inside
       ∙ ap code_of ((circular_cycle (after opening log) cell sheet).1 (record { turn = cell; there = inl refl; back = cycle }))
 
-  module _ (sizes : Sizes) (same_sizes : sizes ≡ opening.sizes) (content : ContentValue) (content_is : content ≡ content_of (after opening log) cell) (list : InputList) (listed : HasListed sizes (content_references content) (λ input. worth log (place_of sizes input)) list) where
+  module _ (sizes : Sizes) (same_sizes : sizes ≡ opening.sizes) (content : ContentValue)
+      (content_is : content ≡ content_of (after opening log) cell) (list : InputList)
+      (listed : HasListed sizes (content_references content) (λ input. worth log (place_of sizes input)) list) where
     abbrev word_of : Position → ℕ
     word_of input = worth log (place_of sizes input)
 
@@ -37,7 +41,8 @@ module _ (opening : SheetValue) (places : ℕ) (worth : List Entry → ℕ → �
 
     -- the word of an input is the code of its value
     right_word : (input : Position) → IsTrue (is_inside sizes input) → word_of input ≡ code_of (values input)
-    right_word input within = ap (λ s. worth log (place_of s input)) same_sizes ∙ of.values log input (subst (λ s. IsTrue (is_inside s input)) same_sizes within)
+    right_word input within = ap (λ s. worth log (place_of s input)) same_sizes
+        ∙ of.values log input (subst (λ s. IsTrue (is_inside s input)) same_sizes within)
 
     right_value : (input : Position) → IsValue (values input)
     right_value input = value_in_range (after opening log) input sheet
@@ -54,7 +59,13 @@ module _ (opening : SheetValue) (places : ℕ) (worth : List Entry → ℕ → �
     listed_words input named within =
         let left = listed.parts.complete input named within in
         let at : IsInParts list.parts.items input =
-        record { place = left.place; part = left.at.part; listed = ap (λ l. slice_get l left.place) listed.parts.behind ∙ left.at.listed; within = left.at.inside } in
+        record {
+          place = left.place;
+          part = left.at.part;
+          listed = ap (λ l. slice_get l left.place) listed.parts.behind
+              ∙ left.at.listed;
+          within = left.at.inside;
+        } in
         ap is_some (ap (λ words. word_in list.parts.items words input) listed.words ∙ word_there word_of list.parts.items input at)
 
     agree : AgreeWith sizes (content_references content) list.parts.items list.words.items values
@@ -63,7 +74,9 @@ module _ (opening : SheetValue) (places : ℕ) (worth : List Entry → ℕ → �
         (right_value input, sym (same ∙ right_word input within))
 
     -- so what the content gives over the list is the worth of the cell
-    pub listed_worth : (word : ℕ) → ((values : Position → Value) → AgreeWith sizes (content_references content) list.parts.items list.words.items values → word ≡ code_of (step_content sizes values content))
+    pub listed_worth : (word : ℕ)
+        → ((values : Position → Value) → AgreeWith sizes (content_references content) list.parts.items list.words.items
+        values → word ≡ code_of (step_content sizes values content))
         → worth log place ≡ word
     listed_worth word gives =
         ap (worth log) is ∙ of.values log cell inside ∙ ap code_of (one_step (after opening log) cell sheet)

@@ -1,5 +1,6 @@
 -- What a turn reads of the inputs of its cell: words in the order of the cells of some ranges.
-use Rattle.std.specs.Prelude.{◌≡◌, ◌≢◌, ◌<◌, ◌+◌, ◌-◌, ◌*◌, ◌⊎◌, ℕ, Bool, ◌&&◌, nat_le, if◌then◌else◌, List, [], ◌∷◌, Option, Some, None, length, drop, map, flat_map, slice_get, IsTrue, IsSome}
+use Rattle.std.specs.Prelude.{◌≡◌, ◌≢◌, ◌<◌, ◌+◌, ◌-◌, ◌*◌, ◌⊎◌, ℕ, Bool, ◌&&◌, nat_le, if◌then◌else◌, List, [], ◌∷◌}
+use Rattle.std.specs.Prelude.{Option, Some, None, length, drop, map, flat_map, slice_get, IsTrue, IsSome}
 use Rattle.sheet_refs.specs.Cells.{Position, Corners, IsIn, cells_of, width}
 use Rattle.sheet_refs.specs.Ends.{Reference}
 use Rattle.sheet_refs.specs.Sizes.{is_inside, place_of}

@@ -32,7 +32,8 @@ pub record IsTaskAt {S : Type 0} {G : Ghosts S Entry} (opening : SheetValue) (se
   pub sheet : IsSheet (after opening (log_of seat))
 
 -- the task is one at what the seat knows then, and its length no less than what the seat had seen
-pub record IsTaskFor {S : Type 0} {G : Ghosts S Entry} (opening : SheetValue) (old : Seat S Entry G) (cell : Position) (new : Seat S Entry G) (task : Task) : Type 0 where
+pub record IsTaskFor {S : Type 0} {G : Ghosts S Entry} (opening : SheetValue) (old : Seat S Entry G) (cell : Position)
+    (new : Seat S Entry G) (task : Task) : Type 0 where
   pub at : IsTaskAt opening new cell task
   pub covers : seen_of old ≤ task.length
 

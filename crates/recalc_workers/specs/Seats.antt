@@ -50,7 +50,8 @@ pub record HasRead {S E : Type 0} {G : Ghosts S E} (old : Seat S E G) (place : �
 
 -- The value was computed for no later mark. A mark within the log is the place's last one in it; and where the value
 -- was computed for it, the value is the worth of the place after the log, and the view knows the place as clean.
-pub record TellsOver {S E : Type 0} {G : Ghosts S E} (worth : List E → ℕ → ℕ) (touches : List E → E → ℕ → Type 0) (place : ℕ) (reading : Reading) (seat : Seat S E G) : Type 0 where
+pub record TellsOver {S E : Type 0} {G : Ghosts S E} (worth : List E → ℕ → ℕ) (touches : List E → E → ℕ
+    → Type 0) (place : ℕ) (reading : Reading) (seat : Seat S E G) : Type 0 where
   pub upto : reading.clean.upto ≤ reading.mark + 1
   pub last : reading.mark ≤ length (log_of seat) → IsLastMark touches (log_of seat) place reading.mark
   pub worth_is : reading.clean.upto ≡ reading.mark + 1 → reading.mark ≤ length (log_of seat) → worth (log_of seat) place ≡ reading.word

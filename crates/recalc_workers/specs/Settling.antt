@@ -89,19 +89,22 @@ pub record IsLevelOf (opening : SheetValue) (sizes : Sizes) (cells : List Positi
   pub inside : AreInside sizes cells
 
 -- the desk's seat is of the table, has so many entries, and knows of each of the cells what it has to
-pub record MaySettle {S E : Type 0} {G : Ghosts S E} (marks : Marks S E) (cells : List Position) (count : ℕ) (Covers : View (List E) → Position → Type 0) (desk : Desk S E G) : Type 0 where
+pub record MaySettle {S E : Type 0} {G : Ghosts S E} (marks : Marks S E) (cells : List Position) (count : ℕ)
+    (Covers : View (List E) → Position → Type 0) (desk : Desk S E G) : Type 0 where
   pub table : IsSeatOf marks (seat_of desk)
   pub entries : count ≡ length (log_of (seat_of desk))
   pub covered : All (Covers (view_of (seat_of desk))) cells
 
 -- the desk has worked, and where no memory was wanted it knows its share of the cells: so many, of which the first stands at place times this
-pub record HasSettledShare {S E : Type 0} {G : Ghosts S E} (marks : Marks S E) (touches : List E → E → ℕ → Type 0) (sizes : Sizes) (cells : List Position) (size place : ℕ) (old new : Desk S E G) : Type 0 where
+pub record HasSettledShare {S E : Type 0} {G : Ghosts S E} (marks : Marks S E) (touches : List E → E → ℕ
+    → Type 0) (sizes : Sizes) (cells : List Position) (size place : ℕ) (old new : Desk S E G) : Type 0 where
   pub table : IsSeatOf marks (seat_of new)
   pub works : WorksAt old new
   pub known : wants_memory new ≡ false → KnowsPart touches sizes (view_of (seat_of new)) cells (place * size) (place * size + size)
 
 -- each desk has settled its share
-abbrev pub AllSettledShares : {S E : Type 0} {G : Ghosts S E} → Marks S E → (List E → E → ℕ → Type 0) → Sizes → List Position → ℕ → List (Desk S E G) → List (Desk S E G) → Type 0
+abbrev pub AllSettledShares : {S E : Type 0} {G : Ghosts S E} → Marks S E → (List E → E → ℕ → Type 0) → Sizes
+    → List Position → ℕ → List (Desk S E G) → List (Desk S E G) → Type 0
 AllSettledShares {S} {E} {G} marks touches sizes cells size old new =
     (place : ℕ) (desk : Desk S E G) → place < length old
     → HasSettledShare marks touches sizes cells size place (slice_index_or old place desk) (slice_index_or new place desk)

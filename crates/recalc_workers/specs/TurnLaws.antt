@@ -66,7 +66,8 @@ module _ {S : Type 0} {G : Ghosts S Entry} (opening : SheetValue) (old : Seat S 
 
   -- no other answer comes with a finish, and after each the seat holds what it held
   abbrev pub OthersFinishNothing : Type 0
-  OthersFinishNothing = (new : Seat S Entry G) (turn : Turn) → HasCause opening old new turn → ((cell : Position) → turn ≢ Done cell) → (view_of new).done ≡ (view_of old).done
+  OthersFinishNothing = (new : Seat S Entry G) (turn : Turn) → HasCause opening old new turn
+      → ((cell : Position) → turn ≢ Done cell) → (view_of new).done ≡ (view_of old).done
 
   abbrev pub HoldsStay : Type 0
   HoldsStay = (new : Seat S Entry G) (turn : Turn) → HasCause opening old new turn → (view_of new).holds ≡ (view_of old).holds

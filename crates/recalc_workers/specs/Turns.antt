@@ -147,7 +147,8 @@ HasCause opening old new (Memory cell) = HasDoneNothing old new
 
 -- The rest of a turn about the cell: the seat loses nothing and holds nothing; and whatever is so since the start of
 -- the turn, the answer has its cause since then.
-pub record ComesTo {S : Type 0} {G : Ghosts S Entry} (opening : SheetValue) (old : Seat S Entry G) (cell : Position) (Given : Seat S Entry G → Type 0) (new : Seat S Entry G) (turn : Turn) : Type 0 where
+pub record ComesTo {S : Type 0} {G : Ghosts S Entry} (opening : SheetValue) (old : Seat S Entry G) (cell : Position)
+    (Given : Seat S Entry G → Type 0) (new : Seat S Entry G) (turn : Turn) : Type 0 where
   pub keeps : Keeps old new
   pub free : HoldsNothing new
   pub about : IsAbout cell turn

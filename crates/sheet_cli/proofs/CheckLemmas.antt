@@ -26,7 +26,8 @@ by_check : (holds : Texts) (name : List ℕ) (answer : Answer) (text : List ℕ)
 by_check holds name _ text is (over_sheet sheet answer gives given) = by_sheet sheet answer text is given
 by_check holds name _ text is (no_sheet status line none) = absurd (no_refusal is)
 
-by_words : (words : List (List ℕ)) (holds : Texts) (name : List ℕ) (answer : Answer) (text : List ℕ) → Asks words (of_check name) → answer ≡ output text → Owes words holds answer → IsListed text
+by_words : (words : List (List ℕ)) (holds : Texts) (name : List ℕ) (answer : Answer) (text : List ℕ)
+    → Asks words (of_check name) → answer ≡ output text → Owes words holds answer → IsListed text
 by_words words holds name _ text asks is (usage none) = absurd (no_refusal is)
 by_words words holds name _ text asks is (answers request answer asked given) =
     by_check holds name answer text is (subst (λ r. AnswersRequest holds r answer) (one_request words request (of_check name) asked asks) given)

@@ -1,6 +1,7 @@
 -- What clap makes of words that are no options, for a command of two positions: each word goes to the
 -- next position, and a third one is refused.
-use Rattle.std.proofs.Common.{refl, ap, ap₂, codes, true, false, List, Option, Some, None, All, length, arith, ◌<◌, [], ◌∷◌, ◌≡◌, ◌≢◌, ◌∙◌, ℕ, Bool, inl, inr, sym, subst}
+use Rattle.std.proofs.Common.{refl, ap, ap₂, codes, true, false, List, Option, Some, None, All, length, arith, ◌<◌, []}
+use Rattle.std.proofs.Common.{◌∷◌, ◌≡◌, ◌≢◌, ◌∙◌, ℕ, Bool, inl, inr, sym, subst}
 use Rattle.std.specs.Prelude.{IsSome, slice_get, slice_index_or, if◌then◌else◌, option_map, is_some}
 use Rattle.std.specs.Option.{option_map_or}
 use Rattle.std.specs.Str.{bytes_eq}
@@ -8,8 +9,11 @@ use Rattle.std.proofs.lemmas.Bool.{ne_eqb}
 use Rattle.std.proofs.lemmas.Slice.Eq.{bytes_eq-Decides}
 use Rattle.clap.specs.Lexer.{long_of, short_of, strip_byte, long_of_rest, short_of_rest}
 use Rattle.std.specs.Prelude.{option_and_then}
-use Rattle.clap.specs.Walk.{Rule, Held, Walk, walked, walk_from, walk, nothing_held, to_positional, arg_by_index, word_met, after_step, long_or_other, short_or_plain, trailing, value, idle, settled, finished}
-use Rattle.clap.specs.Faults.{word_fault, turn_fault, step_fault, walk_fault, flag_word_fault, bundle_fault, settle_fault, defaults_fault, check_fault, entered_fault, fault_of, is_simple_and_free}
+use Rattle.clap.specs.Walk.{Rule, Held, Walk, walked, walk_from, walk, nothing_held, to_positional, arg_by_index}
+use Rattle.clap.specs.Walk.{word_met, after_step, long_or_other, short_or_plain, trailing, value, idle, settled}
+use Rattle.clap.specs.Walk.{finished}
+use Rattle.clap.specs.Faults.{word_fault, turn_fault, step_fault, walk_fault, flag_word_fault, bundle_fault}
+use Rattle.clap.specs.Faults.{settle_fault, defaults_fault, check_fault, entered_fault, fault_of, is_simple_and_free}
 use Rattle.clap.specs.Simple.{App, Shape, HasMatchesOf, built, entered, is_simple, matches_of}
 use Rattle.clap.specs.Walk.{first_of, rows_of}
 use Rattle.clap.specs.Kinds.{Kinds, or_else, HasKind}
@@ -149,7 +153,9 @@ unfolding clap_on_literals
 more_words u v w ws plain plain2 plain3 =
     let rest = walk_fault shape [] (walked rules_two [] (walk rules_two [] nothing_held (u ∷ v ∷ [])) w) ws in
     ap (λ k. after_walk k (walk rules_two [] nothing_held (u ∷ v ∷ w ∷ ws)))
-    (ap₂ (λ k j. or_else k (or_else j (or_else (turn_fault shape [] (walk rules_two [] nothing_held (u ∷ v ∷ [])) w) rest))) (first_turn u plain) (second_turn u v plain plain2)
+    (ap₂
+    (λ k j. or_else k (or_else j (or_else (turn_fault shape [] (walk rules_two [] nothing_held (u ∷ v ∷ [])) w)
+    rest))) (first_turn u plain) (second_turn u v plain plain2)
     ∙ ap (λ k. or_else k rest) (third_turn u v w plain plain2 plain3))
 
 pub first_found : (u v : List ℕ) → IsPlain u → IsPlain v → first_of (codes "first") (matches_of two_positions (u ∷ v ∷ [])) ≡ Some u
@@ -173,7 +179,10 @@ are_two (u ∷ []) plain taken = absurd (some_fault (sym (one_word u (plain_at (
 are_two (u ∷ v ∷ []) plain taken = refl
 are_two (u ∷ v ∷ w ∷ ws) plain taken =
     let words = u ∷ v ∷ w ∷ ws in
-    absurd (some_fault (sym (more_words u v w ws (plain_at words 0 plain (omega arith)) (plain_at words 1 plain (omega arith)) (plain_at words 2 plain (omega arith))) ∙ taken))
+    absurd
+    (some_fault
+    (sym (more_words u v w ws (plain_at words 0 plain (omega arith)) (plain_at words 1 plain (omega arith))
+    (plain_at words 2 plain (omega arith))) ∙ taken))
 
 -- and two are taken
 pub two_taken : (words : List (List ℕ)) → All (λ w. ¬ IsOption w) words → length words ≡ 2 → fault_of two_positions words ≡ []
@@ -183,7 +192,9 @@ two_taken (u ∷ v ∷ []) plain two = two_words u v (plain_at (u ∷ v ∷ []) 
 two_taken (u ∷ v ∷ w ∷ ws) plain two = absurd (omega (arith, two))
 
 -- the matches of words that are two
-pub found : (words : List (List ℕ)) → All (λ w. ¬ IsOption w) words → length words ≡ 2 → (u v : List ℕ) × (words ≡ u ∷ v ∷ []) × (first_of (codes "first") (matches_of two_positions words) ≡ Some u) × (first_of (codes "second") (matches_of two_positions words) ≡ Some v)
+pub found : (words : List (List ℕ)) → All (λ w. ¬ IsOption w) words → length words ≡ 2 → (u v : List ℕ)
+    × (words ≡ u ∷ v ∷ []) × (first_of (codes "first") (matches_of two_positions words) ≡ Some u)
+    × (first_of (codes "second") (matches_of two_positions words) ≡ Some v)
 found [] plain two = absurd (omega (arith, two))
 found (u ∷ []) plain two = absurd (omega (arith, two))
 found (u ∷ v ∷ []) plain two =
@@ -206,7 +217,8 @@ pub record HasBoth (words : List (List ℕ)) (m : ArgMatches) : Type 0 where
   pub second_is : first_value (found_of m) (codes "second") ≡ Some second
 
 -- a parse that is Ok has both positions
-pub both : (words : List (List ℕ)) (a : App) (m : ArgMatches) → All (λ w. ¬ IsOption w) words → a ≡ two_positions → HasMatchesOf a words m → (is_simple_and_free a ≡ true → fault_of a words ≡ []) → HasBoth words m
+pub both : (words : List (List ℕ)) (a : App) (m : ArgMatches) → All (λ w. ¬ IsOption w) words → a ≡ two_positions
+    → HasMatchesOf a words m → (is_simple_and_free a ≡ true → fault_of a words ≡ []) → HasBoth words m
 both words a m plain is matches taken =
     let passes : fault_of two_positions words ≡ [] = subst (λ x. fault_of x words ≡ []) is (taken (ap is_simple_and_free is ∙ two_free)) in
     let (u, v, words_are, one, other) = found words plain (are_two words plain passes) in
@@ -220,7 +232,8 @@ both words a m plain is matches taken =
     }
 
 -- a parse that is an error, but not for want of memory, was not given two words
-pub not_two : (words : List (List ℕ)) (a : App) (e : Error) → All (λ w. ¬ IsOption w) words → a ≡ two_positions → (is_simple_and_free a ≡ true → HasKind (fault_of a words) e) → kind_of e ≢ OutOfMemory → length words ≢ 2
+pub not_two : (words : List (List ℕ)) (a : App) (e : Error) → All (λ w. ¬ IsOption w) words → a ≡ two_positions
+    → (is_simple_and_free a ≡ true → HasKind (fault_of a words) e) → kind_of e ≢ OutOfMemory → length words ≢ 2
 not_two words a e plain is fails other two =
     none (subst (λ k. HasKind k e) (ap (λ x. fault_of x words) is ∙ two_taken words plain two) (fails (ap is_simple_and_free is ∙ two_free)))
   where

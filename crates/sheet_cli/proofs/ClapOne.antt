@@ -88,7 +88,8 @@ first_found : (u : List ℕ) → IsPlain u → first_of (codes "first") (matches
 unfolding clap_on_literals
 first_found u plain = ap (λ (w : Walk). first_of (codes "first") (finished rules w.held)) (walked_one u plain)
 
-found : (words : List (List ℕ)) → All (λ w. ¬ IsOption w) words → length words ≡ 1 → (u : List ℕ) × (words ≡ u ∷ []) × (first_of (codes "first") (matches_of one_position words) ≡ Some u)
+found : (words : List (List ℕ)) → All (λ w. ¬ IsOption w) words → length words ≡ 1 → (u : List ℕ) × (words ≡ u ∷ [])
+    × (first_of (codes "first") (matches_of one_position words) ≡ Some u)
 found [] plain one = absurd (omega (arith, one))
 found (u ∷ []) plain one = (u, refl, first_found u (plain_at (u ∷ []) 0 plain (omega arith)))
 found (u ∷ v ∷ ws) plain one = absurd (omega (arith, one))
@@ -100,7 +101,8 @@ pub record HasFirst (words : List (List ℕ)) (m : ArgMatches) : Type 0 where
   pub first_is : first_value (found_of m) (codes "first") ≡ Some first
 
 -- a parse that is Ok has it
-pub has_first : (words : List (List ℕ)) (a : App) (m : ArgMatches) → All (λ w. ¬ IsOption w) words → a ≡ one_position → HasMatchesOf a words m → (is_simple_and_free a ≡ true → fault_of a words ≡ []) → HasFirst words m
+pub has_first : (words : List (List ℕ)) (a : App) (m : ArgMatches) → All (λ w. ¬ IsOption w) words → a ≡ one_position
+    → HasMatchesOf a words m → (is_simple_and_free a ≡ true → fault_of a words ≡ []) → HasFirst words m
 has_first words a m plain is matches taken =
     let passes : fault_of one_position words ≡ [] = subst (λ x. fault_of x words ≡ []) is (taken (ap is_simple_and_free is ∙ one_free)) in
     let (u, words_are, one) = found words plain (are_one words plain passes) in
@@ -108,7 +110,8 @@ has_first words a m plain is matches taken =
     record { first = u; words_are = words_are; first_is = first_value-rows (found_of m) (codes "first") ∙ (ap (first_of (codes "first")) rows ∙ one) }
 
 -- a parse that is an error, but not for want of memory, was not given one word
-pub not_one : (words : List (List ℕ)) (a : App) (e : Error) → All (λ w. ¬ IsOption w) words → a ≡ one_position → (is_simple_and_free a ≡ true → HasKind (fault_of a words) e) → kind_of e ≢ OutOfMemory → length words ≢ 1
+pub not_one : (words : List (List ℕ)) (a : App) (e : Error) → All (λ w. ¬ IsOption w) words → a ≡ one_position
+    → (is_simple_and_free a ≡ true → HasKind (fault_of a words) e) → kind_of e ≢ OutOfMemory → length words ≢ 1
 not_one words a e plain is fails other one =
     none (subst (λ k. HasKind k e) (ap (λ x. fault_of x words) is ∙ one_taken words plain one) (fails (ap is_simple_and_free is ∙ one_free)))
   where

@@ -41,7 +41,8 @@ abbrev script_for : ScriptValue → Result ScriptValue ScriptRefused
 script_for script = Ok script
 
 -- a script that was read for a command may be given to it
-pub suits_command : (command : ScriptCommand) (sheet : SheetValue) (labels : List (List ℕ)) (text : List ℕ) (script : ScriptValue) → HasWorkers command → length text ≤ 16777216
+pub suits_command : (command : ScriptCommand) (sheet : SheetValue) (labels : List (List ℕ)) (text : List ℕ)
+    (script : ScriptValue) → HasWorkers command → length text ≤ 16777216
     → IsScriptResult (mode_of command) (ground_of sheet) sheet.labels labels text (script_for script) → SuitsCommand command (with_labels sheet labels) script
 suits_command Play sheet labels text script few short is = script_fits as_played sheet labels text script is
 suits_command (Undo number) sheet labels text script few short is = script_fits as_played sheet labels text script is

@@ -23,16 +23,21 @@ tells_gen words number workers holds asked = (names_no_text words number workers
     none_told k d within = absurd (omega (arith, within))
 
     tells : TellsTexts words holds
-    tells request other = subst (All (λ name. (text : List ℕ) × (holds name ≡ Some text))) (sym (names_no_text words number workers asked request other)) none_told
+    tells request other =
+        subst (All (λ name. (text : List ℕ) × (holds name ≡ Some text)))
+        (sym (names_no_text words number workers asked request other)) none_told
 
 -- and are not refused
 no_generated_refusal : (number : ℕ) (answer : Answer) (status : ℕ) (line : List ℕ) → answer ≡ refusal status line → AnswersGenerated number answer → ⊥
 no_generated_refusal number _ status line is (summed text sums) = no_refusal (sym is)
 
-no_refusal_owed : (words : List (List ℕ)) (number workers : ℕ) (holds : List ℕ → Option (List ℕ)) (answer : Answer) (status : ℕ) (line : List ℕ) → answer ≡ refusal status line → Asks words (of_generated number workers) → Owes words holds answer → ⊥
+no_refusal_owed : (words : List (List ℕ)) (number workers : ℕ) (holds : List ℕ → Option (List ℕ)) (answer : Answer)
+    (status : ℕ) (line : List ℕ) → answer ≡ refusal status line → Asks words (of_generated number workers)
+    → Owes words holds answer → ⊥
 no_refusal_owed words number workers holds _ status line is asked (usage none) = none (of_generated number workers) asked
 no_refusal_owed words number workers holds _ status line is asked (answers request answer other given) =
-    no_generated_refusal number answer status line is (subst (λ r. AnswersRequest holds r answer) (one_request words request (of_generated number workers) other asked) given)
+    no_generated_refusal number answer status line is (subst (λ r. AnswersRequest holds r answer)
+    (one_request words request (of_generated number workers) other asked) given)
 
 pub gen_not_refused : GenIsNotRefused
 gen_not_refused words number workers holds status line asked owed = no_refusal_owed words number workers holds (refusal status line) status line refl asked owed

@@ -12,7 +12,8 @@ use Rattle.sheet_cli.specs.Graphs.{AreDependents, ArePrecedents}
 use Rattle.sheet_cli.specs.declared.window.WindowCommand.{WindowCommand}
 use Rattle.sheet_refs.proofs.VerticalRuns.{one_list}
 
-pub path_over : (step other : Position → Position → Type 0) → ((a b : Position) → step a b → other a b) → (from to : Position) (cells : List Position) → IsPath step from cells to → IsPath other from cells to
+pub path_over : (step other : Position → Position → Type 0) → ((a b : Position) → step a b → other a b)
+    → (from to : Position) (cells : List Position) → IsPath step from cells to → IsPath other from cells to
 path_over step other over from to [] path = path
 path_over step other over from to (next ∷ cells) path = (over from next path.0, path_over step other over next to cells path.1)
 
@@ -54,13 +55,18 @@ module _ (sheet : SheetValue) (window : Corners) (runs other : List Corners) whe
       ))
 
 -- a list of ranges that is that of a set's runs
-pub if_listed : {V E : Type 0} (items : V → List Corners) (result : Result V E) (set : List Corners) (P : List Corners → Type 0) → IfOk result (λ v. items v ≡ set) → IfOk result (λ v. AreMaximalRuns (items v)) → (AreMaximalRuns set → P set) → IfOk result (λ v. P (items v))
+pub if_listed : {V E : Type 0} (items : V → List Corners) (result : Result V E) (set : List Corners) (P : List Corners
+    → Type 0) → IfOk result (λ v. items v ≡ set) → IfOk result (λ v. AreMaximalRuns (items v))
+    → (AreMaximalRuns set → P set) → IfOk result (λ v. P (items v))
 if_listed items (Ok v) set P is maximal shows = subst P (sym is) (shows (subst AreMaximalRuns is maximal))
 if_listed items (Err e) set P is maximal shows = tt
 
 -- a text that is the one that a command writes
-pub if_written : {V E : Type 0} (items : V → List ℕ) (result : Result V E) (sheet : SheetValue) (window : Corners) (command given : WindowCommand) (text : List ℕ) → command ≡ given → IfOk result (λ v. items v ≡ text) → Writes sheet window given text → IfOk result (λ v. Writes sheet window command (items v))
-if_written items (Ok v) sheet window command given text same is writes = subst (λ c. Writes sheet window c (items v)) (sym same) (subst (Writes sheet window given) (sym is) writes)
+pub if_written : {V E : Type 0} (items : V → List ℕ) (result : Result V E) (sheet : SheetValue) (window : Corners)
+    (command given : WindowCommand) (text : List ℕ) → command ≡ given → IfOk result (λ v. items v ≡ text)
+    → Writes sheet window given text → IfOk result (λ v. Writes sheet window command (items v))
+if_written items (Ok v) sheet window command given text same is writes =
+    subst (λ c. Writes sheet window c (items v)) (sym same) (subst (Writes sheet window given) (sym is) writes)
 if_written items (Err e) sheet window command given text same is writes = tt
 
 -- what follows from a clause on Ok

@@ -1,5 +1,6 @@
 -- The words of the clauses of `run`, in plain numbers, lists of bytes and names.
-use Rattle.std.proofs.Common.{◌≡◌, ℕ, zero, suc, ◌⊎◌, inl, inr, All, Contains, List, [], ◌∷◌, ◌++◌, length, take, length-append, append_assoc, codes, refl, sym, ◌∙◌, ap, subst, arith}
+use Rattle.std.proofs.Common.{◌≡◌, ℕ, zero, suc, ◌⊎◌, inl, inr, All, Contains, List, [], ◌∷◌, ◌++◌, length, take}
+use Rattle.std.proofs.Common.{length-append, append_assoc, codes, refl, sym, ◌∙◌, ap, subst, arith}
 use Rattle.std.proofs.Math.Seq.{get_or-append_seam, take-length}
 use Rattle.std.specs.Prelude.{Option, Some, None, flat_map}
 use Rattle.std.specs.Fmt.{decimal}
@@ -9,7 +10,11 @@ use Rattle.edge_patterns.specs.Edges.{EdgeValue}
 use Rattle.sheet_cli.specs.Answers.{AreAlternatives, HasGivenSheet, IsLived, status_of}
 use Rattle.sheet_cli.specs.Answers.AreAlternatives.{either_check, either_live, either_path}
 use Rattle.sheet_cli.specs.Answers.Answer.{output, refusal}
-use Rattle.sheet_cli.specs.Laws.{AreChecks, AreLives, AreOtherTexts, ArePaths, CalmLineIsWhole, ChecksHaveOneCount, DueIsNamed, LineIsTakenFromItsFront, LivesHaveOneScript, NoOutputAndRefusal, OneOutput, OneRefusal, PathsHaveOneLength, TellsOfCheck, TellsOfFill, TellsOfLive, TellsOfPath, TellsOfPlay, TellsOfUndo, TellsOfWindow, UnfetchedOfCheck, UnfetchedOfFill, UnfetchedOfLive, UnfetchedOfPath, UnfetchedOfPlay, UnfetchedOfUndo, UnfetchedOfWindow}
+use Rattle.sheet_cli.specs.Laws.{AreChecks, AreLives, AreOtherTexts, ArePaths, CalmLineIsWhole, ChecksHaveOneCount}
+use Rattle.sheet_cli.specs.Laws.{DueIsNamed, LineIsTakenFromItsFront, LivesHaveOneScript, NoOutputAndRefusal, OneOutput}
+use Rattle.sheet_cli.specs.Laws.{OneRefusal, PathsHaveOneLength, TellsOfCheck, TellsOfFill, TellsOfLive, TellsOfPath}
+use Rattle.sheet_cli.specs.Laws.{TellsOfPlay, TellsOfUndo, TellsOfWindow, UnfetchedOfCheck, UnfetchedOfFill}
+use Rattle.sheet_cli.specs.Laws.{UnfetchedOfLive, UnfetchedOfPath, UnfetchedOfPlay, UnfetchedOfUndo, UnfetchedOfWindow}
 use Rattle.sheet_cli.specs.Laws.AreOtherTexts.{checks as plain_checks, lives as plain_lives, paths as plain_paths}
 use Rattle.sheet_cli.specs.Lines.{read_failed_line}
 use Rattle.sheet_cli.specs.Requests.{Request, texts_named}
@@ -25,7 +30,8 @@ use Rattle.sheet_cli.proofs.WordLemmas.{asked_for, behind, one_request}
 
 -- ---- what words name
 
-pub window_names : (command : WindowCommand) (sheet range : List ℕ) (request : Request) → Asks (command_word command ∷ sheet ∷ range ∷ []) request → texts_named request ≡ sheet ∷ []
+pub window_names : (command : WindowCommand) (sheet range : List ℕ) (request : Request)
+    → Asks (command_word command ∷ sheet ∷ range ∷ []) request → texts_named request ≡ sheet ∷ []
 window_names command sheet range request asked =
     let asks = behind (window_word command) (sheet ∷ range ∷ []) request asked in
     let same : asks.sheet ≡ sheet = cc asks.positions.words_are in
@@ -37,13 +43,15 @@ check_names sheet request asked =
     let same : asks.sheet ≡ sheet = cc asks.position.words_are in
     ap texts_named asks.request_is ∙ ap (λ s. s ∷ []) same
 
-pub path_names : (sheet first second : List ℕ) (request : Request) → Asks (codes "path" ∷ sheet ∷ first ∷ second ∷ []) request → texts_named request ≡ sheet ∷ []
+pub path_names : (sheet first second : List ℕ) (request : Request) → Asks (codes "path" ∷ sheet ∷ first ∷ second
+    ∷ []) request → texts_named request ≡ sheet ∷ []
 path_names sheet first second request asked =
     let asks = behind path_word (sheet ∷ first ∷ second ∷ []) request asked in
     let same : asks.sheet ≡ sheet = cc asks.positions.words_are in
     ap texts_named asks.request_is ∙ ap (λ s. s ∷ []) same
 
-pub fill_names : (sheet first second : List ℕ) (request : Request) → Asks (codes "fill" ∷ sheet ∷ first ∷ second ∷ []) request → texts_named request ≡ sheet ∷ []
+pub fill_names : (sheet first second : List ℕ) (request : Request) → Asks (codes "fill" ∷ sheet ∷ first ∷ second
+    ∷ []) request → texts_named request ≡ sheet ∷ []
 fill_names sheet first second request asked =
     let asks = behind fill_word (sheet ∷ first ∷ second ∷ []) request asked in
     let same : asks.sheet ≡ sheet = cc asks.positions.words_are in
@@ -56,14 +64,17 @@ play_names sheet script request asked =
     let also : asks.script ≡ script = cc asks.positions.words_are in
     ap texts_named asks.request_is ∙ (λ i. same i ∷ also i ∷ [])
 
-pub undo_names : (sheet script digits : List ℕ) (request : Request) → Asks (codes "undo" ∷ sheet ∷ script ∷ digits ∷ []) request → texts_named request ≡ sheet ∷ script ∷ []
+pub undo_names : (sheet script digits : List ℕ) (request : Request) → Asks (codes "undo" ∷ sheet ∷ script ∷ digits
+    ∷ []) request → texts_named request ≡ sheet ∷ script ∷ []
 undo_names sheet script digits request asked =
     let asks = behind undo_word (sheet ∷ script ∷ digits ∷ []) request asked in
     let same : asks.sheet ≡ sheet = cc asks.positions.words_are in
     let also : asks.script ≡ script = cc asks.positions.words_are in
     ap texts_named asks.request_is ∙ (λ i. same i ∷ also i ∷ [])
 
-pub live_names : (words : List (List ℕ)) (workers : ℕ) (sheet script : List ℕ) (request : Request) → Asks words (of_script (Live workers) sheet script) → Asks words request → texts_named request ≡ sheet ∷ script ∷ []
+pub live_names : (words : List (List ℕ)) (workers : ℕ) (sheet script : List ℕ) (request : Request)
+    → Asks words (of_script (Live workers) sheet script) → Asks words request → texts_named request ≡ sheet ∷ script
+    ∷ []
 live_names words workers sheet script request asked other = ap texts_named (one_request words request (of_script (Live workers) sheet script) other asked)
 
 abbrev IsTold : (List ℕ → Option (List ℕ)) → List ℕ → Type 0
@@ -73,22 +84,26 @@ one_told : (holds : List ℕ → Option (List ℕ)) (sheet text : List ℕ) → 
 one_told holds sheet text here zero d within = (text, here)
 one_told holds sheet text here (suc k) d within = absurd (omega (arith, within))
 
-two_told : (holds : List ℕ → Option (List ℕ)) (sheet script text steps : List ℕ) → holds sheet ≡ Some text → holds script ≡ Some steps → All (IsTold holds) (sheet ∷ script ∷ [])
+two_told : (holds : List ℕ → Option (List ℕ)) (sheet script text steps : List ℕ) → holds sheet ≡ Some text
+    → holds script ≡ Some steps → All (IsTold holds) (sheet ∷ script ∷ [])
 two_told holds sheet script text steps here there zero d within = (text, here)
 two_told holds sheet script text steps here there (suc zero) d within = (steps, there)
 two_told holds sheet script text steps here there (suc (suc k)) d within = absurd (omega (arith, within))
 
 pub tells_window : TellsOfWindow
-tells_window command sheet range text holds here request asked = subst (All (IsTold holds)) (sym (window_names command sheet range request asked)) (one_told holds sheet text here)
+tells_window command sheet range text holds here request asked =
+    subst (All (IsTold holds)) (sym (window_names command sheet range request asked)) (one_told holds sheet text here)
 
 pub tells_check : TellsOfCheck
 tells_check sheet text holds here request asked = subst (All (IsTold holds)) (sym (check_names sheet request asked)) (one_told holds sheet text here)
 
 pub tells_path : TellsOfPath
-tells_path sheet first second text holds here request asked = subst (All (IsTold holds)) (sym (path_names sheet first second request asked)) (one_told holds sheet text here)
+tells_path sheet first second text holds here request asked =
+    subst (All (IsTold holds)) (sym (path_names sheet first second request asked)) (one_told holds sheet text here)
 
 pub tells_fill : TellsOfFill
-tells_fill sheet first second text holds here request asked = subst (All (IsTold holds)) (sym (fill_names sheet first second request asked)) (one_told holds sheet text here)
+tells_fill sheet first second text holds here request asked =
+    subst (All (IsTold holds)) (sym (fill_names sheet first second request asked)) (one_told holds sheet text here)
 
 pub tells_play : TellsOfPlay
 tells_play sheet script text steps holds here there request asked =
@@ -113,29 +128,42 @@ only_name : (before after : List (List ℕ)) (name sheet : List ℕ) → sheet �
 only_name [] after name sheet is = cc
 only_name (first ∷ before) after name sheet is = let joined = length-append before (name ∷ after) in absurd (omega (arith, ap length is, joined))
 
-either_name : (before after : List (List ℕ)) (name sheet script : List ℕ) → sheet ∷ script ∷ [] ≡ before ++ name ∷ after → (name ≡ sheet) ⊎ ((name ≡ script) × (before ≡ sheet ∷ []))
+either_name : (before after : List (List ℕ)) (name sheet script : List ℕ) → sheet ∷ script ∷ [] ≡ before ++ name ∷ after
+    → (name ≡ sheet) ⊎ ((name ≡ script) × (before ≡ sheet ∷ []))
 either_name [] after name sheet script is = let same : name ≡ sheet = cc is in inl same
-either_name (first ∷ []) after name sheet script is = let same : name ≡ script = cc is in let front : first ≡ sheet = cc is in inr (same, ap (λ s. s ∷ []) front)
-either_name (first ∷ second ∷ before) after name sheet script is = let joined = length-append before (name ∷ after) in absurd (omega (arith, ap length is, joined))
+either_name (first ∷ []) after name sheet script is = let same : name ≡ script = cc is in
+    let front : first ≡ sheet = cc is in inr (same, ap (λ s. s ∷ []) front)
+either_name (first ∷ second ∷ before) after name sheet script is =
+    let joined = length-append before (name ∷ after) in absurd (omega (arith, ap length is, joined))
 
 pub unfetched_window : UnfetchedOfWindow
 unfetched_window command sheet range holds line missed =
-    sym missed.noted ∙ ap read_failed_line (only_name missed.due.before missed.due.after missed.name sheet (sym (window_names command sheet range missed.request missed.asked) ∙ missed.due.named))
+    sym missed.noted
+    ∙ ap read_failed_line (only_name missed.due.before missed.due.after missed.name sheet
+    (sym (window_names command sheet range missed.request missed.asked) ∙ missed.due.named))
 
 pub unfetched_check : UnfetchedOfCheck
 unfetched_check sheet holds line missed =
-    sym missed.noted ∙ ap read_failed_line (only_name missed.due.before missed.due.after missed.name sheet (sym (check_names sheet missed.request missed.asked) ∙ missed.due.named))
+    sym missed.noted
+    ∙ ap read_failed_line (only_name missed.due.before missed.due.after missed.name sheet
+    (sym (check_names sheet missed.request missed.asked) ∙ missed.due.named))
 
 pub unfetched_path : UnfetchedOfPath
 unfetched_path sheet first second holds line missed =
-    sym missed.noted ∙ ap read_failed_line (only_name missed.due.before missed.due.after missed.name sheet (sym (path_names sheet first second missed.request missed.asked) ∙ missed.due.named))
+    sym missed.noted
+    ∙ ap read_failed_line (only_name missed.due.before missed.due.after missed.name sheet
+    (sym (path_names sheet first second missed.request missed.asked) ∙ missed.due.named))
 
 pub unfetched_fill : UnfetchedOfFill
 unfetched_fill sheet first second holds line missed =
-    sym missed.noted ∙ ap read_failed_line (only_name missed.due.before missed.due.after missed.name sheet (sym (fill_names sheet first second missed.request missed.asked) ∙ missed.due.named))
+    sym missed.noted
+    ∙ ap read_failed_line (only_name missed.due.before missed.due.after missed.name sheet
+    (sym (fill_names sheet first second missed.request missed.asked) ∙ missed.due.named))
 
 -- of two texts
-unfetched_two : (words : List (List ℕ)) (sheet script : List ℕ) (holds : List ℕ → Option (List ℕ)) (line : List ℕ) → (missed : IsUnfetched words holds (λ noted. noted ≡ line)) → texts_named missed.request ≡ sheet ∷ script ∷ [] → (line ≡ read_failed_line sheet) ⊎ ((line ≡ read_failed_line script) × HasGivenSheet holds sheet)
+unfetched_two : (words : List (List ℕ)) (sheet script : List ℕ) (holds : List ℕ → Option (List ℕ)) (line : List ℕ)
+    → (missed : IsUnfetched words holds (λ noted. noted ≡ line)) → texts_named missed.request ≡ sheet ∷ script ∷ []
+    → (line ≡ read_failed_line sheet) ⊎ ((line ≡ read_failed_line script) × HasGivenSheet holds sheet)
 unfetched_two words sheet script holds line missed names =
     elim (either_name missed.due.before missed.due.after missed.name sheet script (sym names ∙ missed.due.named)) [
       | inl same ↦ inl (sym missed.noted ∙ ap read_failed_line same)
@@ -146,10 +174,13 @@ pub unfetched_play : UnfetchedOfPlay
 unfetched_play sheet script holds line missed = unfetched_two _ sheet script holds line missed (play_names sheet script missed.request missed.asked)
 
 pub unfetched_undo : UnfetchedOfUndo
-unfetched_undo sheet script digits holds line missed = unfetched_two _ sheet script holds line missed (undo_names sheet script digits missed.request missed.asked)
+unfetched_undo sheet script digits holds line missed =
+    unfetched_two _ sheet script holds line missed (undo_names sheet script digits missed.request missed.asked)
 
 pub unfetched_live : UnfetchedOfLive
-unfetched_live words workers sheet script holds line asked missed = unfetched_two words sheet script holds line missed (live_names words workers sheet script missed.request asked missed.asked)
+unfetched_live words workers sheet script holds line asked missed =
+    unfetched_two words sheet script holds line missed (live_names words workers sheet script missed.request asked
+    missed.asked)
 
 -- ---- lines
 
@@ -165,7 +196,11 @@ appended (Some xs) (Some ys) before after line is re gained =
     sym last ∙ (gained ∙ ap (λ l. l ++ line) first)
 
 pub line_front : LineIsTakenFromItsFront
-line_front old new before after line is re (inl whole) = (length line, appended old.told new.told before after line is re whole ∙ ap (λ l. before ++ l) (sym (take-length line)))
+line_front old new before after line is re (inl whole) = (
+  length line,
+  appended old.told new.told before after line is re whole
+      ∙ ap (λ l. before ++ l) (sym (take-length line)),
+)
 line_front old new before after line is re (inr (rose, part)) = (part.0, appended old.told new.told before after (take part.0 line) is re part.1)
 
 pub line_whole : CalmLineIsWhole
@@ -267,7 +302,8 @@ two_paths words a b text said is re paths = record {
 }
 
 -- two texts of which a run may write either, in plain words
-either_text : (words : List (List ℕ)) (a b text said : List ℕ) → a ≡ text → b ≡ said → AreAlternatives words (output text) (output said) → AreOtherTexts words a b
+either_text : (words : List (List ℕ)) (a b text said : List ℕ) → a ≡ text → b ≡ said
+    → AreAlternatives words (output text) (output said) → AreOtherTexts words a b
 either_text words a b text said is re (either_check both) = plain_checks (two_checks words a b text said is re (one_count words text said both))
 either_text words a b text said is re (either_live both) = plain_lives (two_lives words a b text said is re (one_script_lives words text said both))
 either_text words a b text said is re (either_path both) = plain_paths (two_paths words a b text said is re (one_length words text said both))

@@ -1,25 +1,25 @@
-pub mod CheckLemmas
-pub mod ClapLemmas
-pub mod ClapOne
-pub mod CommandLemmas
-pub mod FillingLemmas
-pub mod GeneratedLemmas
+mod CheckLemmas
+mod ClapLemmas
+mod ClapOne
+mod CommandLemmas
+mod FillingLemmas
+mod GeneratedLemmas
 mod GraphLemmas
-pub mod InOrder
-pub mod LawLemmas
-pub mod OneAnswer
-pub mod OptionLemmas
-pub mod OutputLemmas
-pub mod PathLemmas
-pub mod ReplyLemmas
-pub mod RowGraph
-pub mod RowPlay
-pub mod RowShow
-pub mod RunLemmas
-pub mod UndoLemmas
-pub mod WordLemmas
-pub mod WorkedGraph
-pub mod WorkedPlay
-pub mod WorkedPrecedents
-pub mod WorkedScript
-pub mod WorkedSheet
+mod InOrder
+mod LawLemmas
+mod OneAnswer
+mod OptionLemmas
+mod OutputLemmas
+mod PathLemmas
+mod ReplyLemmas
+mod RowGraph
+mod RowPlay
+mod RowShow
+mod RunLemmas
+mod UndoLemmas
+mod WordLemmas
+mod WorkedGraph
+mod WorkedPlay
+mod WorkedPrecedents
+mod WorkedScript
+mod WorkedSheet

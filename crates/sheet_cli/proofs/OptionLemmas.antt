@@ -61,23 +61,29 @@ one_number digits others m n same one other = one.number.value ∙ sym (subst (�
 -- what a word gives, which is the first that is written as an option
 gives_two : (before after : List (List ℕ)) (option digits : List ℕ) → ArePlain before → option ≡ codes "--workers"
     → (left : List (List ℕ)) (workers : ℕ) → TakesWorkers (before ++ option ∷ digits ∷ after) left workers → IsWorkers digits workers
-gives_two before after option digits front is left workers (without plain _ _) = absurd (not_plain before (digits ∷ after) option (subst IsOption (sym is) long_option) plain)
+gives_two before after option digits front is left workers (without plain _ _) =
+    absurd (not_plain before (digits ∷ after) option (subst IsOption (sym is) long_option) plain)
 gives_two before after option digits front is left workers (in_two_words others behind more also words_are number _) =
-    let split = one_split before others (digits ∷ after) (more ∷ behind) option (codes "--workers") words_are front also (subst IsOption (sym is) long_option) long_option in
+    let split = one_split before others (digits ∷ after) (more ∷ behind) option (codes "--workers") words_are front also
+    (subst IsOption (sym is) long_option) long_option in
     let same : digits ≡ more = cc split.rest in
     subst (λ ds. IsWorkers ds workers) (sym same) number
 gives_two before after option digits front is left workers (in_one_word others behind more also words_are number _) =
-    let split = one_split before others (digits ∷ after) behind option (codes "--workers=" ++ more) words_are front also (subst IsOption (sym is) long_option) (joined_option more) in
+    let split = one_split before others (digits ∷ after) behind option (codes "--workers=" ++ more) words_are front also
+    (subst IsOption (sym is) long_option) (joined_option more) in
     absurd (two_forms more (sym is ∙ split.word))
 
 gives_one : (before after : List (List ℕ)) (option digits : List ℕ) → ArePlain before → option ≡ codes "--workers=" ++ digits
     → (left : List (List ℕ)) (workers : ℕ) → TakesWorkers (before ++ option ∷ after) left workers → IsWorkers digits workers
-gives_one before after option digits front is left workers (without plain _ _) = absurd (not_plain before after option (subst IsOption (sym is) (joined_option digits)) plain)
+gives_one before after option digits front is left workers (without plain _ _) =
+    absurd (not_plain before after option (subst IsOption (sym is) (joined_option digits)) plain)
 gives_one before after option digits front is left workers (in_two_words others behind more also words_are number _) =
-    let split = one_split before others after (more ∷ behind) option (codes "--workers") words_are front also (subst IsOption (sym is) (joined_option digits)) long_option in
+    let split = one_split before others after (more ∷ behind) option (codes "--workers") words_are front also
+    (subst IsOption (sym is) (joined_option digits)) long_option in
     absurd (two_forms digits (sym split.word ∙ is))
 gives_one before after option digits front is left workers (in_one_word others behind more also words_are number _) =
-    let split = one_split before others after behind option (codes "--workers=" ++ more) words_are front also (subst IsOption (sym is) (joined_option digits)) (joined_option more) in
+    let split = one_split before others after behind option (codes "--workers=" ++ more) words_are front also
+    (subst IsOption (sym is) (joined_option digits)) (joined_option more) in
     subst (λ ds. IsWorkers ds workers) (sym (same_digits digits more (sym is ∙ split.word))) number
 
 -- `--workers` without a word behind it gives nothing, and nor does another option
@@ -88,10 +94,12 @@ no_digits before option front is left workers (in_two_words others behind more a
     let split = one_split before others [] (more ∷ behind) option (codes "--workers") words_are front also (subst IsOption (sym is) long_option) long_option in
     (let long = ap length split.rest in omega (arith, long))
 no_digits before option front is left workers (in_one_word others behind more also words_are number _) =
-    let split = one_split before others [] behind option (codes "--workers=" ++ more) words_are front also (subst IsOption (sym is) long_option) (joined_option more) in
+    let split = one_split before others [] behind option (codes "--workers=" ++ more) words_are front also
+    (subst IsOption (sym is) long_option) (joined_option more) in
     two_forms more (sym is ∙ split.word)
 
-pub no_workers : (before after : List (List ℕ)) (option : List ℕ) → ArePlain before → IsOption option → option ≢ codes "--workers" → ((digits : List ℕ) → option ≢ codes "--workers=" ++ digits)
+pub no_workers : (before after : List (List ℕ)) (option : List ℕ) → ArePlain before → IsOption option
+    → option ≢ codes "--workers" → ((digits : List ℕ) → option ≢ codes "--workers=" ++ digits)
     → (left : List (List ℕ)) (workers : ℕ) → ¬ TakesWorkers (before ++ option ∷ after) left workers
 no_workers before after option front is alone joined left workers (without plain _ _) = not_plain before after option is plain
 no_workers before after option front is alone joined left workers (in_two_words others behind more also words_are number _) =
@@ -112,7 +120,8 @@ has_taken words both digits gives takes (Ok None) none = λ left workers given. 
 has_taken words both digits gives takes (Err e) none = tt
 
 pub two_taken : (before after : List (List ℕ)) (option digits : List ℕ) → ArePlain before → option ≡ codes "--workers"
-    → {E : Type 0} → (result : Result (Option Taken) E) → IfOk result (LeavesBoth (before ++ after) digits) → IfOk result (HasTaken (before ++ option ∷ digits ∷ after))
+    → {E : Type 0} → (result : Result (Option Taken) E) → IfOk result (LeavesBoth (before ++ after) digits)
+    → IfOk result (HasTaken (before ++ option ∷ digits ∷ after))
 two_taken before after option digits front is =
     has_taken (before ++ option ∷ digits ∷ after) (before ++ after) digits (gives_two before after option digits front is)
     (λ left workers number both. in_two_words before after digits front (ap (λ o. before ++ o ∷ digits ∷ after) is) number both)
@@ -135,16 +144,20 @@ one_left words left rest m n (in_two_words before after digits front words_are n
 one_left words left rest m n (in_one_word before after digits front words_are number is) (without plain re four) =
     absurd (not_plain before after (codes "--workers=" ++ digits) (joined_option digits) (subst ArePlain words_are plain))
 one_left words left rest m n (in_two_words before after digits front words_are number is) (in_two_words others behind more also words_too again re) =
-    let split = one_split before others (digits ∷ after) (more ∷ behind) (codes "--workers") (codes "--workers") (sym words_are ∙ words_too) front also long_option long_option in
+    let split = one_split before others (digits ∷ after) (more ∷ behind) (codes "--workers") (codes "--workers")
+    (sym words_are ∙ words_too) front also long_option long_option in
     let tails : after ≡ behind = cc split.rest in
     let same : digits ≡ more = cc split.rest in
     (is ∙ (λ i. split.front i ++ tails i) ∙ sym re, one_number digits more m n same number again)
 one_left words left rest m n (in_two_words before after digits front words_are number is) (in_one_word others behind more also words_too again re) =
-    let split = one_split before others (digits ∷ after) behind (codes "--workers") (codes "--workers=" ++ more) (sym words_are ∙ words_too) front also long_option (joined_option more) in
+    let split = one_split before others (digits ∷ after) behind (codes "--workers") (codes "--workers="
+    ++ more) (sym words_are ∙ words_too) front also long_option (joined_option more) in
     absurd (two_forms more split.word)
 one_left words left rest m n (in_one_word before after digits front words_are number is) (in_two_words others behind more also words_too again re) =
-    let split = one_split before others after (more ∷ behind) (codes "--workers=" ++ digits) (codes "--workers") (sym words_are ∙ words_too) front also (joined_option digits) long_option in
+    let split = one_split before others after (more ∷ behind) (codes "--workers=" ++ digits) (codes "--workers")
+    (sym words_are ∙ words_too) front also (joined_option digits) long_option in
     absurd (two_forms digits (sym split.word))
 one_left words left rest m n (in_one_word before after digits front words_are number is) (in_one_word others behind more also words_too again re) =
-    let split = one_split before others after behind (codes "--workers=" ++ digits) (codes "--workers=" ++ more) (sym words_are ∙ words_too) front also (joined_option digits) (joined_option more) in
+    let split = one_split before others after behind (codes "--workers=" ++ digits) (codes "--workers="
+    ++ more) (sym words_are ∙ words_too) front also (joined_option digits) (joined_option more) in
     (is ∙ (λ i. split.front i ++ split.rest i) ∙ sym re, one_number digits more m n (same_digits digits more split.word) number again)

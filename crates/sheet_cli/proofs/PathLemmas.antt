@@ -1,5 +1,6 @@
 -- Shortest chains of references, and what `path` writes of them.
-use Rattle.std.proofs.Common.{◌≡◌, ℕ, zero, suc, ◌<◌, ◌≤◌, ◌+◌, ◌-◌, ◌/◌, ◌%◌, All, inl, inr, false, List, [], ◌∷◌, ◌++◌, length, length-append, append_assoc, decimal, refl, sym, ◌∙◌, ap, arith}
+use Rattle.std.proofs.Common.{◌≡◌, ℕ, zero, suc, ◌<◌, ◌≤◌, ◌+◌, ◌-◌, ◌/◌, ◌%◌, All, inl, inr, false, List, [], ◌∷◌}
+use Rattle.std.proofs.Common.{◌++◌, length, length-append, append_assoc, decimal, refl, sym, ◌∙◌, ap, arith}
 use Rattle.std.specs.Prelude.{◌==◌, ◌⊎◌}
 use Rattle.std.proofs.lemmas.Bool.Decides.{nat_tests}
 use Rattle.std.proofs.lemmas.List.Elements.{All-append}
@@ -22,12 +23,14 @@ use Rattle.sheet_cli.specs.Words.{Asks}
 use Rattle.sheet_cli.proofs.GraphLemmas.{path_over, reach_over, step_over}
 
 -- shortest chains between two cells are equally long
-no_longer : (pairs : List Pair) (from to : Position) (cells others : List Position) → IsShortest pairs from to cells → IsShortest pairs from to others → length cells ≤ length others
+no_longer : (pairs : List Pair) (from to : Position) (cells others : List Position) → IsShortest pairs from to cells
+    → IsShortest pairs from to others → length cells ≤ length others
 no_longer pairs from to cells others one other =
     let least = one.least other.cells other.path in
     rw (one.begins, other.begins) (omega (arith, least))
 
-pub as_long : (pairs : List Pair) (from to : Position) (cells others : List Position) → IsShortest pairs from to cells → IsShortest pairs from to others → length cells ≡ length others
+pub as_long : (pairs : List Pair) (from to : Position) (cells others : List Position) → IsShortest pairs from to cells
+    → IsShortest pairs from to others → length cells ≡ length others
 as_long pairs from to cells others one other = omega (arith, no_longer pairs from to cells others one other, no_longer pairs from to others cells other one)
 
 -- whoever has a chain is reached
@@ -50,7 +53,9 @@ module _ (sheet : SheetValue) (pairs others : List Pair) (here : ArePairsOf shee
   }
 
 -- `path` writes one text of two cells of a sheet, or two chains of which either is a shortest one
-pub one_shown : (words : List (List ℕ)) (name : List ℕ) (from to : Position) (sheet : SheetValue) (text said : List ℕ) → Asks words (of_path name from to) → ShowsPath sheet from to text → ShowsPath sheet from to said → (output text ≡ output said) ⊎ AreAlternatives words (output text) (output said)
+pub one_shown : (words : List (List ℕ)) (name : List ℕ) (from to : Position) (sheet : SheetValue) (text said : List ℕ)
+    → Asks words (of_path name from to) → ShowsPath sheet from to text → ShowsPath sheet from to said
+    → (output text ≡ output said) ⊎ AreAlternatives words (output text) (output said)
 one_shown words name from to sheet _ _ asked (chain pairs cells here shortest) (chain others again there other) = inr (either_path (record {
   name = name;
   from = from;
@@ -89,7 +94,8 @@ upper zero col = λ k d within. absurd (omega (arith, within))
 upper (suc more) zero = λ k d within. absurd (omega (arith, within))
 upper (suc more) (suc col) =
     let letter = 65 + col % 26 in
-    rw (last_behind more col) (All-append (λ b. b ≤ 90) (last_letters more (col / 26)) (letter ∷ []) (upper more (col / 26)) (alone (λ b. b ≤ 90) letter (omega arith)))
+    rw (last_behind more col) (All-append (λ b. b ≤ 90) (last_letters more (col / 26)) (letter
+    ∷ []) (upper more (col / 26)) (alone (λ b. b ≤ 90) letter (omega arith)))
 
 -- the name of a column has a letter
 some_letter : (col : ℕ) → 1 ≤ col → 0 < length (last_letters 3 col)
@@ -103,13 +109,15 @@ front_of (letter ∷ letters) rest some all is =
     let same : letter ≡ 110 = cc is in
     omega (arith, small, same)
 
-no_word : (sheet : SheetValue) (from to : Position) (pairs : List Pair) (cells : List Position) → AreInSheet sheet from to → IsShortest pairs from to cells → cells_text cells ≡ none_text → ⊥
+no_word : (sheet : SheetValue) (from to : Position) (pairs : List Pair) (cells : List Position)
+    → AreInSheet sheet from to → IsShortest pairs from to cells → cells_text cells ≡ none_text → ⊥
 no_word sheet from to pairs cells inside shortest is =
     let letters = last_letters 3 from.col in
     let col = (inside_bounds sheet.sizes from inside.0).col_from in
     let text : cells_text (from ∷ shortest.cells) ≡ none_text = ap cells_text (sym shortest.begins) ∙ is in
     front_of letters ((decimal from.row ++ 10 ∷ []) ++ cells_text shortest.cells) (some_letter from.col col) (upper 3 from.col)
-    (sym (ap (λ front. front ++ cells_text shortest.cells) (append_assoc letters (decimal from.row) (10 ∷ [])) ∙ append_assoc letters (decimal from.row ++ 10 ∷ []) (cells_text shortest.cells)) ∙ text)
+    (sym (ap (λ front. front ++ cells_text shortest.cells) (append_assoc letters (decimal from.row) (10 ∷ []))
+    ∙ append_assoc letters (decimal from.row ++ 10 ∷ []) (cells_text shortest.cells)) ∙ text)
 
 pub none_no_chain : NoneIsNoChain
 none_no_chain sheet from to pairs _ inside here (chain others cells there shortest) = (
@@ -122,5 +130,6 @@ none_no_chain sheet from to pairs _ inside here (no_chain others there none) = (
 )
 
 pub shown_shortest : ShownIsShortest
-shown_shortest sheet from to pairs _ here (chain others cells there shortest) reach = (cells, (refl, shortest_over sheet others pairs there here from to cells shortest))
+shown_shortest sheet from to pairs _ here (chain others cells there shortest) reach =
+    (cells, (refl, shortest_over sheet others pairs there here from to cells shortest))
 shown_shortest sheet from to pairs _ here (no_chain others there none) reach = absurd (none (reach_over sheet pairs others here there (one_cell from) to reach))

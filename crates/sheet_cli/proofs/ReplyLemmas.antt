@@ -1,5 +1,6 @@
 -- From what a text gives to the reply to the words, over a shelf.
-use Rattle.std.proofs.Common.{◌≡◌, ◌≢◌, ℕ, zero, suc, All, ◌+◌, ◌*◌, ◌<◌, ◌≤◌, inl, inr, List, [], ◌∷◌, ◌++◌, length, length-append, refl, sym, subst, ap, arith}
+use Rattle.std.proofs.Common.{◌≡◌, ◌≢◌, ℕ, zero, suc, All, ◌+◌, ◌*◌, ◌<◌, ◌≤◌, inl, inr, List, [], ◌∷◌, ◌++◌, length}
+use Rattle.std.proofs.Common.{length-append, refl, sym, subst, ap, arith}
 use Rattle.std.specs.Prelude.{max, fold, Option, IfSome, Result, Ok, Err, IfOk, Some, None, string_bytes}
 use Rattle.sheet_refs.specs.Cells.{Corners, Position}
 use Rattle.csv_sheet.specs.Headings.{HeadedText, heading_of}
@@ -14,7 +15,10 @@ use Rattle.edit_script.specs.Scripts.{ScriptValue, IsScriptResult, ground_of}
 use Rattle.edit_script.specs.declared.refused.ScriptRefused.{ScriptRefused}
 use Rattle.edit_script.specs.declared.refused.ScriptRefused.TheVariants as script_why
 use Rattle.edit_script.specs.declared.script.Mode.{Mode}
-use Rattle.sheet_cli.specs.Answers.{Answer, AnswersRequest, AnswersWindow, AnswersCheck, AnswersFill, AnswersGenerated, AnswersPath, AnswersScript, GivesSheet, HasGivenSheet, HasNoScript, IsDue, OverScript, OverSheet, Owes, HasNoSheet, mode_of, status_of, AnswersUndo, IsLived, IsPlayed, IsText}
+use Rattle.sheet_cli.specs.Answers.{Answer, AnswersRequest, AnswersWindow, AnswersCheck, AnswersFill, AnswersGenerated}
+use Rattle.sheet_cli.specs.Answers.{AnswersPath, AnswersScript, GivesSheet, HasGivenSheet, HasNoScript, IsDue}
+use Rattle.sheet_cli.specs.Answers.{OverScript, OverSheet, Owes, HasNoSheet, mode_of, status_of, AnswersUndo, IsLived}
+use Rattle.sheet_cli.specs.Answers.{IsPlayed, IsText}
 use Rattle.sheet_cli.specs.Answers.Answer.{output, refusal}
 use Rattle.sheet_cli.specs.Answers.AnswersWindow.{written, outside}
 use Rattle.sheet_cli.specs.Answers.AnswersCheck.{listed}
@@ -75,7 +79,10 @@ fields_within (row ∷ rows) most =
 
 -- ---- what a text gives
 
-pub unread_sheet : (text : List ℕ) (cause : SheetRefused) (reply : Reply) → answer_of reply ≡ refusal 3 (refused_line cause) → cause ≢ why.Memory → (no_sheet_for cause ≢ no_sheet_for why.Memory → IsSheetResult text (no_sheet_for cause)) → HasSheet text (Err reply)
+pub unread_sheet : (text : List ℕ) (cause : SheetRefused) (reply : Reply)
+    → answer_of reply ≡ refusal 3 (refused_line cause) → cause ≢ why.Memory
+    → (no_sheet_for cause ≢ no_sheet_for why.Memory → IsSheetResult text (no_sheet_for cause))
+    → HasSheet text (Err reply)
 unread_sheet text cause reply is known gives holds name stands = record {
   status = 3;
   line = refused_line cause;
@@ -97,9 +104,18 @@ same_script_cause h = cc
 pub a_script : (script : ScriptValue) → script_for script ≢ no_script_for script_why.Memory
 a_script script h = cc
 
-pub no_script_reply : (command : ScriptCommand) (sheet : SheetValue) (labels : List (List ℕ)) (text : List ℕ) (cause : ScriptRefused) (reply : Reply) → IsTable labels → IsScriptResult (mode_of command) (ground_of sheet) sheet.labels labels text (Err cause) → answer_of reply ≡ refusal 4 (script_line cause) → RepliesOfText command sheet text reply
+pub no_script_reply : (command : ScriptCommand) (sheet : SheetValue) (labels : List (List ℕ)) (text : List ℕ)
+    (cause : ScriptRefused) (reply : Reply) → IsTable labels
+    → IsScriptResult (mode_of command) (ground_of sheet) sheet.labels labels text (Err cause)
+    → answer_of reply ≡ refusal 4 (script_line cause) → RepliesOfText command sheet text reply
 no_script_reply command sheet labels text cause reply table gives is holds script stands =
-    subst (OverScript holds (mode_of command) script (AnswersScript command) sheet) (sym is) (no_script 4 (script_line cause) (refused_script cause labels (record { text = text; stands = stands; gives = gives; table = table })))
+    subst (OverScript holds (mode_of command) script (AnswersScript command) sheet) (sym is)
+    (no_script 4 (script_line cause) (refused_script cause labels (record {
+      text = text;
+      stands = stands;
+      gives = gives;
+      table = table;
+    })))
 
 -- ---- over a shelf
 
@@ -107,7 +123,8 @@ module _ (holds : List ℕ → Option (List ℕ)) (name : List ℕ) (before afte
   pub missed : (reply : Reply) → Rose before after → answer_of reply ≡ refusal 5 (read_failed_line name) → HasFetched holds name before after (Err reply)
   missed reply rose is = inl (record { rose = rose; reply_is = is })
 
-  pub past_limit : (reply : Reply) → IfSome (holds name) (λ t. 16777216 < length t) → answer_of reply ≡ refusal 3 too_long_line → HasFetched holds name before after (Err reply)
+  pub past_limit : (reply : Reply) → IfSome (holds name) (λ t. 16777216 < length t)
+      → answer_of reply ≡ refusal 3 too_long_line → HasFetched holds name before after (Err reply)
   past_limit reply far is = inr (record { status = 3; line = too_long_line; none = too_long far; reply_is = is })
 
   read_failure : (request : Request) (reply : Reply) → IsDue holds request name → IsMissed name before after reply → RepliesTo request holds before after reply
@@ -118,28 +135,38 @@ module _ (holds : List ℕ → Option (List ℕ)) (name : List ℕ) (before afte
   first_due request others is = record { before = []; after = others; named = is; there = λ k d within. absurd (omega (arith, within)) }
 
   -- where there is no sheet, a request says so
-  without : (request : Request) (others : List (List ℕ)) → texts_named request ≡ name ∷ others → ((status : ℕ) (line : List ℕ) → HasNoSheet holds name status line → AnswersRequest holds request (refusal status line))
+  without : (request : Request) (others : List (List ℕ)) → texts_named request ≡ name ∷ others
+      → ((status : ℕ) (line : List ℕ) → HasNoSheet holds name status line
+      → AnswersRequest holds request (refusal status line))
       → (reply : Reply) → HasFetched holds name before after (Err reply) → RepliesTo request holds before after reply
   without request others is says reply (inl miss) = read_failure request reply (first_due request others is) miss
   without request others is says reply (inr lacks) = inr (subst (AnswersRequest holds request) (sym lacks.reply_is) (says lacks.status lacks.line lacks.none))
 
-  pub no_window : (command : WindowCommand) (window : Corners) (reply : Reply) → HasFetched holds name before after (Err reply) → RepliesTo (of_window command name window) holds before after reply
+  pub no_window : (command : WindowCommand) (window : Corners) (reply : Reply)
+      → HasFetched holds name before after (Err reply) → RepliesTo (of_window command name window) holds before after
+      reply
   no_window command window = without (of_window command name window) [] refl (λ status line. no_sheet status line)
 
   pub no_check : (reply : Reply) → HasFetched holds name before after (Err reply) → RepliesTo (of_check name) holds before after reply
   no_check = without (of_check name) [] refl (λ status line. no_sheet status line)
 
-  pub no_path : (from to : Position) (reply : Reply) → HasFetched holds name before after (Err reply) → RepliesTo (of_path name from to) holds before after reply
+  pub no_path : (from to : Position) (reply : Reply) → HasFetched holds name before after (Err reply)
+      → RepliesTo (of_path name from to) holds before after reply
   no_path from to = without (of_path name from to) [] refl (λ status line. no_sheet status line)
 
-  pub no_fill : (from : Position) (to : Corners) (reply : Reply) → HasFetched holds name before after (Err reply) → RepliesTo (of_fill name from to) holds before after reply
+  pub no_fill : (from : Position) (to : Corners) (reply : Reply) → HasFetched holds name before after (Err reply)
+      → RepliesTo (of_fill name from to) holds before after reply
   no_fill from to = without (of_fill name from to) [] refl (λ status line. no_sheet status line)
 
-  pub no_sheet_of_script : (command : ScriptCommand) (script : List ℕ) (reply : Reply) → HasFetched holds name before after (Err reply) → RepliesTo (of_script command name script) holds before after reply
+  pub no_sheet_of_script : (command : ScriptCommand) (script : List ℕ) (reply : Reply)
+      → HasFetched holds name before after (Err reply) → RepliesTo (of_script command name script) holds before after
+      reply
   no_sheet_of_script command script = without (of_script command name script) (script ∷ []) refl (λ status line. no_sheet status line)
 
 -- what is answered of a sheet that is given is the reply
-pub over_given : {E : Type 0} (holds : List ℕ → Option (List ℕ)) (name : List ℕ) (P : SheetValue → Answer → Type 0) (sheet : SheetValue) (result : Result Reply E) → GivesSheet holds name (Ok sheet) → IfOk result (λ reply. P sheet (answer_of reply)) → IfOk result (λ reply. OverSheet holds name P (answer_of reply))
+pub over_given : {E : Type 0} (holds : List ℕ → Option (List ℕ)) (name : List ℕ) (P : SheetValue → Answer
+    → Type 0) (sheet : SheetValue) (result : Result Reply E) → GivesSheet holds name (Ok sheet)
+    → IfOk result (λ reply. P sheet (answer_of reply)) → IfOk result (λ reply. OverSheet holds name P (answer_of reply))
 over_given holds name P sheet (Ok reply) gives is = over_sheet sheet (answer_of reply) gives is
 over_given holds name P sheet (Err e) gives is = tt
 
@@ -149,7 +176,8 @@ rose_from before mid after grown (inl more) = inl (omega (arith, grown, more))
 rose_from before mid after grown (inr most) = inr most
 
 -- the script is due once the sheet is there
-second_due : (holds : List ℕ → Option (List ℕ)) (command : ScriptCommand) (name script : List ℕ) (sheet : SheetValue) → GivesSheet holds name (Ok sheet) → IsDue holds (of_script command name script) script
+second_due : (holds : List ℕ → Option (List ℕ)) (command : ScriptCommand) (name script : List ℕ) (sheet : SheetValue)
+    → GivesSheet holds name (Ok sheet) → IsDue holds (of_script command name script) script
 second_due holds command name script sheet gives = record { before = name ∷ []; after = []; named = refl; there = only }
   where
     only : All (HasGivenSheet holds) (name ∷ [])
@@ -157,8 +185,17 @@ second_due holds command name script sheet gives = record { before = name ∷ []
     only (suc k) d within = absurd (omega (arith, within))
 
 -- the reply over a sheet is one to the words
-pub script_replies : (holds : List ℕ → Option (List ℕ)) (command : ScriptCommand) (name script : List ℕ) (sheet : SheetValue) (before mid after : ℕ) (reply : Reply) → before ≤ mid → GivesSheet holds name (Ok sheet) → RepliesOverSheet holds command sheet script mid after reply → RepliesTo (of_script command name script) holds before after reply
-script_replies holds command name script sheet before mid after reply grown gives (inl miss) = inl (record { name = script; due = second_due holds command name script sheet gives; rose = rose_from before mid after grown miss.rose; reply_is = miss.reply_is })
+pub script_replies : (holds : List ℕ → Option (List ℕ)) (command : ScriptCommand) (name script : List ℕ)
+    (sheet : SheetValue) (before mid after : ℕ) (reply : Reply) → before ≤ mid → GivesSheet holds name (Ok sheet)
+    → RepliesOverSheet holds command sheet script mid after reply
+    → RepliesTo (of_script command name script) holds before after reply
+script_replies holds command name script sheet before mid after reply grown gives (inl miss) =
+    inl (record {
+      name = script;
+      due = second_due holds command name script sheet gives;
+      rose = rose_from before mid after grown miss.rose;
+      reply_is = miss.reply_is;
+    })
 script_replies holds command name script sheet before mid after reply grown gives (inr writes) = inr (over_sheet sheet (answer_of reply) gives writes)
 
 -- a sheet that was read has no more labels than cells
@@ -178,7 +215,8 @@ headed_few (Some heading) sheet gives =
 labels_few : (holds : List ℕ → Option (List ℕ)) (name : List ℕ) (sheet : SheetValue) → GivesSheet holds name (Ok sheet) → length sheet.labels ≤ 1048576
 labels_few holds name sheet gives = headed_few (heading_of (without_marks gives.text)) sheet gives.gives
 
-pub room_for_labels : (holds : List ℕ → Option (List ℕ)) (name : List ℕ) (sheet : SheetValue) → GivesSheet holds name (Ok sheet) → length sheet.labels ≤ 3000000000
+pub room_for_labels : (holds : List ℕ → Option (List ℕ)) (name : List ℕ) (sheet : SheetValue)
+    → GivesSheet holds name (Ok sheet) → length sheet.labels ≤ 3000000000
 room_for_labels holds name sheet gives = (let few = labels_few holds name sheet gives in omega (arith, few))
 
 -- ---- of words
@@ -196,7 +234,8 @@ cause_status : (holds : List ℕ → Option (List ℕ)) (name : List ℕ) (statu
 cause_status holds name _ _ (too_long _) = inr (inl refl)
 cause_status holds name _ _ (refused _ _) = inr (inl refl)
 
-none_status : (holds : List ℕ → Option (List ℕ)) (mode : Mode) (name : List ℕ) (sheet : SheetValue) (status : ℕ) (line : List ℕ) → HasNoScript holds mode name sheet status line → IsRefusedStatus status
+none_status : (holds : List ℕ → Option (List ℕ)) (mode : Mode) (name : List ℕ) (sheet : SheetValue) (status : ℕ)
+    (line : List ℕ) → HasNoScript holds mode name sheet status line → IsRefusedStatus status
 none_status holds mode name sheet _ _ (long_script _) = inr (inr refl)
 none_status holds mode name sheet _ _ (refused_script _ _ _) = inr (inr refl)
 
@@ -204,15 +243,22 @@ none_status holds mode name sheet _ _ (refused_script _ _ _) = inr (inr refl)
 abbrev HasStatus : Answer → Type 0
 HasStatus answer = (status : ℕ) (line : List ℕ) → answer ≡ refusal status line → IsRefusedStatus status
 
-status_over : (holds : List ℕ → Option (List ℕ)) (name : List ℕ) (P : SheetValue → Answer → Type 0) → ((sheet : SheetValue) (answer : Answer) → P sheet answer → HasStatus answer) → (answer : Answer) → OverSheet holds name P answer → HasStatus answer
+status_over : (holds : List ℕ → Option (List ℕ)) (name : List ℕ) (P : SheetValue → Answer → Type 0)
+    → ((sheet : SheetValue) (answer : Answer) → P sheet answer → HasStatus answer) → (answer : Answer)
+    → OverSheet holds name P answer → HasStatus answer
 status_over holds name P has _ (over_sheet sheet answer gives given) = has sheet answer given
 status_over holds name P has _ (no_sheet said told none) = λ status line is. subst IsRefusedStatus (same_status is) (cause_status holds name said told none)
 
-status_over_script : (holds : List ℕ → Option (List ℕ)) (mode : Mode) (name : List ℕ) (P : SheetValue → ScriptValue → Answer → Type 0) → ((sheet : SheetValue) (script : ScriptValue) (answer : Answer) → P sheet script answer → HasStatus answer) → (sheet : SheetValue) (answer : Answer) → OverScript holds mode name P sheet answer → HasStatus answer
+status_over_script : (holds : List ℕ → Option (List ℕ)) (mode : Mode) (name : List ℕ) (P : SheetValue → ScriptValue
+    → Answer → Type 0) → ((sheet : SheetValue) (script : ScriptValue) (answer : Answer) → P sheet script answer
+    → HasStatus answer) → (sheet : SheetValue) (answer : Answer) → OverScript holds mode name P sheet answer
+    → HasStatus answer
 status_over_script holds mode name P has sheet _ (over_script labels script answer gives given) = has (with_labels sheet labels) script answer given
-status_over_script holds mode name P has sheet _ (no_script said told none) = λ status line is. subst IsRefusedStatus (same_status is) (none_status holds mode name sheet said told none)
+status_over_script holds mode name P has sheet _ (no_script said told none) =
+    λ status line is. subst IsRefusedStatus (same_status is) (none_status holds mode name sheet said told none)
 
-window_status : (command : WindowCommand) (window : Corners) (sheet : SheetValue) (answer : Answer) → AnswersWindow command window sheet answer → HasStatus answer
+window_status : (command : WindowCommand) (window : Corners) (sheet : SheetValue) (answer : Answer)
+    → AnswersWindow command window sheet answer → HasStatus answer
 window_status command window sheet _ (written _ _ _) status line is = absurd (no_output is)
 window_status command window sheet _ (outside _) status line is = inl (sym (same_status is))
 
@@ -237,7 +283,8 @@ undo_status number sheet script _ (undone _ _) status line is = absurd (no_outpu
 undo_status number sheet script _ (no_edit _ _) status line is = inl (sym (same_status is))
 undo_status number sheet script _ (overtaken _ _ _) status line is = inl (sym (same_status is))
 
-script_status : (command : ScriptCommand) (sheet : SheetValue) (script : ScriptValue) (answer : Answer) → AnswersScript command sheet script answer → HasStatus answer
+script_status : (command : ScriptCommand) (sheet : SheetValue) (script : ScriptValue) (answer : Answer)
+    → AnswersScript command sheet script answer → HasStatus answer
 script_status Play sheet script answer given = text_status (IsPlayed sheet script.steps) answer given
 script_status (Live workers) sheet script answer given = text_status (IsLived sheet script) answer given
 script_status (Undo number) sheet script answer given = undo_status number sheet script answer given
@@ -246,16 +293,20 @@ generated_status : (number : ℕ) (answer : Answer) → AnswersGenerated number 
 generated_status number _ (summed _ _) status line is = absurd (no_output is)
 
 request_status : (holds : List ℕ → Option (List ℕ)) (request : Request) (answer : Answer) → AnswersRequest holds request answer → HasStatus answer
-request_status holds (of_window command name window) answer given = status_over holds name (AnswersWindow command window) (window_status command window) answer given
+request_status holds (of_window command name window) answer given =
+    status_over holds name (AnswersWindow command window) (window_status command window) answer given
 request_status holds (of_check name) answer given = status_over holds name AnswersCheck check_status answer given
 request_status holds (of_script command name script) answer given =
-    status_over holds name (OverScript holds (mode_of command) script (AnswersScript command)) (status_over_script holds (mode_of command) script (AnswersScript command) (script_status command)) answer given
+    status_over holds name (OverScript holds (mode_of command) script (AnswersScript command))
+    (status_over_script holds (mode_of command) script (AnswersScript command) (script_status command)) answer given
 request_status holds (of_path name from to) answer given = status_over holds name (AnswersPath from to) (path_status from to) answer given
 request_status holds (of_fill name from to) answer given = status_over holds name (AnswersFill from to) (fill_status from to) answer given
 request_status holds (of_generated number workers) answer given = generated_status number answer given
 
 -- the reply to what the words ask for
-pub to_words : (words : List (List ℕ)) (holds : List ℕ → Option (List ℕ)) (before after : ℕ) (request : Request) (reply : Reply) → Asks words request → RepliesTo request holds before after reply → IsOwed words holds before after reply
+pub to_words : (words : List (List ℕ)) (holds : List ℕ → Option (List ℕ)) (before after : ℕ) (request : Request)
+    (reply : Reply) → Asks words request → RepliesTo request holds before after reply
+    → IsOwed words holds before after reply
 to_words words holds before after request (Output text) asked (inl failure) = absurd (no_output failure.reply_is)
 to_words words holds before after request (Output text) asked (inr given) = answers request (output text) asked given
 to_words words holds before after request (Refusal status line) asked (inl failure) =
@@ -275,7 +326,8 @@ to_words words holds before after request (Refusal status line) asked (inr given
     })
 
 -- the words are no command
-pub owed_usage : (words : List (List ℕ)) (holds : List ℕ → Option (List ℕ)) (before after : ℕ) (reply : Reply) → AsksNothing words → answer_of reply ≡ refusal 2 usage_line → IsOwed words holds before after reply
+pub owed_usage : (words : List (List ℕ)) (holds : List ℕ → Option (List ℕ)) (before after : ℕ) (reply : Reply)
+    → AsksNothing words → answer_of reply ≡ refusal 2 usage_line → IsOwed words holds before after reply
 owed_usage words holds before after (Output text) none is = absurd (no_output is)
 owed_usage words holds before after (Refusal status line) none is =
     inr (record { status_is = inl (same_status is); owed = subst (Owes words holds) (sym is) (usage none) })

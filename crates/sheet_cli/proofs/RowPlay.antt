@@ -16,7 +16,8 @@ use Rattle.sheet_cli.specs.Answers.HasNoScript.{refused_script}
 use Rattle.sheet_cli.specs.Answers.Owes.{answers}
 use Rattle.sheet_cli.specs.Lines.{script_line}
 use Rattle.sheet_cli.specs.Requests.Request.{of_script}
-use Rattle.sheet_cli.specs.Rows.{PlayRefusedJust, PlayRow, PlaysJust, RefusedScriptRow, TellsScript, TellsWorked, outside_script, worked_script, worked_text, worked_words}
+use Rattle.sheet_cli.specs.Rows.{PlayRefusedJust, PlayRow, PlaysJust, RefusedScriptRow, TellsScript, TellsWorked}
+use Rattle.sheet_cli.specs.Rows.{outside_script, worked_script, worked_text, worked_words}
 use Rattle.sheet_cli.specs.Words.{Asks, IsOption}
 use Rattle.sheet_cli.specs.Words.CommandWord.{play_word}
 use Rattle.sheet_cli.specs.declared.script.ScriptCommand.TheVariants.{Play}
@@ -52,23 +53,43 @@ asks_play = record {
 owes_play : (holds : List ℕ → Option (List ℕ)) (answer : Answer) → AnswersPlay holds answer → Owes play_words holds answer
 owes_play holds answer given = answers (of_script Play (codes "s") (codes "t")) answer asks_play given
 
-plays_just : (script text : List ℕ) → ((holds : List ℕ → Option (List ℕ)) → TellsWorked holds → TellsScript script holds → AnswersPlay holds (output text)) → PlaysJust script text
+plays_just : (script text : List ℕ) → ((holds : List ℕ → Option (List ℕ)) → TellsWorked holds → TellsScript script holds
+    → AnswersPlay holds (output text)) → PlaysJust script text
 plays_just script text answered holds said here there = (
-  λ has. elim (one_output play_words holds said text (tells_play (codes "s") (codes "t") worked_text script holds here there) has (record { text = text; owed = owes_play holds (output text) (answered holds here there); gained = refl })) [
-    | inl same ↦ same
-    | inr either ↦ absurd (alone (codes "play") (codes "t") (λ same. omega (arith, same)) said text either)
-  ],
+  λ has. elim (one_output play_words holds said text (tells_play (codes "s") (codes "t") worked_text script holds here
+      there) has (record {
+        text = text;
+        owed = owes_play holds (output text) (answered holds here there);
+        gained = refl;
+      })) [
+        | inl same ↦ same
+        | inr either ↦ absurd (alone (codes "play") (codes "t") (λ same. omega (arith, same)) said text either)
+      ],
   λ is. record { text = text; owed = owes_play holds (output text) (answered holds here there); gained = is },
 )
 
-refused_just : (script : List ℕ) (given : ℕ) (line : List ℕ) → ((holds : List ℕ → Option (List ℕ)) → TellsWorked holds → TellsScript script holds → AnswersPlay holds (refusal given line)) → PlayRefusedJust script given line
+refused_just : (script : List ℕ) (given : ℕ) (line : List ℕ) → ((holds : List ℕ → Option (List ℕ)) → TellsWorked holds
+    → TellsScript script holds → AnswersPlay holds (refusal given line)) → PlayRefusedJust script given line
 refused_just script given line answered holds status said here there = (
-  λ refused. one_refusal play_words holds status given said line (tells_play (codes "s") (codes "t") worked_text script holds here there) refused (record { line = line; owed = owes_play holds (refusal given line) (answered holds here there); noted = refl }),
-  λ both. record { line = line; owed = subst (λ s. Owes play_words holds (refusal s line)) (sym both.0) (owes_play holds (refusal given line) (answered holds here there)); noted = sym both.1 },
+  λ refused. one_refusal play_words holds status given said line (tells_play (codes "s") (codes "t") worked_text script
+      holds here there) refused (record {
+        line = line;
+        owed = owes_play holds (refusal given line) (answered holds here there);
+        noted = refl;
+      }),
+  λ both. record {
+    line = line;
+    owed = subst (λ s. Owes play_words holds (refusal s line)) (sym both.0)
+        (owes_play holds (refusal given line) (answered holds here there));
+    noted = sym both.1;
+  },
 )
 
 -- what the text of a script gives, without a label
-gives_script : (holds : List ℕ → Option (List ℕ)) (script : List ℕ) (result : Result ScriptValue ScriptRefused) → TellsScript script holds → length script ≤ 16777216 → IsScriptResult as_played (ground_of worked_sheet) [] [] script result → GivesScript holds as_played (codes "t") worked_sheet [] result
+gives_script : (holds : List ℕ → Option (List ℕ)) (script : List ℕ) (result : Result ScriptValue ScriptRefused)
+    → TellsScript script holds → length script ≤ 16777216
+    → IsScriptResult as_played (ground_of worked_sheet) [] [] script result
+    → GivesScript holds as_played (codes "t") worked_sheet [] result
 gives_script holds script result there short gives = record {
   text = script;
   stands = record {
@@ -98,4 +119,6 @@ refused_script_row =
     refused_just outside_script 4 (codes "antifreeze: script: line 1: cell outside the sheet\n")
     (λ holds here there. subst (λ line. AnswersPlay holds (refusal 4 line)) line_shown
     (over_sheet worked_sheet (refusal 4 (script_line (OutOfSheet 1))) (gives_worked holds here)
-    (no_script 4 (script_line (OutOfSheet 1)) (refused_script (OutOfSheet 1) [] (gives_script holds outside_script (Err (OutOfSheet 1)) there (omega arith) (at_line is_fault))))))
+    (no_script 4 (script_line (OutOfSheet 1))
+    (refused_script (OutOfSheet 1) [] (gives_script holds outside_script (Err (OutOfSheet 1)) there (omega arith)
+    (at_line is_fault))))))

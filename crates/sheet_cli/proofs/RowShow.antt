@@ -30,7 +30,9 @@ use Rattle.sheet_cli.proofs.WorkedSheet.{gives_worked, in_a, in_b, worked_sheet}
 
 -- words that write one text at most and are owed a text write just that text
 pub just_written : (words : List (List ℕ)) (text : List ℕ) → ((a b : List ℕ) → AreOtherTexts words a b → ⊥)
-    → ((holds : List ℕ → Option (List ℕ)) → TellsWorked holds → TellsTexts words holds) → ((holds : List ℕ → Option (List ℕ)) → TellsWorked holds → Owes words holds (output text)) → WritesJust words text
+    → ((holds : List ℕ → Option (List ℕ)) → TellsWorked holds → TellsTexts words holds)
+    → ((holds : List ℕ → Option (List ℕ)) → TellsWorked holds → Owes words holds (output text))
+    → WritesJust words text
 just_written words text alone tells owed holds said here = (
   λ has. elim (one_output words holds said text (tells holds here) has (record { text = text; owed = owed holds here; gained = refl })) [
     | inl same ↦ same
@@ -40,7 +42,10 @@ just_written words text alone tells owed holds said here = (
 )
 
 -- words that are owed a refusal are refused just so
-pub just_refused : (words : List (List ℕ)) (given : ℕ) (line : List ℕ) → ((holds : List ℕ → Option (List ℕ)) → TellsWorked holds → TellsTexts words holds) → ((holds : List ℕ → Option (List ℕ)) → TellsWorked holds → Owes words holds (refusal given line)) → RefusedJust words given line
+pub just_refused : (words : List (List ℕ)) (given : ℕ) (line : List ℕ)
+    → ((holds : List ℕ → Option (List ℕ)) → TellsWorked holds → TellsTexts words holds)
+    → ((holds : List ℕ → Option (List ℕ)) → TellsWorked holds → Owes words holds (refusal given line))
+    → RefusedJust words given line
 just_refused words given line tells owed holds status said here = (
   λ refused. one_refusal words holds status given said line (tells holds here) refused (record { line = line; owed = owed holds here; noted = refl }),
   λ both. record { line = line; owed = subst (λ s. Owes words holds (refusal s line)) (sym both.0) (owed holds here); noted = sym both.1 },
@@ -63,12 +68,15 @@ abbrev corners : ℕ → ℕ → Corners
 corners row col = record { head = record { row = 1; col = 1 }; tail = record { row = row; col = col } }
 
 named_whole : IsRangeName (codes "A1:B2") (corners 2 2)
-named_whole = two (codes "A1:B2") (codes "A1") (codes "B2") (record { row = 1; col = 1 }) (record { row = 2; col = 2 }) refl (in_a 49 1 (omega arith) (omega arith) refl) (in_b 50 2 (omega arith) (omega arith) refl)
+named_whole = two (codes "A1:B2") (codes "A1") (codes "B2") (record { row = 1; col = 1 }) (record { row = 2; col = 2 })
+    refl (in_a 49 1 (omega arith) (omega arith) refl) (in_b 50 2 (omega arith) (omega arith) refl)
 
 named_tall : IsRangeName (codes "A1:B3") (corners 3 2)
-named_tall = two (codes "A1:B3") (codes "A1") (codes "B3") (record { row = 1; col = 1 }) (record { row = 3; col = 2 }) refl (in_a 49 1 (omega arith) (omega arith) refl) (in_b 51 3 (omega arith) (omega arith) refl)
+named_tall = two (codes "A1:B3") (codes "A1") (codes "B3") (record { row = 1; col = 1 }) (record { row = 3; col = 2 })
+    refl (in_a 49 1 (omega arith) (omega arith) refl) (in_b 51 3 (omega arith) (omega arith) refl)
 
-pub asks_window : (command : WindowCommand) (name : List ℕ) (window : Corners) → ¬ IsOption name → IsRangeName name window → Asks (worked_words (command_word command) name) (of_window command (codes "s") window)
+pub asks_window : (command : WindowCommand) (name : List ℕ) (window : Corners) → ¬ IsOption name
+    → IsRangeName name window → Asks (worked_words (command_word command) name) (of_window command (codes "s") window)
 asks_window command name window plain named = record {
   command = window_word command;
   rest = codes "s" ∷ name ∷ [];
@@ -83,7 +91,8 @@ asks_window command name window plain named = record {
   };
 }
 
-pub tells : (command : WindowCommand) (name : List ℕ) (holds : List ℕ → Option (List ℕ)) → TellsWorked holds → TellsTexts (worked_words (command_word command) name) holds
+pub tells : (command : WindowCommand) (name : List ℕ) (holds : List ℕ → Option (List ℕ)) → TellsWorked holds
+    → TellsTexts (worked_words (command_word command) name) holds
 tells command name holds here = tells_window command (codes "s") name _ holds here
 
 -- three words write one text at most, unless the first begins as `live` does
@@ -93,7 +102,8 @@ alone command name differs a b (lives both) = (let first : command ≡ codes "li
 alone command name differs a b (paths both) = omega (arith, ap length both.words_are)
 
 -- a window of at most two rows and two columns is in the sheet
-pub within_worked : (window : Corners) → 1 ≤ window.head.row → 1 ≤ window.head.col → window.tail.row ≤ 2 → window.tail.col ≤ 2 → IsWithinSheet window worked_sheet
+pub within_worked : (window : Corners) → 1 ≤ window.head.row → 1 ≤ window.head.col → window.tail.row ≤ 2
+    → window.tail.col ≤ 2 → IsWithinSheet window worked_sheet
 within_worked window top left bottom right cell inside =
     inside_from (record { rows = 2; cols = 2 }) cell (record {
       row_from = omega (arith, top, inside.row_from);
@@ -111,9 +121,13 @@ text_shown = refl
 
 pub show_row : ShowRow
 show_row =
-    just_written (worked_words (codes "show") (codes "A1:B2")) (codes "sheet 0 A1:B2\n1,2\n2,4\n") (alone (codes "show") (codes "A1:B2") (λ same. omega (arith, same))) (tells Show (codes "A1:B2"))
-    (λ holds here. answers (of_window Show (codes "s") (corners 2 2)) (output (codes "sheet 0 A1:B2\n1,2\n2,4\n")) (asks_window Show (codes "A1:B2") (corners 2 2) (no_option_a (codes "1:B2")) named_whole)
-    (subst (λ t. OverSheet holds (codes "s") (AnswersWindow Show (corners 2 2)) (output t)) text_shown (over_sheet worked_sheet (output (show_text worked_sheet (corners 2 2))) (gives_worked holds here) (written (show_text worked_sheet (corners 2 2)) within_whole values))))
+    just_written (worked_words (codes "show") (codes "A1:B2")) (codes "sheet 0 A1:B2\n1,2\n2,4\n")
+    (alone (codes "show") (codes "A1:B2") (λ same. omega (arith, same))) (tells Show (codes "A1:B2"))
+    (λ holds here. answers (of_window Show (codes "s") (corners 2 2)) (output (codes "sheet 0 A1:B2\n1,2\n2,4\n"))
+    (asks_window Show (codes "A1:B2") (corners 2 2) (no_option_a (codes "1:B2")) named_whole)
+    (subst (λ t. OverSheet holds (codes "s") (AnswersWindow Show (corners 2 2)) (output t)) text_shown
+    (over_sheet worked_sheet (output (show_text worked_sheet (corners 2 2))) (gives_worked holds here)
+    (written (show_text worked_sheet (corners 2 2)) within_whole values))))
 
 pub accepted_row : AcceptedRow
 accepted_row holds here = record {
@@ -124,7 +138,13 @@ accepted_row holds here = record {
 
 -- the cell A3 isn't in the sheet
 past_worked : ¬ IsWithinSheet (corners 3 2) worked_sheet
-past_worked inside = no (inside (record { row = 3; col = 1 }) (record { row_from = omega arith; row_to = omega arith; col_from = omega arith; col_to = omega arith }))
+past_worked inside =
+    no (inside (record { row = 3; col = 1 }) (record {
+      row_from = omega arith;
+      row_to = omega arith;
+      col_from = omega arith;
+      col_to = omega arith;
+    }))
   where
     no : false ≡ true → ⊥
     no h = cc
@@ -132,7 +152,8 @@ past_worked inside = no (inside (record { row = 3; col = 1 }) (record { row_from
 pub outside_row : OutsideRow
 outside_row =
     just_refused (worked_words (codes "show") (codes "A1:B3")) 2 outside_line (tells Show (codes "A1:B3"))
-    (λ holds here. answers (of_window Show (codes "s") (corners 3 2)) (refusal 2 outside_line) (asks_window Show (codes "A1:B3") (corners 3 2) (no_option_a (codes "1:B3")) named_tall)
+    (λ holds here. answers (of_window Show (codes "s") (corners 3 2)) (refusal 2 outside_line)
+    (asks_window Show (codes "A1:B3") (corners 3 2) (no_option_a (codes "1:B3")) named_tall)
     (over_sheet worked_sheet (refusal 2 outside_line) (gives_worked holds here) (outside past_worked)))
 
 -- two words of which the first is `show` are no command
@@ -142,4 +163,6 @@ no_command request asked =
     omega (arith, ap length asks.positions.words_are)
 
 pub usage_row : UsageRow
-usage_row = just_refused (codes "show" ∷ codes "s" ∷ []) 2 usage_line (λ holds here request asked. absurd (no_command request asked)) (λ holds here. usage no_command)
+usage_row =
+    just_refused (codes "show" ∷ codes "s" ∷ []) 2 usage_line
+    (λ holds here request asked. absurd (no_command request asked)) (λ holds here. usage no_command)

@@ -1,5 +1,6 @@
 -- What `undo` is answered: the log of a script's edits is for its sheet, and one edit of it is undone in one way.
-use Rattle.std.proofs.Common.{◌≡◌, ◌≢◌, ℕ, ◌+◌, ◌<◌, ◌≤◌, zero, suc, List, [], ◌∷◌, ◌++◌, length, drop, get_or, All, refl, sym, ◌∙◌, ap, subst, arith, append_assoc}
+use Rattle.std.proofs.Common.{◌≡◌, ◌≢◌, ℕ, ◌+◌, ◌<◌, ◌≤◌, zero, suc, List, [], ◌∷◌, ◌++◌, length, drop, get_or, All}
+use Rattle.std.proofs.Common.{refl, sym, ◌∙◌, ap, subst, arith, append_assoc}
 use Rattle.std.specs.Prelude.{Err, Ok, Result}
 use Rattle.std.proofs.Math.ListN.{drop_of_length-le}
 use Rattle.std.proofs.lemmas.List.{append-nil, drop_more}
@@ -44,26 +45,35 @@ log_fits sheet steps fit = all_for sheet steps fit.each
 
 -- ---- `undo` is answered in one way
 
-pub one_undo : (number : ℕ) (sheet : SheetValue) (script : ScriptValue) (a b : Answer) → AnswersUndo number sheet script a → AnswersUndo number sheet script b → a ≡ b
+pub one_undo : (number : ℕ) (sheet : SheetValue) (script : ScriptValue) (a b : Answer)
+    → AnswersUndo number sheet script a → AnswersUndo number sheet script b → a ≡ b
 one_undo number sheet script _ _ (undone edit is) (undone other re) =
     ap (λ e. output (batch_text sheet.labels e)) (one_undoes sheet (entries_of script.steps) number edit other is.undoes re.undoes)
-one_undo number sheet script _ _ (undone edit is) (no_edit count none) = absurd (none_numbered (entries_of script.steps) number count is.undoes.entry none is.undoes.numbered)
+one_undo number sheet script _ _ (undone edit is) (no_edit count none) =
+    absurd (none_numbered (entries_of script.steps) number count is.undoes.entry none is.undoes.numbered)
 one_undo number sheet script _ _ (undone edit is) (overtaken by cell late) = absurd (is.latest by cell late)
-one_undo number sheet script _ _ (no_edit count none) (undone edit is) = absurd (none_numbered (entries_of script.steps) number count is.undoes.entry none is.undoes.numbered)
+one_undo number sheet script _ _ (no_edit count none) (undone edit is) =
+    absurd (none_numbered (entries_of script.steps) number count is.undoes.entry none is.undoes.numbered)
 one_undo number sheet script _ _ (no_edit _ _) (no_edit _ _) = refl
-one_undo number sheet script _ _ (no_edit count none) (overtaken by cell late) = absurd (none_numbered (entries_of script.steps) number count late.entry none late.numbered)
+one_undo number sheet script _ _ (no_edit count none) (overtaken by cell late) =
+    absurd (none_numbered (entries_of script.steps) number count late.entry none late.numbered)
 one_undo number sheet script _ _ (overtaken by cell late) (undone edit is) = absurd (is.latest by cell late)
-one_undo number sheet script _ _ (overtaken by cell late) (no_edit count none) = absurd (none_numbered (entries_of script.steps) number count late.entry none late.numbered)
+one_undo number sheet script _ _ (overtaken by cell late) (no_edit count none) =
+    absurd (none_numbered (entries_of script.steps) number count late.entry none late.numbered)
 one_undo number sheet script _ _ (overtaken by cell late) (overtaken other place again) =
     let both = one_overtaker (entries_of script.steps) number by other cell place late again in
     (λ i. refusal 2 (overtaken_line number (both.0 i) (both.1 i)))
 
 -- why an edit isn't undone, by what is found out about the log
-pub not_undone : (number : ℕ) (sheet : SheetValue) (script : ScriptValue) (why : UndoRefused) (answer : Answer) → answer ≡ refusal 2 (undo_line number why) → why ≢ refused.Memory
+pub not_undone : (number : ℕ) (sheet : SheetValue) (script : ScriptValue) (why : UndoRefused) (answer : Answer)
+    → answer ≡ refusal 2 (undo_line number why) → why ≢ refused.Memory
     → ((count : ℕ) → why ≡ refused.NoSuchEdit count → HasNoEntry (entries_of script.steps) number count)
-    → ((by : ℕ) (cell : Position) → why ≡ refused.Overtaken by cell → IsOvertaken (entries_of script.steps) number by cell) → AnswersUndo number sheet script answer
-not_undone number sheet script (refused.NoSuchEdit count) answer is known none late = subst (AnswersUndo number sheet script) (sym is) (no_edit count (none count refl))
-not_undone number sheet script (refused.Overtaken by cell) answer is known none late = subst (AnswersUndo number sheet script) (sym is) (overtaken by cell (late by cell refl))
+    → ((by : ℕ) (cell : Position) → why ≡ refused.Overtaken by cell
+    → IsOvertaken (entries_of script.steps) number by cell) → AnswersUndo number sheet script answer
+not_undone number sheet script (refused.NoSuchEdit count) answer is known none late =
+    subst (AnswersUndo number sheet script) (sym is) (no_edit count (none count refl))
+not_undone number sheet script (refused.Overtaken by cell) answer is known none late =
+    subst (AnswersUndo number sheet script) (sym is) (overtaken by cell (late by cell refl))
 not_undone number sheet script refused.Memory answer is known none late = absurd (known refl)
 
 abbrev pub edit_for : EditValue → Result EditValue UndoRefused
@@ -85,7 +95,8 @@ pub entries_more : (steps : List Step) (place : ℕ) (step : Step) (log : List E
     → (log ++ entry_by step.client step.command) ++ entries_of (drop (place + 1) steps) ≡ log ++ entries_of (drop place steps)
 entries_more steps place step log within here =
     append_assoc log (entry_by step.client step.command) (entries_of (drop (place + 1) steps))
-    ∙ ap (λ rest. log ++ rest) (sym (ap entries_of (drop_more steps place step within) ∙ ap (λ (s : Step). entry_by s.client s.command ++ entries_of (drop (place + 1) steps)) (sym here)))
+    ∙ ap (λ rest. log ++ rest) (sym (ap entries_of (drop_more steps place step within)
+    ∙ ap (λ (s : Step). entry_by s.client s.command ++ entries_of (drop (place + 1) steps)) (sym here)))
 
 pub entries_end : (steps : List Step) (place : ℕ) (log : List Entry) → length steps ≤ place → log ++ entries_of (drop place steps) ≡ log
 entries_end steps place log past = ap (λ rest. log ++ entries_of rest) (drop_of_length-le steps past) ∙ append-nil log

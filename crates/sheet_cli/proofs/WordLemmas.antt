@@ -9,7 +9,8 @@ use Rattle.sheet_refs.proofs.NameLemmas.{one_cell, one_range}
 use Rattle.sheet_cli.specs.Answers.{WordsAskForOne}
 use Rattle.sheet_cli.specs.Requests.{Request}
 use Rattle.sheet_cli.specs.Requests.Request.{of_window, of_check, of_script, of_path, of_fill, of_generated}
-use Rattle.sheet_cli.specs.Words.{AreThreePositions, AreTwoPositions, Asks, AsksBehind, AsksNothing, CommandWord, IsNoWindowWord, IsOnePosition, IsOption, bytes_of, spelled}
+use Rattle.sheet_cli.specs.Words.{AreThreePositions, AreTwoPositions, Asks, AsksBehind, AsksNothing, CommandWord}
+use Rattle.sheet_cli.specs.Words.{IsNoWindowWord, IsOnePosition, IsOption, bytes_of, spelled}
 use Rattle.sheet_cli.specs.Words.CommandWord.{window_word, check_word, play_word, live_word, path_word, fill_word, gen_word, undo_word}
 use Rattle.sheet_cli.specs.declared.script.ScriptCommand.TheVariants.{Live, Play, Undo}
 use Rattle.sheet_cli.specs.declared.window.WindowCommand.TheVariants.{Show, Deps, Precs}
@@ -19,7 +20,8 @@ use Rattle.sheet_cli.proofs.OptionLemmas.{one_left}
 pub as_bytes : (words : List (String Global)) → All (λ w. ¬ IsOption (string_bytes w)) words → All (λ w. ¬ IsOption w) (bytes_of words)
 as_bytes words plain = All-map (λ w. ¬ IsOption w) string_bytes words plain
 
-two_plain : (rest : List (String Global)) (sheet name : List ℕ) → bytes_of rest ≡ sheet ∷ name ∷ [] → ¬ IsOption sheet → ¬ IsOption name → All (λ w. ¬ IsOption (string_bytes w)) rest
+two_plain : (rest : List (String Global)) (sheet name : List ℕ) → bytes_of rest ≡ sheet ∷ name ∷ [] → ¬ IsOption sheet
+    → ¬ IsOption name → All (λ w. ¬ IsOption (string_bytes w)) rest
 two_plain [] sheet name is plain named k d within = absurd (omega (arith, within))
 two_plain (a ∷ []) sheet name is plain named k d within = absurd (omega (arith, ap length is))
 two_plain (a ∷ b ∷ []) sheet name is plain named zero d within = λ option. let same : string_bytes a ≡ sheet = cc is in plain (rw same at option)
@@ -36,22 +38,32 @@ one_plain (a ∷ b ∷ xs) sheet is plain k d within = absurd (omega (arith, ap 
 pub not_one : (rest : List (String Global)) → ¬ All (λ w. ¬ IsOption (string_bytes w)) rest → (word : List ℕ) → ¬ IsOnePosition (bytes_of rest) word
 not_one rest none word is = none (one_plain rest word is.words_are is.first_plain)
 
-pub not_two : (rest : List (String Global)) → ¬ All (λ w. ¬ IsOption (string_bytes w)) rest → (first second : List ℕ) → ¬ AreTwoPositions (bytes_of rest) first second
+pub not_two : (rest : List (String Global)) → ¬ All (λ w. ¬ IsOption (string_bytes w)) rest → (first second : List ℕ)
+    → ¬ AreTwoPositions (bytes_of rest) first second
 not_two rest none first second are = none (two_plain rest first second are.words_are are.first_plain are.second_plain)
 
 first_plain : (words : List (List ℕ)) (first : List ℕ) (rest : List (List ℕ)) → words ≡ first ∷ rest → All (λ w. ¬ IsOption w) words → ¬ IsOption first
 first_plain words first rest is plain = (rw is at plain) 0 [] (omega arith)
 
-second_plain : (words : List (List ℕ)) (first second : List ℕ) (rest : List (List ℕ)) → words ≡ first ∷ second ∷ rest → All (λ w. ¬ IsOption w) words → ¬ IsOption second
+second_plain : (words : List (List ℕ)) (first second : List ℕ) (rest : List (List ℕ)) → words ≡ first ∷ second ∷ rest
+    → All (λ w. ¬ IsOption w) words → ¬ IsOption second
 second_plain words first second rest is plain = (rw is at plain) 1 [] (omega arith)
 
 -- what is read of words without options
-pub one_found : {V E : Type 0} (now : V → List ℕ) (words : List (List ℕ)) (result : Result (Option V) E) → All (λ w. ¬ IsOption w) words → IfOk result (λ found. MatchOption found (length words ≢ 1) (λ v. words ≡ now v ∷ [])) → IfOk result (λ found. MatchOption found ((word : List ℕ) → ¬ IsOnePosition words word) (λ v. IsOnePosition words (now v)))
+pub one_found : {V E : Type 0} (now : V → List ℕ) (words : List (List ℕ)) (result : Result (Option V) E)
+    → All (λ w. ¬ IsOption w) words → IfOk result (λ found. MatchOption found (length words ≢ 1) (λ v. words ≡ now v
+    ∷ []))
+    → IfOk result (λ found. MatchOption found ((word : List ℕ) → ¬ IsOnePosition words word)
+    (λ v. IsOnePosition words (now v)))
 one_found now words (Ok (Some v)) plain is = record { words_are = is; first_plain = first_plain words (now v) [] is plain }
 one_found now words (Ok None) plain fails = λ word is. fails (ap length is.words_are)
 one_found now words (Err e) plain is = tt
 
-pub two_found : {V E : Type 0} (first second : V → List ℕ) (words : List (List ℕ)) (result : Result (Option V) E) → All (λ w. ¬ IsOption w) words → IfOk result (λ found. MatchOption found (length words ≢ 2) (λ v. words ≡ first v ∷ second v ∷ [])) → IfOk result (λ found. MatchOption found ((a b : List ℕ) → ¬ AreTwoPositions words a b) (λ v. AreTwoPositions words (first v) (second v)))
+pub two_found : {V E : Type 0} (first second : V → List ℕ) (words : List (List ℕ)) (result : Result (Option V) E)
+    → All (λ w. ¬ IsOption w) words → IfOk result (λ found. MatchOption found (length words ≢ 2) (λ v. words ≡ first v
+    ∷ second v ∷ []))
+    → IfOk result (λ found. MatchOption found ((a b : List ℕ) → ¬ AreTwoPositions words a b)
+    (λ v. AreTwoPositions words (first v) (second v)))
 two_found first second words (Ok (Some v)) plain is = record {
   words_are = is;
   first_plain = first_plain words (first v) (second v ∷ []) is plain;
@@ -61,8 +73,16 @@ two_found first second words (Ok None) plain fails = λ a b are. fails (ap lengt
 two_found first second words (Err e) plain is = tt
 
 -- three positions are one and two others
-pub three_of : (word : List ℕ) (words : List (List ℕ)) (first second third : List ℕ) → AreThreePositions (word ∷ words) first second third → (word ≡ first) × AreTwoPositions words second third
-three_of word words first second third are = (cc are.words_are, record { words_are = cc are.words_are; first_plain = are.second_plain; second_plain = are.third_plain })
+pub three_of : (word : List ℕ) (words : List (List ℕ)) (first second third : List ℕ)
+    → AreThreePositions (word ∷ words) first second third → (word ≡ first) × AreTwoPositions words second third
+three_of word words first second third are = (
+  cc are.words_are,
+  record {
+    words_are = cc are.words_are;
+    first_plain = are.second_plain;
+    second_plain = are.third_plain;
+  },
+)
 
 -- ---- a word spells one command at most
 
@@ -122,7 +142,8 @@ is_for path_word rest request asked = sym (ap command_for asked.request_is)
 is_for fill_word rest request asked = sym (ap command_for asked.request_is)
 is_for gen_word rest request asked = sym (ap command_for asked.request_is)
 
-pub asked_for : (words : List (List ℕ)) (request : Request) → Asks words request → (rest : List (List ℕ)) × (words ≡ spelled (command_for request) ∷ rest) × AsksBehind (command_for request) rest request
+pub asked_for : (words : List (List ℕ)) (request : Request) → Asks words request → (rest : List (List ℕ))
+    × (words ≡ spelled (command_for request) ∷ rest) × AsksBehind (command_for request) rest request
 asked_for words request asked =
     let same = is_for asked.command asked.rest request asked.behind in
     (asked.rest, subst (λ c. words ≡ spelled c ∷ asked.rest) same asked.words_are, subst (λ c. AsksBehind c asked.rest request) same asked.behind)
@@ -139,7 +160,8 @@ unspelled word window check play live undo path fill gen path_word = path
 unspelled word window check play live undo path fill gen fill_word = fill
 unspelled word window check play live undo path fill gen gen_word = gen
 
-pub no_other : (word : List ℕ) (rest : List (List ℕ)) → IsNoWindowWord word → word ≢ codes "check" → word ≢ codes "play" → word ≢ codes "live" → word ≢ codes "undo"
+pub no_other : (word : List ℕ) (rest : List (List ℕ)) → IsNoWindowWord word → word ≢ codes "check" → word ≢ codes "play"
+    → word ≢ codes "live" → word ≢ codes "undo"
     → word ≢ codes "path" → word ≢ codes "fill" → word ≢ codes "gen" → AsksNothing (word ∷ rest)
 no_other word rest window check play live undo path fill gen request asked =
     let same : word ≡ spelled asked.command = cc asked.words_are in
@@ -169,14 +191,16 @@ one_behind live_word rest a b one other =
     let scripts : one.script ≡ other.script = cc two in
     one.request_is ∙ ((λ i. of_script (Live (same.1 i)) (sheets i) (scripts i)) ∙ sym other.request_is)
 one_behind undo_word rest a b one other =
-    let three : one.sheet ∷ one.script ∷ one.digits ∷ [] ≡ other.sheet ∷ other.script ∷ other.digits ∷ [] = sym one.positions.words_are ∙ other.positions.words_are in
+    let three : one.sheet ∷ one.script ∷ one.digits ∷ [] ≡ other.sheet ∷ other.script ∷ other.digits
+    ∷ [] = sym one.positions.words_are ∙ other.positions.words_are in
     let sheets : one.sheet ≡ other.sheet = cc three in
     let scripts : one.script ≡ other.script = cc three in
     let digits : one.digits ≡ other.digits = cc three in
     let numbers : one.number ≡ other.number = one.numbered.number_is.value ∙ ap decimal_number digits ∙ sym other.numbered.number_is.value in
     one.request_is ∙ ((λ i. of_script (Undo (numbers i)) (sheets i) (scripts i)) ∙ sym other.request_is)
 one_behind path_word rest a b one other =
-    let three : one.sheet ∷ one.first ∷ one.second ∷ [] ≡ other.sheet ∷ other.first ∷ other.second ∷ [] = sym one.positions.words_are ∙ other.positions.words_are in
+    let three : one.sheet ∷ one.first ∷ one.second ∷ [] ≡ other.sheet ∷ other.first ∷ other.second
+    ∷ [] = sym one.positions.words_are ∙ other.positions.words_are in
     let sheets : one.sheet ≡ other.sheet = cc three in
     let firsts : one.first ≡ other.first = cc three in
     let seconds : one.second ≡ other.second = cc three in
@@ -184,7 +208,8 @@ one_behind path_word rest a b one other =
     let tos = one_cell other.second one.to other.to (subst (λ n. IsCellName n one.to) seconds one.second_named) other.second_named in
     one.request_is ∙ ((λ i. of_path (sheets i) (froms i) (tos i)) ∙ sym other.request_is)
 one_behind fill_word rest a b one other =
-    let three : one.sheet ∷ one.first ∷ one.second ∷ [] ≡ other.sheet ∷ other.first ∷ other.second ∷ [] = sym one.positions.words_are ∙ other.positions.words_are in
+    let three : one.sheet ∷ one.first ∷ one.second ∷ [] ≡ other.sheet ∷ other.first ∷ other.second
+    ∷ [] = sym one.positions.words_are ∙ other.positions.words_are in
     let sheets : one.sheet ≡ other.sheet = cc three in
     let firsts : one.first ≡ other.first = cc three in
     let seconds : one.second ≡ other.second = cc three in

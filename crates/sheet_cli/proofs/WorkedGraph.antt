@@ -1,5 +1,6 @@
 -- The pairs of the worked sheet, the edges that stand for them, and what depends on A1.
-use Rattle.std.proofs.Common.{◌≡◌, ◌≢◌, ℕ, zero, suc, ◌<◌, ◌≤◌, Bool, true, false, inl, All, Contains, List, [], ◌∷◌, length, codes, refl, sym, ap, subst, arith, if◌then◌else◌, slice_index_or}
+use Rattle.std.proofs.Common.{◌≡◌, ◌≢◌, ℕ, zero, suc, ◌<◌, ◌≤◌, Bool, true, false, inl, All, Contains, List, [], ◌∷◌}
+use Rattle.std.proofs.Common.{length, codes, refl, sym, ap, subst, arith, if◌then◌else◌, slice_index_or}
 use Rattle.std.specs.Fmt.{digits}
 use Rattle.sheet_refs.specs.Cells.{Corners, IsIn, Position}
 use Rattle.sheet_refs.specs.Rectangles.{AreMaximalRuns, IsAmong, IsBefore, IsVertical}
@@ -45,11 +46,14 @@ pair_listed pair (suc (suc (suc k)), within, is) = absurd (omega (arith, within)
 -- a cell past the rectangle refers to nothing
 none_past : (cell : Position) (range : Corners) → is_inside worked_sheet.sizes cell ≡ false → Contains (ranges_in (content_of worked_sheet cell)) range → ⊥
 none_past cell range past there =
-    let empty = ap (λ (t : Bool). if t then slice_index_or worked_sheet.contents (place_of worked_sheet.sizes cell) (Constant Empty) else Constant Empty) past in
+    let empty = ap (λ (t : Bool). if t then slice_index_or worked_sheet.contents (place_of worked_sheet.sizes cell)
+    (Constant Empty) else Constant Empty) past in
     let nowhere = subst (λ content. Contains (ranges_in content) range) empty there in
     omega (arith, nowhere.1)
 
-listed_within : (range : Corners) (row col : ℕ) → 1 ≤ row → row ≤ 2 → 1 ≤ col → col ≤ 2 → Contains (ranges_in (content_of worked_sheet (at row col))) range → Contains worked_pairs (record { range = range; cell = at row col })
+listed_within : (range : Corners) (row col : ℕ) → 1 ≤ row → row ≤ 2 → 1 ≤ col → col ≤ 2
+    → Contains (ranges_in (content_of worked_sheet (at row col))) range
+    → Contains worked_pairs (record { range = range; cell = at row col })
 listed_within range zero col a b c d there = absurd (omega (arith, a))
 listed_within range (suc row) zero a b c d there = absurd (omega (arith, c))
 listed_within range (suc row) (suc (suc (suc col))) a b c d there = absurd (omega (arith, d))
@@ -79,7 +83,8 @@ worked_edges =
     record { dep = from_to (at 1 2) (at 2 2); prec = from_to (at 1 1) (at 2 1); pattern = Rr }
     ∷ record { dep = one_cell (at 2 2); prec = one_cell (at 1 2); pattern = Single } ∷ []
 
-small_range : (top left bottom right : ℕ) → 1 ≤ top → top ≤ bottom → bottom ≤ 9 → 1 ≤ left → left ≤ right → right ≤ 9 → IsRange (from_to (at top left) (at bottom right))
+small_range : (top left bottom right : ℕ) → 1 ≤ top → top ≤ bottom → bottom ≤ 9 → 1 ≤ left → left ≤ right → right ≤ 9
+    → IsRange (from_to (at top left) (at bottom right))
 small_range top left bottom right a b c d e f = record {
   head = record { row_from = a; row_to = omega (arith, b, c); col_from = d; col_to = omega (arith, e, f) };
   tail = record { row_from = omega (arith, a, b); row_to = omega (arith, c); col_from = omega (arith, d, e); col_to = omega (arith, f) };
@@ -122,7 +127,8 @@ stand_for = record { are_edges = are_edges; same = λ pair. (λ there. there, λ
 none_joins : NoneJoins worked_edges
 none_joins zero (suc zero) d less within (joined, join) =
     no_shared (from_to (at 1 2) (at 2 2)) (one_cell (at 2 2)) (at 2 2) join.neighbours
-    (record { row_from = omega arith; row_to = omega arith; col_from = omega arith; col_to = omega arith }) (record { row_from = omega arith; row_to = omega arith; col_from = omega arith; col_to = omega arith })
+    (record { row_from = omega arith; row_to = omega arith; col_from = omega arith; col_to = omega arith })
+    (record { row_from = omega arith; row_to = omega arith; col_from = omega arith; col_to = omega arith })
 none_joins i zero d less within able = omega (arith, less)
 none_joins (suc i) (suc zero) d less within able = omega (arith, less)
 none_joins i (suc (suc j)) d less within able = omega (arith, within)
@@ -139,7 +145,15 @@ unfolding digits
 printed = refl
 
 pub lists_worked : ListsEdges worked_sheet worked_check
-lists_worked = record { pairs = worked_pairs; of_sheet = of_worked; edges = worked_edges; stand = stand_for; joined = none_joins; order = in_order; text_is = printed }
+lists_worked = record {
+  pairs = worked_pairs;
+  of_sheet = of_worked;
+  edges = worked_edges;
+  stand = stand_for;
+  joined = none_joins;
+  order = in_order;
+  text_is = printed;
+}
 
 pub three_listed : length (pairs_of lists_worked.edges) ≡ 3
 unfolding lists_worked
@@ -195,10 +209,13 @@ reach_b (suc (suc (suc row))) a b = absurd (omega (arith, b))
 reached : (cell : Position) (range : Corners) → Contains worked_runs range → IsIn cell range → Reach worked_pairs (one_cell (at 1 1)) cell
 reached cell range (zero, within, is) inside =
     let here : IsIn cell (one_cell (at 1 1)) = subst (IsIn cell) (sym is) inside in
-    subst (Reach worked_pairs (one_cell (at 1 1))) (same_at cell 1 1 (omega (arith, here.row_from, here.row_to)) (omega (arith, here.col_from, here.col_to))) reach_a1
+    subst (Reach worked_pairs (one_cell (at 1 1))) (same_at cell 1 1 (omega (arith, here.row_from, here.row_to))
+    (omega (arith, here.col_from, here.col_to))) reach_a1
 reached cell range (suc zero, within, is) inside =
     let here : IsIn cell (from_to (at 1 2) (at 2 2)) = subst (IsIn cell) (sym is) inside in
-    subst (Reach worked_pairs (one_cell (at 1 1))) (same_at cell cell.row 2 refl (omega (arith, here.col_from, here.col_to))) (reach_b cell.row here.row_from here.row_to)
+    subst (Reach worked_pairs (one_cell (at 1 1)))
+    (same_at cell cell.row 2 refl (omega (arith, here.col_from, here.col_to)))
+    (reach_b cell.row here.row_from here.row_to)
 reached cell range (suc (suc k), within, is) inside = absurd (omega (arith, within))
 
 -- A1 itself is among the runs

@@ -1,5 +1,6 @@
 -- What is played of the worked script over the worked sheet.
-use Rattle.std.proofs.Common.{◌≡◌, ℕ, zero, suc, ◌<◌, ◌≤◌, ◌⊎◌, inl, inr, Bool, true, false, Contains, List, [], ◌∷◌, codes, refl, sym, ◌∙◌, subst, ap, arith, IsTrue, IsFalse}
+use Rattle.std.proofs.Common.{◌≡◌, ℕ, zero, suc, ◌<◌, ◌≤◌, ◌⊎◌, inl, inr, Bool, true, false, Contains, List, [], ◌∷◌}
+use Rattle.std.proofs.Common.{codes, refl, sym, ◌∙◌, subst, ap, arith, IsTrue, IsFalse}
 use Rattle.std.specs.Prelude.{if◌then◌else◌, slice_index_or}
 use Rattle.std.specs.Fmt.{digits}
 use Rattle.sheet_refs.specs.Cells.{Corners, IsIn, Position}
@@ -18,7 +19,8 @@ use Rattle.edit_log.specs.Pairs.{ranges_in}
 use Rattle.edit_log.specs.Touches.{DependsDirectly, Touches}
 use Rattle.edit_log.proofs.TouchLemmas.{sole_change}
 use Rattle.edit_script.specs.declared.script.Command.TheVariants as asks
-use Rattle.play_machine.specs.Machine.{ArePlayed, AreTurns, IsReady, IsTurn, Machine, MarksTouched, is_marked, machine_after, mark_of, opening, report_of, with_marks}
+use Rattle.play_machine.specs.Machine.{ArePlayed, AreTurns, IsReady, IsTurn, Machine, MarksTouched, is_marked}
+use Rattle.play_machine.specs.Machine.{machine_after, mark_of, opening, report_of, with_marks}
 use Rattle.play_machine.specs.Machine.AreTurns.{none as no_turns, more as turn_more}
 use Rattle.play_machine.specs.Machine.FollowsCommand.{puts, looks, works}
 use Rattle.play_machine.specs.Machine.IsTurn.{clears_ready}
@@ -84,7 +86,11 @@ numbers cell among = by among.listed
     by (suc (suc k), within, is) = absurd (omega (arith, within))
 
 among_b : (row : ℕ) → 1 ≤ row → row ≤ 2 → IsAmong worked_runs (at row 2)
-among_b row a b = record { range = from_to (at 1 2) (at 2 2); listed = (1, omega arith, refl); inside = record { row_from = a; row_to = b; col_from = omega arith; col_to = omega arith } }
+among_b row a b = record {
+  range = from_to (at 1 2) (at 2 2);
+  listed = (1, omega arith, refl);
+  inside = record { row_from = a; row_to = b; col_from = omega arith; col_to = omega arith };
+}
 
 -- ---- the marks
 
@@ -149,18 +155,31 @@ edited_sheet = after_edit worked_sheet worked_edit
 
 -- no other cell is an input of A1, and A1 alone is one of B1
 ready_first : IsReady edited_sheet three_marks (at 1 1)
-ready_first = record { marked = refl; inputs = λ input step. nothing input step.pair.range (subst (λ cell. Contains (ranges_in (content_of edited_sheet cell)) step.pair.range) step.cell_is step.of_sheet) }
+ready_first =
+    record {
+      marked = refl;
+      inputs = λ input step. nothing input step.pair.range
+          (subst (λ cell. Contains (ranges_in (content_of edited_sheet cell)) step.pair.range) step.cell_is step.of_sheet);
+    }
   where
     nothing : (input : Position) (range : Corners) → Contains [] range → IsFalse (is_marked edited_sheet.sizes three_marks input)
     nothing input range there = absurd (omega (arith, there.1))
 
 ready_second : IsReady edited_sheet two_marks (at 1 2)
-ready_second = record { marked = refl; inputs = λ input step. by input step.pair.range step.inside (subst (λ cell. Contains (ranges_in (content_of edited_sheet cell)) step.pair.range) step.cell_is step.of_sheet) }
+ready_second =
+    record {
+      marked = refl;
+      inputs = λ input step. by input step.pair.range step.inside
+          (subst (λ cell. Contains (ranges_in (content_of edited_sheet cell)) step.pair.range) step.cell_is step.of_sheet);
+    }
   where
-    by : (input : Position) (range : Corners) → IsIn input range → Contains (one_cell (at 1 1) ∷ []) range → IsFalse (is_marked edited_sheet.sizes two_marks input)
+    by : (input : Position) (range : Corners) → IsIn input range → Contains (one_cell (at 1 1) ∷ []) range
+        → IsFalse (is_marked edited_sheet.sizes two_marks input)
     by input range inside (zero, within, is) =
         let here : IsIn input (one_cell (at 1 1)) = subst (IsIn input) (sym is) inside in
-        subst (λ cell. IsFalse (is_marked edited_sheet.sizes two_marks cell)) (same_at input 1 1 (omega (arith, here.row_from, here.row_to)) (omega (arith, here.col_from, here.col_to))) refl
+        subst (λ cell. IsFalse (is_marked edited_sheet.sizes two_marks cell))
+        (same_at input 1 1 (omega (arith, here.row_from, here.row_to)) (omega (arith, here.col_from, here.col_to)))
+        refl
     by input range inside (suc k, within, is) = absurd (omega (arith, within))
 
 first_turn : IsTurn edited_sheet three_marks two_marks
@@ -175,10 +194,14 @@ second_turn = clears_ready (at 1 2) (record { inside = refl; such = ready_second
     before : (other : Position) → IsTrue (is_inside edited_sheet.sizes other) → place_of edited_sheet.sizes other < 1 → ¬ IsReady edited_sheet two_marks other
     before other inside less ready =
         let bounds = inside_bounds edited_sheet.sizes other inside in
-        unmarked (subst (λ cell. is_marked edited_sheet.sizes two_marks cell ≡ true) (sym (same_at other 1 1 (omega (arith, bounds.row_from, bounds.col_from, less)) (omega (arith, bounds.row_from, bounds.col_from, less)))) ready.marked)
+        unmarked (subst (λ cell. is_marked edited_sheet.sizes two_marks cell ≡ true)
+        (sym (same_at other 1 1 (omega (arith, bounds.row_from, bounds.col_from, less))
+        (omega (arith, bounds.row_from, bounds.col_from, less)))) ready.marked)
 
 two_turns : AreTurns edited_sheet 2 three_marks one_mark
-two_turns = turn_more 1 2 three_marks two_marks one_mark (turn_more 0 1 three_marks three_marks two_marks (no_turns three_marks) first_turn refl) second_turn refl
+two_turns =
+    turn_more 1 2 three_marks two_marks one_mark (turn_more 0 1 three_marks three_marks two_marks (no_turns three_marks)
+    first_turn refl) second_turn refl
 
 -- ---- the reports
 
@@ -194,7 +217,8 @@ worked_reports = report_of edited false whole_window ∷ report_of worked false 
 pub are_played : ArePlayed worked_sheet worked_steps worked_reports
 are_played = (
   worked,
-  play_more _ worked_steps (record { client = 0; command = asks.Look whole_window }) worked worked (report_of edited false whole_window ∷ []) (report_of worked false whole_window ∷ []) worked_reports
+  play_more _ worked_steps (record { client = 0; command = asks.Look whole_window }) worked worked
+      (report_of edited false whole_window ∷ []) (report_of worked false whole_window ∷ []) worked_reports
       (play_more _ _ (record { client = 0; command = asks.Work 2 }) edited worked (report_of edited false whole_window ∷ []) [] _
       (play_more _ _ (record { client = 0; command = asks.Look whole_window }) edited edited [] (report_of edited false whole_window ∷ []) _
       (play_more [] _ (record { client = 0; command = asks.Put worked_edit }) (opening worked_sheet) edited [] [] _ nothing_played

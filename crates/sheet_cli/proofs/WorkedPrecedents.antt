@@ -65,10 +65,14 @@ back_b (suc (suc (suc row))) a b = absurd (omega (arith, b))
 led_back : (cell : Position) (range : Corners) → Contains runs_before range → IsIn cell range → Back worked_pairs (one_cell (at 2 2)) cell
 led_back cell range (zero, within, is) inside =
     let here : IsIn cell (from_to (at 1 1) (at 2 1)) = subst (IsIn cell) (sym is) inside in
-    subst (Back worked_pairs (one_cell (at 2 2))) (same_at cell cell.row 1 refl (omega (arith, here.col_from, here.col_to))) (back_a cell.row here.row_from here.row_to)
+    subst (Back worked_pairs (one_cell (at 2 2)))
+    (same_at cell cell.row 1 refl (omega (arith, here.col_from, here.col_to)))
+    (back_a cell.row here.row_from here.row_to)
 led_back cell range (suc zero, within, is) inside =
     let here : IsIn cell (from_to (at 1 2) (at 2 2)) = subst (IsIn cell) (sym is) inside in
-    subst (Back worked_pairs (one_cell (at 2 2))) (same_at cell cell.row 2 refl (omega (arith, here.col_from, here.col_to))) (back_b cell.row here.row_from here.row_to)
+    subst (Back worked_pairs (one_cell (at 2 2)))
+    (same_at cell cell.row 2 refl (omega (arith, here.col_from, here.col_to)))
+    (back_b cell.row here.row_from here.row_to)
 led_back cell range (suc (suc k), within, is) inside = absurd (omega (arith, within))
 
 holds_back : HoldsBack worked_pairs (one_cell (at 2 2)) runs_before

@@ -1,5 +1,6 @@
 -- What the texts of worked scripts say, and what they give over the worked sheet.
-use Rattle.std.proofs.Common.{◌≡◌, ℕ, zero, suc, pos, ◌<◌, ◌≤◌, None, inl, inr, true, false, All, List, [], ◌∷◌, codes, refl, ap, arith, slice_index_or, subst, sym}
+use Rattle.std.proofs.Common.{◌≡◌, ℕ, zero, suc, pos, ◌<◌, ◌≤◌, None, inl, inr, true, false, All, List, [], ◌∷◌, codes}
+use Rattle.std.proofs.Common.{refl, ap, arith, slice_index_or, subst, sym}
 use Rattle.std.specs.Prelude.{MatchOption}
 use Rattle.bstr.specs.Text.{line_len, lines_from}
 use Rattle.sheet_refs.specs.Cells.{Corners}
@@ -18,11 +19,15 @@ use Rattle.sheet_model.specs.Edits.{EditValue}
 use Rattle.edit_script.specs.Lines.{LineValue, Says, Set, Look, Work, script_lines}
 use Rattle.edit_script.specs.Lines.IsLineOf.{order}
 use Rattle.edit_script.specs.Lines.IsOrder.{set, look, work}
-use Rattle.edit_script.specs.Scripts.{AreLines, AreSteps, HasCause, IsAllowed, IsFirstFault, IsLargeWindow, IsMisplaced, IsMisplacedAlone, IsMisplacedIn, IsPartOutside, IsScript, ScriptValue, brought_by, ground_of, place_in_order}
+use Rattle.edit_script.specs.Scripts.{AreLines, AreSteps, HasCause, IsAllowed, IsFirstFault, IsLargeWindow, IsMisplaced}
+use Rattle.edit_script.specs.Scripts.{IsMisplacedAlone, IsMisplacedIn, IsPartOutside, IsScript, ScriptValue, brought_by}
+use Rattle.edit_script.specs.Scripts.{ground_of, place_in_order}
 use Rattle.edit_script.specs.Scripts.AreLines.{none as no_line, more as line_more}
 use Rattle.edit_script.specs.Scripts.AreSteps.{none as no_step, more as step_more}
 use Rattle.edit_script.specs.declared.refused.ScriptRefused.{ScriptRefused}
-use Rattle.edit_script.specs.declared.refused.ScriptRefused.TheVariants.{BadLine, OutOfSheet, CellTwice, BatchTooLarge, TooManyClients, WindowTooLarge, TooManyEdits, FormulaTooDeep, TooManyRefs, Memory}
+use Rattle.edit_script.specs.declared.refused.ScriptRefused.TheVariants.{BadLine, OutOfSheet, CellTwice, BatchTooLarge}
+use Rattle.edit_script.specs.declared.refused.ScriptRefused.TheVariants.{TooManyClients, WindowTooLarge, TooManyEdits}
+use Rattle.edit_script.specs.declared.refused.ScriptRefused.TheVariants.{FormulaTooDeep, TooManyRefs, Memory}
 use Rattle.edit_script.proofs.OneScript.{none_begun}
 use Rattle.edit_script.specs.declared.script.Mode.TheVariants.{Play}
 use Rattle.edit_script.specs.declared.script.Command.TheVariants as asks
@@ -67,20 +72,36 @@ unfolding lib.Utf8.encode
 says_set = (
   order (codes "set A1 5") (codes "set") (codes "A1 5") sets_five refl
       (set (codes "set") (codes "A1 5") (codes "5") (at 1 1) refl
-      (record { name = codes "A1"; text_is = refl; names = in_a 49 1 (omega arith) (omega arith) refl; utf8 = (codes "5", (refl, refl)); short = omega arith })),
+      (record {
+        name = codes "A1";
+        text_is = refl;
+        names = in_a 49 1 (omega arith) (omega arith) refl;
+        utf8 = (codes "5", (refl, refl));
+        short = omega arith;
+      })),
   tt,
 )
 
 named_window : IsRangeName (codes "A1:B2") whole_window
-named_window = two (codes "A1:B2") (codes "A1") (codes "B2") (at 1 1) (at 2 2) refl (in_a 49 1 (omega arith) (omega arith) refl) (in_b 50 2 (omega arith) (omega arith) refl)
+named_window =
+    two (codes "A1:B2") (codes "A1") (codes "B2") (at 1 1) (at 2 2) refl (in_a 49 1 (omega arith) (omega arith) refl)
+    (in_b 50 2 (omega arith) (omega arith) refl)
 
 says_look : Says Play (codes "look A1:B2") looks_whole
-says_look = (order (codes "look A1:B2") (codes "look") (codes "A1:B2") looks_whole refl (look (codes "look") (codes "A1:B2") whole_window refl named_window), tt)
+says_look = (
+  order (codes "look A1:B2") (codes "look") (codes "A1:B2") looks_whole refl
+      (look (codes "look") (codes "A1:B2") whole_window refl named_window),
+  tt,
+)
 
 says_work : Says Play (codes "work 2") (Work 2)
 says_work = (
   order (codes "work 2") (codes "work") (codes "2") (Work 2) refl
-      (work (codes "work") (codes "2") 2 refl (record { short = omega arith; number = digit_number 50 1048576 2 (omega arith) (omega arith) refl (omega arith); some = omega arith })),
+      (work (codes "work") (codes "2") 2 refl (record {
+        short = omega arith;
+        number = digit_number 50 1048576 2 (omega arith) (omega arith) refl (omega arith);
+        some = omega arith;
+      })),
   refl,
 )
 
@@ -116,7 +137,8 @@ not_large lines few (inr all) = omega (arith, few, all)
 placed : (lines : List LineValue) (line : LineValue) → (brought_by lines).batch ≡ None → ¬ IsMisplacedAlone line → ¬ IsMisplaced (brought_by lines) line
 placed lines line closed fine misplaced = fine (subst (λ b. MatchOption b (IsMisplacedAlone line) (λ cells. IsMisplacedIn cells line)) closed misplaced)
 
-look_allowed : (lines : List LineValue) → (brought_by lines).cells ≤ 4 → (brought_by lines).batch ≡ None → IsAllowed (ground_of worked_sheet) (brought_by lines) looks_whole
+look_allowed : (lines : List LineValue) → (brought_by lines).cells ≤ 4 → (brought_by lines).batch ≡ None
+    → IsAllowed (ground_of worked_sheet) (brought_by lines) looks_whole
 look_allowed lines few closed (BadLine number) = placed lines looks_whole closed (λ never. never)
 look_allowed lines few closed (OutOfSheet number) = not_outside
 look_allowed lines few closed (CellTwice number) = λ never. never
@@ -199,8 +221,19 @@ name_z99 = record {
   letters = codes "Z";
   digits = codes "99";
   text_is = refl;
-  column = record { some = omega arith; few = omega arith; letters = one_element IsLetter 90 (inl (omega arith, omega arith)); value = refl; within = omega arith };
-  row = record { few = omega arith; first = λ (zero_digit : 57 ≡ 48). omega (arith, zero_digit); number = record { some = omega arith; digits = digits; value = refl; within = omega arith } };
+  column =
+      record {
+        some = omega arith;
+        few = omega arith;
+        letters = one_element IsLetter 90 (inl (omega arith, omega arith));
+        value = refl;
+        within = omega arith;
+      };
+  row = record {
+    few = omega arith;
+    first = λ (zero_digit : 57 ≡ 48). omega (arith, zero_digit);
+    number = record { some = omega arith; digits = digits; value = refl; within = omega arith };
+  };
 }
   where
     digits : All IsDigit (codes "99")

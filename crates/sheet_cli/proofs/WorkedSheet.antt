@@ -1,5 +1,6 @@
 -- The worked sheet: what its text's fields write, and that they make a sheet.
-use Rattle.std.proofs.Common.{◌≡◌, ℕ, zero, suc, ◌-◌, ◌<◌, ◌≤◌, pos, false, true, inl, inr, All, List, [], ◌∷◌, ◌++◌, length, take, codes, refl, sym, ◌∙◌, subst, arith, ◌≢◌, ℤ}
+use Rattle.std.proofs.Common.{◌≡◌, ℕ, zero, suc, ◌-◌, ◌<◌, ◌≤◌, pos, false, true, inl, inr, All, List, [], ◌∷◌, ◌++◌}
+use Rattle.std.proofs.Common.{length, take, codes, refl, sym, ◌∙◌, subst, arith, ◌≢◌, ℤ}
 use Rattle.std.specs.Prelude.{◌==◌, Option, IfSome, Ok}
 use Rattle.std.proofs.lemmas.Int.{ints}
 use Rattle.std.proofs.lemmas.List.{append-nil, length-take}
@@ -79,13 +80,25 @@ pub field_of_two : IsNumberField (codes "2") (pos 2)
 field_of_two = unsigned (codes "2") 2 (digit_number 50 9007199254740991 2 (omega arith) (omega arith) refl (omega arith))
 
 -- a letter and a digit name a cell
-cell_name : (letter digit row col : ℕ) → 65 ≤ letter → letter ≤ 90 → 49 ≤ digit → digit ≤ 57 → col ≡ letter - 64 → row ≡ digit - 48 → column_number (letter ∷ []) ≡ letter - 64 → IsCellName (letter ∷ digit ∷ []) (record { row = row; col = col })
+cell_name : (letter digit row col : ℕ) → 65 ≤ letter → letter ≤ 90 → 49 ≤ digit → digit ≤ 57 → col ≡ letter - 64
+    → row ≡ digit - 48 → column_number (letter ∷ []) ≡ letter - 64
+    → IsCellName (letter ∷ digit ∷ []) (record { row = row; col = col })
 cell_name letter digit row col a b c d is re value = record {
   letters = letter ∷ [];
   digits = digit ∷ [];
   text_is = refl;
-  column = record { some = omega arith; few = omega arith; letters = one_element IsLetter letter (inl (a, b)); value = is ∙ sym value; within = omega (arith, is, b) };
-  row = record { few = omega arith; first = λ (zero_digit : digit ≡ 48). omega (arith, zero_digit, c); number = digit_number digit 1048576 row (omega (arith, c)) d re (omega (arith, re, d)) };
+  column = record {
+    some = omega arith;
+    few = omega arith;
+    letters = one_element IsLetter letter (inl (a, b));
+    value = is ∙ sym value;
+    within = omega (arith, is, b);
+  };
+  row = record {
+    few = omega arith;
+    first = λ (zero_digit : digit ≡ 48). omega (arith, zero_digit, c);
+    number = digit_number digit 1048576 row (omega (arith, c)) d re (omega (arith, re, d));
+  };
 }
 
 -- cells in the first two columns
@@ -97,7 +110,14 @@ in_b digit row c d is = cell_name 66 digit row 2 (omega arith) (omega arith) c d
 
 -- and as references
 end_name : (text : List ℕ) (row col : ℕ) → IsCellName text (record { row = row; col = col }) → IsReferenceName false text (one_end (end_at row col))
-end_name text row col name = alone false text (end_at row col) (record { letters = name.letters; digits = name.digits; text_is = name.text_is; column = name.column; row = name.row })
+end_name text row col name =
+    alone false text (end_at row col) (record {
+      letters = name.letters;
+      digits = name.digits;
+      text_is = name.text_is;
+      column = name.column;
+      row = name.row;
+    })
 
 abbrev IsNameAt : List ℕ → ℕ → ℕ → Type 0
 IsNameAt text row col = IsReferenceName false text (one_end (end_at row col))
@@ -122,13 +142,16 @@ not_deep text short deep =
 in_sum : (ts : List Token) (t : Tree) → Derives 5 ts t → Derives 2 ts t
 in_sum ts t is = tighter 2 ts t (omega arith) (tighter 3 ts t (omega arith) (tighter 4 ts t (omega arith) is))
 
-sum_of : (first second : Token) (left right : Tree) → Derives 5 (first ∷ []) left → Derives 5 (second ∷ []) right → Derives 0 (first ∷ token.Operator Add ∷ second ∷ []) (binary Add left right)
+sum_of : (first second : Token) (left right : Tree) → Derives 5 (first ∷ []) left → Derives 5 (second ∷ []) right
+    → Derives 0 (first ∷ token.Operator Add ∷ second ∷ []) (binary Add left right)
 sum_of first second left right is re =
     tighter 0 (first ∷ token.Operator Add ∷ second ∷ []) (binary Add left right) (omega arith)
-    (operator Add (first ∷ []) (second ∷ []) left right (tighter 1 (first ∷ []) left (omega arith) (in_sum (first ∷ []) left is)) (in_sum (second ∷ []) right re))
+    (operator Add (first ∷ []) (second ∷ []) left right (tighter 1 (first ∷ []) left (omega arith)
+    (in_sum (first ∷ []) left is)) (in_sum (second ∷ []) right re))
 
 -- the tokens of two words with a plus between them
-plus_tokens : (first second : List ℕ) (one two : Token) → IsWord first one → IsWord second two → HasTokens (first ++ (43 ∷ second)) (one ∷ token.Operator Add ∷ two ∷ [])
+plus_tokens : (first second : List ℕ) (one two : Token) → IsWord first one → IsWord second two
+    → HasTokens (first ++ (43 ∷ second)) (one ∷ token.Operator Add ∷ two ∷ [])
 plus_tokens first second one two is re =
     next (first ++ (43 ∷ second)) first (43 ∷ second) one (token.Operator Add ∷ two ∷ []) refl (a_word first (43 ∷ second) one is refl)
     (next (43 ∷ second) (43 ∷ []) second (token.Operator Add) (two ∷ []) refl (an_operator second Add tt)
@@ -141,8 +164,11 @@ first_sum = record {
     rest = codes "A1+1";
     introduced = plain (codes "=A1+1") (codes "A1+1") refl;
     tokens = token.Reference (one_end (end_at 1 1)) ∷ token.Operator Add ∷ token.Number (pos 1) ∷ [];
-    has_tokens = plus_tokens (codes "A1") (codes "1") (token.Reference (one_end (end_at 1 1))) (token.Number (pos 1)) (a_name (codes "A1") (one_end (end_at 1 1)) name_a1) (a_count (codes "1") 1 (digit_number 49 9007199254740991 1 (omega arith) (omega arith) refl (omega arith)));
-    derived = sum_of (token.Reference (one_end (end_at 1 1))) (token.Number (pos 1)) (cell_tree 1 1) (number (pos 1)) (a_reference (one_end (end_at 1 1))) (a_number (pos 1));
+    has_tokens = plus_tokens (codes "A1") (codes "1") (token.Reference (one_end (end_at 1 1))) (token.Number (pos 1))
+        (a_name (codes "A1") (one_end (end_at 1 1)) name_a1)
+        (a_count (codes "1") 1 (digit_number 49 9007199254740991 1 (omega arith) (omega arith) refl (omega arith)));
+    derived = sum_of (token.Reference (one_end (end_at 1 1))) (token.Number (pos 1)) (cell_tree 1 1) (number (pos 1))
+        (a_reference (one_end (end_at 1 1))) (a_number (pos 1));
   };
   within = refl;
   few = omega arith;
@@ -155,8 +181,11 @@ second_sum = record {
     rest = codes "A2+B1";
     introduced = plain (codes "=A2+B1") (codes "A2+B1") refl;
     tokens = token.Reference (one_end (end_at 2 1)) ∷ token.Operator Add ∷ token.Reference (one_end (end_at 1 2)) ∷ [];
-    has_tokens = plus_tokens (codes "A2") (codes "B1") (token.Reference (one_end (end_at 2 1))) (token.Reference (one_end (end_at 1 2))) (a_name (codes "A2") (one_end (end_at 2 1)) name_a2) (a_name (codes "B1") (one_end (end_at 1 2)) name_b1);
-    derived = sum_of (token.Reference (one_end (end_at 2 1))) (token.Reference (one_end (end_at 1 2))) (cell_tree 2 1) (cell_tree 1 2) (a_reference (one_end (end_at 2 1))) (a_reference (one_end (end_at 1 2)));
+    has_tokens = plus_tokens (codes "A2") (codes "B1") (token.Reference (one_end (end_at 2 1)))
+        (token.Reference (one_end (end_at 1 2))) (a_name (codes "A2") (one_end (end_at 2 1)) name_a2)
+        (a_name (codes "B1") (one_end (end_at 1 2)) name_b1);
+    derived = sum_of (token.Reference (one_end (end_at 2 1))) (token.Reference (one_end (end_at 1 2))) (cell_tree 2 1)
+        (cell_tree 1 2) (a_reference (one_end (end_at 2 1))) (a_reference (one_end (end_at 1 2)));
   };
   within = refl;
   few = omega arith;
@@ -182,7 +211,17 @@ no_labels =
 -- the records of the text
 pub the_rows : AreRecords default_config StartRecord worked_text worked_rows
 unfolding Reached next_record
-the_rows = (StartRecord, [], ((codes "1" ∷ codes "=A1+1" ∷ [], StartRecord, codes "2,=A2+B1\n"), refl, refl, ((codes "2" ∷ codes "=A2+B1" ∷ [], StartRecord, []), refl, refl, (refl, refl))), refl)
+the_rows = (
+  StartRecord,
+  [],
+  (
+    (codes "1" ∷ codes "=A1+1" ∷ [], StartRecord, codes "2,=A2+B1\n"),
+    refl,
+    refl,
+    ((codes "2" ∷ codes "=A2+B1" ∷ [], StartRecord, []), refl, refl, (refl, refl)),
+  ),
+  refl,
+)
 
 named_end : (row col : ℕ) → 1 ≤ row → row ≤ 9 → 1 ≤ col → col ≤ 9 → IsReference (end_at row col) (end_at row col) true
 named_end row col a b c d = record { head_named = named; tail_named = named; ordered = record { rows = omega arith; cols = omega arith }; one_end = λ _. refl }
@@ -250,7 +289,8 @@ not_large : ¬ IsTooLarge worked_rows
 not_large (inl cells) = omega (arith, cells)
 not_large (inr wide) = omega (arith, wide)
 
-in_cells : (row col : ℕ) → row < length worked_rows → col < longest worked_rows → IsContent One [] (field_at worked_rows row col) (content_of worked_sheet (cell_there row col))
+in_cells : (row col : ℕ) → row < length worked_rows → col < longest worked_rows
+    → IsContent One [] (field_at worked_rows row col) (content_of worked_sheet (cell_there row col))
 in_cells zero zero r c = field_of_one
 in_cells zero (suc zero) r c = first_sum
 in_cells zero (suc (suc col)) r c = absurd (omega (arith, c))

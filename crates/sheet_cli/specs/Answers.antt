@@ -31,7 +31,8 @@ use Rattle.dep_path.specs.Chains.{IsShortest}
 use Rattle.sheet_fill.specs.Filling.{HasNoOthers, HasTooMany}
 use Rattle.sheet_cli.specs.Filled.{CanFill, HasPlaces, filled_text}
 use Rattle.sheet_cli.specs.Graphs.{AreDependents, ArePrecedents, ListsEdges, ShowsPath, cells_text}
-use Rattle.sheet_cli.specs.Lines.{usage_line, outside_line, too_long_line, refused_line, long_script_line, script_line, no_edit_line, overtaken_line, nothing_line, many_line}
+use Rattle.sheet_cli.specs.Lines.{usage_line, outside_line, too_long_line, refused_line, long_script_line, script_line}
+use Rattle.sheet_cli.specs.Lines.{no_edit_line, overtaken_line, nothing_line, many_line}
 use Rattle.sheet_cli.specs.Requests.{Request, texts_named}
 use Rattle.sheet_cli.specs.Requests.Request.{of_window, of_check, of_script, of_path, of_fill, of_generated}
 use Rattle.sheet_cli.specs.Undone.{UndoesEdit, entries_of}
@@ -132,7 +133,8 @@ mode_of (Live workers) = as_run
 mode_of (Undo number) = as_played
 
 -- what the text under a name gives as a script over a sheet, and the sheet's labels after it
-pub record GivesScript (holds : Texts) (mode : Mode) (name : List ℕ) (sheet : SheetValue) (labels : List (List ℕ)) (result : Result ScriptValue ScriptRefused) : Type 0 where
+pub record GivesScript (holds : Texts) (mode : Mode) (name : List ℕ) (sheet : SheetValue) (labels : List (List ℕ))
+    (result : Result ScriptValue ScriptRefused) : Type 0 where
   pub text : List ℕ
   pub stands : IsTextOf holds name text
   pub gives : IsScriptResult mode (ground_of sheet) sheet.labels labels text result
@@ -164,7 +166,8 @@ pub record IsLived (sheet : SheetValue) (script : ScriptValue) (text : List ℕ)
   pub text_is : text ≡ live_text transcript
 
 -- what is answered of the script under a name over a sheet, or why there is none
-pub data OverScript (holds : Texts) (mode : Mode) (name : List ℕ) (Answers : SheetValue → ScriptValue → Answer → Type 0) (sheet : SheetValue) : Answer → Type 0 where
+pub data OverScript (holds : Texts) (mode : Mode) (name : List ℕ) (Answers : SheetValue → ScriptValue → Answer
+    → Type 0) (sheet : SheetValue) : Answer → Type 0 where
   over_script : (labels : List (List ℕ)) (script : ScriptValue) (answer : Answer)
       → GivesScript holds mode name sheet labels (Ok script) → Answers (with_labels sheet labels) script answer
       → OverScript holds mode name Answers sheet answer

@@ -9,7 +9,8 @@ use Rattle.window_text.specs.Changes.{batch_text}
 use Rattle.sheet_refs.specs.Cells.{Corners, Position}
 use Rattle.sheet_io.specs.Faults.{Rose}
 use Rattle.sheet_io.specs.Sink.{AppendsPrefix}
-use Rattle.sheet_cli.specs.Answers.{Answer, AreInSheet, GivesScript, GivesSheet, IsAccepted, IsDue, IsLived, IsSummed, Owes, TellsTexts, Texts, mode_of, status_of}
+use Rattle.sheet_cli.specs.Answers.{Answer, AreInSheet, GivesScript, GivesSheet, IsAccepted, IsDue, IsLived, IsSummed}
+use Rattle.sheet_cli.specs.Answers.{Owes, TellsTexts, Texts, mode_of, status_of}
 use Rattle.sheet_cli.specs.Answers.Answer.{output, refusal}
 use Rattle.sheet_cli.specs.Filled.{CanFill, HasPlaces, filled_text}
 use Rattle.sheet_cli.specs.Graphs.{ShowsPath}

@@ -1,9 +1,9 @@
-pub mod EndLemmas
-pub mod FillLemmas
+mod EndLemmas
+mod FillLemmas
 pub mod FillTextLemmas
-pub mod LineTexts
-pub mod OtherLemmas
-pub mod PairLemmas
-pub mod RunLemmas
-pub mod ScriptLemmas
-pub mod ShapeLemmas
+mod LineTexts
+mod OtherLemmas
+mod PairLemmas
+mod RunLemmas
+mod ScriptLemmas
+mod ShapeLemmas

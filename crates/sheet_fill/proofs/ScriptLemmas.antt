@@ -34,7 +34,8 @@ use Rattle.sheet_model.proofs.ContentLemmas.{one_content}
 use Rattle.edit_script.specs.Lines.{LineValue, Batch, Clear, End, Set, Says, script_lines}
 use Rattle.edit_script.specs.Lines.IsLineOf.{begins, ends, order}
 use Rattle.edit_script.specs.Lines.IsOrder.{clear}
-use Rattle.edit_script.specs.Scripts.{AddsCommand, AreLines, AreSteps, Brought, GoesOn, Ground, IsAllowed, IsScript, MakesChange, ScriptValue, brought_by, change_of}
+use Rattle.edit_script.specs.Scripts.{AddsCommand, AreLines, AreSteps, Brought, GoesOn, Ground, IsAllowed, IsScript}
+use Rattle.edit_script.specs.Scripts.{MakesChange, ScriptValue, brought_by, change_of}
 use Rattle.edit_script.specs.Scripts.{ground_of, nothing_yet, set_text, set_texts, with_change, with_line}
 use Rattle.edit_script.specs.Scripts.AreLines.{none as no_lines, more as more_lines}
 use Rattle.edit_script.specs.Scripts.AreSteps.{none as no_steps, more as more_steps}
@@ -320,11 +321,15 @@ module _ (edition : Edition) (texts labels : List (List ℕ)) (table : IsTable l
       → (after ≡ Some (front ++ record { cell = cell; content = content } ∷ [])) × (new ≡ old)
   change_goes now cell (Constant value.Empty) front before after old new opened back itself goes =
       subst (λ (b : Option EditValue). MakesChange now (change_of cell (Constant value.Empty)) b after old new) opened goes
-  change_goes now cell (Constant (value.Number n)) front before after old new opened back itself goes = set_goes now cell (Constant (value.Number n)) front before after old new opened back goes
-  change_goes now cell (Constant (value.Truth b)) front before after old new opened back itself goes = set_goes now cell (Constant (value.Truth b)) front before after old new opened back goes
-  change_goes now cell (Constant (value.Error kind)) front before after old new opened back itself goes = set_goes now cell (Constant (value.Error kind)) front before after old new opened back goes
+  change_goes now cell (Constant (value.Number n)) front before after old new opened back itself goes =
+      set_goes now cell (Constant (value.Number n)) front before after old new opened back goes
+  change_goes now cell (Constant (value.Truth b)) front before after old new opened back itself goes =
+      set_goes now cell (Constant (value.Truth b)) front before after old new opened back goes
+  change_goes now cell (Constant (value.Error kind)) front before after old new opened back itself goes =
+      set_goes now cell (Constant (value.Error kind)) front before after old new opened back goes
   change_goes now cell (Constant (value.Label place)) front before after old new opened back itself goes = absurd itself
-  change_goes now cell (Computed t) front before after old new opened back itself goes = set_goes now cell (Computed t) front before after old new opened back goes
+  change_goes now cell (Computed t) front before after old new opened back itself goes =
+      set_goes now cell (Computed t) front before after old new opened back goes
 
   no_steps_said : (lines : List LineValue) (after : Option EditValue) (steps : List Step) → AreSteps edition labels lines after steps → lines ≡ [] → steps ≡ []
   no_steps_said _ _ _ no_steps none = refl
@@ -380,7 +385,9 @@ pub says_edit : (mode : Mode) (sheet : SheetValue) (edit : EditValue) (labels : 
 says_edit mode sheet edit labels script table all is =
     let texts : script_lines (batch_text sheet.labels edit) ≡ (codes "batch" ∷ map (line_text sheet.labels) edit) ++ codes "end" ∷ [] =
     batch_lines sheet.edition sheet.labels edit all in
-    let (front, taken, lines_are) = all_said mode (ground_of sheet) sheet.labels edit (script_lines (batch_text sheet.labels edit)) is.lines all is.said texts in
+    let (front, taken, lines_are) =
+    all_said mode (ground_of sheet) sheet.labels edit (script_lines (batch_text sheet.labels edit)) is.lines all
+    is.said texts in
     let lines : is.lines ≡ (Batch ∷ map (said sheet.labels) edit) ++ End ∷ [] = lines_are ∙ ap (λ l. l ++ End ∷ []) taken.lines_are in
     let none : All (λ t. ¬ IsLabelField t) (set_texts is.lines) =
     subst (λ l. All (λ t. ¬ IsLabelField t) (set_texts l)) (sym lines) (change_texts sheet.edition sheet.labels edit all taken.back) in

@@ -1,4 +1,4 @@
 pub mod Prefixes
-pub mod Streams
-pub mod Readings
-pub mod CutLemmas
+mod Streams
+mod Readings
+mod CutLemmas

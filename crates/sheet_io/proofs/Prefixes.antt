@@ -19,7 +19,8 @@ take_within : (xs ys : List ℕ) (n : ℕ) → take (min n (length xs)) (xs ++ y
 take_within xs ys n = grind (arith, common_steps)
 
 -- a whole piece was appended, and then a prefix of the next
-pub prefix_after : (old now new : Option (List ℕ)) (done piece : List ℕ) → Appends old now done → AppendsPrefix now new piece → AppendsPrefix old new (done ++ piece)
+pub prefix_after : (old now new : Option (List ℕ)) (done piece : List ℕ) → Appends old now done
+    → AppendsPrefix now new piece → AppendsPrefix old new (done ++ piece)
 prefix_after old now new done piece first part =
     (length done + part.0, subst (Appends old new) (sym (take-append-add done piece part.0)) (Appends-trans old now new done (take part.0 piece) first part.1))
 

@@ -14,7 +14,8 @@ pub record IsRead (old now : Option (List ℕ)) (before into : List ℕ) (limit 
   pub left : Consumes old now given
 
 -- one more read, which asks for at most one byte past the room
-pub read_last : (old now new : Option (List ℕ)) (before into buffer : List ℕ) (limit room n : ℕ) → IsRead old now before into limit room → Consumes now new (take n buffer) → n ≤ room + 1
+pub read_last : (old now new : Option (List ℕ)) (before into buffer : List ℕ) (limit room n : ℕ)
+    → IsRead old now before into limit room → Consumes now new (take n buffer) → n ≤ room + 1
     → TakesAtMost old new (limit + 1)
 read_last old now new before into buffer limit room n r more asks =
     let size = length-take n buffer in

@@ -14,7 +14,8 @@ pub record IsWritten (old now : Option (List ℕ)) (bytes rest : List ℕ) : Typ
   pub taken : Appends old now done
 
 -- a write took the first n bytes of the rest
-pub written_more : (old now new : Option (List ℕ)) (bytes rest : List ℕ) (n : ℕ) → IsWritten old now bytes rest → Appends now new (take n rest) → IsWritten old new bytes (drop n rest)
+pub written_more : (old now new : Option (List ℕ)) (bytes rest : List ℕ) (n : ℕ) → IsWritten old now bytes rest
+    → Appends now new (take n rest) → IsWritten old new bytes (drop n rest)
 written_more old now new bytes rest n w more = record {
   done = w.done ++ take n rest;
   split = w.split ∙ ap (λ l. w.done ++ l) (sym (take-append-drop n rest)) ∙ sym (append_assoc w.done (take n rest) (drop n rest));
@@ -33,7 +34,8 @@ written_part old now new bytes rest w kept =
     subst (AppendsPrefix old new) (sym w.split) (prefix_more old new w.done rest (prefix_all old new w.done (appends_kept old now new w.done w.taken kept)))
 
 -- a write took the first n bytes of the rest, and then the call gave up
-pub written_last : (old now new : Option (List ℕ)) (bytes rest : List ℕ) (n : ℕ) → IsWritten old now bytes rest → Appends now new (take n rest) → AppendsPrefix old new bytes
+pub written_last : (old now new : Option (List ℕ)) (bytes rest : List ℕ) (n : ℕ) → IsWritten old now bytes rest
+    → Appends now new (take n rest) → AppendsPrefix old new bytes
 written_last old now new bytes rest n w more =
     written_part old new new bytes (drop n rest) (written_more old now new bytes rest n w more) (Keeps-refl new)
 

@@ -1,5 +1,6 @@
 -- An edit that is made change by change, each of which then holds what its cell held.
-use Rattle.std.proofs.Common.{◌≡◌, ◌≢◌, ◌+◌, ◌<◌, ◌≤◌, ℕ, suc, List, [], ◌∷◌, ◌++◌, length, get_or, set, take, drop, Contains, IsTrue, arith, refl, sym, ap, ◌∙◌, subst, append_assoc}
+use Rattle.std.proofs.Common.{◌≡◌, ◌≢◌, ◌+◌, ◌<◌, ◌≤◌, ℕ, suc, List, [], ◌∷◌, ◌++◌, length, get_or, set, take, drop}
+use Rattle.std.proofs.Common.{Contains, IsTrue, arith, refl, sym, ap, ◌∙◌, subst, append_assoc}
 use Rattle.std.proofs.Math.Seq.{drop-cons, get_or-append_seam, set-append_seam}
 use Rattle.std.proofs.lemmas.List.{append-nil, get_or_default, get_or-take, length-map, length-take, length-take-le, drop_all, map-append}
 use Rattle.std.proofs.lemmas.List.Elements.{All-set}
@@ -28,7 +29,8 @@ taken_at xs k x (j, below, is) =
     let before : j < k = omega (arith, below, lengths) in
     (j, before, omega (arith, below, lengths), sym (get_or-take k xs j x before) ∙ is)
 
-module _ (start sheet : SheetValue) (edit changes : EditValue) (k : ℕ) (old : ChangeValue) (so_far : IsExchanged start edit k sheet changes) (below : k < length edit) (at : old ≡ get_or changes k old) where
+module _ (start sheet : SheetValue) (edit changes : EditValue) (k : ℕ) (old : ChangeValue)
+    (so_far : IsExchanged start edit k sheet changes) (below : k < length edit) (at : old ≡ get_or changes k old) where
   abbrev before : EditValue
   before = replaced_by start (take k edit)
 
@@ -61,14 +63,17 @@ module _ (start sheet : SheetValue) (edit changes : EditValue) (k : ℕ) (old : 
         label = subst (λ (ls : List (List ℕ)). HasLabel (length ls) old.content) (sym labels) one.label;
       }
 
-  pub exchanged_more : (next : SheetValue) (new : ChangeValue) → AreOfDistinctCells edit → new ≡ held_in sheet old → IsWritten new.content → next ≡ after_change sheet old → IsSheet next
+  pub exchanged_more : (next : SheetValue) (new : ChangeValue) → AreOfDistinctCells edit → new ≡ held_in sheet old
+      → IsWritten new.content → next ≡ after_change sheet old → IsSheet next
       → IsExchanged start edit (k + 1) next (set changes k new)
   exchanged_more next new distinct held written placed is =
       let taken : take (k + 1) edit ≡ take k edit ++ old ∷ [] = taken_more edit k old below exchange_next in
       let apart : (c : ChangeValue) → Contains (take k edit) c → old.cell ≢ c.cell = λ c there same.
       (let (j, before_k, within, is_c) = taken_at edit k c there in
-      distinct j k c before_k below (ap (λ (x : ChangeValue). x.cell) is_c ∙ sym same ∙ ap (λ (x : ChangeValue). x.cell) (exchange_next ∙ get_or_default edit k old c below))) in
-      let stood : content_of sheet old.cell ≡ content_of start old.cell = ap (λ (s : SheetValue). content_of s old.cell) so_far.made ∙ edit-others start (take k edit) old.cell apart in
+      distinct j k c before_k below (ap (λ (x : ChangeValue). x.cell) is_c ∙ sym same
+      ∙ ap (λ (x : ChangeValue). x.cell) (exchange_next ∙ get_or_default edit k old c below))) in
+      let stood : content_of sheet old.cell ≡ content_of start old.cell =
+      ap (λ (s : SheetValue). content_of s old.cell) so_far.made ∙ edit-others start (take k edit) old.cell apart in
       let new_is : new ≡ held_in start old = held ∙ ap (λ content. record { cell = old.cell; content = content }) stood in
       let after_set : set changes k new ≡ before ++ new ∷ rest =
       ap (λ xs. set xs k new) split ∙ ap (λ n. set (before ++ here ∷ rest) n new) (sym before_length) ∙ set-append_seam before here rest new in

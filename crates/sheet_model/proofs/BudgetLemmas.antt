@@ -1,6 +1,8 @@
 -- What a budget of steps gives: a value that is not circular stays the same with more budget, and cells each of which has an
 -- input among them are circular with any.
-use Rattle.std.proofs.Common.{◌≡◌, ◌≢◌, ℕ, zero, suc, ◌+◌, ◌<◌, ◌≤◌, ◌⊎◌, inl, inr, List, length, map, get_or, slice_get, Some, option_map, refl, sym, ◌∙◌, ap, subst, arith, eqb, true, false, le_of_suc-le-suc}
+use Rattle.std.proofs.Common.{◌≡◌, ◌≢◌, ℕ, zero, suc, ◌+◌, ◌<◌, ◌≤◌, ◌⊎◌, inl, inr, List, length, map, get_or}
+use Rattle.std.proofs.Common.{slice_get, Some, option_map, refl, sym, ◌∙◌, ap, subst, arith, eqb, true, false}
+use Rattle.std.proofs.Common.{le_of_suc-le-suc}
 use Rattle.std.proofs.lemmas.Bool.Decides.{nat_tests}
 use Rattle.std.proofs.lemmas.Bool.{eqb-true}
 use Rattle.std.proofs.lemmas.List.{length-map}
@@ -27,7 +29,8 @@ module _ {C V : Type 0} (Input : C → C → Type 0) (circ : V) (step : C → (C
   settles_next k v c inputs (suc n) le = local c (ev circ step n) v (λ d input. inputs d input n (le_of_suc-le-suc le))
 
   -- cells each of which has an input among them, or a circular one, are circular
-  pub circular_closed : (Open : C → Type 0) → ((c : C) → Open c → (d : C) × Input c d × (Open d ⊎ IsCircular circ step d)) → (c : C) → Open c → IsCircular circ step c
+  pub circular_closed : (Open : C → Type 0) → ((c : C) → Open c → (d : C) × Input c d
+      × (Open d ⊎ IsCircular circ step d)) → (c : C) → Open c → IsCircular circ step c
   unfolding ev
   circular_closed Open closed c open_c zero = refl
   circular_closed Open closed c open_c (suc n) =
@@ -50,7 +53,8 @@ module _ {C : Type 0} (number : C → ℕ) (count : ℕ) (cells : List C) where
   number_at i d c at = get_or_from_slice_get (map number cells) i (number c) d (slice_get-map number cells i ∙ ap (option_map number) at)
 
   -- cells with different numbers below `count` are at most `count` many
-  pub length-le-count : ((i j : ℕ) (c d : C) → i < j → slice_get cells i ≡ Some c → slice_get cells j ≡ Some d → number c ≢ number d) → ((i : ℕ) (c : C) → slice_get cells i ≡ Some c → number c < count) → length cells ≤ count
+  pub length-le-count : ((i j : ℕ) (c d : C) → i < j → slice_get cells i ≡ Some c → slice_get cells j ≡ Some d
+      → number c ≢ number d) → ((i : ℕ) (c : C) → slice_get cells i ≡ Some c → number c < count) → length cells ≤ count
   length-le-count differ below =
       subst (λ n. n ≤ count) (length-map cells number)
       (length-le_from_distinct_below (map number cells) count

@@ -1,5 +1,7 @@
 -- A turn of the walk that finds a cycle.
-use Rattle.std.proofs.Common.{◌≡◌, ◌≢◌, ℕ, suc, ◌<◌, ◌≤◌, ◌⊎◌, inl, inr, List, [], ◌∷◌, ◌++◌, length, map, slice_get, set, Some, Bool, true, false, not, option_map, IsTrue, refl, sym, ◌∙◌, ap, subst, arith, length-set}
+use Rattle.std.proofs.Common.{◌≡◌, ◌≢◌, ℕ, suc, ◌<◌, ◌≤◌, ◌⊎◌, inl, inr, List, [], ◌∷◌, ◌++◌, length, map, slice_get}
+use Rattle.std.proofs.Common.{set, Some, Bool, true, false, not, option_map, IsTrue, refl, sym, ◌∙◌, ap, subst, arith}
+use Rattle.std.proofs.Common.{length-set}
 use Rattle.std.proofs.lemmas.Option.{slice_get_within, slice_get_cases, get_or_from_slice_get, slice_get-map}
 use Rattle.std.proofs.lemmas.List.{length-map, map-set}
 use Rattle.sheet_refs.specs.Cells.{Position}
@@ -23,10 +25,15 @@ use Rattle.sheet_model.proofs.TurnLemmas.{read_set}
 
 -- the state of a cell of the rectangle
 state_at : (states : List CellState) (p n : ℕ) → length states ≡ n → p < n → (s : CellState) × (slice_get states p ≡ Some s)
-state_at states p n count lt = elim (slice_get_cases states p).1 [ inl there ↦ (there.0, there.2) | inr past ↦ absurd (let le : length states ≤ p = past.0 in omega arith) ]
+state_at states p n count lt = elim (slice_get_cases states p).1 [
+  | inl there ↦ (there.0, there.2)
+  | inr past ↦
+      absurd (let le : length states ≤ p = past.0 in omega arith)
+]
 
 -- where a state stands after closing, it came from one
-closed_read : (states : List CellState) (p : ℕ) (t : CellState) → slice_get (map closed_state states) p ≡ Some t → (s : CellState) × (slice_get states p ≡ Some s) × (closed_state s ≡ t)
+closed_read : (states : List CellState) (p : ℕ) (t : CellState) → slice_get (map closed_state states) p ≡ Some t
+    → (s : CellState) × (slice_get states p ≡ Some s) × (closed_state s ≡ t)
 closed_read states p t at =
     elim (slice_get_cases states p).1 [
       | inl there ↦ (there.0, there.2, (let e = sym (slice_get-map closed_state states p) ∙ at in let f = ap (option_map closed_state) there.2 in cc))
@@ -40,11 +47,24 @@ closed-not_open (Known v) e = cc
 
 module _ (sheet : SheetValue) (states : List CellState) (frames : List Frame) (walk : IsWalkOf sheet states frames) where
   -- an open cell has an open input, or a circular one
-  next_open : (cell : Position) → IsWaiting sheet states frames cell → slice_get states (place_of sheet.sizes cell) ≢ Some Unseen → (c : Position) → IsTrue (is_inside sheet.sizes c) × (slice_get states (place_of sheet.sizes c) ≡ Some Open) → (d : Position) × IsInput sheet c d × ((IsTrue (is_inside sheet.sizes d) × (slice_get states (place_of sheet.sizes d) ≡ Some Open)) ⊎ IsCircular (Error Circ) (step sheet) d)
+  next_open : (cell : Position) → IsWaiting sheet states frames cell
+      → slice_get states (place_of sheet.sizes cell) ≢ Some Unseen → (c : Position) → IsTrue (is_inside sheet.sizes c)
+      × (slice_get states (place_of sheet.sizes c) ≡ Some Open) → (d : Position) × IsInput sheet c d
+      × ((IsTrue (is_inside sheet.sizes d) × (slice_get states (place_of sheet.sizes d) ≡ Some Open))
+      ⊎ IsCircular (Error Circ) (step sheet) d)
   next_open cell waiting seen c is_open =
       elim (slice_get_cases frames (suc place.0)).1 [
-        | inl there ↦ (there.0.cell, rw (← same_cell) (walk.waits place.0 place.1 there.0 place.2 there.2), inl (walk.inside (suc place.0) there.0 there.2, walk.opened (suc place.0) there.0 there.2))
-        | inr past ↦ (cell, rw (← same_cell) (waiting.newest place.0 place.1 place.2 (let lt = slice_get_within frames place.0 place.1 place.2 in let le : length frames ≤ suc place.0 = past.0 in omega arith)), blocked)
+        | inl there ↦ (
+          there.0.cell,
+          rw (← same_cell) (walk.waits place.0 place.1 there.0 place.2 there.2),
+          inl (walk.inside (suc place.0) there.0 there.2, walk.opened (suc place.0) there.0 there.2),
+        )
+        | inr past ↦ (
+          cell,
+          rw (← same_cell) (waiting.newest place.0 place.1 place.2 (let lt = slice_get_within frames place.0 place.1
+              place.2 in let le : length frames ≤ suc place.0 = past.0 in omega arith)),
+          blocked,
+        )
       ]
     where
       place : (i : ℕ) × (frame : Frame) × (slice_get frames i ≡ Some frame) × (place_of sheet.sizes frame.cell ≡ place_of sheet.sizes c)
@@ -66,7 +86,9 @@ module _ (sheet : SheetValue) (states : List CellState) (frames : List Frame) (w
           go true h = refl
           go false h = cc
 
-      go : (s : CellState) → slice_get states (place_of sheet.sizes cell) ≡ Some s → is_plain_state s ≡ false → (IsTrue (is_inside sheet.sizes cell) × (slice_get states (place_of sheet.sizes cell) ≡ Some Open)) ⊎ IsCircular (Error Circ) (step sheet) cell
+      go : (s : CellState) → slice_get states (place_of sheet.sizes cell) ≡ Some s → is_plain_state s ≡ false
+          → (IsTrue (is_inside sheet.sizes cell) × (slice_get states (place_of sheet.sizes cell) ≡ Some Open))
+          ⊎ IsCircular (Error Circ) (step sheet) cell
       go Unseen at stop = absurd (seen at)
       go Open at stop = inl (waiting.inside, at)
       go (Known v) at stop =
@@ -77,14 +99,17 @@ module _ (sheet : SheetValue) (states : List CellState) (frames : List Frame) (w
       blocked = go state.0 state.1 (stop_here state.0 state.1)
 
   -- so every open cell is circular
-  open_circular : (cell : Position) → IsWaiting sheet states frames cell → slice_get states (place_of sheet.sizes cell) ≢ Some Unseen → (c : Position) → IsTrue (is_inside sheet.sizes c) → slice_get states (place_of sheet.sizes c) ≡ Some Open → IsCircular (Error Circ) (step sheet) c
+  open_circular : (cell : Position) → IsWaiting sheet states frames cell
+      → slice_get states (place_of sheet.sizes cell) ≢ Some Unseen → (c : Position) → IsTrue (is_inside sheet.sizes c)
+      → slice_get states (place_of sheet.sizes c) ≡ Some Open → IsCircular (Error Circ) (step sheet) c
   open_circular cell waiting seen c inside at =
       circular_closed (IsInput sheet) (Error Circ) (step sheet) (step_local sheet) (step_strict sheet)
       (λ d. IsTrue (is_inside sheet.sizes d) × (slice_get states (place_of sheet.sizes d) ≡ Some Open))
       (next_open cell waiting seen) c (inside, at)
 
   -- the walk goes on with all open cells known to be circular
-  pub walk_close : (cell : Position) → IsWaiting sheet states frames cell → slice_get states (place_of sheet.sizes cell) ≢ Some Unseen → IsWalkOf sheet (map closed_state states) []
+  pub walk_close : (cell : Position) → IsWaiting sheet states frames cell
+      → slice_get states (place_of sheet.sizes cell) ≢ Some Unseen → IsWalkOf sheet (map closed_state states) []
   walk_close cell waiting seen = record {
     count = length-map states closed_state ∙ walk.count;
     settled = λ c v inside at.
@@ -105,7 +130,9 @@ module _ (sheet : SheetValue) (states : List CellState) (frames : List Frame) (w
           keeps Open e = refl
           keeps (Known v) e = refl
 
-      settled_before : (c : Position) (v : Value) → IsTrue (is_inside sheet.sizes c) → (s : CellState) → slice_get states (place_of sheet.sizes c) ≡ Some s → closed_state s ≡ Known v → SettlesAt (Error Circ) (step sheet) (known_count (map closed_state states)) c v
+      settled_before : (c : Position) (v : Value) → IsTrue (is_inside sheet.sizes c) → (s : CellState)
+          → slice_get states (place_of sheet.sizes c) ≡ Some s → closed_state s ≡ Known v
+          → SettlesAt (Error Circ) (step sheet) (known_count (map closed_state states)) c v
       settled_before c v inside Unseen at e = absurd (cc)
       settled_before c v inside Open at e = let same : Error Circ ≡ v = cc in λ n le. open_circular cell waiting seen c inside at n ∙ same
       settled_before c v inside (Known u) at e =

@@ -40,24 +40,32 @@ change_place : ChangeValue → ℕ
 change_place change = named_place change.cell
 
 -- changes whose places rise once they are sorted are of distinct cells
-rising_distinct : (changes : EditValue) (sorted : List ℕ) → IsPermutation (map (λ (c : ChangeValue). named_place c.cell) changes) sorted → IsStrictlyIncreasing sorted → AreOfDistinctCells changes
+rising_distinct : (changes : EditValue) (sorted : List ℕ)
+    → IsPermutation (map (λ (c : ChangeValue). named_place c.cell) changes) sorted → IsStrictlyIncreasing sorted
+    → AreOfDistinctCells changes
 rising_distinct changes sorted same rises =
     let below = AllPairs-from_increasing sorted rises in
     let apart : AllPairs (λ a b. a ≢ b) sorted = λ i j d before within. (let lt = below i j d before within in λ is. omega (arith, lt, is)) in
-    let distinct = distinct_permutation nat_eq_equiv sorted (map (λ (c : ChangeValue). named_place c.cell) changes) (IsPermutation-sym _ sorted same) (IsDistinct-from_AllPairs Decides-eqb sorted apart) in
+    let distinct = distinct_permutation nat_eq_equiv sorted (map (λ (c : ChangeValue). named_place c.cell) changes)
+    (IsPermutation-sym _ sorted same) (IsDistinct-from_AllPairs Decides-eqb sorted apart) in
     pairs_unmapped (λ (c : ChangeValue). named_place c.cell) (λ a b. a.cell ≢ b.cell) (λ a b. a ≢ b) changes
     (λ i j d before within differs is. differs (ap named_place is)) (AllPairs-from_IsDistinct Decides-eqb _ distinct)
 
 -- and the places of changes of distinct cells rise once they are sorted
-distinct_rising : (changes : EditValue) (sorted : List ℕ) → All (λ (c : ChangeValue). HasName c.cell) changes → IsPermutation (map (λ (c : ChangeValue). named_place c.cell) changes) sorted → IsNonDecreasing sorted → AreOfDistinctCells changes → IsStrictlyIncreasing sorted
+distinct_rising : (changes : EditValue) (sorted : List ℕ) → All (λ (c : ChangeValue). HasName c.cell) changes
+    → IsPermutation (map (λ (c : ChangeValue). named_place c.cell) changes) sorted → IsNonDecreasing sorted
+    → AreOfDistinctCells changes → IsStrictlyIncreasing sorted
 distinct_rising changes sorted named same up distinct =
     let apart : AllPairs (λ a b. a ≢ b) (map (λ (c : ChangeValue). named_place c.cell) changes) =
     pairs_mapped (λ (c : ChangeValue). named_place c.cell) (λ a b. a.cell ≢ b.cell) (λ a b. a ≢ b) changes
-    (λ i j d before within differs is. differs (place_same all_names (get_or changes i d).cell (get_or changes j d).cell (named i d (omega (arith, before, within))) (named j d within) is)) distinct in
+    (λ i j d before within differs is. differs (place_same all_names (get_or changes i d).cell (get_or changes j d).cell
+    (named i d (omega (arith, before, within))) (named j d within) is)) distinct in
     IsStrictlyIncreasing-from_distinct sorted up (distinct_permutation nat_eq_equiv _ sorted same (IsDistinct-from_AllPairs Decides-eqb _ apart))
 
 -- so whether they rise tells whether the cells are distinct
-pub told_distinct : (rise : Bool) (changes : EditValue) (sorted : List ℕ) → All (λ (c : ChangeValue). HasName c.cell) changes → IsPermutation (map (λ (c : ChangeValue). named_place c.cell) changes) sorted → IsNonDecreasing sorted
+pub told_distinct : (rise : Bool) (changes : EditValue) (sorted : List ℕ)
+    → All (λ (c : ChangeValue). HasName c.cell) changes
+    → IsPermutation (map (λ (c : ChangeValue). named_place c.cell) changes) sorted → IsNonDecreasing sorted
     → MatchBool rise (IsStrictlyIncreasing sorted) (¬ IsStrictlyIncreasing sorted) → MatchBool rise (AreOfDistinctCells changes) (¬ AreOfDistinctCells changes)
 told_distinct true changes sorted named same up told = rising_distinct changes sorted same told
 told_distinct false changes sorted named same up told = λ distinct. told (distinct_rising changes sorted named same up distinct)

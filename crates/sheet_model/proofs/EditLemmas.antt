@@ -1,5 +1,6 @@
 -- What edits do to a sheet.
-use Rattle.std.proofs.Common.{◌≡◌, ◌≢◌, ◌↔◌, ◌⊎◌, inl, inr, ℕ, zero, suc, Bool, true, false, List, [], ◌∷◌, ◌++◌, length, All, Contains, IsTrue, eqb, arith, refl, sym, ◌∙◌, ap, subst}
+use Rattle.std.proofs.Common.{◌≡◌, ◌≢◌, ◌↔◌, ◌⊎◌, inl, inr, ℕ, zero, suc, Bool, true, false, List, [], ◌∷◌, ◌++◌}
+use Rattle.std.proofs.Common.{length, All, Contains, IsTrue, eqb, arith, refl, sym, ◌∙◌, ap, subst}
 use Rattle.std.proofs.lemmas.Bool.Decides.{nat_tests}
 use Rattle.std.proofs.lemmas.List.Elements.{All-head, All-tail}
 use Rattle.sheet_refs.specs.Cells.{Position}
@@ -46,15 +47,19 @@ edit-sheet sheet (change ∷ changes) is held =
     let P : ℕ → ChangeValue → Type 0 = λ labels c. IsHeld labels c.content in
     let here : IsSheet (after_change sheet change) = change-sheet sheet change is (All-head (P (length sheet.labels)) change changes held) in
     edit-sheet (after_change sheet change) changes here
-    (subst (λ (labels : List (List ℕ)). AreHeldBeside (length labels) changes) (sym (change-labels sheet change)) (All-tail (P (length sheet.labels)) change changes held))
+    (subst (λ (labels : List (List ℕ)). AreHeldBeside (length labels) changes) (sym (change-labels sheet change))
+    (All-tail (P (length sheet.labels)) change changes held))
 
 -- one more change is made after those before it
-pub edit-more : (sheet : SheetValue) (edit : EditValue) (change : ChangeValue) → after_edit sheet (edit ++ change ∷ []) ≡ after_change (after_edit sheet edit) change
+pub edit-more : (sheet : SheetValue) (edit : EditValue) (change : ChangeValue)
+    → after_edit sheet (edit ++ change ∷ []) ≡ after_change (after_edit sheet edit) change
 edit-more sheet [] change = refl
 edit-more sheet (first ∷ edit) change = edit-more (after_change sheet first) edit change
 
 -- cells that no change names
-pub edit-others : (sheet : SheetValue) (edit : EditValue) (cell : Position) → ((change : ChangeValue) → Contains edit change → cell ≢ change.cell) → content_of (after_edit sheet edit) cell ≡ content_of sheet cell
+pub edit-others : (sheet : SheetValue) (edit : EditValue) (cell : Position)
+    → ((change : ChangeValue) → Contains edit change → cell ≢ change.cell)
+    → content_of (after_edit sheet edit) cell ≡ content_of sheet cell
 edit-others sheet [] cell apart = refl
 edit-others sheet (change ∷ changes) cell apart =
     edit-others (after_change sheet change) changes cell (λ c there. apart c (later_member change c changes there))
@@ -74,27 +79,35 @@ first_or_later x y ys (zero, below, at) = inl at
 first_or_later x y ys (suc k, below, at) = inr (k, omega (arith, below), at)
 
 -- a changed cell holds what its change says
-edit-fills : (sheet : SheetValue) (edit : EditValue) (change : ChangeValue) → length sheet.contents ≡ cell_count sheet.sizes → AreOfDistinctCells edit → Contains edit change → IsTrue (is_inside sheet.sizes change.cell) → content_of (after_edit sheet edit) change.cell ≡ change.content
+edit-fills : (sheet : SheetValue) (edit : EditValue) (change : ChangeValue)
+    → length sheet.contents ≡ cell_count sheet.sizes → AreOfDistinctCells edit → Contains edit change
+    → IsTrue (is_inside sheet.sizes change.cell) → content_of (after_edit sheet edit) change.cell ≡ change.content
 edit-fills sheet [] change filled distinct there inside = absurd (no_member change there)
 edit-fills sheet (first ∷ changes) change filled distinct there inside = elim (first_or_later change first changes there) [
   | inl same ↦
-      edit-others (after_change sheet first) changes change.cell (λ c later. subst (λ (f : ChangeValue). f.cell ≢ c.cell) same (first_apart first c changes distinct later))
+      edit-others (after_change sheet first) changes change.cell
+      (λ c later. subst (λ (f : ChangeValue). f.cell ≢ c.cell) same (first_apart first c changes distinct later))
       ∙ subst (λ (f : ChangeValue). content_of (after_change sheet f) change.cell ≡ change.content) (sym same) (change-fills sheet change filled inside)
   | inr later ↦
       edit-fills (after_change sheet first) changes change (change-filled sheet first filled) (rest_distinct first changes distinct) later
       (subst (λ (s : Sizes). IsTrue (is_inside s change.cell)) (sym (change-sizes sheet first)) inside)
 ]
 
-pub edit-here : (sheet : SheetValue) (edit : EditValue) (change : ChangeValue) → IsSheet sheet → AreOfDistinctCells edit → Contains edit change → IsTrue (is_inside sheet.sizes change.cell) → content_of (after_edit sheet edit) change.cell ≡ change.content
+pub edit-here : (sheet : SheetValue) (edit : EditValue) (change : ChangeValue) → IsSheet sheet → AreOfDistinctCells edit
+    → Contains edit change → IsTrue (is_inside sheet.sizes change.cell)
+    → content_of (after_edit sheet edit) change.cell ≡ change.content
 edit-here sheet edit change is distinct there inside = edit-fills sheet edit change is.filled distinct there inside
 
 -- a cell is that of a change, or of none
-pub changed_or_not : (edit : EditValue) (cell : Position) → ((change : ChangeValue) × Contains edit change × (cell ≡ change.cell)) ⊎ ((change : ChangeValue) → Contains edit change → cell ≢ change.cell)
+pub changed_or_not : (edit : EditValue) (cell : Position) → ((change : ChangeValue) × Contains edit change
+    × (cell ≡ change.cell)) ⊎ ((change : ChangeValue) → Contains edit change → cell ≢ change.cell)
 changed_or_not [] cell = inr (λ change there. absurd (no_member change there))
 changed_or_not (first ∷ changes) cell = by (one_or_two cell first.cell) (changed_or_not changes cell)
   where
-    by : (cell ≡ first.cell) ⊎ (cell ≢ first.cell) → ((change : ChangeValue) × Contains changes change × (cell ≡ change.cell)) ⊎ ((change : ChangeValue) → Contains changes change → cell ≢ change.cell)
-        → ((change : ChangeValue) × Contains (first ∷ changes) change × (cell ≡ change.cell)) ⊎ ((change : ChangeValue) → Contains (first ∷ changes) change → cell ≢ change.cell)
+    by : (cell ≡ first.cell) ⊎ (cell ≢ first.cell) → ((change : ChangeValue) × Contains changes change
+        × (cell ≡ change.cell)) ⊎ ((change : ChangeValue) → Contains changes change → cell ≢ change.cell)
+        → ((change : ChangeValue) × Contains (first ∷ changes) change × (cell ≡ change.cell))
+        ⊎ ((change : ChangeValue) → Contains (first ∷ changes) change → cell ≢ change.cell)
     by (inl same) rest = inl (first, first_member first changes, same)
     by (inr differs) (inl (change, there, same)) = inl (change, later_member first change changes there, same)
     by (inr differs) (inr apart) = inr (λ change there. elim (first_or_later change first changes there) [
@@ -116,7 +129,8 @@ edit-order sheet a b is held a_distinct b_distinct same =
     (edit-edition sheet a ∙ sym (edit-edition sheet b)) (edit-sizes sheet a ∙ sym (edit-sizes sheet b)) (edit-labels sheet a ∙ sym (edit-labels sheet b))
     (λ cell inside. at cell (subst (λ (s : Sizes). IsTrue (is_inside s cell)) (edit-sizes sheet a) inside) (changed_or_not a cell))
   where
-    at : (cell : Position) → IsTrue (is_inside sheet.sizes cell) → ((change : ChangeValue) × Contains a change × (cell ≡ change.cell)) ⊎ ((change : ChangeValue) → Contains a change → cell ≢ change.cell)
+    at : (cell : Position) → IsTrue (is_inside sheet.sizes cell) → ((change : ChangeValue) × Contains a change
+        × (cell ≡ change.cell)) ⊎ ((change : ChangeValue) → Contains a change → cell ≢ change.cell)
         → content_of (after_edit sheet a) cell ≡ content_of (after_edit sheet b) cell
     at cell inside (inl (change, there, is_cell)) =
         let inside_change : IsTrue (is_inside sheet.sizes change.cell) = subst (λ (c : Position). IsTrue (is_inside sheet.sizes c)) is_cell inside in
@@ -129,7 +143,8 @@ pub replaced_distinct : (sheet : SheetValue) (edit : EditValue) → AreOfDistinc
 replaced_distinct sheet edit distinct =
     pairs_mapped (held_in sheet) (λ a b. a.cell ≢ b.cell) (λ a b. a.cell ≢ b.cell) edit (λ i j d before within differs. differs) distinct
 
-module _ (sheet : SheetValue) (edit : EditValue) (is : IsSheet sheet) (distinct : AreOfDistinctCells edit) (held : AreHeldBeside (length sheet.labels) edit) where
+module _ (sheet : SheetValue) (edit : EditValue) (is : IsSheet sheet) (distinct : AreOfDistinctCells edit)
+    (held : AreHeldBeside (length sheet.labels) edit) where
   abbrev middle : SheetValue
   middle = after_edit sheet edit
 
@@ -145,12 +160,16 @@ module _ (sheet : SheetValue) (edit : EditValue) (is : IsSheet sheet) (distinct 
       subst (λ (y : ChangeValue). IsHeld (length middle.labels) y.content) is_c
       (subst (λ (ls : List (List ℕ)). IsHeld (length ls) (content_of sheet x.cell)) (sym (edit-labels sheet edit)) (held_of sheet is x.cell)))
 
-  put_back : (cell : Position) → IsTrue (is_inside sheet.sizes cell) → ((change : ChangeValue) × Contains back change × (cell ≡ change.cell)) ⊎ ((change : ChangeValue) → Contains back change → cell ≢ change.cell)
+  put_back : (cell : Position) → IsTrue (is_inside sheet.sizes cell) → ((change : ChangeValue) × Contains back change
+      × (cell ≡ change.cell)) ⊎ ((change : ChangeValue) → Contains back change → cell ≢ change.cell)
       → content_of (after_edit middle back) cell ≡ content_of sheet cell
   put_back cell inside (inl (change, there, is_cell)) =
       let (x, x_in, is_change) = mapped_from (held_in sheet) edit change there in
-      let inside_change : IsTrue (is_inside middle.sizes change.cell) = subst (λ (s : Sizes). IsTrue (is_inside s change.cell)) (sym (edit-sizes sheet edit)) (subst (λ (c : Position). IsTrue (is_inside sheet.sizes c)) is_cell inside) in
-      let filled : content_of (after_edit middle back) change.cell ≡ change.content = edit-here middle back change middle_is (replaced_distinct sheet edit distinct) there inside_change in
+      let inside_change : IsTrue (is_inside middle.sizes change.cell) =
+      subst (λ (s : Sizes). IsTrue (is_inside s change.cell)) (sym (edit-sizes sheet edit))
+      (subst (λ (c : Position). IsTrue (is_inside sheet.sizes c)) is_cell inside) in
+      let filled : content_of (after_edit middle back) change.cell ≡ change.content =
+      edit-here middle back change middle_is (replaced_distinct sheet edit distinct) there inside_change in
       let stood : change.content ≡ content_of sheet change.cell = subst (λ (y : ChangeValue). y.content ≡ content_of sheet y.cell) is_change refl in
       subst (λ (c : Position). content_of (after_edit middle back) c ≡ content_of sheet c) (sym is_cell) (filled ∙ stood)
   put_back cell inside (inr apart) =
@@ -160,5 +179,6 @@ module _ (sheet : SheetValue) (edit : EditValue) (is : IsSheet sheet) (distinct 
   pub edit-undone : after_edit (after_edit sheet edit) (replaced_by sheet edit) ≡ sheet
   edit-undone =
       let sizes : (after_edit middle back).sizes ≡ sheet.sizes = edit-sizes middle back ∙ edit-sizes sheet edit in
-      same_sheet (after_edit middle back) sheet (edit-sheet middle back middle_is back_held) is (edit-edition middle back ∙ edit-edition sheet edit) sizes (edit-labels middle back ∙ edit-labels sheet edit)
+      same_sheet (after_edit middle back) sheet (edit-sheet middle back middle_is back_held) is
+      (edit-edition middle back ∙ edit-edition sheet edit) sizes (edit-labels middle back ∙ edit-labels sheet edit)
       (λ cell inside. put_back cell (subst (λ (s : Sizes). IsTrue (is_inside s cell)) sizes inside) (changed_or_not back cell))

@@ -8,7 +8,8 @@ use Rattle.std.proofs.lemmas.Slice.Eq.{starts_is}
 use Rattle.formula_syntax.specs.Spelling.IsIntroduced.{plain, prefixed}
 use Rattle.sheet_model.specs.Fields.{BeginsFormula}
 
-module _ (text : List ℕ) (equals prefix : Bool) (is_equals : equals ≡ starts_with eqb text (61 ∷ [])) (is_prefix : prefix ≡ starts_with eqb text (codes "of:=")) where
+module _ (text : List ℕ) (equals prefix : Bool) (is_equals : equals ≡ starts_with eqb text (61 ∷ []))
+    (is_prefix : prefix ≡ starts_with eqb text (codes "of:=")) where
   pub begins_equals : equals ≡ true → BeginsFormula text
   begins_equals there = (drop 1 text, plain text (drop 1 text) ((starts_is Decides-eqb text (61 ∷ []) equals is_equals).0 there))
 

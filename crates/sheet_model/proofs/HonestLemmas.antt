@@ -38,15 +38,24 @@ cell_within range cell stands =
     let k = stands.0 in
     let place = range_place range k (slice_get_within (cells_of range) k cell stands.1) in
     let here : cell_of_place range k ≡ cell = (let e = place.cell in let f = stands.1 in cc) in
-    let inside : IsIn (cell_of_place range k) range = record { row_from = omega arith; row_to = omega (arith, place.row); col_from = omega arith; col_to = omega (arith, place.col) } in
+    let inside : IsIn (cell_of_place range k) range = record {
+      row_from = omega arith;
+      row_to = omega (arith, place.row);
+      col_from = omega arith;
+      col_to = omega (arith, place.col);
+    } in
     rw here at inside
 
 -- a circular cell that references name, where there is one
-circular_found : (values : Position → Value) (references : List Reference) → has_circular values references ≡ true → (cell : Position) × IsNamedBy references cell × (values cell ≡ Error Circ)
+circular_found : (values : Position → Value) (references : List Reference) → has_circular values references ≡ true
+    → (cell : Position) × IsNamedBy references cell × (values cell ≡ Error Circ)
 circular_found values references some =
     let (r, listed, passes) = any_found (λ (r : Reference). list_any (λ c. is_circular (values c)) (cells_of (corners_of r))) references some in
-    let (cell, stands, circular) = any_found (λ (c : Position). is_circular (values c)) (cells_of (corners_of r)) passes in
-    (cell, record { through = r; place = listed.0; listed = listed.1; inside = cell_within (corners_of r) cell stands }, is_circular-true (values cell) circular)
+    let (cell, stands, circular) = any_found (λ (c : Position). is_circular (values c)) (cells_of (corners_of r)) passes in (
+      cell,
+      record { through = r; place = listed.0; listed = listed.1; inside = cell_within (corners_of r) cell stands },
+      is_circular-true (values cell) circular,
+    )
 
 module _ (sizes : Sizes) (values : Position → Value) where
   -- a cell whose value is circular in the rectangle lies in it
@@ -57,11 +66,14 @@ module _ (sizes : Sizes) (values : Position → Value) where
       by_test true inside = (inside, rw inside at same)
       by_test false outside = absurd (let no : Empty ≡ Error Circ = rw outside at same in cc)
 
-  content_honest : (content : ContentValue) → IsWritten content → step_content sizes values content ≡ Error Circ → (cell : Position) × IsNamedBy (content_references content) cell × IsTrue (is_inside sizes cell) × (values cell ≡ Error Circ)
+  content_honest : (content : ContentValue) → IsWritten content → step_content sizes values content ≡ Error Circ
+      → (cell : Position) × IsNamedBy (content_references content) cell × IsTrue (is_inside sizes cell)
+      × (values cell ≡ Error Circ)
   content_honest (Constant value) written same = absurd (written.not_circular same)
   content_honest (Computed formula) kept same = by_test (has_circular (within sizes values) (references_of formula)) refl
     where
-      by_test : (test : Bool) → has_circular (within sizes values) (references_of formula) ≡ test → (cell : Position) × IsNamedBy (references_of formula) cell × IsTrue (is_inside sizes cell) × (values cell ≡ Error Circ)
+      by_test : (test : Bool) → has_circular (within sizes values) (references_of formula) ≡ test → (cell : Position)
+          × IsNamedBy (references_of formula) cell × IsTrue (is_inside sizes cell) × (values cell ≡ Error Circ)
       by_test true some =
           let (cell, named, circular) = circular_found (within sizes values) (references_of formula) some in
           let (inside, value) = circular_inside cell circular in

@@ -1,5 +1,6 @@
 -- Tables of labels, and the keys of a set of strings as one.
-use Rattle.std.proofs.Common.{◌≡◌, ◌≢◌, ℕ, zero, suc, ◌+◌, ◌<◌, ◌≤◌, Bool, true, false, ◌||◌, List, [], ◌∷◌, ◌++◌, length, get_or, map, Some, refl, sym, ap, ◌∙◌, arith, true≢false, length-append}
+use Rattle.std.proofs.Common.{◌≡◌, ◌≢◌, ℕ, zero, suc, ◌+◌, ◌<◌, ◌≤◌, Bool, true, false, ◌||◌, List, [], ◌∷◌, ◌++◌}
+use Rattle.std.proofs.Common.{length, get_or, map, Some, refl, sym, ap, ◌∙◌, arith, true≢false, length-append}
 use Rattle.std.specs.Prelude.{slice_get, position, AllPairs, if◌then◌else◌}
 use Rattle.std.specs.List.{list_any, IsDistinct, AllByRecursion}
 use Rattle.std.specs.Str.{bytes_eq}
@@ -62,16 +63,22 @@ module _ {K : Type 0} (f : K → List ℕ) where
   distinct_texts ks distinct = AllPairs-from_IsDistinct bytes_eq-Decides (map f ks) (distinct_keys ks distinct)
 
 -- a table grows by at most one text
-pub length-with_label : (labels : List (List ℕ)) (text : List ℕ) → (length labels ≤ length (with_label labels text)) × (length (with_label labels text) ≤ length labels + 1)
+pub length-with_label : (labels : List (List ℕ)) (text : List ℕ) → (length labels ≤ length (with_label labels text))
+    × (length (with_label labels text) ≤ length labels + 1)
 length-with_label labels text = by (list_any (bytes_eq text) labels)
   where
-    by : (b : Bool) → (length labels ≤ length (if b then labels else labels ++ text ∷ [])) × (length (if b then labels else labels ++ text ∷ []) ≤ length labels + 1)
+    by : (b : Bool) → (length labels ≤ length (if b then labels else labels ++ text ∷ []))
+        × (length (if b then labels else labels ++ text ∷ []) ≤ length labels + 1)
     by true = (omega arith, omega arith)
     by false = rw (length-append labels (text ∷ [])) (omega arith, omega arith)
 
 -- a text that isn't there is apart from each that is
-absent_apart : (text : List ℕ) (labels : List (List ℕ)) → list_any (bytes_eq text) labels ≡ false → (i : ℕ) (d : List ℕ) → i < length labels → get_or labels i d ≢ text
-absent_apart text labels absent i d within same = true≢false (sym (list_any_at (bytes_eq text) labels i d within ((bytes_eq-Decides text (get_or labels i d)).1 (sym same))) ∙ absent)
+absent_apart : (text : List ℕ) (labels : List (List ℕ)) → list_any (bytes_eq text) labels ≡ false → (i : ℕ) (d : List ℕ)
+    → i < length labels → get_or labels i d ≢ text
+absent_apart text labels absent i d within same =
+    true≢false
+    (sym (list_any_at (bytes_eq text) labels i d within ((bytes_eq-Decides text (get_or labels i d)).1 (sym same)))
+    ∙ absent)
 
 -- a table stays one with a text more
 pub distinct-with_label : (labels : List (List ℕ)) (text : List ℕ) → AllPairs (λ a b. a ≢ b) labels → AllPairs (λ a b. a ≢ b) (with_label labels text)
@@ -86,7 +93,8 @@ distinct-with_label labels text distinct = by (list_any (bytes_eq text) labels) 
     by false e = AllPairs-append (λ x y. x ≢ y) labels (text ∷ []) distinct (λ i j d before within. absurd (omega (arith, before, within))) (apart e)
 
 -- a text keeps its place in a table with a text more
-pub get-with_label : (labels : List (List ℕ)) (more : List ℕ) (place : ℕ) (text : List ℕ) → slice_get labels place ≡ Some text → slice_get (with_label labels more) place ≡ Some text
+pub get-with_label : (labels : List (List ℕ)) (more : List ℕ) (place : ℕ) (text : List ℕ)
+    → slice_get labels place ≡ Some text → slice_get (with_label labels more) place ≡ Some text
 get-with_label labels more place text at = by (list_any (bytes_eq more) labels)
   where
     by : (b : Bool) → slice_get (if b then labels else labels ++ more ∷ []) place ≡ Some text

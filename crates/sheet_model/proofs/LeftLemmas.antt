@@ -24,9 +24,12 @@ module _ (sheet : SheetValue) (states : List CellState) where
   }
 
   -- a write to a cell that evaluation couldn't read past
-  pub parts_set : (frames : List Frame) (parts : List Part) (p : ℕ) (s t : CellState) → slice_get states p ≡ Some s → is_plain_state s ≡ false → HasParts sheet states frames parts → HasParts sheet (set states p t) frames parts
+  pub parts_set : (frames : List Frame) (parts : List Part) (p : ℕ) (s t : CellState) → slice_get states p ≡ Some s
+      → is_plain_state s ≡ false → HasParts sheet states frames parts → HasParts sheet (set states p t) frames parts
   parts_set frames parts p s t at not_plain has = record {
-    are_parts = λ k part at_k. (let is = has.are_parts k part at_k in record { inside = is.inside; passed = λ j cell less at_j. kept cell (is.passed j cell less at_j) });
+    are_parts =
+        λ k part at_k. (let is = has.are_parts k part at_k in
+        record { inside = is.inside; passed = λ j cell less at_j. kept cell (is.passed j cell less at_j) });
     passed = λ i f input at_i is_input. elim (has.passed i f input at_i is_input) [ inl plain ↦ inl (kept input plain) | inr left ↦ inr left ];
     named = has.named;
   }
@@ -35,7 +38,8 @@ module _ (sheet : SheetValue) (states : List CellState) where
       kept cell plain = plain_kept sheet.sizes states p s t at not_plain cell plain
 
   -- a look at what is left
-  pub parts_look : (frames : List Frame) (old new : List Part) → LooksOn sheet.sizes states old new → HasParts sheet states frames old → HasParts sheet states frames new
+  pub parts_look : (frames : List Frame) (old new : List Part) → LooksOn sheet.sizes states old new
+      → HasParts sheet states frames old → HasParts sheet states frames new
   parts_look frames old new looks has = record {
     are_parts = looks.are_parts;
     passed = λ i f input at is_input. elim (has.passed i f input at is_input) [
@@ -54,21 +58,38 @@ module _ (sheet : SheetValue) (states : List CellState) where
           record { part = before.before; listed = before.listed; inside = rw before.range at is_at.inside }
 
   -- one more cell is open, and all that it names is left to look at
-  pub parts_open : (frames : List Frame) (cell : Position) (old new : List Part) → AddsParts sheet.sizes (content_references (content_of sheet cell)) old new → HasParts sheet states frames old → HasParts sheet states (frames ++ record { cell = cell; first = length old } ∷ []) new
+  pub parts_open : (frames : List Frame) (cell : Position) (old new : List Part)
+      → AddsParts sheet.sizes (content_references (content_of sheet cell)) old new → HasParts sheet states frames old
+      → HasParts sheet states (frames ++ record { cell = cell; first = length old } ∷ []) new
   parts_open frames cell old new adds has = record {
-    are_parts = λ k part at. elim (slice_get-either old adds.added k part (rw adds.behind at at)) [ inl here ↦ has.are_parts k part here | inr there ↦ new_part part (adds.parts there.0 part there.2) ];
+    are_parts = λ k part at. elim (slice_get-either old adds.added k part (rw adds.behind at at)) [
+      | inl here ↦
+          has.are_parts k part here
+      | inr there ↦ new_part part (adds.parts there.0 part there.2)
+    ];
     passed = λ i f input at is_input. elim (slice_get-pushed frames opened i f at) [
-      | inl before ↦ elim (has.passed i f input before is_input) [ inl plain ↦ inl plain | inr left ↦ inr (rw adds.behind (left_before old adds.added f.first input left)) ]
-      | inr last ↦ inr (subst (λ (g : Frame). IsLeftInParts new g.first input) last.1 (rw adds.behind (left_behind old adds.added (length old) input (omega arith) (adds.complete input (here last.1 is_input).named is_input.inside))))
+      | inl before ↦ elim (has.passed i f input before is_input) [
+        | inl plain ↦ inl plain
+        | inr left ↦
+            inr (rw adds.behind (left_before old adds.added f.first input left))
+      ]
+      | inr last ↦
+          inr (subst (λ (g : Frame). IsLeftInParts new g.first input) last.1
+          (rw adds.behind (left_behind old adds.added (length old) input (omega arith)
+          (adds.complete input (here last.1 is_input).named is_input.inside))))
     ];
     named = λ i f k input at from below is_at.
         elim (slice_get-either old adds.added k is_at.part (rw adds.behind at is_at.listed)) [
           | inl in_old ↦ elim (slice_get-pushed frames opened i f at) [
-            | inl before ↦ has.named i f k input before from (λ j g less at_j. below j g less (slice_get-append frames (opened ∷ []) j g at_j)) (record { part = is_at.part; listed = in_old; inside = is_at.inside })
+            | inl before ↦
+                has.named i f k input before from (λ j g less at_j. below j g less (slice_get-append frames (opened
+                ∷ []) j g at_j)) (record { part = is_at.part; listed = in_old; inside = is_at.inside })
             | inr last ↦ absurd (let within = slice_get_within old k is_at.part in_old in let low : length old ≤ k = rw (← last.1) at from in omega arith)
           ]
           | inr in_added ↦ elim (slice_get-pushed frames opened i f at) [
-            | inl before ↦ absurd (let less = slice_get_within frames i f before in let low : k < length old = below (length frames) opened less (slice_get-push frames opened) in let e : k ≡ length old + in_added.0 = in_added.1 in omega arith)
+            | inl before ↦ absurd (let less = slice_get_within frames i f before in
+                let low : k < length old = below (length frames) opened less (slice_get-push frames opened) in
+                let e : k ≡ length old + in_added.0 = in_added.1 in omega arith)
             | inr last ↦ subst (λ (g : Frame). IsInput sheet g.cell input) last.1 (added input is_at.part in_added.0 in_added.2 is_at.inside)
           ]
         ];
@@ -80,7 +101,8 @@ module _ (sheet : SheetValue) (states : List CellState) where
       here : {f : Frame} {input : Position} → opened ≡ f → IsInput sheet f.cell input → IsInput sheet cell input
       here {f} {input} same is_input = subst (λ (c : Position). IsInput sheet c input) (ap (λ (g : Frame). g.cell) (sym same)) is_input
 
-      new_part : (part : Part) → IsPartOf sheet.sizes (λ c. IsNamedBy (content_references (content_of sheet cell)) c) part → IsPartOfRectangle sheet.sizes states part
+      new_part : (part : Part) → IsPartOf sheet.sizes (λ c. IsNamedBy (content_references (content_of sheet cell)) c)
+          part → IsPartOfRectangle sheet.sizes states part
       new_part part is = record { inside = is.inside; passed = λ k c less at. absurd (let none = is.next in omega arith) }
 
       added : (input : Position) (part : Part) (j : ℕ) → slice_get adds.added j ≡ Some part → IsIn input part.range → IsInput sheet cell input
@@ -89,7 +111,8 @@ module _ (sheet : SheetValue) (states : List CellState) where
           record { named = is.named input inside; inside = is.inside input inside }
 
   -- the newest open cell is settled, where nothing is left behind its first part
-  pub parts_finish : (rest : List Frame) (f : Frame) (parts : List Part) → length parts ≤ f.first → HasParts sheet states (rest ++ f ∷ []) parts → HasParts sheet states rest parts
+  pub parts_finish : (rest : List Frame) (f : Frame) (parts : List Part) → length parts ≤ f.first
+      → HasParts sheet states (rest ++ f ∷ []) parts → HasParts sheet states rest parts
   parts_finish rest f parts done has = record {
     are_parts = has.are_parts;
     passed = λ i g input at is_input. has.passed i g input (slice_get-append rest (f ∷ []) i g at) is_input;
@@ -99,18 +122,23 @@ module _ (sheet : SheetValue) (states : List CellState) where
       later : {input : Position} (i k : ℕ) → BelowLater rest i k → IsAt parts k input → BelowLater (rest ++ f ∷ []) i k
       later i k below is_at j h less at_j = elim (slice_get-pushed rest f j h at_j) [
         | inl before ↦ below j h less before
-        | inr last ↦ (let within = slice_get_within parts k is_at.part is_at.listed in let first : f.first ≡ h.first = ap (λ (g : Frame). g.first) last.1 in omega arith)
+        | inr last ↦ (let within = slice_get_within parts k is_at.part is_at.listed in
+            let first : f.first ≡ h.first = ap (λ (g : Frame). g.first) last.1 in omega arith)
       ]
 
   -- and then evaluation can read past all its inputs
-  pub inputs_plain : (frames : List Frame) (parts : List Part) (i : ℕ) (f : Frame) → slice_get frames i ≡ Some f → length parts ≤ f.first → HasParts sheet states frames parts → (input : Position) → IsInput sheet f.cell input → IsTrue (is_plain sheet.sizes states input)
+  pub inputs_plain : (frames : List Frame) (parts : List Part) (i : ℕ) (f : Frame) → slice_get frames i ≡ Some f
+      → length parts ≤ f.first → HasParts sheet states frames parts → (input : Position) → IsInput sheet f.cell input
+      → IsTrue (is_plain sheet.sizes states input)
   inputs_plain frames parts i f at done has input is_input = elim (has.passed i f input at is_input) [
     | inl plain ↦ plain
     | inr left ↦ absurd (let within = slice_get_within parts left.place left.at.part left.at.listed in let from = left.from in omega arith)
   ]
 
   -- the newest open cell waits for the cell at which a look stops
-  pub waits_for : (frames : List Frame) (parts : List Part) (i : ℕ) (f : Frame) (cell : Position) → slice_get frames i ≡ Some f → suc i ≡ length frames → HasParts sheet states frames parts → IsStopInParts sheet.sizes states parts f.first cell → IsWaiting sheet states frames cell
+  pub waits_for : (frames : List Frame) (parts : List Part) (i : ℕ) (f : Frame) (cell : Position)
+      → slice_get frames i ≡ Some f → suc i ≡ length frames → HasParts sheet states frames parts
+      → IsStopInParts sheet.sizes states parts f.first cell → IsWaiting sheet states frames cell
   waits_for frames parts i f cell at end has stop = record {
     newest = λ j g at_j end_j.
         let same_place : j ≡ i = omega (arith, end, end_j) in

@@ -1,30 +1,30 @@
-pub mod ApplyLemmas
-pub mod BoardLemmas
-pub mod BudgetLemmas
+mod ApplyLemmas
+mod BoardLemmas
+mod BudgetLemmas
 pub mod ContentLemmas
 pub mod ChangeLemmas
-pub mod CycleLemmas
+mod CycleLemmas
 pub mod DistinctLemmas
 pub mod EditLemmas
-pub mod FieldLemmas
-pub mod HonestLemmas
+mod FieldLemmas
+mod HonestLemmas
 pub mod LabelLemmas
-pub mod LeftLemmas
+mod LeftLemmas
 pub mod ListLemmas
 pub mod ListMembers
 pub mod LogLemmas
-pub mod LookLemmas
+mod LookLemmas
 pub mod LoopLemmas
 pub mod PartLemmas
-pub mod ResultLemmas
+mod ResultLemmas
 pub mod SameSheets
 pub mod SheetLemmas
 pub mod SheetValues
-pub mod StepLemmas
+mod StepLemmas
 pub mod TableLemmas
-pub mod TurnLemmas
+mod TurnLemmas
 pub mod ValueLemmas
-pub mod WalkLemmas
-pub mod WordLemmas
+mod WalkLemmas
+mod WordLemmas
 mod WorkedRows
-pub mod WrittenLemmas
+mod WrittenLemmas

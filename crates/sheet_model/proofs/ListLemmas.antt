@@ -1,5 +1,7 @@
 -- What stands at a place of a list after a push or a write.
-use Rattle.std.proofs.Common.{◌≡◌, ◌≢◌, ℕ, zero, suc, ◌+◌, ◌<◌, ◌≤◌, take, get_or, ◌∙◌, ◌⊎◌, inl, inr, subst, All, List, [], ◌∷◌, ◌++◌, length, map, slice_get, set, count_by, Result, Ok, Err, OnOk, Some, Bool, true, false, cond, refl, sym, ap, arith}
+use Rattle.std.proofs.Common.{◌≡◌, ◌≢◌, ℕ, zero, suc, ◌+◌, ◌<◌, ◌≤◌, take, get_or, ◌∙◌, ◌⊎◌, inl, inr, subst, All, List}
+use Rattle.std.proofs.Common.{[], ◌∷◌, ◌++◌, length, map, slice_get, set, count_by, Result, Ok, Err, OnOk, Some, Bool}
+use Rattle.std.proofs.Common.{true, false, cond, refl, sym, ap, arith}
 use Rattle.std.specs.List.{AllZip}
 use Rattle.std.proofs.Math.Seq.{take-suc}
 use Rattle.std.proofs.lemmas.List.{map-append}
@@ -16,7 +18,8 @@ slice_get-push [] y = refl
 slice_get-push (x ∷ xs) y = slice_get-push xs y
 
 -- what stands in a list after a push stood in it before, or is the new last element
-pub slice_get-pushed : {A : Type 0} (xs : List A) (y : A) (i : ℕ) (x : A) → slice_get (xs ++ y ∷ []) i ≡ Some x → (slice_get xs i ≡ Some x) ⊎ ((i ≡ length xs) × (y ≡ x))
+pub slice_get-pushed : {A : Type 0} (xs : List A) (y : A) (i : ℕ) (x : A) → slice_get (xs ++ y ∷ []) i ≡ Some x
+    → (slice_get xs i ≡ Some x) ⊎ ((i ≡ length xs) × (y ≡ x))
 slice_get-pushed [] y zero x at = inr (refl, cc)
 slice_get-pushed [] y (suc i) x at = absurd (cc)
 slice_get-pushed (z ∷ zs) y zero x at = inl at
@@ -86,7 +89,8 @@ module _ {A : Type 0} (p : A → Bool) where
       go false b h = omega arith
 
 -- what stands in a list with another last element stood there before, or is that element
-pub slice_get-last : {A : Type 0} (xs : List A) (y z : A) (i : ℕ) (x : A) → slice_get (xs ++ z ∷ []) i ≡ Some x → (slice_get (xs ++ y ∷ []) i ≡ Some x) ⊎ ((slice_get (xs ++ y ∷ []) i ≡ Some y) × (z ≡ x))
+pub slice_get-last : {A : Type 0} (xs : List A) (y z : A) (i : ℕ) (x : A) → slice_get (xs ++ z ∷ []) i ≡ Some x
+    → (slice_get (xs ++ y ∷ []) i ≡ Some x) ⊎ ((slice_get (xs ++ y ∷ []) i ≡ Some y) × (z ≡ x))
 slice_get-last [] y z zero x at = inr (refl, cc)
 slice_get-last [] y z (suc i) x at = absurd (cc)
 slice_get-last (w ∷ ws) y z zero x at = inl at
@@ -115,7 +119,8 @@ seen_alike f (x ∷ xs) [] alike = absurd alike
 seen_alike f (x ∷ xs) (y ∷ ys) alike = let first = alike.0 in let rest = seen_alike f xs ys alike.1 in cc
 
 -- the first elements of a list, and one more, as they are seen
-pub seen_more : {A B : Type 0} (f : A → B) (xs ys : List A) (i : ℕ) (x y : A) → map f ys ≡ map f (take i xs) → i < length xs → x ≡ get_or xs i x → f y ≡ f x → map f (ys ++ y ∷ []) ≡ map f (take (i + 1) xs)
+pub seen_more : {A B : Type 0} (f : A → B) (xs ys : List A) (i : ℕ) (x y : A) → map f ys ≡ map f (take i xs)
+    → i < length xs → x ≡ get_or xs i x → f y ≡ f x → map f (ys ++ y ∷ []) ≡ map f (take (i + 1) xs)
 seen_more f xs ys i x y so_far below at same =
     let more : i + 1 ≡ suc i = omega arith in
     map-append f ys (y ∷ []) ∙ ap (λ zs. zs ++ f y ∷ []) so_far ∙ ap (λ z. map f (take i xs) ++ z ∷ []) same
@@ -128,11 +133,13 @@ taken_more xs k x below at =
     ap (λ n. take n xs) more ∙ take-suc xs k x below ∙ ap (λ y. take k xs ++ y ∷ []) (sym at)
 
 -- what holds of them, and of the one more
-pub all_taken_more : {A : Type 0} (P : A → Type 0) (xs : List A) (k : ℕ) (x : A) → k < length xs → x ≡ get_or xs k x → All P (take k xs) → P x → All P (take (k + 1) xs)
+pub all_taken_more : {A : Type 0} (P : A → Type 0) (xs : List A) (k : ℕ) (x : A) → k < length xs → x ≡ get_or xs k x
+    → All P (take k xs) → P x → All P (take (k + 1) xs)
 all_taken_more P xs k x below at all holds = subst (All P) (sym (taken_more xs k x below at)) (All-push P (take k xs) x all holds)
 
 -- the first elements as they are seen, and one more as it is seen
-pub mapped_more : {A B : Type 0} (f : A → B) (xs : List A) (ys : List B) (k : ℕ) (x : A) (y : B) → ys ≡ map f (take k xs) → k < length xs → x ≡ get_or xs k x → y ≡ f x → ys ++ y ∷ [] ≡ map f (take (k + 1) xs)
+pub mapped_more : {A B : Type 0} (f : A → B) (xs : List A) (ys : List B) (k : ℕ) (x : A) (y : B)
+    → ys ≡ map f (take k xs) → k < length xs → x ≡ get_or xs k x → y ≡ f x → ys ++ y ∷ [] ≡ map f (take (k + 1) xs)
 mapped_more f xs ys k x y so_far below at same =
     ap (λ zs. zs ++ y ∷ []) so_far ∙ ap (λ z. map f (take k xs) ++ z ∷ []) same
     ∙ sym (ap (map f) (taken_more xs k x below at) ∙ map-append f (take k xs) (x ∷ []))

@@ -39,7 +39,8 @@ joined_from {A} {B} f (x ∷ xs) y there = elim (Contains-append_cases (f x) (fl
 pub joined_to : {A B : Type 0} (f : A → List B) (xs : List A) (x : A) (y : B) → Contains xs x → Contains (f x) y → Contains (flat_map f xs) y
 joined_to f [] x y there in_it = absurd (no_member x there)
 joined_to {A} {B} f (first ∷ xs) x y (zero, below, is) in_it = Contains-append_left (f first) (flat_map f xs) y (rw is in_it)
-joined_to f (first ∷ xs) x y (suc k, below, is) in_it = Contains-append_right (f first) (flat_map f xs) y (joined_to f xs x y (k, omega (arith, below), is) in_it)
+joined_to f (first ∷ xs) x y (suc k, below, is) in_it =
+    Contains-append_right (f first) (flat_map f xs) y (joined_to f xs x y (k, omega (arith, below), is) in_it)
 
 -- an element at a place is in the list, so that what holds of all members holds at each place
 member_at : {A : Type 0} (ys : List A) (k : ℕ) (d : A) → k < length ys → Contains ys (get_or ys k d)
@@ -51,9 +52,12 @@ pub all_from : {A : Type 0} (P : A → Type 0) (ys : List A) → ((y : A) → Co
 all_from P ys each = λ k d within. each (get_or ys k d) (member_at ys k d within)
 
 -- two lists joined, where each element of the one stands so to each of the other
-pub pairs_append : {A : Type 0} (R : A → A → Type 0) (xs ys : List A) → AllPairs R xs → AllPairs R ys → ((x y : A) → Contains xs x → Contains ys y → R x y) → AllPairs R (xs ++ ys)
+pub pairs_append : {A : Type 0} (R : A → A → Type 0) (xs ys : List A) → AllPairs R xs → AllPairs R ys
+    → ((x y : A) → Contains xs x → Contains ys y → R x y) → AllPairs R (xs ++ ys)
 pairs_append R [] ys one two cross = two
 pairs_append R (x ∷ xs) ys one two cross =
     AllPairs-cons R x (xs ++ ys)
-    (All-append (R x) xs ys (λ k d within. one 0 (suc k) d (omega arith) (omega (arith, within))) (all_from (R x) ys (λ y there. cross x y (first_member x xs) there)))
-    (pairs_append R xs ys (λ i j d lt within. one (suc i) (suc j) d (omega (arith, lt)) (omega (arith, within))) two (λ a b a_in b_in. cross a b (later_member x a xs a_in) b_in))
+    (All-append (R x) xs ys (λ k d within. one 0 (suc k) d (omega arith) (omega (arith, within)))
+    (all_from (R x) ys (λ y there. cross x y (first_member x xs) there)))
+    (pairs_append R xs ys (λ i j d lt within. one (suc i) (suc j) d (omega (arith, lt)) (omega (arith, within))) two
+    (λ a b a_in b_in. cross a b (later_member x a xs a_in) b_in))

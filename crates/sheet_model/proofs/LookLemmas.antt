@@ -1,5 +1,6 @@
 -- A look at what is left of a formula's ranges.
-use Rattle.std.proofs.Common.{◌≡◌, ℕ, ◌+◌, ◌<◌, ◌≤◌, ◌⊎◌, inl, inr, ◌↔◌, List, [], ◌∷◌, ◌++◌, length, slice_get, Some, Bool, false, IsTrue, IsFalse, refl, sym, ◌∙◌, ap, subst, arith}
+use Rattle.std.proofs.Common.{◌≡◌, ℕ, ◌+◌, ◌<◌, ◌≤◌, ◌⊎◌, inl, inr, ◌↔◌, List, [], ◌∷◌, ◌++◌, length, slice_get, Some}
+use Rattle.std.proofs.Common.{Bool, false, IsTrue, IsFalse, refl, sym, ◌∙◌, ap, subst, arith}
 use Rattle.std.specs.List.{Contains}
 use native.Mathlib.Decide.{dec_lt}
 use Rattle.std.proofs.lemmas.Option.{slice_get_within, slice_get_read}
@@ -15,7 +16,9 @@ module _ (sizes : Sizes) (states : List CellState) where
   looks_init parts are = record { are_parts = are; same = λ k part at. record { before = part; listed = at; range = refl }; left = λ k cell at. inr at }
 
   -- one more cell of a part can be read past
-  pub part_more : (part : Part) (place : ℕ) (cell : Position) → IsPartOfRectangle sizes states (part_at part place) → slice_get (cells_of part.range) place ≡ Some cell → IsTrue (is_plain sizes states cell) → IsPartOfRectangle sizes states (part_at part (place + 1))
+  pub part_more : (part : Part) (place : ℕ) (cell : Position) → IsPartOfRectangle sizes states (part_at part place)
+      → slice_get (cells_of part.range) place ≡ Some cell → IsTrue (is_plain sizes states cell)
+      → IsPartOfRectangle sizes states (part_at part (place + 1))
   part_more part place cell is at plain = record {
     inside = is.inside;
     passed = λ k c less at_k.
@@ -27,12 +30,15 @@ module _ (sizes : Sizes) (states : List CellState) where
   }
 
   -- the cell at which a look stops
-  pub stop_here : (part : Part) (place : ℕ) (cell : Position) (b : Bool) → slice_get (cells_of part.range) place ≡ Some cell → b ≡ is_plain sizes states cell → b ≡ false → (c : Position) → slice_get (cells_of part.range) place ≡ Some c → IsFalse (is_plain sizes states c)
+  pub stop_here : (part : Part) (place : ℕ) (cell : Position) (b : Bool)
+      → slice_get (cells_of part.range) place ≡ Some cell → b ≡ is_plain sizes states cell → b ≡ false → (c : Position)
+      → slice_get (cells_of part.range) place ≡ Some c → IsFalse (is_plain sizes states c)
   stop_here part place cell b at is not_plain c at_c =
       let same : cell ≡ c = (let e = sym at ∙ at_c in cc) in
       subst (λ (d : Position). IsFalse (is_plain sizes states d)) same (sym is ∙ not_plain)
 
-  pub stop_past : (part : Part) (place : ℕ) → length (cells_of part.range) ≤ place → (c : Position) → slice_get (cells_of part.range) place ≡ Some c → IsFalse (is_plain sizes states c)
+  pub stop_past : (part : Part) (place : ℕ) → length (cells_of part.range) ≤ place → (c : Position)
+      → slice_get (cells_of part.range) place ≡ Some c → IsFalse (is_plain sizes states c)
   stop_past part place past c at = absurd (let within = slice_get_within (cells_of part.range) place c at in omega arith)
 
   module _ (old rest : List Part) (part : Part) (looks : LooksOn sizes states old (rest ++ part ∷ [])) where
@@ -43,7 +49,8 @@ module _ (sizes : Sizes) (states : List CellState) where
     last_part = looks.are_parts (length rest) part (slice_get-push rest part)
 
     -- what was left is so before the last part, or in it
-    left_or_last : (k : ℕ) (cell : Position) → IsAt old k cell → IsTrue (is_plain sizes states cell) ⊎ (IsAt rest k cell ⊎ ((k ≡ length rest) × IsIn cell part.range))
+    left_or_last : (k : ℕ) (cell : Position) → IsAt old k cell → IsTrue (is_plain sizes states cell)
+        ⊎ (IsAt rest k cell ⊎ ((k ≡ length rest) × IsIn cell part.range))
     left_or_last k cell at = elim (looks.left k cell at) [ inl plain ↦ inl plain | inr still ↦ inr (split still) ]
       where
         split : IsAt (rest ++ part ∷ []) k cell → IsAt rest k cell ⊎ ((k ≡ length rest) × IsIn cell part.range)
@@ -53,25 +60,46 @@ module _ (sizes : Sizes) (states : List CellState) where
         ]
 
     -- the last part is done with: evaluation can read past each of its cells
-    pub looks_past : (next : ℕ) → IsPartOfRectangle sizes states (part_at part next) → length (cells_of part.range) ≤ next → ((cell : Position) → Contains (cells_of part.range) cell ↔ IsIn cell part.range) → LooksOn sizes states old rest
+    pub looks_past : (next : ℕ) → IsPartOfRectangle sizes states (part_at part next)
+        → length (cells_of part.range) ≤ next → ((cell : Position) → Contains (cells_of part.range) cell
+        ↔ IsIn cell part.range) → LooksOn sizes states old rest
     looks_past next is end listed = record {
       are_parts = λ k p at. looks.are_parts k p (in_rest k p at);
       same = λ k p at. looks.same k p (in_rest k p at);
-      left = λ k cell at. elim (left_or_last k cell at) [ inl plain ↦ inl plain | inr still ↦ elim still [ inl here ↦ inr here | inr last ↦ inl (plain_in cell last.1) ] ];
+      left = λ k cell at. elim (left_or_last k cell at) [
+        | inl plain ↦ inl plain
+        | inr still ↦
+            elim still [ inl here ↦ inr here | inr last ↦ inl (plain_in cell last.1) ]
+      ];
     }
       where
         plain_in : (cell : Position) → IsIn cell part.range → IsTrue (is_plain sizes states cell)
         plain_in cell inside =
             let found = (listed cell).1 inside in
             let less = found.1 in
-            is.passed found.0 cell (omega (arith, less, end)) (slice_get_read (cells_of part.range) (length (cells_of part.range)) found.0 cell refl found.1 (sym found.2))
+            is.passed found.0 cell (omega (arith, less, end))
+            (slice_get_read (cells_of part.range) (length (cells_of part.range)) found.0 cell refl found.1
+            (sym found.2))
 
     -- the last part is left with a later next place
     pub looks_stop : (next : ℕ) → IsPartOfRectangle sizes states (part_at part next) → LooksOn sizes states old (rest ++ part_at part next ∷ [])
     looks_stop next is = record {
-      are_parts = λ k p at. elim (slice_get-pushed rest (part_at part next) k p at) [ inl here ↦ looks.are_parts k p (in_rest k p here) | inr last ↦ subst (λ (q : Part). IsPartOfRectangle sizes states q) last.1 is ];
-      same = λ k p at. elim (slice_get-pushed rest (part_at part next) k p at) [ inl here ↦ looks.same k p (in_rest k p here) | inr last ↦ was_last k p last.0 last.1 ];
-      left = λ k cell at. elim (left_or_last k cell at) [ inl plain ↦ inl plain | inr still ↦ elim still [ inl here ↦ inr (before k cell here) | inr last ↦ inr (behind k cell last.0 last.1) ] ];
+      are_parts = λ k p at. elim (slice_get-pushed rest (part_at part next) k p at) [
+        | inl here ↦
+            looks.are_parts k p (in_rest k p here)
+        | inr last ↦
+            subst (λ (q : Part). IsPartOfRectangle sizes states q) last.1 is
+      ];
+      same = λ k p at. elim (slice_get-pushed rest (part_at part next) k p at) [
+        | inl here ↦
+            looks.same k p (in_rest k p here)
+        | inr last ↦ was_last k p last.0 last.1
+      ];
+      left = λ k cell at. elim (left_or_last k cell at) [
+        | inl plain ↦ inl plain
+        | inr still ↦
+            elim still [ inl here ↦ inr (before k cell here) | inr last ↦ inr (behind k cell last.0 last.1) ]
+      ];
     }
       where
         new : Part
@@ -89,8 +117,20 @@ module _ (sizes : Sizes) (states : List CellState) where
         behind : (k : ℕ) (cell : Position) → k ≡ length rest → IsIn cell part.range → IsAt (rest ++ new ∷ []) k cell
         behind k cell here inside = rw here (record { part = new; listed = slice_get-push rest new; inside = inside })
 
-    pub stop_at : (first next : ℕ) (cell : Position) → first ≤ length rest → slice_get (cells_of part.range) next ≡ Some cell → IsIn cell part.range → ((c : Position) → slice_get (cells_of part.range) next ≡ Some c → IsFalse (is_plain sizes states c)) → IsStopInParts sizes states (rest ++ part_at part next ∷ []) first cell
+    pub stop_at : (first next : ℕ) (cell : Position) → first ≤ length rest
+        → slice_get (cells_of part.range) next ≡ Some cell → IsIn cell part.range
+        → ((c : Position) → slice_get (cells_of part.range) next ≡ Some c → IsFalse (is_plain sizes states c))
+        → IsStopInParts sizes states (rest ++ part_at part next ∷ []) first cell
     stop_at first next cell below at inside stop = record {
-      left = record { place = length rest; from = below; at = record { part = part_at part next; listed = slice_get-push rest (part_at part next); inside = inside } };
+      left =
+          record {
+            place = length rest;
+            from = below;
+            at = record {
+              part = part_at part next;
+              listed = slice_get-push rest (part_at part next);
+              inside = inside;
+            };
+          };
       stop = stop cell at;
     }

@@ -1,5 +1,6 @@
 -- The values of cells that lead into a cycle, and of cells on which two steps agree.
-use Rattle.std.proofs.Common.{◌≡◌, ◌≢◌, ℕ, zero, suc, ◌+◌, ◌<◌, ◌⊎◌, inl, inr, List, [], ◌∷◌, ◌++◌, length, slice_get, Some, refl, sym, ◌∙◌, subst, arith, length-append}
+use Rattle.std.proofs.Common.{◌≡◌, ◌≢◌, ℕ, zero, suc, ◌+◌, ◌<◌, ◌⊎◌, inl, inr, List, [], ◌∷◌, ◌++◌, length, slice_get}
+use Rattle.std.proofs.Common.{Some, refl, sym, ◌∙◌, subst, arith, length-append}
 use Rattle.std.specs.Prelude.{Bool, true, false, ◌==◌}
 use Rattle.std.proofs.lemmas.Bool.Decides.{nat_tests}
 use Rattle.sheet_model.specs.Budget.{IsLocal, IsStrict, HandsOnCircular, ev, IsCircular, Leads, LeadsIntoCycle}
@@ -40,14 +41,18 @@ module _ {C V : Type 0} (Input : C → C → Type 0) (circ : V) (step : C → (C
       (λ c leads. let next = next_in_cycle c leads in (next.0, next.1, inl next.2))
 
 -- a listed cell with a number, or none
-find_number : {C : Type 0} (number : C → ℕ) (cells : List C) (n : ℕ) → ((i : ℕ) × (c : C) × (slice_get cells i ≡ Some c) × (number c ≡ n)) ⊎ ((i : ℕ) (c : C) → slice_get cells i ≡ Some c → number c ≢ n)
+find_number : {C : Type 0} (number : C → ℕ) (cells : List C) (n : ℕ) → ((i : ℕ) × (c : C) × (slice_get cells i ≡ Some c)
+    × (number c ≡ n)) ⊎ ((i : ℕ) (c : C) → slice_get cells i ≡ Some c → number c ≢ n)
 find_number {C} number [] n = inr (λ i c at. absurd (nothing i c at))
   where
     nothing : (i : ℕ) (c : C) → slice_get [] i ≡ Some c → ⊥
     nothing i c at = cc
 find_number {C} number (cell ∷ cells) n = by_test (number cell == n) refl (find_number number cells n)
   where
-    later : ((i : ℕ) × (c : C) × (slice_get cells i ≡ Some c) × (number c ≡ n)) ⊎ ((i : ℕ) (c : C) → slice_get cells i ≡ Some c → number c ≢ n) → number cell ≢ n → ((i : ℕ) × (c : C) × (slice_get (cell ∷ cells) i ≡ Some c) × (number c ≡ n)) ⊎ ((i : ℕ) (c : C) → slice_get (cell ∷ cells) i ≡ Some c → number c ≢ n)
+    later : ((i : ℕ) × (c : C) × (slice_get cells i ≡ Some c) × (number c ≡ n))
+        ⊎ ((i : ℕ) (c : C) → slice_get cells i ≡ Some c → number c ≢ n) → number cell ≢ n
+        → ((i : ℕ) × (c : C) × (slice_get (cell ∷ cells) i ≡ Some c) × (number c ≡ n))
+        ⊎ ((i : ℕ) (c : C) → slice_get (cell ∷ cells) i ≡ Some c → number c ≢ n)
     later (inl (i, c, at, same)) differs = inl (suc i, c, at, same)
     later (inr none) differs = inr other
       where
@@ -55,12 +60,17 @@ find_number {C} number (cell ∷ cells) n = by_test (number cell == n) refl (fin
         other zero c at = let same : cell ≡ c = cc in subst (λ (d : C). number d ≢ n) same differs
         other (suc i) c at = none i c at
 
-    by_test : (test : Bool) → (number cell == n) ≡ test → ((i : ℕ) × (c : C) × (slice_get cells i ≡ Some c) × (number c ≡ n)) ⊎ ((i : ℕ) (c : C) → slice_get cells i ≡ Some c → number c ≢ n) → ((i : ℕ) × (c : C) × (slice_get (cell ∷ cells) i ≡ Some c) × (number c ≡ n)) ⊎ ((i : ℕ) (c : C) → slice_get (cell ∷ cells) i ≡ Some c → number c ≢ n)
+    by_test : (test : Bool) → (number cell == n) ≡ test → ((i : ℕ) × (c : C) × (slice_get cells i ≡ Some c)
+        × (number c ≡ n)) ⊎ ((i : ℕ) (c : C) → slice_get cells i ≡ Some c → number c ≢ n)
+        → ((i : ℕ) × (c : C) × (slice_get (cell ∷ cells) i ≡ Some c) × (number c ≡ n))
+        ⊎ ((i : ℕ) (c : C) → slice_get (cell ∷ cells) i ≡ Some c → number c ≢ n)
     by_test true same rest = inl (0, cell, refl, grind (arith, nat_tests))
     by_test false same rest = later rest (let differs : number cell ≢ n = grind (arith, nat_tests) in differs)
 
 -- over inputs with numbers below a count, which tell them apart, each cell that is circular with one more step leads into a cycle
-module _ {C V : Type 0} (Input : C → C → Type 0) (circ : V) (step : C → (C → V) → V) (honest : HandsOnCircular Input circ step) (number : C → ℕ) (count : ℕ) (below : (c d : C) → Input c d → number d < count) (apart : (c d e f : C) → Input c d → Input e f → number d ≡ number f → d ≡ f) where
+module _ {C V : Type 0} (Input : C → C → Type 0) (circ : V) (step : C → (C → V)
+    → V) (honest : HandsOnCircular Input circ step) (number : C → ℕ) (count : ℕ) (below : (c d : C) → Input c d
+    → number d < count) (apart : (c d e f : C) → Input c d → Input e f → number d ≡ number f → d ≡ f) where
   -- what is known of a cell to which steps have led
   record Passed (start now v : C) : Type 0 where
     pub from : C
@@ -73,7 +83,8 @@ module _ {C V : Type 0} (Input : C → C → Type 0) (circ : V) (step : C → (C
     pub each : (i : ℕ) (v : C) → slice_get passed i ≡ Some v → Passed start now v
     pub differ : (i j : ℕ) (v w : C) → i < j → slice_get passed i ≡ Some v → slice_get passed j ≡ Some w → number v ≢ number w
 
-  follow : (start now : C) (passed : List C) → Path start now passed → (n : ℕ) → ev circ step n now ≡ circ → count < length passed + n → LeadsIntoCycle Input start
+  follow : (start now : C) (passed : List C) → Path start now passed → (n : ℕ) → ev circ step n now ≡ circ
+      → count < length passed + n → LeadsIntoCycle Input start
   unfolding ev
   follow start now passed path zero circular more =
       let most = length-le-count number count passed path.differ (λ i v at. let p = path.each i v at in below p.from v p.entered) in
@@ -90,7 +101,9 @@ module _ {C V : Type 0} (Input : C → C → Type 0) (circ : V) (step : C → (C
           arrive (inr leads) = leads_on start now d leads is_input
 
       return : (v d : C) → Input now d → v ≡ d → (v ≡ now) ⊎ Leads Input v now → Leads Input v v
-      return v d is_input same (inl here) = subst (λ (to : C). Leads Input v to) (sym same) (subst (λ (from : C). Leads Input from d) (sym here) (one_step now d is_input))
+      return v d is_input same (inl here) =
+          subst (λ (to : C). Leads Input v to) (sym same) (subst (λ (from : C). Leads Input from d) (sym here)
+          (one_step now d is_input))
       return v d is_input same (inr leads) = subst (λ (to : C). Leads Input v to) (sym same) (leads_on v now d leads is_input)
 
       move : (d : C) → Input now d → (v : C) → Passed start now v → Passed start d v
@@ -107,7 +120,9 @@ module _ {C V : Type 0} (Input : C → C → Type 0) (circ : V) (step : C → (C
       stands d is_input i v (inl old) = move d is_input v (path.each i v old)
       stands d is_input i v (inr last) = subst (λ (w : C). Passed start d w) last.1 (here d is_input)
 
-      apart_still : (d : C) → ((i : ℕ) (v : C) → slice_get passed i ≡ Some v → number v ≢ number d) → (i j : ℕ) (v w : C) → i < j → (slice_get passed i ≡ Some v) ⊎ ((i ≡ length passed) × (d ≡ v)) → (slice_get passed j ≡ Some w) ⊎ ((j ≡ length passed) × (d ≡ w)) → number v ≢ number w
+      apart_still : (d : C) → ((i : ℕ) (v : C) → slice_get passed i ≡ Some v → number v ≢ number d)
+          → (i j : ℕ) (v w : C) → i < j → (slice_get passed i ≡ Some v) ⊎ ((i ≡ length passed) × (d ≡ v))
+          → (slice_get passed j ≡ Some w) ⊎ ((j ≡ length passed) × (d ≡ w)) → number v ≢ number w
       apart_still d new i j v w less (inl at_i) (inl at_j) = path.differ i j v w less at_i at_j
       apart_still d new i j v w less (inl at_i) (inr last) = subst (λ (x : C). number v ≢ number x) last.1 (new i v at_i)
       apart_still d new i j v w less (inr last) (inl at_j) =
@@ -126,7 +141,10 @@ module _ {C V : Type 0} (Input : C → C → Type 0) (circ : V) (step : C → (C
         differ = λ i j v w less at_i at_j. apart_still d new i j v w less (slice_get-pushed passed d i v at_i) (slice_get-pushed passed d j w at_j);
       }
 
-      either : (d : C) → Input now d → ev circ step n d ≡ circ → ((i : ℕ) × (c : C) × (slice_get passed i ≡ Some c) × (number c ≡ number d)) ⊎ ((i : ℕ) (c : C) → slice_get passed i ≡ Some c → number c ≢ number d) → ((extended : List C) → Path start d extended → count < length extended + n → LeadsIntoCycle Input start) → LeadsIntoCycle Input start
+      either : (d : C) → Input now d → ev circ step n d ≡ circ → ((i : ℕ) × (c : C) × (slice_get passed i ≡ Some c)
+          × (number c ≡ number d)) ⊎ ((i : ℕ) (c : C) → slice_get passed i ≡ Some c → number c ≢ number d)
+          → ((extended : List C) → Path start d extended → count < length extended + n → LeadsIntoCycle Input start)
+          → LeadsIntoCycle Input start
       either d is_input still (inl (i, v, at, same)) onward =
           let p = path.each i v at in
           record { turn = v; there = inr p.reached; back = return v d is_input (apart p.from v now d p.entered is_input same) p.goes_on }
@@ -144,15 +162,21 @@ module _ {C V : Type 0} (Input : C → C → Type 0) (circ : V) (step : C → (C
       }
 
 -- with one step more than there are numbers, values are one step over themselves, and no others are
-module _ {C V : Type 0} (Input : C → C → Type 0) (circ : V) (step : C → (C → V) → V) (local : IsLocal Input step) (strict : IsStrict Input circ step) (honest : HandsOnCircular Input circ step) (number : C → ℕ) (count : ℕ) (below : (c d : C) → Input c d → number d < count) (apart : (c d e f : C) → Input c d → Input e f → number d ≡ number f → d ≡ f) (decide : (v : V) → (v ≡ circ) ⊎ (v ≢ circ)) where
+module _ {C V : Type 0} (Input : C → C → Type 0) (circ : V) (step : C → (C → V) → V) (local : IsLocal Input step)
+    (strict : IsStrict Input circ step) (honest : HandsOnCircular Input circ step) (number : C
+    → ℕ) (count : ℕ) (below : (c d : C) → Input c d → number d < count) (apart : (c d e f : C) → Input c d → Input e f
+    → number d ≡ number f → d ≡ f) (decide : (v : V) → (v ≡ circ) ⊎ (v ≢ circ)) where
   pub value_once : (c : C) → ev circ step (suc count) c ≡ step c (ev circ step (suc count))
   unfolding ev
   value_once c = elim (decide (ev circ step (suc count) c)) [
-    | inl circular ↦ circular ∙ sym (cycle_circular Input circ step local strict c (leads_into_cycle Input circ step honest number count below apart c circular) (suc (suc count)))
+    | inl circular ↦ circular
+        ∙ sym (cycle_circular Input circ step local strict c (leads_into_cycle Input circ step honest number count below
+        apart c circular) (suc (suc count)))
     | inr differs ↦ sym (stability Input circ step local strict (suc count) (suc (suc count)) c differs (omega arith))
   ]
 
-  module _ (values : C → V) (at_cycles : (c : C) → LeadsIntoCycle Input c → values c ≡ circ) (at_others : (c : C) → ¬ LeadsIntoCycle Input c → values c ≡ step c values) where
+  module _ (values : C → V) (at_cycles : (c : C) → LeadsIntoCycle Input c → values c ≡ circ) (at_others : (c : C)
+      → ¬ LeadsIntoCycle Input c → values c ≡ step c values) where
     only_plain : (n : ℕ) (c : C) → ev circ step n c ≢ circ → values c ≡ ev circ step n c
     unfolding ev
     only_plain zero c differs = absurd (differs refl)
@@ -167,7 +191,9 @@ module _ {C V : Type 0} (Input : C → C → Type 0) (circ : V) (step : C → (C
     ]
 
 -- steps that agree on a set that is closed under inputs give its cells the same values with every budget
-module _ {C V : Type 0} (Input : C → C → Type 0) (circ : V) (Kept : C → Type 0) (a b : C → (C → V) → V) (closed : (c d : C) → Kept c → Input c d → Kept d) (same : (c : C) (f g : C → V) → Kept c → ((d : C) → Input c d → f d ≡ g d) → a c f ≡ b c g) where
+module _ {C V : Type 0} (Input : C → C → Type 0) (circ : V) (Kept : C → Type 0) (a b : C → (C → V)
+    → V) (closed : (c d : C) → Kept c → Input c d → Kept d) (same : (c : C) (f g : C → V) → Kept c
+    → ((d : C) → Input c d → f d ≡ g d) → a c f ≡ b c g) where
   pub agree_on : (n : ℕ) (c : C) → Kept c → ev circ a n c ≡ ev circ b n c
   unfolding ev
   agree_on zero c kept = refl

@@ -1,5 +1,7 @@
 -- What is left to look at after more ranges are put behind.
-use Rattle.std.proofs.Common.{◌≡◌, ℕ, zero, suc, ◌+◌, ◌≤◌, ◌⊎◌, inl, inr, List, [], ◌∷◌, ◌++◌, length, slice_get, Some, IsTrue, IsFalse, ◌↔◌, refl, sym, subst, ◌∙◌, ap, arith, append_assoc, ◌<◌, ◌-◌, take, drop, reverse, get_or}
+use Rattle.std.proofs.Common.{◌≡◌, ℕ, zero, suc, ◌+◌, ◌≤◌, ◌⊎◌, inl, inr, List, [], ◌∷◌, ◌++◌, length, slice_get, Some}
+use Rattle.std.proofs.Common.{IsTrue, IsFalse, ◌↔◌, refl, sym, subst, ◌∙◌, ap, arith, append_assoc, ◌<◌, ◌-◌, take}
+use Rattle.std.proofs.Common.{drop, reverse, get_or}
 use Rattle.std.proofs.lemmas.List.{append-nil, get_or-reverse, length-reverse}
 use Rattle.std.proofs.lemmas.Option.{get_or_from_slice_get, slice_get-get_or, slice_get_within}
 use Rattle.std.proofs.Math.Seq.{drop-append_seam, take-append_seam}
@@ -15,10 +17,15 @@ use Rattle.sheet_model.specs.Parts.{IsAt, IsLeftInParts, IsPartOf, GainsParts, A
 use Rattle.sheet_model.proofs.ListLemmas.{slice_get-append}
 
 -- what stands in two lists joined stands in one of them
-pub slice_get-either : {A : Type 0} (xs ys : List A) (i : ℕ) (x : A) → slice_get (xs ++ ys) i ≡ Some x → (slice_get xs i ≡ Some x) ⊎ ((j : ℕ) × (i ≡ length xs + j) × (slice_get ys j ≡ Some x))
+pub slice_get-either : {A : Type 0} (xs ys : List A) (i : ℕ) (x : A) → slice_get (xs ++ ys) i ≡ Some x
+    → (slice_get xs i ≡ Some x) ⊎ ((j : ℕ) × (i ≡ length xs + j) × (slice_get ys j ≡ Some x))
 slice_get-either [] ys i x at = inr (i, omega arith, at)
 slice_get-either (z ∷ zs) ys zero x at = inl at
-slice_get-either (z ∷ zs) ys (suc i) x at = elim (slice_get-either zs ys i x at) [ inl here ↦ inl here | inr there ↦ inr (there.0, omega (arith, there.1), there.2) ]
+slice_get-either (z ∷ zs) ys (suc i) x at = elim (slice_get-either zs ys i x at) [
+  | inl here ↦ inl here
+  | inr there ↦
+      inr (there.0, omega (arith, there.1), there.2)
+]
 
 pub slice_get-behind : {A : Type 0} (xs ys : List A) (j : ℕ) (x : A) → slice_get ys j ≡ Some x → slice_get (xs ++ ys) (length xs + j) ≡ Some x
 slice_get-behind [] ys j x at = let none : 0 + j ≡ j = omega arith in rw none at
@@ -33,8 +40,19 @@ named_either xs ys cell named =
     ]
 
 pub named_by_both : (xs ys : List Reference) (cell : Position) → IsNamedBy xs cell ⊎ IsNamedBy ys cell → IsNamedBy (xs ++ ys) cell
-named_by_both xs ys cell (inl named) = record { through = named.through; place = named.place; listed = slice_get-append xs ys named.place named.through named.listed; inside = named.inside }
-named_by_both xs ys cell (inr named) = record { through = named.through; place = length xs + named.place; listed = slice_get-behind xs ys named.place named.through named.listed; inside = named.inside }
+named_by_both xs ys cell (inl named) =
+    record {
+      through = named.through;
+      place = named.place;
+      listed = slice_get-append xs ys named.place named.through named.listed;
+      inside = named.inside;
+    }
+named_by_both xs ys cell (inr named) = record {
+  through = named.through;
+  place = length xs + named.place;
+  listed = slice_get-behind xs ys named.place named.through named.listed;
+  inside = named.inside;
+}
 
 -- what is in one of two lists is in both
 pub at_before : (xs ys : List Part) (k : ℕ) (cell : Position) → IsAt xs k cell → IsAt (xs ++ ys) k cell
@@ -95,7 +113,9 @@ module _ (sizes : Sizes) (P Q : Position → Type 0) where
   }
 
 -- the part of a range that lies in the rectangle, and none where no cell does
-pub adds_clip : (sizes : Sizes) (range part : Corners) (old : List Part) → ((cell : Position) → IsIn cell part ↔ (IsIn cell range × IsTrue (is_inside sizes cell))) → AddsRange sizes range old (old ++ record { range = part; next = 0 } ∷ [])
+pub adds_clip : (sizes : Sizes) (range part : Corners) (old : List Part)
+    → ((cell : Position) → IsIn cell part ↔ (IsIn cell range × IsTrue (is_inside sizes cell)))
+    → AddsRange sizes range old (old ++ record { range = part; next = 0 } ∷ [])
 adds_clip sizes range part old same = record {
   added = new ∷ [];
   behind = refl;
@@ -113,7 +133,8 @@ adds_clip sizes range part old same = record {
     is_new zero p at = let one : new ≡ p = cc in subst (λ (q : Part). IsPartOf sizes (λ cell. IsIn cell range) q) one is_part
     is_new (suc k) p at = absurd (cc)
 
-pub adds_past : (sizes : Sizes) (range : Corners) (old : List Part) → ((cell : Position) → IsIn cell range → IsFalse (is_inside sizes cell)) → AddsRange sizes range old old
+pub adds_past : (sizes : Sizes) (range : Corners) (old : List Part)
+    → ((cell : Position) → IsIn cell range → IsFalse (is_inside sizes cell)) → AddsRange sizes range old old
 adds_past sizes range old outside = record {
   added = [];
   behind = sym (append-nil old);
@@ -123,12 +144,14 @@ adds_past sizes range old outside = record {
 
 module _ (sizes : Sizes) where
   -- the references of one list behind those of another, whichever were added first
-  pub adds_append : (xs ys : List Reference) (old mid new : List Part) → AddsParts sizes xs old mid → AddsParts sizes ys mid new → AddsParts sizes (xs ++ ys) old new
+  pub adds_append : (xs ys : List Reference) (old mid new : List Part) → AddsParts sizes xs old mid
+      → AddsParts sizes ys mid new → AddsParts sizes (xs ++ ys) old new
   adds_append xs ys old mid new first second =
       adds_same sizes (λ cell. IsNamedBy xs cell ⊎ IsNamedBy ys cell) (λ cell. IsNamedBy (xs ++ ys) cell) (named_by_both xs ys) (named_either xs ys) old new
       (adds_both sizes (λ cell. IsNamedBy xs cell) (λ cell. IsNamedBy ys cell) old mid new first second)
 
-  pub adds_before : (xs ys : List Reference) (old mid new : List Part) → AddsParts sizes ys old mid → AddsParts sizes xs mid new → AddsParts sizes (xs ++ ys) old new
+  pub adds_before : (xs ys : List Reference) (old mid new : List Part) → AddsParts sizes ys old mid
+      → AddsParts sizes xs mid new → AddsParts sizes (xs ++ ys) old new
   adds_before xs ys old mid new first second =
       adds_same sizes (λ cell. IsNamedBy ys cell ⊎ IsNamedBy xs cell) (λ cell. IsNamedBy (xs ++ ys) cell)
       (λ cell either. named_by_both xs ys cell (elim either [ inl second ↦ inr second | inr first ↦ inl first ]))
@@ -162,11 +185,14 @@ module _ (sizes : Sizes) where
   pub rest_init : (whole : Tree) (old : List Part) → RestAdded sizes whole whole old old
   rest_init whole old = record { rest = []; references = sym (append-nil (references_of whole)); added = adds_none sizes old; smaller = omega arith }
 
-  pub rest_added : (whole part : Tree) (old now new : List Part) → RestAdded sizes whole part old now → AddsParts sizes (references_of part) now new → AddsParts sizes (references_of whole) old new
+  pub rest_added : (whole part : Tree) (old now new : List Part) → RestAdded sizes whole part old now
+      → AddsParts sizes (references_of part) now new → AddsParts sizes (references_of whole) old new
   rest_added whole part old now new has adds =
       rw has.references (adds_before sizes (references_of part) has.rest old now new has.added adds)
 
-  pub rest_right : (whole left right : Tree) (op : BinaryOp) (old now new : List Part) → RestAdded sizes whole (binary op left right) old now → AddsParts sizes (references_of right) now new → RestAdded sizes whole left old new
+  pub rest_right : (whole left right : Tree) (op : BinaryOp) (old now new : List Part)
+      → RestAdded sizes whole (binary op left right) old now → AddsParts sizes (references_of right) now new
+      → RestAdded sizes whole left old new
   rest_right whole left right op old now new has adds = record {
     rest = references_of right ++ has.rest;
     references = has.references ∙ append_assoc (references_of left) (references_of right) has.rest;
@@ -175,7 +201,8 @@ module _ (sizes : Sizes) where
   }
 
 -- new parts are new parts in any order: also turned round
-pub adds_reversed : (sizes : Sizes) (Named : Position → Type 0) (old new : List Part) (first : ℕ) → first ≡ length old → GainsParts sizes Named old new → GainsParts sizes Named old (take first new ++ reverse (drop first new))
+pub adds_reversed : (sizes : Sizes) (Named : Position → Type 0) (old new : List Part) (first : ℕ) → first ≡ length old
+    → GainsParts sizes Named old new → GainsParts sizes Named old (take first new ++ reverse (drop first new))
 adds_reversed sizes Named old new first here adds = record {
   added = reverse adds.added;
   behind = rw (here, adds.behind) (λ i. take-append_seam old adds.added i ++ reverse (drop-append_seam old adds.added i));

@@ -15,29 +15,35 @@ use Rattle.sheet_model.specs.Words.{CellState, Unseen, Open, Known, cell_state, 
 
 module _ (sheet : SheetValue) (states : List CellState) (walk : IsWalkOf sheet states []) (seen : SeenBelow states (cell_count sheet.sizes)) where
   -- a seen cell is known where none is open, and its value is what the sheet gives
-  pub value_known : (cell : Position) → IsTrue (is_inside sheet.sizes cell) → (v : Value) × (slice_get states (place_of sheet.sizes cell) ≡ Some (Known v)) × (value_of sheet cell ≡ v)
+  pub value_known : (cell : Position) → IsTrue (is_inside sheet.sizes cell) → (v : Value)
+      × (slice_get states (place_of sheet.sizes cell) ≡ Some (Known v)) × (value_of sheet cell ≡ v)
   unfolding value_of
   value_known cell inside =
       elim (slice_get_cases states (place_of sheet.sizes cell)).1 [
         | inl there ↦ go there.0 there.2
-        | inr past ↦ absurd (let lt = place-lt sheet.sizes cell inside in let e = walk.count in let le : length states ≤ place_of sheet.sizes cell = past.0 in omega arith)
+        | inr past ↦ absurd (let lt = place-lt sheet.sizes cell inside in let e = walk.count in
+            let le : length states ≤ place_of sheet.sizes cell = past.0 in omega arith)
       ]
     where
       enough : known_count states ≤ suc (cell_count sheet.sizes)
       enough = let most = count_by-le-length is_known states in let e = walk.count in omega arith
 
-      go : (s : CellState) → slice_get states (place_of sheet.sizes cell) ≡ Some s → (v : Value) × (slice_get states (place_of sheet.sizes cell) ≡ Some (Known v)) × (value_of sheet cell ≡ v)
+      go : (s : CellState) → slice_get states (place_of sheet.sizes cell) ≡ Some s → (v : Value)
+          × (slice_get states (place_of sheet.sizes cell) ≡ Some (Known v)) × (value_of sheet cell ≡ v)
       go Unseen at = absurd (seen (place_of sheet.sizes cell) (place-lt sheet.sizes cell inside) at)
       go Open at = absurd (let l = walk.listed (place_of sheet.sizes cell) at in let no = l.2 in cc)
       go (Known v) at = (v, at, walk.settled cell v inside at (suc (cell_count sheet.sizes)) enough)
 
 -- so the words are the codes of the sheet's values
-module _ (sheet : SheetValue) (words : List ℕ) (are : AreWords words) (walk : IsWalkOf sheet (states_of words) []) (seen : SeenBelow (states_of words) (cell_count sheet.sizes)) where
-  word_known : (cell : Position) → IsTrue (is_inside sheet.sizes cell) → IsValue (value_of sheet cell) × (slice_get words (place_of sheet.sizes cell) ≡ Some (code_of (value_of sheet cell)))
+module _ (sheet : SheetValue) (words : List ℕ) (are : AreWords words) (walk : IsWalkOf sheet (states_of words) [])
+    (seen : SeenBelow (states_of words) (cell_count sheet.sizes)) where
+  word_known : (cell : Position) → IsTrue (is_inside sheet.sizes cell) → IsValue (value_of sheet cell)
+      × (slice_get words (place_of sheet.sizes cell) ≡ Some (code_of (value_of sheet cell)))
   word_known cell inside =
       elim (slice_get_cases words place).1 [
         | inl there ↦ by_word there.0 there.2
-        | inr past ↦ absurd (let lt = place-lt sheet.sizes cell inside in let e = walk.count in let m = length-map words cell_state in let le : length words ≤ place = past.0 in omega arith)
+        | inr past ↦ absurd (let lt = place-lt sheet.sizes cell inside in let e = walk.count in
+            let m = length-map words cell_state in let le : length words ≤ place = past.0 in omega arith)
       ]
     where
       place : ℕ

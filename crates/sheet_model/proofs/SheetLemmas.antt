@@ -1,5 +1,7 @@
 -- What a sheet keeps, and what a change does to it.
-use Rattle.std.proofs.Common.{◌≡◌, ◌≢◌, ℕ, zero, suc, ◌-◌, ◌^◌, ◌<◌, ◌≤◌, List, ◌∷◌, map, replicate, Bool, cond, length, get_or, IsTrue, true, false, refl, sym, ◌∙◌, ap, subst, arith, length-set, get_or-set_same, get_or-set_other, inl, inr, Result, Ok, Err}
+use Rattle.std.proofs.Common.{◌≡◌, ◌≢◌, ℕ, zero, suc, ◌-◌, ◌^◌, ◌<◌, ◌≤◌, List, ◌∷◌, map, replicate, Bool, cond, length}
+use Rattle.std.proofs.Common.{get_or, IsTrue, true, false, refl, sym, ◌∙◌, ap, subst, arith, length-set}
+use Rattle.std.proofs.Common.{get_or-set_same, get_or-set_other, inl, inr, Result, Ok, Err}
 use Rattle.std.specs.Prelude.{All, OnOk, OnErr}
 use Rattle.std.proofs.Math.ListN.{get_or-map}
 use Rattle.std.proofs.lemmas.List.{length-replicate}
@@ -20,7 +22,9 @@ use Rattle.sheet_model.specs.Fields.{IsContent, IsTableAfter}
 use Rattle.sheet_model.specs.Fields.IsTableAfter.{label, other}
 use Rattle.sheet_model.specs.declared.content.Content.{Content}
 use Rattle.sheet_model.specs.Labels.{IsTable, with_label}
-use Rattle.sheet_model.specs.Sheets.{SheetValue, ContentValue, Constant, Computed, HasLabel, IsConstant, IsWritten, IsHeld, IsSheet, IsSheetSize, content_of, content_value, blank_sheet, with_content, with_labels}
+use Rattle.sheet_model.specs.Sheets.{SheetValue, ContentValue, Constant, Computed, HasLabel, IsConstant, IsWritten}
+use Rattle.sheet_model.specs.Sheets.{IsHeld, IsSheet, IsSheetSize, content_of, content_value, blank_sheet, with_content}
+use Rattle.sheet_model.specs.Sheets.{with_labels}
 use Rattle.sheet_model.proofs.WrittenLemmas.{whole_field, read_is_formula}
 use Rattle.sheet_model.proofs.LabelLemmas.{length-with_label, distinct-with_label, get-with_label}
 
@@ -52,7 +56,8 @@ pub IsHeld-more : (fewer more : ℕ) (content : ContentValue) → fewer ≤ more
 IsHeld-more fewer more content grown held = record { label = HasLabel-more fewer more content grown held.label; written = held.written }
 
 -- what a text writes may be written, and its label is in the table
-pub label_content : (edition : Edition) (labels : List (List ℕ)) (text : List ℕ) (content : ContentValue) → IsContent edition labels text content → HasLabel (length labels) content
+pub label_content : (edition : Edition) (labels : List (List ℕ)) (text : List ℕ) (content : ContentValue)
+    → IsContent edition labels text content → HasLabel (length labels) content
 label_content edition labels text (Constant value.Empty) is = tt
 label_content edition labels text (Constant (value.Number n)) is = tt
 label_content edition labels text (Constant (value.Truth b)) is = tt
@@ -60,7 +65,8 @@ label_content edition labels text (Constant (value.Error kind)) is = tt
 label_content edition labels text (Constant (value.Label place)) is = slice_get_within labels place text is.1
 label_content edition labels text (Computed tree) is = tt
 
-written_content : (edition : Edition) (labels : List (List ℕ)) (text : List ℕ) (content : ContentValue) → length labels < 2 ^ 32 → length text ≤ 8192 → IsContent edition labels text content → IsWritten content
+written_content : (edition : Edition) (labels : List (List ℕ)) (text : List ℕ) (content : ContentValue)
+    → length labels < 2 ^ 32 → length text ≤ 8192 → IsContent edition labels text content → IsWritten content
 written_content edition labels text (Constant value.Empty) few short is = record { in_range = tt; not_circular = λ e. cc }
 written_content edition labels text (Constant (value.Number n)) few short is = record { in_range = whole_field text n is; not_circular = λ e. cc }
 written_content edition labels text (Constant (value.Truth b)) few short is = record { in_range = tt; not_circular = λ e. cc }
@@ -70,8 +76,12 @@ written_content edition labels text (Constant (value.Label place)) few short is 
     record { in_range = (let within = slice_get_within labels place text is.1 in omega (arith, within, few)); not_circular = λ e. cc }
 written_content edition labels text (Computed tree) few short is = read_is_formula edition text tree short is
 
-pub held_content : (edition : Edition) (labels : List (List ℕ)) (text : List ℕ) (content : ContentValue) → IsTable labels → length text ≤ 8192 → IsContent edition labels text content → IsHeld (length labels) content
-held_content edition labels text content table short is = record { label = label_content edition labels text content is; written = written_content edition labels text content table.few short is }
+pub held_content : (edition : Edition) (labels : List (List ℕ)) (text : List ℕ) (content : ContentValue)
+    → IsTable labels → length text ≤ 8192 → IsContent edition labels text content → IsHeld (length labels) content
+held_content edition labels text content table short is = record {
+  label = label_content edition labels text content is;
+  written = written_content edition labels text content table.few short is;
+}
 
 -- a table after a field has been read
 pub grown_table : (text : List ℕ) (old new : List (List ℕ)) → IsTableAfter text old new → length old ≤ length new
@@ -86,7 +96,8 @@ table_after text _ _ room table (label _ old new is e) =
 table_after text _ _ room table (other _ old new is e) = rw e table
 
 -- a sheet with a longer table
-pub sheet_with_labels : (sheet : SheetValue) (labels : List (List ℕ)) → IsSheet sheet → IsTable labels → length sheet.labels ≤ length labels → IsSheet (with_labels sheet labels)
+pub sheet_with_labels : (sheet : SheetValue) (labels : List (List ℕ)) → IsSheet sheet → IsTable labels
+    → length sheet.labels ≤ length labels → IsSheet (with_labels sheet labels)
 sheet_with_labels sheet labels is table grown = record {
   size = is.size;
   filled = is.filled;
@@ -95,7 +106,8 @@ sheet_with_labels sheet labels is table grown = record {
 }
 
 -- a sheet with another content in a cell
-pub sheet_with_content : (sheet : SheetValue) (cell : Position) (content : ContentValue) → IsSheet sheet → IsHeld (length sheet.labels) content → IsSheet (with_content sheet cell content)
+pub sheet_with_content : (sheet : SheetValue) (cell : Position) (content : ContentValue) → IsSheet sheet
+    → IsHeld (length sheet.labels) content → IsSheet (with_content sheet cell content)
 sheet_with_content sheet cell content is held = record {
   size = is.size;
   filled = length-set sheet.contents (place_of sheet.sizes cell) content ∙ is.filled;
@@ -113,7 +125,9 @@ sheet_blank edition sizes size = record {
 }
 
 -- each content of a sheet may stand beside its table
-pub held_at : (labels : ℕ) (contents : List Content) (place : ℕ) (found : Content) → All (IsHeld labels) (map content_value contents) → place < length (map content_value contents) → found ≡ get_or contents place found → IsHeld labels (content_value found)
+pub held_at : (labels : ℕ) (contents : List Content) (place : ℕ) (found : Content)
+    → All (IsHeld labels) (map content_value contents) → place < length (map content_value contents)
+    → found ≡ get_or contents place found → IsHeld labels (content_value found)
 held_at labels contents place found held within at =
     subst (IsHeld labels) (get_or-map content_value contents place found ∙ ap content_value (sym at)) (held place (content_value found) within)
 
@@ -138,13 +152,17 @@ held_of sheet is cell = go (is_inside sheet.sizes cell) refl
 pub written_at : (sheet : SheetValue) → IsSheet sheet → (cell : Position) → IsWritten (content_of sheet cell)
 written_at sheet is cell = (held_of sheet is cell).written
 
-pub constant_at : (sheet : SheetValue) (cell : Position) (constant : Value) → IsSheet sheet → content_of sheet cell ≡ Constant constant → IsValue constant × (constant ≢ value.Error Circ)
-constant_at sheet cell constant is stands = let written : IsConstant constant = subst IsWritten stands (written_at sheet is cell) in (written.in_range, written.not_circular)
+pub constant_at : (sheet : SheetValue) (cell : Position) (constant : Value) → IsSheet sheet
+    → content_of sheet cell ≡ Constant constant → IsValue constant × (constant ≢ value.Error Circ)
+constant_at sheet cell constant is stands =
+    let written : IsConstant constant = subst IsWritten stands (written_at sheet is cell) in
+    (written.in_range, written.not_circular)
 
 pub formula_at : (sheet : SheetValue) (cell : Position) (formula : Tree) → IsSheet sheet → content_of sheet cell ≡ Computed formula → IsFormula formula
 formula_at sheet cell formula is stands = subst IsWritten stands (written_at sheet is cell)
 
-pub label_at : (sheet : SheetValue) (cell : Position) (place : ℕ) → IsSheet sheet → content_of sheet cell ≡ Constant (value.Label place) → place < length sheet.labels
+pub label_at : (sheet : SheetValue) (cell : Position) (place : ℕ) → IsSheet sheet
+    → content_of sheet cell ≡ Constant (value.Label place) → place < length sheet.labels
 label_at sheet cell place is stands = subst (HasLabel (length sheet.labels)) stands (held_of sheet is cell).label
 
 pub on_ok : {A E : Type 0} (result : Result A E) (P : Type 0) → P → OnOk result P
@@ -163,19 +181,24 @@ module _ (sheet : SheetValue) (cell : Position) (content : ContentValue) (inside
   content_of-other another differs = go (is_inside sheet.sizes another) refl
     where
       go : (b : Bool) → is_inside sheet.sizes another ≡ b → content_of (with_content sheet cell content) another ≡ content_of sheet another
-      go true is = let apart : place_of sheet.sizes another ≢ place_of sheet.sizes cell = λ same. differs (place_same sheet.sizes another cell is inside same) in
+      go true is =
+          let apart : place_of sheet.sizes another ≢ place_of sheet.sizes cell =
+          λ same. differs (place_same sheet.sizes another cell is inside same) in
           rw (is, get_or-set_other sheet.contents (place_of sheet.sizes cell) (place_of sheet.sizes another) content (Constant value.Empty) apart) refl
       go false is = rw is refl
 
 pub content_of-blank : (edition : Edition) (sizes : Sizes) (cell : Position) → content_of (blank_sheet edition sizes) cell ≡ Constant value.Empty
 content_of-blank edition sizes cell = go (is_inside sizes cell)
   where
-    go : (b : Bool) → cond b (get_or (replicate (cell_count sizes) (Constant value.Empty)) (place_of sizes cell) (Constant value.Empty)) (Constant value.Empty) ≡ Constant value.Empty
+    go : (b : Bool)
+        → cond b (get_or (replicate (cell_count sizes) (Constant value.Empty)) (place_of sizes cell)
+        (Constant value.Empty)) (Constant value.Empty) ≡ Constant value.Empty
     go true = get_or-replicate_default (cell_count sizes) (place_of sizes cell) (Constant value.Empty)
     go false = refl
 
 -- what a text writes over a table, it writes over the table with a text more
-pub IsContent-with_label : (edition : Edition) (labels : List (List ℕ)) (more text : List ℕ) (content : ContentValue) → IsContent edition labels text content → IsContent edition (with_label labels more) text content
+pub IsContent-with_label : (edition : Edition) (labels : List (List ℕ)) (more text : List ℕ) (content : ContentValue)
+    → IsContent edition labels text content → IsContent edition (with_label labels more) text content
 IsContent-with_label edition labels more text (Constant value.Empty) is = is
 IsContent-with_label edition labels more text (Constant (value.Number n)) is = is
 IsContent-with_label edition labels more text (Constant (value.Truth b)) is = is
@@ -183,6 +206,8 @@ IsContent-with_label edition labels more text (Constant (value.Error kind)) is =
 IsContent-with_label edition labels more text (Constant (value.Label place)) is = (is.0, get-with_label labels more place text is.1)
 IsContent-with_label edition labels more text (Computed tree) is = is
 
-pub IsContent-after : (edition : Edition) (read : List ℕ) (old new : List (List ℕ)) (text : List ℕ) (content : ContentValue) → IsTableAfter read old new → IsContent edition old text content → IsContent edition new text content
+pub IsContent-after : (edition : Edition) (read : List ℕ) (old new : List (List ℕ)) (text : List ℕ)
+    (content : ContentValue) → IsTableAfter read old new → IsContent edition old text content
+    → IsContent edition new text content
 IsContent-after edition read _ _ text content (label _ old new field e) is = rw e (IsContent-with_label edition old read text content is)
 IsContent-after edition read _ _ text content (other _ old new field e) is = rw e is

@@ -24,28 +24,40 @@ input_apart sheet a b d e input other same = place_same sheet.sizes b e input.in
 
 pub one_step : (sheet : SheetValue) (cell : Position) → IsSheet sheet → value_of sheet cell ≡ step sheet cell (value_of sheet)
 unfolding value_of
-one_step sheet cell is = value_once (IsInput sheet) circular_value (step sheet) (step_local sheet) (step_strict sheet) (step_honest sheet is) (place_of sheet.sizes) (cell_count sheet.sizes) (input_below sheet) (input_apart sheet) circular_or_not cell
+one_step sheet cell is = value_once (IsInput sheet) circular_value (step sheet) (step_local sheet) (step_strict sheet)
+    (step_honest sheet is) (place_of sheet.sizes) (cell_count sheet.sizes) (input_below sheet) (input_apart sheet)
+    circular_or_not cell
 
-pub only_values_of : (sheet : SheetValue) (values : Position → Value) → IsSheet sheet → ((cell : Position) → LeadsIntoCycle (IsInput sheet) cell → values cell ≡ circular_value) → ((cell : Position) → ¬ LeadsIntoCycle (IsInput sheet) cell → values cell ≡ step sheet cell values) → (cell : Position) → values cell ≡ value_of sheet cell
+pub only_values_of : (sheet : SheetValue) (values : Position → Value) → IsSheet sheet
+    → ((cell : Position) → LeadsIntoCycle (IsInput sheet) cell → values cell ≡ circular_value)
+    → ((cell : Position) → ¬ LeadsIntoCycle (IsInput sheet) cell → values cell ≡ step sheet cell values)
+    → (cell : Position) → values cell ≡ value_of sheet cell
 unfolding value_of
-only_values_of sheet values is at_cycles at_others = only_values (IsInput sheet) circular_value (step sheet) (step_local sheet) (step_strict sheet) (step_honest sheet is) (place_of sheet.sizes) (cell_count sheet.sizes) (input_below sheet) (input_apart sheet) circular_or_not values at_cycles at_others
+only_values_of sheet values is at_cycles at_others =
+    only_values (IsInput sheet) circular_value (step sheet) (step_local sheet) (step_strict sheet)
+    (step_honest sheet is) (place_of sheet.sizes) (cell_count sheet.sizes) (input_below sheet) (input_apart sheet)
+    circular_or_not values at_cycles at_others
 
 pub circular_cycle : (sheet : SheetValue) (cell : Position) → IsSheet sheet → (value_of sheet cell ≡ circular_value) ↔ LeadsIntoCycle (IsInput sheet) cell
 unfolding value_of
 circular_cycle sheet cell is = (
-  leads_into_cycle (IsInput sheet) circular_value (step sheet) (step_honest sheet is) (place_of sheet.sizes) (cell_count sheet.sizes) (input_below sheet) (input_apart sheet) cell,
+  leads_into_cycle (IsInput sheet) circular_value (step sheet) (step_honest sheet is) (place_of sheet.sizes)
+      (cell_count sheet.sizes) (input_below sheet) (input_apart sheet) cell,
   λ leads. cycle_circular (IsInput sheet) circular_value (step sheet) (step_local sheet) (step_strict sheet) cell leads (suc (cell_count sheet.sizes)),
 )
 
 -- what may be written gives a value in range over such values, and so with every budget
-content_in_range : (sizes : Sizes) (values : Position → Value) (content : ContentValue) → IsWritten content → ((cell : Position) → IsValue (values cell)) → IsValue (step_content sizes values content)
+content_in_range : (sizes : Sizes) (values : Position → Value) (content : ContentValue) → IsWritten content
+    → ((cell : Position) → IsValue (values cell)) → IsValue (step_content sizes values content)
 content_in_range sizes values (Constant constant) written each = written.in_range
 content_in_range sizes values (Computed formula) written each = formula_in_range sizes formula values written (λ cell inside named. each cell)
 
 budget_in_range : (sheet : SheetValue) → IsSheet sheet → (n : ℕ) (cell : Position) → IsValue (ev circular_value (step sheet) n cell)
 unfolding ev
 budget_in_range sheet is zero cell = tt
-budget_in_range sheet is (suc n) cell = content_in_range sheet.sizes (ev circular_value (step sheet) n) (content_of sheet cell) (written_at sheet is cell) (budget_in_range sheet is n)
+budget_in_range sheet is (suc n) cell =
+    content_in_range sheet.sizes (ev circular_value (step sheet) n) (content_of sheet cell) (written_at sheet is cell)
+    (budget_in_range sheet is n)
 
 pub value_in_range : (sheet : SheetValue) (cell : Position) → IsSheet sheet → IsValue (value_of sheet cell)
 unfolding value_of

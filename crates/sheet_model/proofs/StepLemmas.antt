@@ -1,5 +1,6 @@
 -- The steps of the walk over words.
-use Rattle.std.proofs.Common.{◌≡◌, ◌≢◌, ℕ, suc, ◌<◌, ◌≤◌, List, [], ◌∷◌, ◌++◌, length, map, set, get_or, slice_get, Some, IsTrue, refl, sym, ◌∙◌, ap, arith, length-append}
+use Rattle.std.proofs.Common.{◌≡◌, ◌≢◌, ℕ, suc, ◌<◌, ◌≤◌, List, [], ◌∷◌, ◌++◌, length, map, set, get_or, slice_get}
+use Rattle.std.proofs.Common.{Some, IsTrue, refl, sym, ◌∙◌, ap, arith, length-append}
 use Rattle.std.proofs.lemmas.List.{length-map}
 use Rattle.sheet_refs.specs.Cells.{Position}
 use Rattle.sheet_refs.specs.Sizes.{is_inside, place_of, cell_count}
@@ -31,7 +32,8 @@ module _ (sheet : SheetValue) (words : List ℕ) (frames : List Frame) (parts : 
   words_count = sym (length-map words cell_state) ∙ state.walk.count
 
   -- what is known of a cell of the rectangle, by its word
-  pub state_there : (cell : Position) (place : ℕ) → place ≡ place_of sheet.sizes cell → place < cell_count sheet.sizes → slice_get (states_of words) (place_of sheet.sizes cell) ≡ Some (cell_state (get_or words place 0))
+  pub state_there : (cell : Position) (place : ℕ) → place ≡ place_of sheet.sizes cell → place < cell_count sheet.sizes
+      → slice_get (states_of words) (place_of sheet.sizes cell) ≡ Some (cell_state (get_or words place 0))
   state_there cell place is below = rw (← is) (states_at words place 0 (omega (arith, words_count, below)))
 
   pub state_look : (new : List Part) → LooksOn sheet.sizes (states_of words) parts new → IsWalkState sheet words frames new
@@ -44,18 +46,23 @@ module _ (sheet : SheetValue) (words : List ℕ) (frames : List Frame) (parts : 
     opened : states_of (set words place 6) ≡ set (states_of words) place Open
     opened = states_set words place 6
 
-    pub state_open : (new : List Part) → AddsParts sheet.sizes (content_references (content_of sheet cell)) parts new → IsWalkState sheet (set words place 6) (frames ++ record { cell = cell; first = length parts } ∷ []) new
+    pub state_open : (new : List Part) → AddsParts sheet.sizes (content_references (content_of sheet cell)) parts new
+        → IsWalkState sheet (set words place 6) (frames ++ record { cell = cell; first = length parts } ∷ []) new
     state_open new adds = record {
       coded = words_set words place 6 state.coded open_is_word;
       walk = rw opened (walk_open sheet (states_of words) frames cell state.walk opening.inside opening.unseen opening.newest (length parts));
-      left = rw opened (parts_open sheet (set (states_of words) place Open) frames cell parts new adds (parts_set sheet (states_of words) frames parts place Unseen Open opening.unseen refl state.left));
+      left =
+          rw opened (parts_open sheet (set (states_of words) place Open) frames cell parts new adds
+          (parts_set sheet (states_of words) frames parts place Unseen Open opening.unseen refl state.left));
     }
 
     pub less_open : (frame : Frame) → work_left (states_of (set words place 6)) (frames ++ frame ∷ []) < work_left (states_of words) frames
     less_open frame = rw opened (work_open sheet (states_of words) frames frame place opening.unseen)
 
   -- the cell for which the newest open cell waits was seen
-  pub state_close : (cell : Position) (closed : List ℕ) → IsWaiting sheet (states_of words) frames cell → slice_get (states_of words) (place_of sheet.sizes cell) ≢ Some Unseen → AreWords closed → states_of closed ≡ map closed_state (states_of words) → IsWalkState sheet closed [] []
+  pub state_close : (cell : Position) (closed : List ℕ) → IsWaiting sheet (states_of words) frames cell
+      → slice_get (states_of words) (place_of sheet.sizes cell) ≢ Some Unseen → AreWords closed
+      → states_of closed ≡ map closed_state (states_of words) → IsWalkState sheet closed [] []
   state_close cell closed waiting seen coded same = record {
     coded = coded;
     walk = rw same (walk_close sheet (states_of words) frames state.walk cell waiting seen);
@@ -63,18 +70,21 @@ module _ (sheet : SheetValue) (words : List ℕ) (frames : List Frame) (parts : 
   }
 
 -- nothing is left to look at of the last of the frames
-pub done_last : (frames rest : List Frame) (f : Frame) (n : ℕ) → frames ≡ rest ++ f ∷ [] → ((i : ℕ) (g : Frame) → slice_get frames i ≡ Some g → suc i ≡ length frames → n ≤ g.first) → n ≤ f.first
+pub done_last : (frames rest : List Frame) (f : Frame) (n : ℕ) → frames ≡ rest ++ f ∷ []
+    → ((i : ℕ) (g : Frame) → slice_get frames i ≡ Some g → suc i ≡ length frames → n ≤ g.first) → n ≤ f.first
 done_last frames rest f n is done = done (length rest) f (rw is (slice_get-push rest f)) (rw is (let e = length-append rest (f ∷ []) in omega arith))
 
 -- the last of the frames is one
-pub same_last : (frames : List Frame) (i j : ℕ) (f g : Frame) → slice_get frames i ≡ Some f → slice_get frames j ≡ Some g → suc i ≡ length frames → suc j ≡ length frames → f ≡ g
+pub same_last : (frames : List Frame) (i j : ℕ) (f g : Frame) → slice_get frames i ≡ Some f
+    → slice_get frames j ≡ Some g → suc i ≡ length frames → suc j ≡ length frames → f ≡ g
 same_last frames i j f g at_i at_j end_i end_j =
     let same_place : j ≡ i = omega (arith, end_i, end_j) in
     let here = rw same_place at at_j in
     cc
 
 -- the newest open cell is settled
-module _ (sheet : SheetValue) (words : List ℕ) (rest : List Frame) (f : Frame) (parts : List Part) (state : IsWalkState sheet words (rest ++ f ∷ []) parts) where
+module _ (sheet : SheetValue) (words : List ℕ) (rest : List Frame) (f : Frame) (parts : List Part)
+    (state : IsWalkState sheet words (rest ++ f ∷ []) parts) where
   abbrev there : ℕ
   there = place_of sheet.sizes f.cell
 
@@ -84,24 +94,49 @@ module _ (sheet : SheetValue) (words : List ℕ) (rest : List Frame) (f : Frame)
   is_open : slice_get (states_of words) there ≡ Some Open
   is_open = state.walk.opened (length rest) f newest
 
-  pub finish_plain : length parts ≤ f.first → (input : Position) → IsNamedBy (content_references (content_of sheet f.cell)) input → IsTrue (is_inside sheet.sizes input) → IsTrue (is_plain sheet.sizes (states_of words) input)
-  finish_plain done input named inside = inputs_plain sheet (states_of words) (rest ++ f ∷ []) parts (length rest) f newest done state.left input (record { named = named; inside = inside })
+  pub finish_plain : length parts ≤ f.first → (input : Position)
+      → IsNamedBy (content_references (content_of sheet f.cell)) input → IsTrue (is_inside sheet.sizes input)
+      → IsTrue (is_plain sheet.sizes (states_of words) input)
+  finish_plain done input named inside =
+      inputs_plain sheet (states_of words) (rest ++ f ∷ []) parts (length rest) f newest done state.left input
+      (record { named = named; inside = inside })
 
   pub finish_inside : IsTrue (is_inside sheet.sizes f.cell)
   finish_inside = state.walk.inside (length rest) f newest
 
-  pub state_finish : (word : ℕ) → length parts ≤ f.first → IsCodeWord word → cell_state word ≡ Known (step sheet f.cell (known_values sheet.sizes (states_of words))) → IsWalkState sheet (set words there word) rest parts
+  pub state_finish : (word : ℕ) → length parts ≤ f.first → IsCodeWord word
+      → cell_state word ≡ Known (step sheet f.cell (known_values sheet.sizes (states_of words)))
+      → IsWalkState sheet (set words there word) rest parts
   state_finish word done is known = record {
     coded = words_set words there word state.coded is;
-    walk = rw (states_set words there word, known) (walk_finish sheet (states_of words) rest f state.walk (inputs_plain sheet (states_of words) (rest ++ f ∷ []) parts (length rest) f newest done state.left));
-    left = rw (states_set words there word) (parts_set sheet (states_of words) rest parts there Open (cell_state word) is_open refl (parts_finish sheet (states_of words) rest f parts done state.left));
+    walk =
+        rw (states_set words there word, known) (walk_finish sheet (states_of words) rest f state.walk
+        (inputs_plain sheet (states_of words) (rest ++ f ∷ []) parts (length rest) f newest done state.left));
+    left =
+        rw (states_set words there word) (parts_set sheet (states_of words) rest parts there Open (cell_state word)
+        is_open refl (parts_finish sheet (states_of words) rest f parts done state.left));
   }
 
-  pub less_finish : (word : ℕ) → cell_state word ≡ Known (step sheet f.cell (known_values sheet.sizes (states_of words))) → work_left (states_of (set words there word)) rest < work_left (states_of words) (rest ++ f ∷ [])
-  less_finish word known = rw (states_set words there word, known) (work_finish sheet (states_of words) rest f there (step sheet f.cell (known_values sheet.sizes (states_of words))) is_open)
+  pub less_finish : (word : ℕ)
+      → cell_state word ≡ Known (step sheet f.cell (known_values sheet.sizes (states_of words)))
+      → work_left (states_of (set words there word)) rest < work_left (states_of words) (rest ++ f ∷ [])
+  less_finish word known =
+      rw (
+        states_set words there word,
+        known,
+      ) (work_finish sheet (states_of words) rest f there
+      (step sheet f.cell (known_values sheet.sizes (states_of words))) is_open)
 
-  pub seen_finish : (word : ℕ) → cell_state word ≡ Known (step sheet f.cell (known_values sheet.sizes (states_of words))) → KeepsSeen (states_of words) (states_of (set words there word))
-  seen_finish word known = rw (states_set words there word, known) (seen_set (states_of words) there Open (Known (step sheet f.cell (known_values sheet.sizes (states_of words)))) is_open (λ same. cc))
+  pub seen_finish : (word : ℕ)
+      → cell_state word ≡ Known (step sheet f.cell (known_values sheet.sizes (states_of words)))
+      → KeepsSeen (states_of words) (states_of (set words there word))
+  seen_finish word known =
+      rw (
+        states_set words there word,
+        known,
+      )
+      (seen_set (states_of words) there Open (Known (step sheet f.cell (known_values sheet.sizes (states_of words))))
+      is_open (λ same. cc))
 
 -- closing goes on with the cell of one frame closed
 module _ (sheet : SheetValue) (words : List ℕ) (rest : List Frame) (f : Frame) (closing : IsClosing sheet (states_of words) (rest ++ f ∷ [])) where

@@ -7,12 +7,14 @@ use Rattle.sheet_model.specs.Tables.{AddsLabels}
 use Rattle.sheet_model.specs.Tables.AddsLabels.{done, next}
 
 -- one text more is read
-pub adds_one_more : (texts : List (List ℕ)) (text : List ℕ) (old between new : List (List ℕ)) → AddsLabels texts old between → IsTableAfter text between new → AddsLabels (texts ++ text ∷ []) old new
+pub adds_one_more : (texts : List (List ℕ)) (text : List ℕ) (old between new : List (List ℕ))
+    → AddsLabels texts old between → IsTableAfter text between new → AddsLabels (texts ++ text ∷ []) old new
 adds_one_more _ text old between new (done texts _ _ none same) after =
     let first : IsTableAfter text old new = subst (λ t. IsTableAfter text t new) same after in
     next (texts ++ text ∷ []) text [] old new new (ap (λ t. t ++ text ∷ []) none) first (done [] new new refl refl)
 adds_one_more _ text old between new (next texts first rest _ middle _ split after_first after_rest) after =
-    next (texts ++ text ∷ []) first (rest ++ text ∷ []) old middle new (ap (λ t. t ++ text ∷ []) split) after_first (adds_one_more rest text middle between new after_rest after)
+    next (texts ++ text ∷ []) first (rest ++ text ∷ []) old middle new (ap (λ t. t ++ text ∷ []) split) after_first
+    (adds_one_more rest text middle between new after_rest after)
 
 -- a text does one thing to a table
 one_table : (text : List ℕ) (old a b : List (List ℕ)) → IsTableAfter text old a → IsTableAfter text old b → a ≡ b

@@ -1,5 +1,6 @@
 -- A turn of the walk that opens one more cell, and one that settles the newest open cell.
-use Rattle.std.proofs.Common.{◌≡◌, ◌≢◌, ℕ, suc, ◌+◌, ◌<◌, ◌⊎◌, inl, inr, List, [], ◌∷◌, ◌++◌, length, slice_get, set, Some, IsTrue, sym, ◌∙◌, ap, subst, arith, length-set, length-append}
+use Rattle.std.proofs.Common.{◌≡◌, ◌≢◌, ℕ, suc, ◌+◌, ◌<◌, ◌⊎◌, inl, inr, List, [], ◌∷◌, ◌++◌, length, slice_get, set}
+use Rattle.std.proofs.Common.{Some, IsTrue, sym, ◌∙◌, ap, subst, arith, length-set, length-append}
 use Rattle.std.proofs.lemmas.Bool.Decides.{eqb_tells}
 use Rattle.std.proofs.lemmas.Option.{slice_get_within, get_or_from_slice_get}
 use Rattle.sheet_refs.specs.Cells.{Position}
@@ -20,7 +21,8 @@ use Rattle.sheet_model.proofs.ValueLemmas.{step_local, step_strict}
 use Rattle.sheet_model.proofs.WalkLemmas.{settles_later, differ, known_plain}
 
 -- a write at one place, read at another or at that one
-pub read_set : (states : List CellState) (p q : ℕ) (s t u : CellState) → slice_get states p ≡ Some s → slice_get (set states p t) q ≡ Some u → ((q ≡ p) × (t ≡ u)) ⊎ ((q ≢ p) × (slice_get states q ≡ Some u))
+pub read_set : (states : List CellState) (p q : ℕ) (s t u : CellState) → slice_get states p ≡ Some s
+    → slice_get (set states p t) q ≡ Some u → ((q ≡ p) × (t ≡ u)) ⊎ ((q ≢ p) × (slice_get states q ≡ Some u))
 read_set states p q s t u at at_set =
     elim (eqb_tells q p) [
       | inl same ↦ inl (same.1, let e = slice_get-set_same states p s t at in let f = ap (slice_get (set states p t)) same.1 in cc)
@@ -29,24 +31,34 @@ read_set states p q s t u at at_set =
 
 module _ (sheet : SheetValue) (states : List CellState) where
   -- one more cell is open
-  pub walk_open : (frames : List Frame) (cell : Position) → IsWalkOf sheet states frames → IsTrue (is_inside sheet.sizes cell) → slice_get states (place_of sheet.sizes cell) ≡ Some Unseen → ((i : ℕ) (f : Frame) → slice_get frames i ≡ Some f → suc i ≡ length frames → IsInput sheet f.cell cell) → (first : ℕ) → IsWalkOf sheet (set states (place_of sheet.sizes cell) Open) (frames ++ record { cell = cell; first = first } ∷ [])
+  pub walk_open : (frames : List Frame) (cell : Position) → IsWalkOf sheet states frames
+      → IsTrue (is_inside sheet.sizes cell) → slice_get states (place_of sheet.sizes cell) ≡ Some Unseen
+      → ((i : ℕ) (f : Frame) → slice_get frames i ≡ Some f → suc i ≡ length frames → IsInput sheet f.cell cell)
+      → (first : ℕ) → IsWalkOf sheet (set states (place_of sheet.sizes cell) Open) (frames
+      ++ record { cell = cell; first = first } ∷ [])
   walk_open frames cell walk inside unseen waiting first = record {
     count = length-set states p Open ∙ walk.count;
     settled = λ c v c_inside at.
         elim (read_set states p (place_of sheet.sizes c) Unseen Open (Known v) unseen at) [
           | inl here ↦ absurd (let no = here.1 in cc)
-          | inr other ↦ settles_later sheet (known_count states) (known_count (set states p Open)) c v (omega (arith, known_same)) (walk.settled c v c_inside other.1)
+          | inr other ↦ settles_later sheet (known_count states) (known_count (set states p Open)) c v
+              (omega (arith, known_same)) (walk.settled c v c_inside other.1)
         ];
     listed = λ q at.
         elim (read_set states p q Unseen Open Open unseen at) [
           | inl here ↦ (length frames, new, slice_get-push frames new, sym here.0)
           | inr other ↦ (let l = walk.listed q other.1 in (l.0, l.1, slice_get-append frames (new ∷ []) l.0 l.1 l.2, l.3))
         ];
-    inside = λ i f at. elim (slice_get-pushed frames new i f at) [ inl old ↦ walk.inside i f old | inr last ↦ subst (λ (g : Frame). IsTrue (is_inside sheet.sizes g.cell)) last.1 inside ];
+    inside = λ i f at. elim (slice_get-pushed frames new i f at) [
+      | inl old ↦ walk.inside i f old
+      | inr last ↦
+          subst (λ (g : Frame). IsTrue (is_inside sheet.sizes g.cell)) last.1 inside
+    ];
     opened = λ i f at.
         elim (slice_get-pushed frames new i f at) [
           | inl old ↦ slice_get-set_other states p (place_of sheet.sizes f.cell) Open (apart i f old) ∙ walk.opened i f old
-          | inr last ↦ subst (λ (g : Frame). slice_get (set states p Open) (place_of sheet.sizes g.cell) ≡ Some Open) last.1 (slice_get-set_same states p Unseen Open unseen)
+          | inr last ↦ subst (λ (g : Frame). slice_get (set states p Open) (place_of sheet.sizes g.cell) ≡ Some Open)
+              last.1 (slice_get-set_same states p Unseen Open unseen)
         ];
     once = λ i j f g lt at_i at_j.
         elim (slice_get-pushed frames new i f at_i) [
@@ -54,7 +66,8 @@ module _ (sheet : SheetValue) (states : List CellState) where
             | inl old_j ↦ walk.once i j f g lt old_i old_j
             | inr last ↦ subst (λ (h : Frame). place_of sheet.sizes f.cell ≢ place_of sheet.sizes h.cell) last.1 (apart i f old_i)
           ]
-          | inr last_i ↦ absurd (let in_range = slice_get_within (frames ++ new ∷ []) j g at_j in let e = length-append frames (new ∷ []) in let first : i ≡ length frames = last_i.0 in omega arith)
+          | inr last_i ↦ absurd (let in_range = slice_get_within (frames ++ new ∷ []) j g at_j in
+              let e = length-append frames (new ∷ []) in let first : i ≡ length frames = last_i.0 in omega arith)
         ];
     waits = λ i f g at_i at_j.
         elim (slice_get-pushed frames new (suc i) g at_j) [
@@ -83,11 +96,16 @@ module _ (sheet : SheetValue) (states : List CellState) where
       known_same : known_count (set states p Open) + 0 ≡ known_count states + 0
       known_same = count_by-set is_known states p Unseen Open unseen
 
-  pub work_open : (frames : List Frame) (frame : Frame) (p : ℕ) → slice_get states p ≡ Some Unseen → work_left (set states p Open) (frames ++ frame ∷ []) < work_left states frames
-  work_open frames frame p unseen = let fewer = count_by-set is_unseen states p Unseen Open unseen in let longer = length-append frames (frame ∷ []) in omega arith
+  pub work_open : (frames : List Frame) (frame : Frame) (p : ℕ) → slice_get states p ≡ Some Unseen
+      → work_left (set states p Open) (frames ++ frame ∷ []) < work_left states frames
+  work_open frames frame p unseen = let fewer = count_by-set is_unseen states p Unseen Open unseen in
+      let longer = length-append frames (frame ∷ []) in omega arith
 
   -- the newest open cell, whose references can all be read past, has the value of one step over the known values
-  pub walk_finish : (rest : List Frame) (f : Frame) → IsWalkOf sheet states (rest ++ f ∷ []) → ((c : Position) → IsInput sheet f.cell c → IsTrue (is_plain sheet.sizes states c)) → IsWalkOf sheet (set states (place_of sheet.sizes f.cell) (Known (step sheet f.cell (known_values sheet.sizes states)))) rest
+  pub walk_finish : (rest : List Frame) (f : Frame) → IsWalkOf sheet states (rest ++ f ∷ [])
+      → ((c : Position) → IsInput sheet f.cell c → IsTrue (is_plain sheet.sizes states c))
+      → IsWalkOf sheet (set states (place_of sheet.sizes f.cell)
+      (Known (step sheet f.cell (known_values sheet.sizes states)))) rest
   walk_finish rest f walk plain = record {
     count = length-set states p (Known value) ∙ walk.count;
     settled = λ c v c_inside at.
@@ -97,7 +115,8 @@ module _ (sheet : SheetValue) (states : List CellState) where
               subst (λ k. SettlesAt (Error Circ) (step sheet) k c v) (sym one_more)
               (subst (λ d. SettlesAt (Error Circ) (step sheet) (suc (known_count states)) d v) same_cell
               (subst (λ w. SettlesAt (Error Circ) (step sheet) (suc (known_count states)) f.cell w) same_value settles)))
-          | inr other ↦ settles_later sheet (known_count states) (known_count (set states p (Known value))) c v (omega (arith, one_more)) (walk.settled c v c_inside other.1)
+          | inr other ↦ settles_later sheet (known_count states) (known_count (set states p (Known value))) c v
+              (omega (arith, one_more)) (walk.settled c v c_inside other.1)
         ];
     listed = λ q at.
         elim (read_set states p q Open (Known value) Open here at) [
@@ -140,14 +159,18 @@ module _ (sheet : SheetValue) (states : List CellState) where
 
       settles : SettlesAt (Error Circ) (step sheet) (suc (known_count states)) f.cell value
       settles =
-          settles_next (IsInput sheet) (Error Circ) (step sheet) (step_local sheet) (step_strict sheet) (known_count states) (known_values sheet.sizes states) f.cell
+          settles_next (IsInput sheet) (Error Circ) (step sheet) (step_local sheet) (step_strict sheet)
+          (known_count states) (known_values sheet.sizes states) f.cell
           (λ d input.
           let known = known_plain sheet.sizes states walk.count d input.inside (plain d input) in
-          let e : known_values sheet.sizes states d ≡ known.0 = ap known_value (get_or_from_slice_get states (place_of sheet.sizes d) (Known known.0) Unseen known.1) in
+          let e : known_values sheet.sizes states d ≡ known.0 =
+          ap known_value (get_or_from_slice_get states (place_of sheet.sizes d) (Known known.0) Unseen known.1) in
           subst (λ v. SettlesAt (Error Circ) (step sheet) (known_count states) d v) (sym e) (walk.settled d known.0 input.inside known.1))
 
-  pub work_finish : (rest : List Frame) (f : Frame) (p : ℕ) (v : Value) → slice_get states p ≡ Some Open → work_left (set states p (Known v)) rest < work_left states (rest ++ f ∷ [])
-  work_finish rest f p v open_here = let same = count_by-set is_unseen states p Open (Known v) open_here in let longer = length-append rest (f ∷ []) in omega arith
+  pub work_finish : (rest : List Frame) (f : Frame) (p : ℕ) (v : Value) → slice_get states p ≡ Some Open
+      → work_left (set states p (Known v)) rest < work_left states (rest ++ f ∷ [])
+  work_finish rest f p v open_here = let same = count_by-set is_unseen states p Open (Known v) open_here in
+      let longer = length-append rest (f ∷ []) in omega arith
 
 -- a write to a cell that was seen, or of a state that is no longer unseen, keeps what was seen
 pub seen_set : (states : List CellState) (p : ℕ) (s t : CellState) → slice_get states p ≡ Some s → t ≢ Unseen → KeepsSeen states (set states p t)

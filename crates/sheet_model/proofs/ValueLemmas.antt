@@ -17,16 +17,21 @@ use Rattle.sheet_model.specs.Sheets.{SheetValue, ContentValue, Constant, Compute
 use Rattle.sheet_model.specs.Values.{step_content, step, content_references, IsInput}
 
 -- a circular cell that references name
-pub named_circular : (values : Position → Value) (references : List Reference) (cell : Position) → IsNamedBy references cell → is_circular (values cell) ≡ true → has_circular values references ≡ true
+pub named_circular : (values : Position → Value) (references : List Reference) (cell : Position)
+    → IsNamedBy references cell → is_circular (values cell) ≡ true → has_circular values references ≡ true
 named_circular values references cell named circular =
     any_at (λ (r : Reference). list_any (λ c. is_circular (values c)) (cells_of (corners_of r))) references named.place named.through named.listed
     (cell_any (λ c. is_circular (values c)) (corners_of named.through) cell named.inside circular)
 
-content_same : (sizes : Sizes) (f g : Position → Value) (content : ContentValue) → ((cell : Position) → IsNamedBy (content_references content) cell → IsTrue (is_inside sizes cell) → f cell ≡ g cell) → step_content sizes f content ≡ step_content sizes g content
+content_same : (sizes : Sizes) (f g : Position → Value) (content : ContentValue)
+    → ((cell : Position) → IsNamedBy (content_references content) cell → IsTrue (is_inside sizes cell)
+    → f cell ≡ g cell) → step_content sizes f content ≡ step_content sizes g content
 content_same sizes f g (Constant value) same = refl
 content_same sizes f g (Computed formula) same = formula_value_same sizes formula f g same
 
-content_strict : (sizes : Sizes) (f : Position → Value) (cell : Position) (content : ContentValue) → IsNamedBy (content_references content) cell → IsTrue (is_inside sizes cell) → f cell ≡ Error Circ → step_content sizes f content ≡ Error Circ
+content_strict : (sizes : Sizes) (f : Position → Value) (cell : Position) (content : ContentValue)
+    → IsNamedBy (content_references content) cell → IsTrue (is_inside sizes cell) → f cell ≡ Error Circ
+    → step_content sizes f content ≡ Error Circ
 content_strict sizes f cell (Constant value) named inside circular = absurd (let no = named.listed in cc)
 content_strict sizes f cell (Computed formula) named inside circular =
     let here : is_circular (within sizes f cell) ≡ true = rw (inside, circular) refl in

@@ -1,5 +1,7 @@
 -- What each turn of the walk keeps.
-use Rattle.std.proofs.Common.{◌≡◌, ◌≢◌, ℕ, zero, suc, ◌+◌, ◌<◌, ◌≤◌, inl, inr, List, [], ◌∷◌, ◌++◌, length, take, map, slice_get, get_or, set, Some, true, false, option_map, IsTrue, refl, sym, ◌∙◌, ap, subst, arith, get_or-set_other}
+use Rattle.std.proofs.Common.{◌≡◌, ◌≢◌, ℕ, zero, suc, ◌+◌, ◌<◌, ◌≤◌, inl, inr, List, [], ◌∷◌, ◌++◌, length, take, map}
+use Rattle.std.proofs.Common.{slice_get, get_or, set, Some, true, false, option_map, IsTrue, refl, sym, ◌∙◌, ap, subst}
+use Rattle.std.proofs.Common.{arith, get_or-set_other}
 use Rattle.std.proofs.Math.Seq.{take-suc}
 use Rattle.std.proofs.lemmas.List.{length-map, map-append}
 use Rattle.std.proofs.lemmas.Bool.Decides.{eqb_tells}
@@ -24,7 +26,8 @@ use Rattle.sheet_model.proofs.WordLemmas.{states_push}
 use Rattle.sheet_model.proofs.ValueLemmas.{step_local, step_strict}
 
 -- a settled value stays so with more budget to begin from
-pub settles_later : (sheet : SheetValue) (k m : ℕ) (c : Position) (v : Value) → k ≤ m → SettlesAt (Error Circ) (step sheet) k c v → SettlesAt (Error Circ) (step sheet) m c v
+pub settles_later : (sheet : SheetValue) (k m : ℕ) (c : Position) (v : Value) → k ≤ m
+    → SettlesAt (Error Circ) (step sheet) k c v → SettlesAt (Error Circ) (step sheet) m c v
 settles_later sheet k m c v le settles n from = settles n (omega arith)
 
 -- a place other than that of a state which is no such one
@@ -33,40 +36,55 @@ differ states p q s t at_p at_q differs same = differs (let e = ap (slice_get st
 
 module _ (sizes : Sizes) (states : List CellState) where
   -- a cell of the rectangle that can be read past has a known value
-  pub known_plain : length states ≡ cell_count sizes → (cell : Position) → IsTrue (is_inside sizes cell) → IsTrue (is_plain sizes states cell) → (v : Value) × (slice_get states (place_of sizes cell) ≡ Some (Known v))
+  pub known_plain : length states ≡ cell_count sizes → (cell : Position) → IsTrue (is_inside sizes cell)
+      → IsTrue (is_plain sizes states cell) → (v : Value) × (slice_get states (place_of sizes cell) ≡ Some (Known v))
   known_plain count cell inside plain =
       elim (slice_get_cases states (place_of sizes cell)).1 [
-        | inl there ↦ by_state there.0 there.2 (subst (λ s. is_plain_state s ≡ true) (get_or_from_slice_get states (place_of sizes cell) there.0 Unseen there.2) plain)
+        | inl there ↦
+            by_state there.0 there.2
+            (subst (λ s. is_plain_state s ≡ true) (get_or_from_slice_get states (place_of sizes cell) there.0 Unseen
+            there.2) plain)
         | inr past ↦ absurd (let lt = place-lt sizes cell inside in let le : length states ≤ place_of sizes cell = past.0 in omega (arith, count))
       ]
     where
-      by_state : (s : CellState) → slice_get states (place_of sizes cell) ≡ Some s → is_plain_state s ≡ true → (v : Value) × (slice_get states (place_of sizes cell) ≡ Some (Known v))
+      by_state : (s : CellState) → slice_get states (place_of sizes cell) ≡ Some s → is_plain_state s ≡ true
+          → (v : Value) × (slice_get states (place_of sizes cell) ≡ Some (Known v))
       by_state Unseen at plain = absurd (cc)
       by_state Open at plain = absurd (cc)
       by_state (Known v) at plain = (v, at)
 
   -- what can be read past can be so after a write elsewhere
-  pub plain_kept : (p : ℕ) (s t : CellState) → slice_get states p ≡ Some s → is_plain_state s ≡ false → (cell : Position) → IsTrue (is_plain sizes states cell) → IsTrue (is_plain sizes (set states p t) cell)
+  pub plain_kept : (p : ℕ) (s t : CellState) → slice_get states p ≡ Some s → is_plain_state s ≡ false
+      → (cell : Position) → IsTrue (is_plain sizes states cell) → IsTrue (is_plain sizes (set states p t) cell)
   plain_kept p s t at not_plain cell plain =
       elim (eqb_tells (place_of sizes cell) p) [
-        | inl same ↦ absurd (let e : get_or states p Unseen ≡ s = get_or_from_slice_get states p s Unseen at in let f = ap (λ q. is_plain_state (get_or states q Unseen)) same.1 in let g = ap is_plain_state e in cc)
+        | inl same ↦ absurd (let e : get_or states p Unseen ≡ s = get_or_from_slice_get states p s Unseen at in
+            let f = ap (λ q. is_plain_state (get_or states q Unseen)) same.1 in let g = ap is_plain_state e in cc)
         | inr other ↦ rw (get_or-set_other states p (place_of sizes cell) t Unseen other.1) plain
       ]
 
 -- the first states of some contents, and of one more
-pub states_more : (contents : List Content) (words : List ℕ) (i : ℕ) (content : Content) (word : ℕ) → states_of words ≡ map (λ c. first_state (content_value c)) (take i contents) → i < length contents → content ≡ get_or contents i content → cell_state word ≡ first_state (content_value content) → states_of (words ++ word ∷ []) ≡ map (λ c. first_state (content_value c)) (take (i + 1) contents)
+pub states_more : (contents : List Content) (words : List ℕ) (i : ℕ) (content : Content) (word : ℕ)
+    → states_of words ≡ map (λ c. first_state (content_value c)) (take i contents) → i < length contents
+    → content ≡ get_or contents i content → cell_state word ≡ first_state (content_value content)
+    → states_of (words ++ word ∷ []) ≡ map (λ c. first_state (content_value c)) (take (i + 1) contents)
 states_more contents words i content word so_far below at state =
     let more : i + 1 ≡ suc i = omega arith in
-    states_push words word ∙ ap (λ states. states ++ cell_state word ∷ []) so_far ∙ ap (λ s. map (λ c. first_state (content_value c)) (take i contents) ++ s ∷ []) state
+    states_push words word ∙ ap (λ states. states ++ cell_state word ∷ []) so_far
+    ∙ ap (λ s. map (λ c. first_state (content_value c)) (take i contents) ++ s ∷ []) state
     ∙ sym (rw (more, take-suc contents i content below, ← at) (map-append (λ c. first_state (content_value c)) (take i contents) (content ∷ [])))
 
 -- the content of a cell whose first state is known
-constant_known : (sheet : SheetValue) (cell : Position) (v : Value) → IsTrue (is_inside sheet.sizes cell) → slice_get (map first_state sheet.contents) (place_of sheet.sizes cell) ≡ Some (Known v) → content_of sheet cell ≡ Constant v
+constant_known : (sheet : SheetValue) (cell : Position) (v : Value) → IsTrue (is_inside sheet.sizes cell)
+    → slice_get (map first_state sheet.contents) (place_of sheet.sizes cell) ≡ Some (Known v)
+    → content_of sheet cell ≡ Constant v
 constant_known sheet cell v inside at =
     elim (slice_get_cases sheet.contents (place_of sheet.sizes cell)).1 [
       | inl there ↦ rw (inside, get_or_from_slice_get sheet.contents (place_of sheet.sizes cell) there.0 (Constant Empty) there.2)
-          (constant there.0 (let e = sym (slice_get-map first_state sheet.contents (place_of sheet.sizes cell)) ∙ at in let f = ap (option_map first_state) there.2 in cc))
-      | inr past ↦ absurd (let e = sym (slice_get-map first_state sheet.contents (place_of sheet.sizes cell)) ∙ at in let f = ap (option_map first_state) past.1 in cc)
+          (constant there.0 (let e = sym (slice_get-map first_state sheet.contents (place_of sheet.sizes cell)) ∙ at in
+          let f = ap (option_map first_state) there.2 in cc))
+      | inr past ↦ absurd (let e = sym (slice_get-map first_state sheet.contents (place_of sheet.sizes cell)) ∙ at in
+          let f = ap (option_map first_state) past.1 in cc)
     ]
   where
     constant : (content : ContentValue) → first_state content ≡ Known v → content ≡ Constant v
@@ -79,7 +97,8 @@ walk_new sheet is_sheet = record {
   count = length-map sheet.contents first_state ∙ is_sheet.filled;
   settled = λ cell v inside at.
       let is_constant = constant_known sheet cell v inside at in
-      let one : 1 ≤ known_count (map first_state sheet.contents) = count_by-pos is_known (map first_state sheet.contents) (place_of sheet.sizes cell) (Known v) at refl in
+      let one : 1 ≤ known_count (map first_state sheet.contents) =
+      count_by-pos is_known (map first_state sheet.contents) (place_of sheet.sizes cell) (Known v) at refl in
       settles_later sheet 1 (known_count (map first_state sheet.contents)) cell v one
       (subst (λ w. SettlesAt (Error Circ) (step sheet) 1 cell w) (ap (step_content sheet.sizes (λ d. Error Circ)) is_constant)
       (settles_next (IsInput sheet) (Error Circ) (step sheet) (step_local sheet) (step_strict sheet) 0 (λ d. Error Circ) cell

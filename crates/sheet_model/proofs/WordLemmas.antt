@@ -1,5 +1,7 @@
 -- Words as what they tell of cells.
-use Rattle.std.proofs.Common.{◌≡◌, ◌≢◌, ℕ, zero, suc, ◌<◌, ◌==◌, inl, inr, List, [], ◌∷◌, ◌++◌, length, slice_get, get_or, set, Some, None, Bool, true, false, not, cond, option_map, IsTrue, refl, sym, ◌∙◌, ap, subst, arith}
+use Rattle.std.proofs.Common.{◌≡◌, ◌≢◌, ℕ, zero, suc, ◌<◌, ◌==◌, inl, inr, List, [], ◌∷◌, ◌++◌, length, slice_get}
+use Rattle.std.proofs.Common.{get_or, set, Some, None, Bool, true, false, not, cond, option_map, IsTrue, refl, sym, ◌∙◌}
+use Rattle.std.proofs.Common.{ap, subst, arith}
 use Rattle.std.proofs.lemmas.Bool.Decides.{nat_tests}
 use Rattle.std.proofs.lemmas.List.{map-set}
 use Rattle.std.proofs.lemmas.Option.{slice_get-map, slice_get-get_or, get_or_from_slice_get}
@@ -85,23 +87,31 @@ word_at words place d are below = are place (get_or words place d) (slice_get-ge
 pub states_at : (words : List ℕ) (place d : ℕ) → place < length words → slice_get (states_of words) place ≡ Some (cell_state (get_or words place d))
 states_at words place d below = slice_get-map cell_state words place ∙ ap (option_map cell_state) (slice_get-get_or words place d below)
 
-pub plain_at : (sizes : Sizes) (words : List ℕ) (cell : Position) (place d : ℕ) → place ≡ place_of sizes cell → place < length words → is_plain_state (cell_state (get_or words place d)) ≡ is_plain sizes (states_of words) cell
+pub plain_at : (sizes : Sizes) (words : List ℕ) (cell : Position) (place d : ℕ) → place ≡ place_of sizes cell
+    → place < length words → is_plain_state (cell_state (get_or words place d)) ≡ is_plain sizes (states_of words) cell
 plain_at sizes words cell place d is below =
-    rw (← is) (ap is_plain_state (sym (get_or_from_slice_get (states_of words) place (cell_state (get_or words place d)) Unseen (states_at words place d below))))
+    rw (← is)
+    (ap is_plain_state (sym (get_or_from_slice_get (states_of words) place (cell_state (get_or words place d))
+    Unseen (states_at words place d below))))
 
 -- a word that is a code
 pub known_is_code : (word : ℕ) → IsCodeWord word → word ≢ 5 → word ≢ 6 → IsCode word
 known_is_code word is a b = let code = is (value_of_word word) (state_known word a b) in (value_of_word word, code.0, code.1)
 
 -- the code that is held of a cell is that of its known value
-pub held_value : (sizes : Sizes) (words : List ℕ) (cell : Position) (word : ℕ) → AreWords words → place_of sizes cell < length words → known_codes sizes words cell ≡ Some word → IsValue (known_values sizes (states_of words) cell) × (code_of (known_values sizes (states_of words) cell) ≡ word)
+pub held_value : (sizes : Sizes) (words : List ℕ) (cell : Position) (word : ℕ) → AreWords words
+    → place_of sizes cell < length words → known_codes sizes words cell ≡ Some word
+    → IsValue (known_values sizes (states_of words) cell) × (code_of (known_values sizes (states_of words) cell) ≡ word)
 held_value sizes words cell word are below held =
     let here = get_or words (place_of sizes cell) 0 in
     let is = word_at words (place_of sizes cell) 0 are below in
     let state = get_or_from_slice_get (states_of words) (place_of sizes cell) (cell_state here) Unseen (states_at words (place_of sizes cell) 0 below) in
     rw state (by_tests here is (here == 5) (here == 6) refl refl held)
   where
-    by_tests : (here : ℕ) → IsCodeWord here → (p q : Bool) → (here == 5) ≡ p → (here == 6) ≡ q → cond p None (cond q None (Some here)) ≡ Some word → IsValue (known_value (cond p Unseen (cond q Open (Known (value_of_word here))))) × (code_of (known_value (cond p Unseen (cond q Open (Known (value_of_word here))))) ≡ word)
+    by_tests : (here : ℕ) → IsCodeWord here → (p q : Bool) → (here == 5) ≡ p → (here == 6) ≡ q
+        → cond p None (cond q None (Some here)) ≡ Some word
+        → IsValue (known_value (cond p Unseen (cond q Open (Known (value_of_word here)))))
+        × (code_of (known_value (cond p Unseen (cond q Open (Known (value_of_word here))))) ≡ word)
     by_tests here is true q is_p is_q held = absurd (cc)
     by_tests here is false true is_p is_q held = absurd (cc)
     by_tests here is false false is_p is_q held =
@@ -146,12 +156,17 @@ seen_state word differs = by_tests (word == 5) (word == 6) refl
     by_tests false false is same = cc
 
 -- what evaluation answers over the words is a step over the values that they tell
-pub evaluated : (sizes : Sizes) (words : List ℕ) (tree : Tree) (v : Value) → AreWords words → length words ≡ cell_count sizes → IsFormulaValue sizes (known_codes sizes words) tree v → v ≡ formula_value sizes tree (known_values sizes (states_of words))
+pub evaluated : (sizes : Sizes) (words : List ℕ) (tree : Tree) (v : Value) → AreWords words
+    → length words ≡ cell_count sizes → IsFormulaValue sizes (known_codes sizes words) tree v
+    → v ≡ formula_value sizes tree (known_values sizes (states_of words))
 evaluated sizes words tree v are count is =
-    is (known_values sizes (states_of words)) (λ cell word named inside held. held_value sizes words cell word are (omega (arith, count, place-lt sizes cell inside)) held)
+    is (known_values sizes (states_of words)) (λ cell word named inside held. held_value sizes words cell word are
+    (omega (arith, count, place-lt sizes cell inside)) held)
 
 -- evaluation can read past a cell of which the words tell so
-pub passes_known : (sizes : Sizes) (words : List ℕ) (cell : Position) → AreWords words → place_of sizes cell < length words → IsTrue (is_plain sizes (states_of words) cell) → IsKnownPlain (known_codes sizes words) cell
+pub passes_known : (sizes : Sizes) (words : List ℕ) (cell : Position) → AreWords words
+    → place_of sizes cell < length words → IsTrue (is_plain sizes (states_of words) cell)
+    → IsKnownPlain (known_codes sizes words) cell
 passes_known sizes words cell are below plain =
     let at = plain_at sizes words cell (place_of sizes cell) 0 refl below in
     by_word (get_or words (place_of sizes cell) 0) (word_at words (place_of sizes cell) 0 are below) (at ∙ plain)
@@ -161,21 +176,32 @@ passes_known sizes words cell are below plain =
         let circular = ap (λ v. not (is_circular v)) (ap value_of_word is ∙ value_of_its_code (Error error.Circ) tt) in
         cc
 
-    by_tests : (word : ℕ) → IsCodeWord word → (p q : Bool) → (word == 5) ≡ p → (word == 6) ≡ q → is_plain_state (cond p Unseen (cond q Open (Known (value_of_word word)))) ≡ true → (known : ℕ) × IsCode known × (cond p None (cond q None (Some word)) ≡ Some known) × (known ≢ code_of (Error error.Circ))
+    by_tests : (word : ℕ) → IsCodeWord word → (p q : Bool) → (word == 5) ≡ p → (word == 6) ≡ q
+        → is_plain_state (cond p Unseen (cond q Open (Known (value_of_word word)))) ≡ true → (known : ℕ) × IsCode known
+        × (cond p None (cond q None (Some word)) ≡ Some known) × (known ≢ code_of (Error error.Circ))
     by_tests word is true q is_p is_q plain = absurd (cc)
     by_tests word is false true is_p is_q plain = absurd (cc)
     by_tests word is false false is_p is_q plain =
         (word, known_is_code word is (grind (arith, nat_tests)) (grind (arith, nat_tests)), refl, not_circular word plain)
 
-    by_word : (word : ℕ) → IsCodeWord word → is_plain_state (cell_state word) ≡ true → (known : ℕ) × IsCode known × (known_code word ≡ Some known) × (known ≢ code_of (Error error.Circ))
+    by_word : (word : ℕ) → IsCodeWord word → is_plain_state (cell_state word) ≡ true → (known : ℕ) × IsCode known
+        × (known_code word ≡ Some known) × (known ≢ code_of (Error error.Circ))
     by_word word is plain = by_tests word is (word == 5) (word == 6) refl refl plain
 
 -- and so past the ranges of references of all whose cells in the rectangle they tell so
-pub plain_references : (sizes : Sizes) (words : List ℕ) (references : List Reference) → AreWords words → length words ≡ cell_count sizes → ((cell : Position) → IsNamedBy references cell → IsTrue (is_inside sizes cell) → IsTrue (is_plain sizes (states_of words) cell)) → ArePlain sizes (known_codes sizes words) references
+pub plain_references : (sizes : Sizes) (words : List ℕ) (references : List Reference) → AreWords words
+    → length words ≡ cell_count sizes → ((cell : Position) → IsNamedBy references cell → IsTrue (is_inside sizes cell)
+    → IsTrue (is_plain sizes (states_of words) cell)) → ArePlain sizes (known_codes sizes words) references
 plain_references sizes words [] are count plain = All-nil (λ (r : Reference). IsPlainRange sizes (known_codes sizes words) (corners_of r))
 plain_references sizes words (r ∷ rest) are count plain =
     All-cons (λ (r : Reference). IsPlainRange sizes (known_codes sizes words) (corners_of r)) r rest
     (record {
-      plain = λ cell inside held. passes_known sizes words cell are (omega (arith, count, place-lt sizes cell held)) (plain cell (record { through = r; place = 0; listed = refl; inside = inside }) held);
+      plain = λ cell inside held. passes_known sizes words cell are (omega (arith, count, place-lt sizes cell held))
+          (plain cell (record { through = r; place = 0; listed = refl; inside = inside }) held);
     })
-    (plain_references sizes words rest are count (λ cell named held. plain cell (record { through = named.through; place = suc named.place; listed = named.listed; inside = named.inside }) held))
+    (plain_references sizes words rest are count (λ cell named held. plain cell (record {
+      through = named.through;
+      place = suc named.place;
+      listed = named.listed;
+      inside = named.inside;
+    }) held))

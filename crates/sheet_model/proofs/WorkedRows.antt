@@ -37,21 +37,28 @@ abbrev plus : Tree → Tree → ContentValue
 plus left right = Computed (binary Add left right)
 
 -- =B1+C1,=A1+2,4,=D1: two cells in a cycle, a number, and a cell that refers to itself
-cycles : values (plus (one 2) (one 3) ∷ plus (one 1) (number (pos 2)) ∷ Constant (Number (pos 4)) ∷ Computed (one 4) ∷ []) ≡ (Error Circ ∷ Error Circ ∷ Number (pos 4) ∷ Error Circ ∷ [])
+cycles : values (plus (one 2) (one 3) ∷ plus (one 1) (number (pos 2)) ∷ Constant (Number (pos 4)) ∷ Computed (one 4)
+    ∷ []) ≡ (Error Circ ∷ Error Circ ∷ Number (pos 4) ∷ Error Circ ∷ [])
 unfolding value_of ev
 cycles = refl
 
 -- =IF(TRUE;1;A1),=ISERROR(A1),7,=C1: a branch that isn't selected and ISERROR hide no cycle
-hidden : values (Computed (call If (and_trees (truth true) (and_trees (number (pos 1)) (and_trees (one 1) no_trees)))) ∷ Computed (call Iserror (and_trees (one 1) no_trees)) ∷ Constant (Number (pos 7)) ∷ Computed (one 3) ∷ []) ≡ (Error Circ ∷ Error Circ ∷ Number (pos 7) ∷ Number (pos 7) ∷ [])
+hidden : values (Computed (call If (and_trees (truth true) (and_trees (number (pos 1)) (and_trees (one 1) no_trees))))
+    ∷ Computed (call Iserror (and_trees (one 1) no_trees)) ∷ Constant (Number (pos 7)) ∷ Computed (one 3)
+    ∷ []) ≡ (Error Circ ∷ Error Circ ∷ Number (pos 7) ∷ Number (pos 7) ∷ [])
 unfolding value_of ev
 hidden = refl
 
 -- =SUM(B1:D1),9007199254740991,=SUM(B1:B1;1),: an error of a range is handed on
-sums : values (Computed (call Sum (and_trees (several 2 4) no_trees)) ∷ Constant (Number (pos 9007199254740991)) ∷ Computed (call Sum (and_trees (several 2 2) (and_trees (number (pos 1)) no_trees))) ∷ Constant Empty ∷ []) ≡ (Error Num ∷ Number (pos 9007199254740991) ∷ Error Num ∷ Empty ∷ [])
+sums : values (Computed (call Sum (and_trees (several 2 4) no_trees)) ∷ Constant (Number (pos 9007199254740991))
+    ∷ Computed (call Sum (and_trees (several 2 2) (and_trees (number (pos 1)) no_trees))) ∷ Constant Empty
+    ∷ []) ≡ (Error Num ∷ Number (pos 9007199254740991) ∷ Error Num ∷ Empty ∷ [])
 unfolding value_of ev
 sums = refl
 
 -- =SUM(B1:E1),1,TRUE,=Z1: cells past the rectangle and empty cells count as nothing
-past : values (Computed (call Sum (and_trees (several 2 5) no_trees)) ∷ Constant (Number (pos 1)) ∷ Constant (Truth true) ∷ Computed (one 26) ∷ []) ≡ (Number (pos 1) ∷ Number (pos 1) ∷ Truth true ∷ Number (pos 0) ∷ [])
+past : values (Computed (call Sum (and_trees (several 2 5) no_trees)) ∷ Constant (Number (pos 1))
+    ∷ Constant (Truth true) ∷ Computed (one 26) ∷ []) ≡ (Number (pos 1) ∷ Number (pos 1) ∷ Truth true ∷ Number (pos 0)
+    ∷ [])
 unfolding value_of ev
 past = refl

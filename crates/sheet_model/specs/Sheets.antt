@@ -81,7 +81,8 @@ pub record IsStored (edition : Edition) (sizes : Sizes) (contents : List Content
 
 -- what stands in a cell; a cell past the rectangle is empty
 abbrev pub content_of : SheetValue → Position → ContentValue
-content_of sheet cell = if is_inside sheet.sizes cell then slice_index_or sheet.contents (place_of sheet.sizes cell) (Constant value.Empty) else Constant value.Empty
+content_of sheet cell = if is_inside sheet.sizes cell then slice_index_or sheet.contents (place_of sheet.sizes cell)
+    (Constant value.Empty) else Constant value.Empty
 
 -- a sheet with nothing in its cells and no labels
 abbrev pub blank_sheet : Edition → Sizes → SheetValue

@@ -86,5 +86,6 @@ abbrev pub AgreeingStepsGiveOneValue : Type 0
 AgreeingStepsGiveOneValue =
     (inputs : Position → List Position) (kept : Position → Bool) (a b : Position → (Position → Value) → Value)
     → ((cell input : Position) → IsTrue (kept cell) → IsMapped inputs cell input → IsTrue (kept input))
-    → ((cell : Position) (f g : Position → Value) → IsTrue (kept cell) → ((input : Position) → IsMapped inputs cell input → f input ≡ g input) → a cell f ≡ b cell g)
+    → ((cell : Position) (f g : Position → Value) → IsTrue (kept cell)
+    → ((input : Position) → IsMapped inputs cell input → f input ≡ g input) → a cell f ≡ b cell g)
     → (n : ℕ) (cell : Position) → IsTrue (kept cell) → ev circular_value a n cell ≡ ev circular_value b n cell

@@ -1,5 +1,6 @@
 -- The walk over a sheet: what is known of each cell, the cells that are open, and what each of them is still to look at.
-use Rattle.std.specs.Prelude.{◌≡◌, ◌≢◌, ◌⊎◌, ℕ, suc, ◌+◌, ◌*◌, ◌<◌, ◌≤◌, Bool, true, false, IsTrue, IsFalse, List, [], length, map, slice_get, slice_index_or, count_by, Some}
+use Rattle.std.specs.Prelude.{◌≡◌, ◌≢◌, ◌⊎◌, ℕ, suc, ◌+◌, ◌*◌, ◌<◌, ◌≤◌, Bool, true, false, IsTrue, IsFalse, List, []}
+use Rattle.std.specs.Prelude.{length, map, slice_get, slice_index_or, count_by, Some}
 use Rattle.sheet_refs.specs.Cells.{Position}
 use Rattle.sheet_refs.specs.Sizes.{is_inside, cell_count, place_of}
 use Rattle.sheet_refs.specs.declared.sizes.Sizes.{Sizes}
@@ -33,7 +34,8 @@ known_values sizes states cell = known_value (slice_index_or states (place_of si
 
 -- evaluation can read past each cell of the rectangle that a content names
 abbrev pub ArePlainInputs : Sizes → List CellState → ContentValue → Type 0
-ArePlainInputs sizes states content = (cell : Position) → IsNamedBy (content_references content) cell → IsTrue (is_inside sizes cell) → IsTrue (is_plain sizes states cell)
+ArePlainInputs sizes states content = (cell : Position) → IsNamedBy (content_references content) cell
+    → IsTrue (is_inside sizes cell) → IsTrue (is_plain sizes states cell)
 
 abbrev pub is_known : CellState → Bool
 is_known Unseen = false
@@ -63,11 +65,14 @@ closed_state (Known value) = Known value
 -- the open cells are those of the frames, and each frame waits for the next one's cell
 pub record IsWalkOf (sheet : SheetValue) (states : List CellState) (frames : List Frame) : Type 0 where
   pub count : length states ≡ cell_count sheet.sizes
-  pub settled : (cell : Position) (v : Value) → IsTrue (is_inside sheet.sizes cell) → slice_get states (place_of sheet.sizes cell) ≡ Some (Known v) → SettlesAt (value.Error Circ) (step sheet) (known_count states) cell v
+  pub settled : (cell : Position) (v : Value) → IsTrue (is_inside sheet.sizes cell)
+      → slice_get states (place_of sheet.sizes cell) ≡ Some (Known v)
+      → SettlesAt (value.Error Circ) (step sheet) (known_count states) cell v
   pub listed : (p : ℕ) → slice_get states p ≡ Some Open → (i : ℕ) × (frame : Frame) × (slice_get frames i ≡ Some frame) × (place_of sheet.sizes frame.cell ≡ p)
   pub inside : (i : ℕ) (frame : Frame) → slice_get frames i ≡ Some frame → IsTrue (is_inside sheet.sizes frame.cell)
   pub opened : (i : ℕ) (frame : Frame) → slice_get frames i ≡ Some frame → slice_get states (place_of sheet.sizes frame.cell) ≡ Some Open
-  pub once : (i j : ℕ) (f g : Frame) → i < j → slice_get frames i ≡ Some f → slice_get frames j ≡ Some g → place_of sheet.sizes f.cell ≢ place_of sheet.sizes g.cell
+  pub once : (i j : ℕ) (f g : Frame) → i < j → slice_get frames i ≡ Some f → slice_get frames j ≡ Some g
+      → place_of sheet.sizes f.cell ≢ place_of sheet.sizes g.cell
   pub waits : (i : ℕ) (f g : Frame) → slice_get frames i ≡ Some f → slice_get frames (suc i) ≡ Some g → IsInput sheet f.cell g.cell
 
 -- no later frame's parts begin at the place or before it
@@ -78,8 +83,11 @@ BelowLater frames i place = (j : ℕ) (g : Frame) → i < j → slice_get frames
 -- and what is left behind an open cell's first part, and before the next one's, are its inputs
 pub record HasParts (sheet : SheetValue) (states : List CellState) (frames : List Frame) (parts : List Part) : Type 0 where
   pub are_parts : AreParts sheet.sizes states parts
-  pub passed : (i : ℕ) (frame : Frame) (input : Position) → slice_get frames i ≡ Some frame → IsInput sheet frame.cell input → IsTrue (is_plain sheet.sizes states input) ⊎ IsLeftInParts parts frame.first input
-  pub named : (i : ℕ) (frame : Frame) (k : ℕ) (input : Position) → slice_get frames i ≡ Some frame → frame.first ≤ k → BelowLater frames i k → IsAt parts k input → IsInput sheet frame.cell input
+  pub passed : (i : ℕ) (frame : Frame) (input : Position) → slice_get frames i ≡ Some frame
+      → IsInput sheet frame.cell input → IsTrue (is_plain sheet.sizes states input)
+      ⊎ IsLeftInParts parts frame.first input
+  pub named : (i : ℕ) (frame : Frame) (k : ℕ) (input : Position) → slice_get frames i ≡ Some frame → frame.first ≤ k
+      → BelowLater frames i k → IsAt parts k input → IsInput sheet frame.cell input
 
 -- no cell that was seen is unseen afterwards
 abbrev pub KeepsSeen : List CellState → List CellState → Type 0
@@ -101,7 +109,8 @@ pub record IsClosing (sheet : SheetValue) (states : List CellState) (frames : Li
   pub count : length states ≡ cell_count sheet.sizes
   pub inside : (i : ℕ) (frame : Frame) → slice_get frames i ≡ Some frame → IsTrue (is_inside sheet.sizes frame.cell)
   pub listed : (p : ℕ) → slice_get states p ≡ Some Open → (i : ℕ) × (frame : Frame) × (slice_get frames i ≡ Some frame) × (place_of sheet.sizes frame.cell ≡ p)
-  pub closes : (i : ℕ) (frame : Frame) → slice_get frames i ≡ Some frame → slice_get (map closed_state states) (place_of sheet.sizes frame.cell) ≡ Some (Known (value.Error Circ))
+  pub closes : (i : ℕ) (frame : Frame) → slice_get frames i ≡ Some frame
+      → slice_get (map closed_state states) (place_of sheet.sizes frame.cell) ≡ Some (Known (value.Error Circ))
 
 -- the states that a walk knows
 abbrev pub walk_states : Walk → List CellState

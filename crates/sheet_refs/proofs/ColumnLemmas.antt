@@ -1,5 +1,6 @@
 -- The runs of a column as a list: the rows in it, and the ranges that it stands for.
-use Rattle.std.proofs.Common.{◌≡◌, ℕ, zero, suc, ◌+◌, ◌-◌, ◌<◌, ◌≤◌, ◌↔◌, ◌⊎◌, inl, inr, List, [], ◌∷◌, length, get_or, Option, None, Some, Bool, true, false, cond, refl, ap, arith}
+use Rattle.std.proofs.Common.{◌≡◌, ℕ, zero, suc, ◌+◌, ◌-◌, ◌<◌, ◌≤◌, ◌↔◌, ◌⊎◌, inl, inr, List, [], ◌∷◌, length, get_or}
+use Rattle.std.proofs.Common.{Option, None, Some, Bool, true, false, cond, refl, ap, arith}
 use Rattle.std.specs.Ordering.{nat_cmp, match_ordering}
 use Rattle.std.specs.declared.cmp.Ordering.{Ordering}
 use Rattle.std.specs.declared.cmp.Ordering.TheVariants.{Less, Equal, Greater}
@@ -56,7 +57,14 @@ holds_rows runs sorted row = (to, from)
     from : HasRow runs row → Holds (last_from runs) row
     from has =
         let found = run_from_row runs row has in
-        record { first = found.run.0; last = found.run.1; kept = lookup-from_Contains (eq_by_cmp_equiv nat_cmp_total) found.run.0 found.run.1 runs (IsDistinct-from_sorted nat_cmp (keys_of runs) sorted) found.listed; from = found.from; to = found.to }
+        record {
+          first = found.run.0;
+          last = found.run.1;
+          kept = lookup-from_Contains (eq_by_cmp_equiv nat_cmp_total)
+              found.run.0 found.run.1 runs (IsDistinct-from_sorted nat_cmp (keys_of runs) sorted) found.listed;
+          from = found.from;
+          to = found.to;
+        }
 
 not_le : (a b : ℕ) → b < a → nat_le a b ≡ false
 not_le a b less = grind (arith, nat_tests)
@@ -64,16 +72,21 @@ not_le a b less = grind (arith, nat_tests)
 -- an entry without rows adds no range
 ranges_by_order : (col : ℕ) (e : ℕ × ℕ) (runs : List (ℕ × ℕ)) (key value : ℕ) → lookup (is_at (nat_cmp key)) (e ∷ runs) ≡ None → value < key
     → (lookup (is_at (nat_cmp key)) runs ≡ None → column_ranges col (insert_entry nat_cmp runs key value) ≡ column_ranges col runs)
-    → (o : Ordering) → nat_cmp key e.0 ≡ o → column_ranges col (match_ordering o ((key, value) ∷ e ∷ runs) ((e.0, value) ∷ runs) (e ∷ insert_entry nat_cmp runs key value)) ≡ column_ranges col (e ∷ runs)
+    → (o : Ordering) → nat_cmp key e.0 ≡ o
+    → column_ranges col (match_ordering o ((key, value) ∷ e ∷ runs) ((e.0, value) ∷ runs) (e
+    ∷ insert_entry nat_cmp runs key value)) ≡ column_ranges col (e ∷ runs)
 ranges_by_order col e runs key value absent empty rest Less is = let test : nat_le key value ≡ false = not_le key value empty in rw test
 ranges_by_order col e runs key value absent empty rest Equal is = absurd (let found : lookup (is_at (nat_cmp key)) (e ∷ runs) ≡ Some e.1 = rw is in cc)
 ranges_by_order col e runs key value absent empty rest Greater is =
     let absent_later : lookup (is_at (nat_cmp key)) runs ≡ None = rw is at absent in
     ap (λ (rs : List Corners). cond (nat_le e.0 e.1) (strip col col e ∷ rs) rs) (rest absent_later)
 
-pub ranges-insert_empty : (col : ℕ) (runs : List (ℕ × ℕ)) (key value : ℕ) → lookup (is_at (nat_cmp key)) runs ≡ None → value < key → column_ranges col (insert_entry nat_cmp runs key value) ≡ column_ranges col runs
+pub ranges-insert_empty : (col : ℕ) (runs : List (ℕ × ℕ)) (key value : ℕ) → lookup (is_at (nat_cmp key)) runs ≡ None
+    → value < key → column_ranges col (insert_entry nat_cmp runs key value) ≡ column_ranges col runs
 ranges-insert_empty col [] key value absent empty = let test : nat_le key value ≡ false = not_le key value empty in rw test
-ranges-insert_empty col (e ∷ runs) key value absent empty = ranges_by_order col e runs key value absent empty (λ later. ranges-insert_empty col runs key value later empty) (nat_cmp key e.0) refl
+ranges-insert_empty col (e ∷ runs) key value absent empty =
+    ranges_by_order col e runs key value absent empty (λ later. ranges-insert_empty col runs key value later empty)
+    (nat_cmp key e.0) refl
 
 -- a row is held exactly where a run is found for it
 pub run_tells : (f : ℕ → Option ℕ) (row : ℕ) (found : Option (ℕ × ℕ)) → IsRunAt f row found → IsTrue (is_some found) ↔ Holds f row
@@ -81,7 +94,8 @@ run_tells f row None none = (λ t. cc, λ holds. absurd (none holds))
 run_tells f row (Some run) at = (λ t. record { first = run.0; last = run.1; kept = at.0; from = at.1; to = at.2 }, λ holds. refl)
 
 -- rows that join the function join the list
-pub rows_join : (old new : List (ℕ × ℕ)) (first last : ℕ) → IsStrictlySortedBy nat_cmp (keys_of old) → IsStrictlySortedBy nat_cmp (keys_of new) → RowsJoin (last_from old) (last_from new) first last
+pub rows_join : (old new : List (ℕ × ℕ)) (first last : ℕ) → IsStrictlySortedBy nat_cmp (keys_of old)
+    → IsStrictlySortedBy nat_cmp (keys_of new) → RowsJoin (last_from old) (last_from new) first last
     → (row : ℕ) → HasRow new row ↔ (HasRow old row ⊎ ((first ≤ row) × (row ≤ last)))
 rows_join old new first last old_sorted new_sorted join row = (to, from)
   where
@@ -107,8 +121,11 @@ pub none_among : (cell : Position) → IsAmong [] cell → ⊥
 none_among cell among = omega (arith, among.listed.1)
 
 -- the cells of a column's ranges are those of its rows
-among_by_test : (col : ℕ) (r : ℕ × ℕ) (runs : List (ℕ × ℕ)) (cell : Position) → IsAmong (column_ranges col runs) cell ↔ ((cell.col ≡ col) × HasRow runs cell.row)
-    → (test : Bool) → nat_le r.0 r.1 ≡ test → IsAmong (cond test (strip col col r ∷ column_ranges col runs) (column_ranges col runs)) cell ↔ ((cell.col ≡ col) × HasRow (r ∷ runs) cell.row)
+among_by_test : (col : ℕ) (r : ℕ × ℕ) (runs : List (ℕ × ℕ)) (cell : Position) → IsAmong (column_ranges col runs) cell
+    ↔ ((cell.col ≡ col) × HasRow runs cell.row)
+    → (test : Bool) → nat_le r.0 r.1 ≡ test
+    → IsAmong (cond test (strip col col r ∷ column_ranges col runs) (column_ranges col runs)) cell
+    ↔ ((cell.col ≡ col) × HasRow (r ∷ runs) cell.row)
 among_by_test col r runs cell rest true is = (to, from)
   where
     to : IsAmong (strip col col r ∷ column_ranges col runs) cell → (cell.col ≡ col) × HasRow (r ∷ runs) cell.row
@@ -118,7 +135,9 @@ among_by_test col r runs cell rest true is = (to, from)
     ]
 
     from : (cell.col ≡ col) × HasRow (r ∷ runs) cell.row → IsAmong (strip col col r ∷ column_ranges col runs) cell
-    from (col_is, inl here) = (among_cons (strip col col r) (column_ranges col runs) cell).1 (inl (record { row_from = here.0; row_to = here.1; col_from = omega arith; col_to = omega arith }))
+    from (col_is, inl here) =
+        (among_cons (strip col col r) (column_ranges col runs) cell).1
+        (inl (record { row_from = here.0; row_to = here.1; col_from = omega arith; col_to = omega arith }))
     from (col_is, inr later) = (among_cons (strip col col r) (column_ranges col runs) cell).1 (inr (rest.1 (col_is, later)))
 among_by_test col r runs cell rest false is = (to, from)
   where
@@ -135,9 +154,12 @@ among_column col (r ∷ runs) cell = among_by_test col r runs cell (among_column
 
 -- a row of the first column, or of one of those after it
 abbrev FirstOrLater : ℕ → List (ℕ × ℕ) → List (List (ℕ × ℕ)) → Position → Type 0
-FirstOrLater col runs columns cell = ((cell.col ≡ col) × HasRow runs cell.row) ⊎ ((col + 1 ≤ cell.col) × HasRow (get_or columns (cell.col - (col + 1)) []) cell.row)
+FirstOrLater col runs columns cell = ((cell.col ≡ col) × HasRow runs cell.row)
+    ⊎ ((col + 1 ≤ cell.col) × HasRow (get_or columns (cell.col - (col + 1)) []) cell.row)
 
-at_first_or_later : (col : ℕ) (runs : List (ℕ × ℕ)) (columns : List (List (ℕ × ℕ))) (cell : Position) → FirstOrLater col runs columns cell → (col ≤ cell.col) × HasRow (get_or (runs ∷ columns) (cell.col - col) []) cell.row
+at_first_or_later : (col : ℕ) (runs : List (ℕ × ℕ)) (columns : List (List (ℕ × ℕ))) (cell : Position)
+    → FirstOrLater col runs columns cell → (col ≤ cell.col)
+    × HasRow (get_or (runs ∷ columns) (cell.col - col) []) cell.row
 at_first_or_later col runs columns cell (inl first) =
     let is : cell.col ≡ col = first.0 in
     let place : cell.col - col ≡ zero = omega arith in
@@ -147,7 +169,8 @@ at_first_or_later col runs columns cell (inr later) =
     let place : cell.col - col ≡ suc (cell.col - (col + 1)) = omega arith in
     rw place (omega arith, later.1)
 
-first_or_later : (col : ℕ) (runs : List (ℕ × ℕ)) (columns : List (List (ℕ × ℕ))) (cell : Position) → (col ≤ cell.col) × HasRow (get_or (runs ∷ columns) (cell.col - col) []) cell.row → FirstOrLater col runs columns cell
+first_or_later : (col : ℕ) (runs : List (ℕ × ℕ)) (columns : List (List (ℕ × ℕ))) (cell : Position) → (col ≤ cell.col)
+    × HasRow (get_or (runs ∷ columns) (cell.col - col) []) cell.row → FirstOrLater col runs columns cell
 first_or_later col runs columns cell (from, has) = elim (cases_lt col cell.col) [
   | inl past ↦
       let place : cell.col - col ≡ suc (cell.col - (col + 1)) = omega arith in
@@ -162,13 +185,16 @@ either f g (inl a) = inl (f a)
 either f g (inr b) = inr (g b)
 
 -- the cells of all columns
-pub among_columns : (col : ℕ) (columns : List (List (ℕ × ℕ))) (cell : Position) → IsAmong (ranges_from col columns) cell ↔ ((col ≤ cell.col) × HasRow (get_or columns (cell.col - col) []) cell.row)
+pub among_columns : (col : ℕ) (columns : List (List (ℕ × ℕ))) (cell : Position) → IsAmong (ranges_from col columns) cell
+    ↔ ((col ≤ cell.col) × HasRow (get_or columns (cell.col - col) []) cell.row)
 among_columns col [] cell = (λ among. absurd (none_among cell among), λ has. absurd has.1)
 among_columns col (runs ∷ columns) cell =
     let here = among_column col runs cell in
     let rest = among_columns (col + 1) columns cell in
-    let both = among_append (column_ranges col runs) (ranges_from (col + 1) columns) cell in
-    (λ among. at_first_or_later col runs columns cell (either here.0 rest.0 (both.0 among)), λ has. both.1 (either here.1 rest.1 (first_or_later col runs columns cell has)))
+    let both = among_append (column_ranges col runs) (ranges_from (col + 1) columns) cell in (
+      λ among. at_first_or_later col runs columns cell (either here.0 rest.0 (both.0 among)),
+      λ has. both.1 (either here.1 rest.1 (first_or_later col runs columns cell has)),
+    )
 
 -- ---- the ranges of a column are its maximal runs
 
@@ -177,18 +203,22 @@ pub ranges_all : (P : Corners → Type 0) (col : ℕ) (runs : List (ℕ × ℕ))
 ranges_all P col [] each = All-nil P
 ranges_all P col (r ∷ runs) each = by_test (nat_le r.0 r.1) refl (ranges_all P col runs (λ k d below. each (suc k) d (omega arith)))
   where
-    by_test : (test : Bool) → nat_le r.0 r.1 ≡ test → All P (column_ranges col runs) → All P (cond test (strip col col r ∷ column_ranges col runs) (column_ranges col runs))
+    by_test : (test : Bool) → nat_le r.0 r.1 ≡ test → All P (column_ranges col runs)
+        → All P (cond test (strip col col r ∷ column_ranges col runs) (column_ranges col runs))
     by_test true is rest = All-cons P (strip col col r) (column_ranges col runs) (each zero r (omega arith) (leb-true r.0 r.1 is)) rest
     by_test false is rest = rest
 
 ranges_in_order : (col : ℕ) (runs : List (ℕ × ℕ)) → AllPairs (λ a b. a.1 + 1 < b.0) runs → AllPairs IsBefore (column_ranges col runs)
 ranges_in_order col [] apart = λ i j d before within. absurd (omega arith)
-ranges_in_order col (r ∷ runs) apart = by_test (nat_le r.0 r.1) (ranges_in_order col runs (λ i j d before within. apart (suc i) (suc j) d (omega arith) (omega arith)))
+ranges_in_order col (r ∷ runs) apart =
+    by_test (nat_le r.0 r.1) (ranges_in_order col runs (λ i j d before within. apart (suc i) (suc j) d (omega arith)
+    (omega arith)))
   where
     later : All (IsBefore (strip col col r)) (column_ranges col runs)
     later = ranges_all (IsBefore (strip col col r)) col runs (λ k d below forward. inr (refl, apart zero (suc k) d (omega arith) (omega arith)))
 
-    by_test : (test : Bool) → AllPairs IsBefore (column_ranges col runs) → AllPairs IsBefore (cond test (strip col col r ∷ column_ranges col runs) (column_ranges col runs))
+    by_test : (test : Bool) → AllPairs IsBefore (column_ranges col runs)
+        → AllPairs IsBefore (cond test (strip col col r ∷ column_ranges col runs) (column_ranges col runs))
     by_test true rest = AllPairs-cons IsBefore (strip col col r) (column_ranges col runs) later rest
     by_test false rest = rest
 
@@ -198,7 +228,8 @@ runs_apart runs sorted spaced i j d before within =
     spaced.apart (get_or runs i d).0 (get_or runs i d).1 (get_or runs j d).0 (get_or runs j d).1 (kept i (omega arith)) (kept j within) (keys_rise)
   where
     kept : (k : ℕ) → k < length runs → last_from runs (get_or runs k d).0 ≡ Some (get_or runs k d).1
-    kept k below = lookup-from_Contains (eq_by_cmp_equiv nat_cmp_total) (get_or runs k d).0 (get_or runs k d).1 runs (IsDistinct-from_sorted nat_cmp (keys_of runs) sorted) (Contains-get_or runs k d below)
+    kept k below = lookup-from_Contains (eq_by_cmp_equiv nat_cmp_total) (get_or runs k d).0 (get_or runs k d).1 runs
+        (IsDistinct-from_sorted nat_cmp (keys_of runs) sorted) (Contains-get_or runs k d below)
 
     key : (k : ℕ) → get_or (keys_of runs) k d.0 ≡ (get_or runs k d).0
     key k = get_or-map (λ (e : ℕ × ℕ). e.0) runs k d
@@ -206,7 +237,8 @@ runs_apart runs sorted spaced i j d before within =
     keys_rise : (get_or runs i d).0 < (get_or runs j d).0
     keys_rise = omega (arith, below_from_sorted (keys_of runs) i j d.0 sorted before (omega (arith, within, length-keys_of runs)), key i, key j)
 
-pub column_maximal : (col : ℕ) (runs : List (ℕ × ℕ)) → IsStrictlySortedBy nat_cmp (keys_of runs) → AreSpaced (last_from runs) → AreMaximalRuns (column_ranges col runs)
+pub column_maximal : (col : ℕ) (runs : List (ℕ × ℕ)) → IsStrictlySortedBy nat_cmp (keys_of runs)
+    → AreSpaced (last_from runs) → AreMaximalRuns (column_ranges col runs)
 column_maximal col runs sorted spaced = record {
   vertical = ranges_all IsVertical col runs (λ k d below forward. record { one_column = refl; ordered = forward });
   in_order = ranges_in_order col runs (runs_apart runs sorted spaced);

@@ -1,5 +1,6 @@
 -- The spelling of a reference splits in one way: at its `$`, its letters and its colon.
-use Rattle.std.proofs.Common.{◌≡◌, ◌≢◌, ℕ, zero, suc, ◌+◌, ◌<◌, Bool, true, false, List, [], ◌∷◌, ◌++◌, length, get_or, take, drop, refl, sym, ◌∙◌, ap, subst, arith, inl, inr}
+use Rattle.std.proofs.Common.{◌≡◌, ◌≢◌, ℕ, zero, suc, ◌+◌, ◌<◌, Bool, true, false, List, [], ◌∷◌, ◌++◌, length, get_or}
+use Rattle.std.proofs.Common.{take, drop, refl, sym, ◌∙◌, ap, subst, arith, inl, inr}
 use Rattle.std.specs.List.{prefix_len, position_or_len, position, All}
 use Rattle.std.specs.Prelude.{Option, Some, None, MatchOption, ◌==◌, not}
 use Rattle.std.specs.Char.{is_ascii_alphabetic}
@@ -30,7 +31,8 @@ digit_no_dollar : (b : ℕ) → IsDigit b → (b == 36) ≡ false
 digit_no_dollar b h = grind (arith, nat_tests)
 
 -- what a `$` before letters or digits tells
-dollar_tells : (fixed : Bool) (text : List ℕ) → has_dollar text ≡ false → (has_dollar (dollar fixed ++ text) ≡ fixed) × (past_dollar (dollar fixed ++ text) ≡ text)
+dollar_tells : (fixed : Bool) (text : List ℕ) → has_dollar text ≡ false → (has_dollar (dollar fixed ++ text) ≡ fixed)
+    × (past_dollar (dollar fixed ++ text) ≡ text)
 dollar_tells true text h = (refl, refl)
 dollar_tells false [] h = (refl, refl)
 dollar_tells false (b ∷ bs) h = (h, rw h refl)
@@ -43,7 +45,8 @@ digits_first : (digits : List ℕ) (row : ℕ) → IsRowName digits row → has_
 digits_first [] row name = refl
 digits_first (d ∷ ds) row name = digit_no_dollar d (name.number.digits 0 0 name.number.some)
 
-behind_letters : (fixed : Bool) (digits : List ℕ) (row : ℕ) → IsRowName digits row → 0 < length (dollar fixed ++ digits) → is_ascii_alphabetic (get_or (dollar fixed ++ digits) 0 0) ≡ false
+behind_letters : (fixed : Bool) (digits : List ℕ) (row : ℕ) → IsRowName digits row → 0 < length (dollar fixed ++ digits)
+    → is_ascii_alphabetic (get_or (dollar fixed ++ digits) 0 0) ≡ false
 behind_letters true digits row name h = refl
 behind_letters false [] row name h = absurd (omega (arith, name.number.some))
 behind_letters false (d ∷ ds) row name h = digit_fails d (name.number.digits 0 0 name.number.some)
@@ -68,7 +71,8 @@ parts text end name =
     let second = dollar_tells end.row_fixed name.digits (digits_first name.digits end.cell.row name.row) in
     let past : past_dollar text ≡ name.letters ++ behind = ap past_dollar name.text_is ∙ first.1 in
     let front : prefix_len is_ascii_alphabetic (name.letters ++ behind) ≡ length name.letters =
-    front_len is_ascii_alphabetic name.letters behind (λ k d h. letter_passes _ (name.column.letters k d h)) (behind_letters end.row_fixed name.digits end.cell.row name.row) in
+    front_len is_ascii_alphabetic name.letters behind (λ k d h. letter_passes _ (name.column.letters k d h))
+    (behind_letters end.row_fixed name.digits end.cell.row name.row) in
     let letters : column_part text ≡ name.letters = rw (past, front) (take_front name.letters behind) in
     let digits : row_part text ≡ behind = rw (past, front) (drop-append_seam name.letters behind) in
     record {
@@ -152,31 +156,40 @@ first_colon text first second split free =
 pub end_colon : (dotted : Bool) (text : List ℕ) (end : Anchor) → IsEndName dotted text end → position is_colon text ≡ None
 end_colon dotted text end name = lone_colon text (end_free dotted text end name)
 
-pub joined_colon : (dotted : Bool) (text first second : List ℕ) (a : Anchor) → text ≡ first ++ 58 ∷ second → IsEndName dotted first a → position is_colon text ≡ Some (length first)
+pub joined_colon : (dotted : Bool) (text first second : List ℕ) (a : Anchor) → text ≡ first ++ 58 ∷ second
+    → IsEndName dotted first a → position is_colon text ≡ Some (length first)
 joined_colon dotted text first second a split name = first_colon text first second split (end_free dotted first a name)
 
 -- a text without a colon spells one end or nothing
-pub no_lone_end : (dotted : Bool) (text : List ℕ) → position is_colon text ≡ None → ((end : Anchor) → ¬ IsEndName dotted text end) → (r : Reference) → ¬ IsReferenceName dotted text r
+pub no_lone_end : (dotted : Bool) (text : List ℕ) → position is_colon text ≡ None
+    → ((end : Anchor) → ¬ IsEndName dotted text end) → (r : Reference) → ¬ IsReferenceName dotted text r
 no_lone_end dotted text lone none r (alone _ _ a name) = none a name
 no_lone_end dotted text lone none r (joined _ _ first second a b split head tail) =
     none-some _ (sym lone ∙ joined_colon dotted text first second a split head)
 
-before_colon : (dotted : Bool) (text first second : List ℕ) (a : Anchor) (colon : ℕ) → position is_colon text ≡ Some colon → text ≡ first ++ 58 ∷ second → IsEndName dotted first a → take colon text ≡ first
+before_colon : (dotted : Bool) (text first second : List ℕ) (a : Anchor) (colon : ℕ)
+    → position is_colon text ≡ Some colon → text ≡ first ++ 58 ∷ second → IsEndName dotted first a
+    → take colon text ≡ first
 before_colon dotted text first second a colon found split head =
     let e : colon ≡ length first = same_Some _ _ (sym found ∙ joined_colon dotted text first second a split head) in
     rw (e, split) (take_front first (58 ∷ second))
 
-behind_colon : (dotted : Bool) (text first second : List ℕ) (a : Anchor) (colon : ℕ) → position is_colon text ≡ Some colon → text ≡ first ++ 58 ∷ second → IsEndName dotted first a → drop (colon + 1) text ≡ second
+behind_colon : (dotted : Bool) (text first second : List ℕ) (a : Anchor) (colon : ℕ)
+    → position is_colon text ≡ Some colon → text ≡ first ++ 58 ∷ second → IsEndName dotted first a
+    → drop (colon + 1) text ≡ second
 behind_colon dotted text first second a colon found split head =
     let e : colon ≡ length first = same_Some _ _ (sym found ∙ joined_colon dotted text first second a split head) in
     rw (e, split) (drop-append-add first (58 ∷ second) 1)
 
-pub no_first_end : (dotted : Bool) (text : List ℕ) (colon : ℕ) → position is_colon text ≡ Some colon → ((end : Anchor) → ¬ IsEndName dotted (take colon text) end) → (r : Reference) → ¬ IsReferenceName dotted text r
+pub no_first_end : (dotted : Bool) (text : List ℕ) (colon : ℕ) → position is_colon text ≡ Some colon
+    → ((end : Anchor) → ¬ IsEndName dotted (take colon text) end) → (r : Reference) → ¬ IsReferenceName dotted text r
 no_first_end dotted text colon found none r (alone _ _ a name) = none-some _ (sym (end_colon dotted text a name) ∙ found)
 no_first_end dotted text colon found none r (joined _ _ first second a b split head tail) =
     none a (rw (before_colon dotted text first second a colon found split head) head)
 
-pub no_second_end : (dotted : Bool) (text : List ℕ) (colon : ℕ) → position is_colon text ≡ Some colon → ((end : Anchor) → ¬ IsEndName dotted (drop (colon + 1) text) end) → (r : Reference) → ¬ IsReferenceName dotted text r
+pub no_second_end : (dotted : Bool) (text : List ℕ) (colon : ℕ) → position is_colon text ≡ Some colon
+    → ((end : Anchor) → ¬ IsEndName dotted (drop (colon + 1) text) end) → (r : Reference)
+    → ¬ IsReferenceName dotted text r
 no_second_end dotted text colon found none r (alone _ _ a name) = none-some _ (sym (end_colon dotted text a name) ∙ found)
 no_second_end dotted text colon found none r (joined _ _ first second a b split head tail) =
     none b (rw (behind_colon dotted text first second a colon found split head) tail)
@@ -190,8 +203,10 @@ one_reference dotted text _ _ (joined _ _ first second b d split head tail) (alo
     absurd (none-some _ (sym (end_colon dotted text a name) ∙ joined_colon dotted text first second b split head))
 one_reference dotted text _ _ (joined _ _ first second a b split head tail) (joined _ _ third fourth c d apart front back) =
     let colon = joined_colon dotted text first second a split head in
-    let same_first : first ≡ third = sym (before_colon dotted text first second a (length first) colon split head) ∙ before_colon dotted text third fourth c (length first) colon apart front in
-    let same_second : second ≡ fourth = sym (behind_colon dotted text first second a (length first) colon split head) ∙ behind_colon dotted text third fourth c (length first) colon apart front in
+    let same_first : first ≡ third = sym (before_colon dotted text first second a (length first) colon split head)
+    ∙ before_colon dotted text third fourth c (length first) colon apart front in
+    let same_second : second ≡ fourth = sym (behind_colon dotted text first second a (length first) colon split head)
+    ∙ behind_colon dotted text third fourth c (length first) colon apart front in
     let e : a ≡ c = one_end_name dotted third a c (subst (λ (t : List ℕ). IsEndName dotted t a) same_first head) front in
     let f : b ≡ d = one_end_name dotted fourth b d (subst (λ (t : List ℕ). IsEndName dotted t b) same_second tail) back in
     ap (λ (x : Anchor). two_ends x b) e ∙ ap (λ (x : Anchor). two_ends c x) f
@@ -206,9 +221,12 @@ pub no_dot : (text : List ℕ) → ((name : List ℕ) → text ≢ 46 ∷ name) 
 no_dot text none end (name, split, is) = none name split
 
 -- what stands behind a dot
-pub behind_dot : (dotted : Bool) (text name : List ℕ) (o : Option Anchor) → dotted ≡ true → text ≡ 46 ∷ name → MatchOption o ((end : Anchor) → ¬ IsAnchorName name end) (IsAnchorName name) → MatchOption o ((end : Anchor) → ¬ IsEndName dotted text end) (IsEndName dotted text)
+pub behind_dot : (dotted : Bool) (text name : List ℕ) (o : Option Anchor) → dotted ≡ true → text ≡ 46 ∷ name
+    → MatchOption o ((end : Anchor) → ¬ IsAnchorName name end) (IsAnchorName name)
+    → MatchOption o ((end : Anchor) → ¬ IsEndName dotted text end) (IsEndName dotted text)
 behind_dot false text name o is split m = absurd (cc is)
-behind_dot true text name None is split m = λ end (other, apart, also). let same : other ≡ name = cc in m end (subst (λ (t : List ℕ). IsAnchorName t end) same also)
+behind_dot true text name None is split m = λ end (other, apart, also). let same : other ≡ name = cc in
+    m end (subst (λ (t : List ℕ). IsAnchorName t end) same also)
 behind_dot true text name (Some end) is split m = (name, split, m)
 
 anchor_named : (dotted : Bool) (text : List ℕ) (end : Anchor) → IsEndName dotted text end → IsNamed end.cell.row end.cell.col
@@ -224,8 +242,18 @@ reference_kept dotted text _ (joined _ _ first second a b split head tail) =
     let one = anchor_named dotted first a head in
     let two = anchor_named dotted second b tail in
     record {
-      head_named = record { row_from = omega (arith, one.row_from, two.row_from); row_to = omega (arith, one.row_to, two.row_to); col_from = omega (arith, one.col_from, two.col_from); col_to = omega (arith, one.col_to, two.col_to) };
-      tail_named = record { row_from = omega (arith, one.row_from, two.row_from); row_to = omega (arith, one.row_to, two.row_to); col_from = omega (arith, one.col_from, two.col_from); col_to = omega (arith, one.col_to, two.col_to) };
+      head_named = record {
+        row_from = omega (arith, one.row_from, two.row_from);
+        row_to = omega (arith, one.row_to, two.row_to);
+        col_from = omega (arith, one.col_from, two.col_from);
+        col_to = omega (arith, one.col_to, two.col_to);
+      };
+      tail_named = record {
+        row_from = omega (arith, one.row_from, two.row_from);
+        row_to = omega (arith, one.row_to, two.row_to);
+        col_from = omega (arith, one.col_from, two.col_from);
+        col_to = omega (arith, one.col_to, two.col_to);
+      };
       ordered = record { rows = omega arith; cols = omega arith };
       one_end = λ e. absurd (cc);
     }

@@ -17,7 +17,8 @@ row-push (r ∷ runs) run row =
 
 module _ (held : ℕ → Type 0) (first row end : ℕ) (gaps : List (ℕ × ℕ)) (known : AreGaps held first row gaps) (from : first ≤ row) (on : row ≤ end) where
   wider : All (λ g. (first ≤ g.0) × (g.0 ≤ g.1) × (g.1 < end + 1)) gaps
-  wider = All-weaker (λ g. (first ≤ g.0) × (g.0 ≤ g.1) × (g.1 < row)) (λ g. (first ≤ g.0) × (g.0 ≤ g.1) × (g.1 < end + 1)) (λ g (a, b, c). (a, b, omega arith)) gaps known.each
+  wider = All-weaker (λ g. (first ≤ g.0) × (g.0 ≤ g.1) × (g.1 < row)) (λ g. (first ≤ g.0) × (g.0 ≤ g.1)
+      × (g.1 < end + 1)) (λ g (a, b, c). (a, b, omega arith)) gaps known.each
 
   -- a stretch that is held adds nothing
   pub gaps_past_held : ((r : ℕ) → row ≤ r → r ≤ end → held r) → AreGaps held first (end + 1) gaps
@@ -62,7 +63,8 @@ on_true true P is holds = holds
 on_true false P is holds = absurd (cc)
 
 -- gaps of the same rows
-pub gaps_same : (held other : ℕ → Type 0) (first end : ℕ) (gaps : List (ℕ × ℕ)) → ((row : ℕ) → held row ↔ other row) → AreGaps held first end gaps → AreGaps other first end gaps
+pub gaps_same : (held other : ℕ → Type 0) (first end : ℕ) (gaps : List (ℕ × ℕ)) → ((row : ℕ) → held row ↔ other row)
+    → AreGaps held first end gaps → AreGaps other first end gaps
 gaps_same held other first end gaps same known = record {
   each = known.each;
   in_order = known.in_order;

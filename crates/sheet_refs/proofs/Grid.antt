@@ -29,7 +29,11 @@ pub same_position : {a b x y : ℕ} → a ≡ b → x ≡ y → at_col a x ≡ a
 same_position row col = cc
 
 -- the cell in the i-th row and the j-th column of these rows
-pub cell_at : (range : Corners) (first count i j : ℕ) (d : Position) → i < count → j < width range → get_or (rows_from range first count) (i * width range + j) d ≡ record { row = first + i; col = range.head.col + j }
+pub cell_at : (range : Corners) (first count i j : ℕ) (d : Position) → i < count → j < width range
+    → get_or (rows_from range first count) (i * width range + j) d ≡ record {
+      row = first + i;
+      col = range.head.col + j;
+    }
 cell_at range first zero i j d below inside = absurd (omega arith)
 cell_at range first (suc count) zero j d below inside =
     let row = row_length range first in

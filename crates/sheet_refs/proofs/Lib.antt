@@ -1,15 +1,15 @@
 pub mod ColumnLemmas
 pub mod EndLemmas
-pub mod GapLemmas
+mod GapLemmas
 pub mod Grid
 pub mod NameLemmas
 pub mod Overlaps
-pub mod PartLemmas
+mod PartLemmas
 pub mod Places
 pub mod PrintLemmas
 pub mod RunLemmas
-pub mod SetLemmas
-pub mod SpanLemmas
-pub mod Subtraction
+mod SetLemmas
+mod SpanLemmas
+mod Subtraction
 pub mod Tiles
 pub mod VerticalRuns

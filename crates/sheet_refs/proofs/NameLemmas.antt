@@ -1,6 +1,7 @@
 -- A name splits in one way: its letters are what stands before its first digit, its corners what
 -- stands on the two sides of its colon.
-use Rattle.std.proofs.Common.{◌≡◌, ◌≢◌, ℕ, ◌*◌, ◌-◌, ◌↔◌, ◌+◌, ◌<◌, ◌≤◌, ◌⊎◌, Bool, true, false, List, [], ◌∷◌, ◌++◌, length, get_or, take, drop, refl, sym, ◌∙◌, ap, arith, inl, inr}
+use Rattle.std.proofs.Common.{◌≡◌, ◌≢◌, ℕ, ◌*◌, ◌-◌, ◌↔◌, ◌+◌, ◌<◌, ◌≤◌, ◌⊎◌, Bool, true, false, List, [], ◌∷◌, ◌++◌}
+use Rattle.std.proofs.Common.{length, get_or, take, drop, refl, sym, ◌∙◌, ap, arith, inl, inr}
 use Rattle.std.specs.List.{prefix_len, position_or_len, position, All, fold}
 use Rattle.std.specs.Prelude.{Option, Some, None, IsSome, IfSome, MatchOption, ◌==◌, nat_lt, not, cond}
 use Rattle.std.specs.Char.{is_ascii_alphabetic}
@@ -25,7 +26,8 @@ digit_fails : (b : ℕ) → IsDigit b → is_ascii_alphabetic b ≡ false
 digit_fails b h = grind (arith, nat_tests)
 
 -- a list of which the front passes and the next element fails
-pub front_len : (p : ℕ → Bool) (front rest : List ℕ) → All (λ b. p b ≡ true) front → (0 < length rest → p (get_or rest 0 0) ≡ false) → prefix_len p (front ++ rest) ≡ length front
+pub front_len : (p : ℕ → Bool) (front rest : List ℕ) → All (λ b. p b ≡ true) front
+    → (0 < length rest → p (get_or rest 0 0) ≡ false) → prefix_len p (front ++ rest) ≡ length front
 front_len p front rest passes fails =
     let whole = length-append front rest in
     prefix_len_is p (front ++ rest) (length front) 0 (omega (arith, whole))
@@ -71,9 +73,17 @@ first_col (b ∷ bs) col name =
     place_from_one b (inr h) = grind (arith, nat_tests)
 
 -- a column's and a row's name together name the cell that has this column and this row
-pub name_joined : (text letters digits : List ℕ) (col row : ℕ) (result : Option Position) → letters ++ digits ≡ text → IsColumnName letters col → IsRowName digits row → (IsSome result ↔ IsNamed row col) → IfSome result (λ cell. (cell.row ≡ row) × (cell.col ≡ col)) → MatchOption result ((cell : Position) → ¬ IsCellName text cell) (IsCellName text)
+pub name_joined : (text letters digits : List ℕ) (col row : ℕ) (result : Option Position) → letters ++ digits ≡ text
+    → IsColumnName letters col → IsRowName digits row → (IsSome result ↔ IsNamed row col)
+    → IfSome result (λ cell. (cell.row ≡ row) × (cell.col ≡ col)) → MatchOption result ((cell : Position)
+    → ¬ IsCellName text cell) (IsCellName text)
 name_joined text letters digits col row None split column number some position =
-    let named : IsNamed row col = record { row_from = first_row digits row number; row_to = number.number.within; col_from = first_col letters col column; col_to = column.within } in
+    let named : IsNamed row col = record {
+      row_from = first_row digits row number;
+      row_to = number.number.within;
+      col_from = first_col letters col column;
+      col_to = column.within;
+    } in
     absurd (cc (some.1 named))
 name_joined text letters digits col row (Some cell) split column number some position =
     record { letters = letters; digits = digits; text_is = sym split; column = rw position.1 column; row = rw position.0 number }
@@ -113,7 +123,8 @@ one_colon text cell name =
     rw e (no_place (length text))
 
 -- of two cells' names, the colon stands behind the first
-pub two_colon : (text first second : List ℕ) (cell : Position) → text ≡ first ++ 58 ∷ second → IsCellName first cell → position is_colon text ≡ Some (length first)
+pub two_colon : (text first second : List ℕ) (cell : Position) → text ≡ first ++ 58 ∷ second → IsCellName first cell
+    → position is_colon text ≡ Some (length first)
 two_colon text first second cell split name =
     let e = front_len (λ b. not (is_colon b)) first (58 ∷ second) (no_colon first cell name) (λ _. refl) in
     let whole = length-append first (58 ∷ second) in
@@ -133,28 +144,33 @@ pub slice_rest : (text : List ℕ) (from : ℕ) → take (length text - from) (d
 slice_rest text from = take_all (length text - from) (drop from text) (omega (arith, length-drop from text))
 
 -- a text without a colon names a range only as a cell
-pub no_lone_range : (text : List ℕ) → position is_colon text ≡ None → ((cell : Position) → ¬ IsCellName text cell) → (range : Corners) → ¬ IsRangeName text range
+pub no_lone_range : (text : List ℕ) → position is_colon text ≡ None → ((cell : Position) → ¬ IsCellName text cell)
+    → (range : Corners) → ¬ IsRangeName text range
 no_lone_range text lone none range (one _ cell name) = none cell name
 no_lone_range text lone none range (two _ first second a b split head tail) =
     none-some _ (sym lone ∙ two_colon text first second a split head)
 
 -- what stands on the two sides of a range's colon
-part_before : (text first second : List ℕ) (a : Position) (colon : ℕ) → position is_colon text ≡ Some colon → text ≡ first ++ 58 ∷ second → IsCellName first a → take colon text ≡ first
+part_before : (text first second : List ℕ) (a : Position) (colon : ℕ) → position is_colon text ≡ Some colon
+    → text ≡ first ++ 58 ∷ second → IsCellName first a → take colon text ≡ first
 part_before text first second a colon found split head =
     let e : colon ≡ length first = same_Some _ _ (sym found ∙ two_colon text first second a split head) in
     rw (e, split) (take_front first (58 ∷ second))
 
-part_after : (text first second : List ℕ) (a : Position) (colon : ℕ) → position is_colon text ≡ Some colon → text ≡ first ++ 58 ∷ second → IsCellName first a → drop (colon + 1) text ≡ second
+part_after : (text first second : List ℕ) (a : Position) (colon : ℕ) → position is_colon text ≡ Some colon
+    → text ≡ first ++ 58 ∷ second → IsCellName first a → drop (colon + 1) text ≡ second
 part_after text first second a colon found split head =
     let e : colon ≡ length first = same_Some _ _ (sym found ∙ two_colon text first second a split head) in
     rw (e, split) (drop-append-add first (58 ∷ second) 1)
 
-pub no_head : (text : List ℕ) (colon : ℕ) → position is_colon text ≡ Some colon → ((cell : Position) → ¬ IsCellName (take colon text) cell) → (range : Corners) → ¬ IsRangeName text range
+pub no_head : (text : List ℕ) (colon : ℕ) → position is_colon text ≡ Some colon
+    → ((cell : Position) → ¬ IsCellName (take colon text) cell) → (range : Corners) → ¬ IsRangeName text range
 no_head text colon found none range (one _ cell name) = none-some _ (sym (one_colon text cell name) ∙ found)
 no_head text colon found none range (two _ first second a b split head tail) =
     none a (rw (part_before text first second a colon found split head) head)
 
-pub no_tail : (text : List ℕ) (colon : ℕ) → position is_colon text ≡ Some colon → ((cell : Position) → ¬ IsCellName (drop (colon + 1) text) cell) → (range : Corners) → ¬ IsRangeName text range
+pub no_tail : (text : List ℕ) (colon : ℕ) → position is_colon text ≡ Some colon
+    → ((cell : Position) → ¬ IsCellName (drop (colon + 1) text) cell) → (range : Corners) → ¬ IsRangeName text range
 no_tail text colon found none range (one _ cell name) = none-some _ (sym (one_colon text cell name) ∙ found)
 no_tail text colon found none range (two _ first second a b split head tail) =
     none b (rw (part_after text first second a colon found split head) tail)
@@ -175,6 +191,8 @@ one_range text _ _ (two _ first second b d split head tail) (one _ a name) =
 one_range text _ _ (two _ first second a b split head tail) (two _ third fourth c d apart front back) =
     let colon = two_colon text first second a split head in
     let other = two_colon text third fourth c apart front in
-    let same_first : first ≡ third = sym (part_before text first second a (length first) colon split head) ∙ part_before text third fourth c (length first) colon apart front in
-    let same_second : second ≡ fourth = sym (part_after text first second a (length first) colon split head) ∙ part_after text third fourth c (length first) colon apart front in
+    let same_first : first ≡ third = sym (part_before text first second a (length first) colon split head)
+    ∙ part_before text third fourth c (length first) colon apart front in
+    let same_second : second ≡ fourth = sym (part_after text first second a (length first) colon split head)
+    ∙ part_after text third fourth c (length first) colon apart front in
     rw (one_cell third a c (rw same_first at head) front, one_cell fourth b d (rw same_second at tail) back) refl

@@ -46,11 +46,13 @@ strips_disjoint left right gaps in_order i j d before within (cell, shared) =
     let apart : (get_or gaps i pair).1 < (get_or gaps j pair).0 = in_order i j pair before inside in
     omega (arith, apart, first.row_to, second.row_from)
 
-strips_tiled : (held : ℕ → Type 0) (left right first end : ℕ) (gaps : List (ℕ × ℕ)) → AreGaps held first end gaps → Tile (map (strip left right) gaps) (IsInStrips left right gaps)
+strips_tiled : (held : ℕ → Type 0) (left right first end : ℕ) (gaps : List (ℕ × ℕ)) → AreGaps held first end gaps
+    → Tile (map (strip left right) gaps) (IsInStrips left right gaps)
 strips_tiled held left right first end gaps known = record { disjoint = strips_disjoint left right gaps known.in_order; exact = among_strips left right gaps }
 
 -- one more group of columns
-pub parts_more : (columns : List (List (ℕ × ℕ))) (set : List Corners) (range : Corners) (left right : ℕ) (parts : List Corners) (gaps : List (ℕ × ℕ)) → ranges_from 1 columns ≡ set → 1 ≤ range.head.col
+pub parts_more : (columns : List (List (ℕ × ℕ))) (set : List Corners) (range : Corners) (left right : ℕ)
+    (parts : List Corners) (gaps : List (ℕ × ℕ)) → ranges_from 1 columns ≡ set → 1 ≤ range.head.col
     → range.head.col ≤ left → left ≤ right → right ≤ range.tail.col → LackRows columns left (right + 1) range.head.row (range.tail.row + 1) gaps
     → Tile parts (IsNewBefore set range left) → Tile (parts ++ map (strip left right) gaps) (IsNewBefore set range (right + 1))
 parts_more columns set range left right parts gaps same named from forward to lack tiled =
@@ -98,6 +100,10 @@ parts_none set range = record {
 }
 
 -- every cell of a range stands to the left of the column after its last
-pub parts_all : (set : List Corners) (range : Corners) (parts : List Corners) (left : ℕ) → range.tail.col < left → Tile parts (IsNewBefore set range left) → Tile parts (IsNew set range)
+pub parts_all : (set : List Corners) (range : Corners) (parts : List Corners) (left : ℕ) → range.tail.col < left
+    → Tile parts (IsNewBefore set range left) → Tile parts (IsNew set range)
 parts_all set range parts left past tiled =
-    tile_same parts (IsNewBefore set range left) (IsNew set range) (λ cell. (λ new. new.new, λ new. record { new = new; before = omega (arith, new.inside.col_to) })) tiled
+    tile_same parts (IsNewBefore set range left) (IsNew set range) (λ cell. (
+      λ new. new.new,
+      λ new. record { new = new; before = omega (arith, new.inside.col_to) },
+    )) tiled

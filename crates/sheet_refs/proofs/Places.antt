@@ -63,14 +63,19 @@ range_place range place below =
     record { row = parts.0; col = parts.1; cell = slice_get-get_or (cells_of range) place range.head below ∙ ap Some here }
 
 -- the same for a width that was computed from the ends
-pub place_bounds : (range : Corners) (place left right w : ℕ) → IsOrdered range.head range.tail → place < length (cells_of range) → left ≡ range.head.col → right ≡ range.tail.col → w ≡ right - left + 1 → (place / w < height range) × (place % w < width range) × (w ≡ width range)
+pub place_bounds : (range : Corners) (place left right w : ℕ) → IsOrdered range.head range.tail
+    → place < length (cells_of range) → left ≡ range.head.col → right ≡ range.tail.col → w ≡ right - left + 1
+    → (place / w < height range) × (place % w < width range) × (w ≡ width range)
 place_bounds range place left right w ordered below left_is right_is w_is =
     let same : w ≡ width range = (let h = ordered.cols in omega arith) in
     let at = range_place range place below in
     (rw same at.row, rw same at.col, same)
 
 -- a cell made of the row and the column of a place
-pub made_at : (range : Corners) (place w row col : ℕ) (made : Option Position) (cell : Position) → place < length (cells_of range) → w ≡ width range → row ≡ range.head.row → col ≡ range.head.col → IfSome made (λ c. (c.row ≡ row + place / w) × (c.col ≡ col + place % w)) → made ≡ Some cell → cell ≡ cell_of_place range place
+pub made_at : (range : Corners) (place w row col : ℕ) (made : Option Position) (cell : Position)
+    → place < length (cells_of range) → w ≡ width range → row ≡ range.head.row → col ≡ range.head.col
+    → IfSome made (λ c. (c.row ≡ row + place / w) × (c.col ≡ col + place % w)) → made ≡ Some cell
+    → cell ≡ cell_of_place range place
 made_at range place w row col made cell below w_is row_is col_is position is =
     let parts = MatchOption-at_some _ _ cell is position in
     let at_row : cell.row ≡ range.head.row + place / width range = rw (← w_is, ← row_is) parts.0 in
@@ -125,7 +130,8 @@ record StandsAt (range : Corners) (place : ℕ) (cell : Position) : Type 0 where
 same_entry : {a b : Position} → Some a ≡ Some b → a ≡ b
 same_entry is = cc
 
-stands_at : (range : Corners) (place : ℕ) (cell : Position) → slice_get (cells_of range) place ≡ Some cell → place + 1 < length (cells_of range) → StandsAt range place cell
+stands_at : (range : Corners) (place : ℕ) (cell : Position) → slice_get (cells_of range) place ≡ Some cell
+    → place + 1 < length (cells_of range) → StandsAt range place cell
 stands_at range place cell here below =
     let at = range_place range place (omega arith) in
     let behind = range_place range (place + 1) below in
@@ -139,13 +145,18 @@ stands_at range place cell here below =
     }
 
 -- a cell made of a row and a column
-made_of : (made : Option Position) (cell : Position) (row col : ℕ) → IfSome made (λ c. (c.row ≡ row) × (c.col ≡ col)) → made ≡ Some cell → cell ≡ record { row = row; col = col }
+made_of : (made : Option Position) (cell : Position) (row col : ℕ) → IfSome made (λ c. (c.row ≡ row) × (c.col ≡ col))
+    → made ≡ Some cell → cell ≡ record { row = row; col = col }
 made_of made cell row col position is =
     let parts = MatchOption-at_some _ _ cell is position in
     λ i. record { row = parts.0 i; col = parts.1 i }
 
 -- the cell behind one, by a row and a column that are computed from it: in the same row
-pub next_in_row : (range : Corners) (cell next : Position) (made : Option Position) (row col last : ℕ) → IsOrdered range.head range.tail → row ≡ cell.row → col ≡ cell.col → last ≡ range.tail.col → col < last → IfSome made (λ c. (c.row ≡ row) × (c.col ≡ col + 1)) → made ≡ Some next → (place : ℕ) → slice_get (cells_of range) place ≡ Some cell → place + 1 < length (cells_of range) → slice_get (cells_of range) (place + 1) ≡ Some next
+pub next_in_row : (range : Corners) (cell next : Position) (made : Option Position) (row col last : ℕ)
+    → IsOrdered range.head range.tail → row ≡ cell.row → col ≡ cell.col → last ≡ range.tail.col → col < last
+    → IfSome made (λ c. (c.row ≡ row) × (c.col ≡ col + 1)) → made ≡ Some next → (place : ℕ)
+    → slice_get (cells_of range) place ≡ Some cell → place + 1 < length (cells_of range)
+    → slice_get (cells_of range) (place + 1) ≡ Some next
 next_in_row range cell next made row col last ordered row_is col_is last_is within position is place here below =
     let at = stands_at range place cell here below in
     let h = ordered.cols in
@@ -158,7 +169,11 @@ next_in_row range cell next made row col last ordered row_is col_is last_is with
     at.next ∙ ap Some (same ∙ sym (made_of made next row (col + 1) position is))
 
 -- and in the next one
-pub next_row : (range : Corners) (cell next : Position) (made : Option Position) (row col last first : ℕ) → IsOrdered range.head range.tail → IsIn cell range → row ≡ cell.row → col ≡ cell.col → last ≡ range.tail.col → first ≡ range.head.col → last ≤ col → IfSome made (λ c. (c.row ≡ row + 1) × (c.col ≡ first)) → made ≡ Some next → (place : ℕ) → slice_get (cells_of range) place ≡ Some cell → place + 1 < length (cells_of range) → slice_get (cells_of range) (place + 1) ≡ Some next
+pub next_row : (range : Corners) (cell next : Position) (made : Option Position) (row col last first : ℕ)
+    → IsOrdered range.head range.tail → IsIn cell range → row ≡ cell.row → col ≡ cell.col → last ≡ range.tail.col
+    → first ≡ range.head.col → last ≤ col → IfSome made (λ c. (c.row ≡ row + 1) × (c.col ≡ first)) → made ≡ Some next
+    → (place : ℕ) → slice_get (cells_of range) place ≡ Some cell → place + 1 < length (cells_of range)
+    → slice_get (cells_of range) (place + 1) ≡ Some next
 next_row range cell next made row col last first ordered inside row_is col_is last_is first_is ends position is place here below =
     let at = stands_at range place cell here below in
     let h = ordered.cols in
@@ -172,7 +187,10 @@ next_row range cell next made row col last first ordered inside row_is col_is la
     at.next ∙ ap Some (same ∙ sym (made_of made next (row + 1) first position is))
 
 -- behind the tail there is none
-pub none_behind : (range : Corners) (cell : Position) (row col last_row last_col : ℕ) → IsOrdered range.head range.tail → row ≡ cell.row → col ≡ cell.col → last_row ≡ range.tail.row → last_col ≡ range.tail.col → last_col ≤ col → last_row ≤ row → (place : ℕ) → slice_get (cells_of range) place ≡ Some cell → place + 1 < length (cells_of range) → ⊥
+pub none_behind : (range : Corners) (cell : Position) (row col last_row last_col : ℕ) → IsOrdered range.head range.tail
+    → row ≡ cell.row → col ≡ cell.col → last_row ≡ range.tail.row → last_col ≡ range.tail.col → last_col ≤ col
+    → last_row ≤ row → (place : ℕ) → slice_get (cells_of range) place ≡ Some cell → place + 1 < length (cells_of range)
+    → ⊥
 none_behind range cell row col last_row last_col ordered row_is col_is row_last col_last ends bottom place here below =
     let at = stands_at range place cell here below in
     let h = ordered.cols in
@@ -195,7 +213,10 @@ comes_to_head range ordered = record {
   listed = λ _. first_cell range ordered;
 }
 
-pub comes_to_next : (range : Corners) (place : ℕ) (cell next : Position) → HasComeTo range place cell → place < length (cells_of range) → ((k : ℕ) → slice_get (cells_of range) k ≡ Some cell → k + 1 < length (cells_of range) → slice_get (cells_of range) (k + 1) ≡ Some next) → IsIn next range → HasComeTo range (place + 1) next
+pub comes_to_next : (range : Corners) (place : ℕ) (cell next : Position) → HasComeTo range place cell
+    → place < length (cells_of range) → ((k : ℕ) → slice_get (cells_of range) k ≡ Some cell
+    → k + 1 < length (cells_of range) → slice_get (cells_of range) (k + 1) ≡ Some next) → IsIn next range
+    → HasComeTo range (place + 1) next
 comes_to_next range place cell next at below behind inside = record {
   inside = inside;
   listed = λ more. behind place (at.listed below) more;

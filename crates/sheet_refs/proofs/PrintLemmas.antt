@@ -1,5 +1,6 @@
 -- What a cell, a range and a reference print are names of them.
-use Rattle.std.proofs.Common.{◌≡◌, ℕ, zero, suc, ◌*◌, ◌-◌, ◌+◌, ◌/◌, ◌%◌, ◌^◌, ◌<◌, ◌≤◌, Bool, true, false, List, [], ◌∷◌, ◌++◌, length, decimal, refl, sym, subst, arith, inl}
+use Rattle.std.proofs.Common.{◌≡◌, ℕ, zero, suc, ◌*◌, ◌-◌, ◌+◌, ◌/◌, ◌%◌, ◌^◌, ◌<◌, ◌≤◌, Bool, true, false, List, []}
+use Rattle.std.proofs.Common.{◌∷◌, ◌++◌, length, decimal, refl, sym, subst, arith, inl}
 use Rattle.std.specs.List.{All}
 use Rattle.std.specs.Prelude.{◌==◌, nat_le, min, max}
 use Rattle.std.proofs.lemmas.Fmt.{decimal_by_steps, length-decimal-le, first_decimal, decimal_nonempty}
@@ -8,9 +9,11 @@ use Rattle.std.proofs.lemmas.List.Elements.{All-append}
 use Rattle.std.proofs.lemmas.List.Sums.{fold-append}
 use Rattle.std.proofs.lemmas.Bool.Decides.{nat_tests}
 use Rattle.sheet_refs.specs.Cells.{Position, Corners, IsNamed, IsOrdered, span_of}
-use Rattle.sheet_refs.specs.Names.{IsLetter, IsDigit, IsDecimal, IsColumnName, IsRowName, IsCellName, IsRangeName, letter_number, decimal_number, column_number, last_letters, cell_text, range_text}
+use Rattle.sheet_refs.specs.Names.{IsLetter, IsDigit, IsDecimal, IsColumnName, IsRowName, IsCellName, IsRangeName}
+use Rattle.sheet_refs.specs.Names.{letter_number, decimal_number, column_number, last_letters, cell_text, range_text}
 use Rattle.sheet_refs.specs.Names.IsRangeName.{two}
-use Rattle.sheet_refs.specs.Ends.{Anchor, Reference, IsReference, IsAnchorName, IsReferenceName, anchor_text, reference_text, lesser, greater, one_end, two_ends}
+use Rattle.sheet_refs.specs.Ends.{Anchor, Reference, IsReference, IsAnchorName, IsReferenceName, anchor_text}
+use Rattle.sheet_refs.specs.Ends.{reference_text, lesser, greater, one_end, two_ends}
 use Rattle.sheet_refs.specs.Ends.IsReferenceName.{alone as one_name, joined as two_names}
 
 -- one element has the property of all
@@ -99,7 +102,8 @@ cell_printed cell named = record {
   row = row_printed cell.row named.row_from named.row_to;
 }
 
-pub range_printed : (range : Corners) → IsNamed range.head.row range.head.col → IsNamed range.tail.row range.tail.col → IsOrdered range.head range.tail → IsRangeName (range_text range) range
+pub range_printed : (range : Corners) → IsNamed range.head.row range.head.col → IsNamed range.tail.row range.tail.col
+    → IsOrdered range.head range.tail → IsRangeName (range_text range) range
 range_printed range head tail ordered =
     let same : span_of range.head range.tail ≡ range = grind (arith, ordered.rows, ordered.cols) in
     subst (λ corners. IsRangeName (range_text range) corners) same
@@ -143,8 +147,12 @@ reference_printed r is = by_single r.single refl
     by_single : (single : Bool) → r.single ≡ single → IsReferenceName false (reference_text r) r
     by_single true e =
         let same : one_end r.head ≡ r = same_reference {b = r.head} {d = r.tail} {t = r.single} refl (is.one_end e) (sym e) in
-        subst (λ (v : Reference). IsReferenceName false (reference_text r) v) same (rw e (one_name false (anchor_text r.head) r.head (anchor_printed r.head is.head_named)))
-    by_single false e =
-        let same : two_ends r.head r.tail ≡ r = same_reference {b = r.head} {d = r.tail} {t = r.single} (lesser_is r.head r.tail is.ordered.rows is.ordered.cols) (greater_is r.head r.tail is.ordered.rows is.ordered.cols) (sym e) in
         subst (λ (v : Reference). IsReferenceName false (reference_text r) v) same
-        (rw e (two_names false (anchor_text r.head ++ 58 ∷ anchor_text r.tail) (anchor_text r.head) (anchor_text r.tail) r.head r.tail refl (anchor_printed r.head is.head_named) (anchor_printed r.tail is.tail_named)))
+        (rw e (one_name false (anchor_text r.head) r.head (anchor_printed r.head is.head_named)))
+    by_single false e =
+        let same : two_ends r.head r.tail ≡ r = same_reference {b = r.head} {d = r.tail} {t = r.single}
+        (lesser_is r.head r.tail is.ordered.rows is.ordered.cols) (greater_is r.head r.tail is.ordered.rows
+        is.ordered.cols) (sym e) in
+        subst (λ (v : Reference). IsReferenceName false (reference_text r) v) same
+        (rw e (two_names false (anchor_text r.head ++ 58 ∷ anchor_text r.tail) (anchor_text r.head) (anchor_text r.tail)
+        r.head r.tail refl (anchor_printed r.head is.head_named) (anchor_printed r.tail is.tail_named)))

@@ -38,7 +38,11 @@ sets_from_updates m n key value updates = record { at = updates.1; others = λ q
 
 -- equal, or on either side
 pub cases_eq : (a b : ℕ) → (a < b) ⊎ (a ≡ b) ⊎ (b < a)
-cases_eq a b = elim (cases_lt a b) [ inl less ↦ inl less | inr not_less ↦ elim (cases_lt b a) [ inl more ↦ inr (inr more) | inr not_more ↦ inr (inl (omega arith)) ] ]
+cases_eq a b = elim (cases_lt a b) [
+  | inl less ↦ inl less
+  | inr not_less ↦
+      elim (cases_lt b a) [ inl more ↦ inr (inr more) | inr not_more ↦ inr (inl (omega arith)) ]
+]
 
 -- a run that begins above the start of another ends a row before it at least
 start_apart : (f : ℕ → Option ℕ) (row start first last : ℕ) → IsStart f row start → f first ≡ Some last → first < start → last + 1 < start
@@ -70,12 +74,25 @@ module _ (f g : ℕ → Option ℕ) (row start : ℕ) (begins : IsStart f row st
     where
       to : Holds g r → Holds f r
       to holds = elim (cases_eq holds.first start) [
-        | inl less ↦ record { first = holds.first; last = holds.last; kept = sym (sets.others holds.first (omega arith)) ∙ holds.kept; from = holds.from; to = holds.to }
+        | inl less ↦ record {
+          first = holds.first;
+          last = holds.last;
+          kept = sym (sets.others holds.first (omega arith))
+              ∙ holds.kept;
+          from = holds.from;
+          to = holds.to;
+        }
         | inr rest ↦ elim rest [
           | inl same ↦
               let is : start - 1 ≡ holds.last = same_value sets.at (subst (λ (k : ℕ). g k ≡ Some holds.last) same holds.kept) in
               absurd (omega arith)
-          | inr more ↦ record { first = holds.first; last = holds.last; kept = sym (sets.others holds.first (omega arith)) ∙ holds.kept; from = holds.from; to = holds.to }
+          | inr more ↦ record {
+            first = holds.first;
+            last = holds.last;
+            kept = sym (sets.others holds.first (omega arith)) ∙ holds.kept;
+            from = holds.from;
+            to = holds.to;
+          }
         ]
       ]
 
@@ -124,7 +141,8 @@ module _ (f g : ℕ → Option ℕ) (row start : ℕ) (begins : IsStart f row st
     kept = subst (λ (x : Option ℕ). IsSome x) (sym sets.at) refl;
   }
 
-module _ (f h : ℕ → Option ℕ) (first last start end : ℕ) (spaced : AreSpaced f) (rows : first ≤ last) (begins : IsStart f first start) (ends : IsEnd f last end) (filled : Filled f h start end) where
+module _ (f h : ℕ → Option ℕ) (first last start end : ℕ) (spaced : AreSpaced f) (rows : first ≤ last)
+    (begins : IsStart f first start) (ends : IsEnd f last end) (filled : Filled f h start end) where
   -- what an entry of the new runs is: one above the new run, the new run, or one below it
   entry_of : (q l : ℕ) → h q ≡ Some l → ((q < start) × (f q ≡ Some l)) ⊎ ((q ≡ start) × (l ≡ end)) ⊎ ((end + 1 < q) × (f q ≡ Some l))
   entry_of q l kept = elim (cases_eq q start) [
@@ -170,7 +188,10 @@ module _ (f h : ℕ → Option ℕ) (first last start end : ℕ) (spaced : AreSp
       to : Holds h row → Holds f row ⊎ ((first ≤ row) × (row ≤ last))
       to holds = at (entry_of holds.first holds.last holds.kept)
         where
-          at : ((holds.first < start) × (f holds.first ≡ Some holds.last)) ⊎ ((holds.first ≡ start) × (holds.last ≡ end)) ⊎ ((end + 1 < holds.first) × (f holds.first ≡ Some holds.last)) → Holds f row ⊎ ((first ≤ row) × (row ≤ last))
+          at : ((holds.first < start) × (f holds.first ≡ Some holds.last))
+              ⊎ ((holds.first ≡ start) × (holds.last ≡ end))
+              ⊎ ((end + 1 < holds.first) × (f holds.first ≡ Some holds.last)) → Holds f row
+              ⊎ ((first ≤ row) × (row ≤ last))
           at (inl above) = inl (record { first = holds.first; last = holds.last; kept = above.1; from = holds.from; to = holds.to })
           at (inr (inl (first_is, last_is))) = elim (cases_lt row first) [
             | inl before ↦ inl (begins.held row (omega arith) before)

@@ -142,7 +142,8 @@ module _ (f : ℕ → Option ℕ) (first last : ℕ) (spaced : AreSpaced f) (fro
             from = let run = spaced.each head tail kept in run.first_from;
             to = starts;
             held = λ r low high. record { first = head; last = tail; kept = kept; from = low; to = omega arith };
-            free = λ r just holds. let apart = spaced.apart holds.first holds.last head tail holds.kept kept (omega (arith, holds.from)) in omega (arith, holds.to);
+            free = λ r just holds. let apart = spaced.apart holds.first holds.last head tail holds.kept kept
+                (omega (arith, holds.from)) in omega (arith, holds.to);
           }
 
       -- the run is covered
@@ -188,10 +189,16 @@ module _ (f g : ℕ → Option ℕ) (first last start end : ℕ) (forward : firs
   }
     where
       same : (q : ℕ) → start < q → (q < first + 1) ⊎ (covered < q) → h q ≡ f q
-      same q after side = let other : q ≢ start = omega arith in elim side [ inl low ↦ above q low ∙ sets.others q other | inr high ↦ below q high ∙ sets.others q other ]
+      same q after side =
+          let other : q ≢ start = omega arith in elim side [
+            | inl low ↦ above q low ∙ sets.others q other
+            | inr high ↦
+                below q high ∙ sets.others q other
+          ]
 
       outside : (q : ℕ) → start < q → q ≤ end + 1 → (q < first + 1) ⊎ (covered < q) → h q ≡ None
-      outside q after to side = same q after side ∙ none_from (f q) (λ some. let at = span.others q after to some in elim side [ inl low ↦ omega (arith, at.0) | inr high ↦ omega (arith, at.1) ])
+      outside q after to side = same q after side ∙ none_from (f q) (λ some. let at = span.others q after to some in
+          elim side [ inl low ↦ omega (arith, at.0) | inr high ↦ omega (arith, at.1) ])
 
       none : (q : ℕ) → start < q → q ≤ end + 1 → h q ≡ None
       none q after to = elim (cases_lt first q) [

@@ -1,5 +1,6 @@
 -- Lists of disjoint ranges as sets of cells: joined end to end, they tile the union.
-use Rattle.std.proofs.Common.{◌≡◌, ℕ, zero, suc, ◌+◌, ◌-◌, ◌<◌, ◌≤◌, ◌↔◌, ◌⊎◌, inl, inr, List, [], ◌∷◌, ◌++◌, length, get_or, refl, sym, subst, arith, length-append}
+use Rattle.std.proofs.Common.{◌≡◌, ℕ, zero, suc, ◌+◌, ◌-◌, ◌<◌, ◌≤◌, ◌↔◌, ◌⊎◌, inl, inr, List, [], ◌∷◌, ◌++◌, length}
+use Rattle.std.proofs.Common.{get_or, refl, sym, subst, arith, length-append}
 use Rattle.std.proofs.lemmas.Bool.{cases_lt}
 use Rattle.std.proofs.lemmas.List.{get_or_append_left, get_or-append_right}
 use Rattle.std.proofs.lemmas.List.Elements.{Contains-append_left, Contains-append_right, Contains-append_cases, Contains-get_or}
@@ -79,7 +80,10 @@ among_one range cell among = at among.listed
 pub tile_one : (range : Corners) (A : Position → Type 0) → ((cell : Position) → IsIn cell range ↔ A cell) → Tile (range ∷ []) A
 tile_one range A exact = record {
   disjoint = λ i j d before within. absurd (omega arith);
-  exact = λ cell. (λ among. (exact cell).0 (among_one range cell among), λ inside. record { range = range; listed = (0, omega arith, refl); inside = (exact cell).1 inside });
+  exact = λ cell. (
+    λ among. (exact cell).0 (among_one range cell among),
+    λ inside. record { range = range; listed = (0, omega arith, refl); inside = (exact cell).1 inside },
+  );
 }
 
 -- no range tiles the empty set

@@ -32,7 +32,12 @@ module _ (first : Corners) (rest : List Corners) (runs : AreMaximalRuns (first �
   -- the first run has its head
   has_head : IsAmong (first ∷ rest) first.head
   has_head =
-      let inside : IsIn first.head first = record { row_from = omega arith; row_to = upright.ordered; col_from = omega arith; col_to = omega (arith, upright.one_column) } in
+      let inside : IsIn first.head first = record {
+        row_from = omega arith;
+        row_to = upright.ordered;
+        col_from = omega arith;
+        col_to = omega (arith, upright.one_column);
+      } in
       record { range = first; listed = (0, omega arith, refl); inside = inside }
 
   -- and all cells of the others are past it
@@ -47,7 +52,8 @@ module _ (first : Corners) (rest : List Corners) (runs : AreMaximalRuns (first �
   in_or_past cell among = elim ((among_cons first rest cell).0 among) [ inl here ↦ inl here | inr later ↦ inr (later_past cell later) ]
 
   -- a run that begins where the first one does, and has no other cells, doesn't end below it
-  ends_within : (run : Corners) → IsVertical run → first.head.row ≡ run.head.row → first.head.col ≡ run.head.col → ((cell : Position) → IsIn cell run → IsAmong (first ∷ rest) cell) → run.tail.row ≤ first.tail.row
+  ends_within : (run : Corners) → IsVertical run → first.head.row ≡ run.head.row → first.head.col ≡ run.head.col
+      → ((cell : Position) → IsIn cell run → IsAmong (first ∷ rest) cell) → run.tail.row ≤ first.tail.row
   ends_within run vertical row col has = elim (cases_lt first.tail.row run.tail.row) [ inl below ↦ absurd (no below) | inr within ↦ within ]
     where
       next : Position
@@ -67,7 +73,8 @@ module _ (first : Corners) (rest : List Corners) (runs : AreMaximalRuns (first �
           ]
 
 -- two runs of which each begins in the other or past it begin at the same cell
-same_head : (a b : Corners) → IsVertical a → IsVertical b → IsIn a.head b ⊎ IsPast b a.head → IsIn b.head a ⊎ IsPast a b.head → (a.head.row ≡ b.head.row) × (a.head.col ≡ b.head.col)
+same_head : (a b : Corners) → IsVertical a → IsVertical b → IsIn a.head b ⊎ IsPast b a.head → IsIn b.head a
+    ⊎ IsPast a b.head → (a.head.row ≡ b.head.row) × (a.head.col ≡ b.head.col)
 same_head a b va vb (inl p) (inl q) = (omega (arith, p.row_from, q.row_from), omega (arith, p.col_from, q.col_from))
 same_head a b va vb (inl p) (inr (inl q)) = absurd (omega (arith, p.col_from, q, va.one_column))
 same_head a b va vb (inl p) (inr (inr q)) = absurd (omega (arith, p.row_from, q.1, va.ordered))
@@ -85,13 +92,16 @@ same_first : (a b : Corners) (xs ys : List Corners) → AreMaximalRuns (a ∷ xs
 same_first a b xs ys here there same =
     let va = upright a xs here in
     let vb = upright b ys there in
-    let heads = same_head a b va vb (in_or_past b ys there a.head ((same a.head).0 (has_head a xs here))) (in_or_past a xs here b.head ((same b.head).1 (has_head b ys there))) in
+    let heads = same_head a b va vb (in_or_past b ys there a.head ((same a.head).0 (has_head a xs here)))
+    (in_or_past a xs here b.head ((same b.head).1 (has_head b ys there))) in
     let below = ends_within a xs here b vb heads.0 heads.1 (λ cell inside. (same cell).1 ((among_cons b ys cell).1 (inl inside))) in
     let above = ends_within b ys there a va (sym heads.0) (sym heads.1) (λ cell inside. (same cell).0 ((among_cons a xs cell).1 (inl inside))) in
     same_corners a b heads.0 heads.1 (omega (arith, below, above)) (omega (arith, heads.1, va.one_column, vb.one_column))
 
 -- what the others have, the others have
-others_have : (a b : Corners) (xs ys : List Corners) → a ≡ b → AreMaximalRuns (a ∷ xs) → ((cell : Position) → IsAmong (a ∷ xs) cell → IsAmong (b ∷ ys) cell) → (cell : Position) → IsAmong xs cell → IsAmong ys cell
+others_have : (a b : Corners) (xs ys : List Corners) → a ≡ b → AreMaximalRuns (a ∷ xs)
+    → ((cell : Position) → IsAmong (a ∷ xs) cell → IsAmong (b ∷ ys) cell) → (cell : Position) → IsAmong xs cell
+    → IsAmong ys cell
 others_have a b xs ys first here has cell among =
     elim ((among_cons b ys cell).0 (has cell ((among_cons a xs cell).1 (inr among)))) [
       | inl inside ↦ absurd (not_past a cell (upright a xs here) (subst (IsIn cell) (sym first) inside) (later_past a xs here cell among))

@@ -12,7 +12,8 @@ HaveRoom columns from to row = (place : ℕ) → from ≤ place → place < to �
 
 -- the columns from one place to the one before another have gained some rows, and the others are as they were
 pub record AreFilled (old new : List (List (ℕ × ℕ))) (from to first last : ℕ) : Type 0 where
-  pub filled : (place row : ℕ) → from ≤ place → place < to → HasRow (slice_index_or new place []) row ↔ (HasRow (slice_index_or old place []) row ⊎ ((first ≤ row) × (row ≤ last)))
+  pub filled : (place row : ℕ) → from ≤ place → place < to → HasRow (slice_index_or new place []) row
+      ↔ (HasRow (slice_index_or old place []) row ⊎ ((first ≤ row) × (row ≤ last)))
   pub before : (place : ℕ) → place < from → slice_index_or new place [] ≡ slice_index_or old place []
   pub after : (place : ℕ) → to ≤ place → slice_index_or new place [] ≡ slice_index_or old place []
 

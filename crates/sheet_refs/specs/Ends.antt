@@ -73,7 +73,8 @@ IsEndName true text end = (name : List ℕ) × (text ≡ 46 ∷ name) × IsAncho
 -- the spelling of a reference, plain or within brackets: an end, or two joined by a colon
 pub data IsReferenceName : Bool → List ℕ → Reference → Type 0 where
   alone : (dotted : Bool) (text : List ℕ) (a : Anchor) → IsEndName dotted text a → IsReferenceName dotted text (one_end a)
-  joined : (dotted : Bool) (text first second : List ℕ) (a b : Anchor) → text ≡ first ++ 58 ∷ second → IsEndName dotted first a → IsEndName dotted second b → IsReferenceName dotted text (two_ends a b)
+  joined : (dotted : Bool) (text first second : List ℕ) (a b : Anchor) → text ≡ first ++ 58 ∷ second
+      → IsEndName dotted first a → IsEndName dotted second b → IsReferenceName dotted text (two_ends a b)
 
 -- the first byte, where it is a `$`, and what stands behind it
 abbrev pub has_dollar : List ℕ → Bool

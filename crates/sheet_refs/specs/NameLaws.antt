@@ -10,7 +10,8 @@ CellsPrintNames = (cell : Position) → IsNamed cell.row cell.col → IsCellName
 
 -- what a range prints is a name of it
 abbrev pub RangesPrintNames : Type 0
-RangesPrintNames = (range : Corners) → IsNamed range.head.row range.head.col → IsNamed range.tail.row range.tail.col → IsOrdered range.head range.tail → IsRangeName (range_text range) range
+RangesPrintNames = (range : Corners) → IsNamed range.head.row range.head.col → IsNamed range.tail.row range.tail.col
+    → IsOrdered range.head range.tail → IsRangeName (range_text range) range
 
 -- what a reference prints is a name of it
 abbrev pub ReferencesPrintNames : Type 0

@@ -1,5 +1,6 @@
 -- The names of cells and ranges, as relations between a text and what it names.
-use Rattle.std.specs.Prelude.{◌≡◌, ℕ, zero, suc, ◌+◌, ◌-◌, ◌*◌, ◌/◌, ◌%◌, ◌==◌, ◌≤◌, ◌<◌, List, [], ◌∷◌, ◌++◌, length, fold, All, if◌then◌else◌, nat_le, ◌⊎◌, ◌≢◌, slice_index, MatchOption}
+use Rattle.std.specs.Prelude.{◌≡◌, ℕ, zero, suc, ◌+◌, ◌-◌, ◌*◌, ◌/◌, ◌%◌, ◌==◌, ◌≤◌, ◌<◌, List, [], ◌∷◌, ◌++◌, length}
+use Rattle.std.specs.Prelude.{fold, All, if◌then◌else◌, nat_le, ◌⊎◌, ◌≢◌, slice_index, MatchOption}
 use Rattle.std.specs.declared.option.Option.{Option}
 use Rattle.std.specs.Fmt.{decimal}
 use Rattle.sheet_refs.specs.Cells.{Position, Corners, span_of}

@@ -1,5 +1,6 @@
 -- A set of rows as runs, each known by its first row and its last.
-use Rattle.std.specs.Prelude.{ℕ, ◌+◌, ◌≤◌, ◌<◌, ◌≡◌, ◌↔◌, ◌⊎◌, Option, Some, None, IsSome, IfSome, List, [], ◌∷◌, ◌++◌, All, AllPairs, MatchOption, if◌then◌else◌, nat_le}
+use Rattle.std.specs.Prelude.{ℕ, ◌+◌, ◌≤◌, ◌<◌, ◌≡◌, ◌↔◌, ◌⊎◌, Option, Some, None, IsSome, IfSome, List, [], ◌∷◌, ◌++◌}
+use Rattle.std.specs.Prelude.{All, AllPairs, MatchOption, if◌then◌else◌, nat_le}
 use Rattle.std.specs.Ordering.{nat_cmp}
 use Rattle.std.specs.BTreeMap.{BTreeMap, get, is_at, IsOrdered}
 use Rattle.std.specs.Map.{lookup}
@@ -34,12 +35,14 @@ HoldsNone last_of from to = (row : ℕ) → from ≤ row → row ≤ to → ¬ H
 -- the last entry that begins at this row or above it
 abbrev pub IsLastUpTo : (ℕ → Option ℕ) → ℕ → Option (ℕ × ℕ) → Type 0
 IsLastUpTo last_of row found =
-    MatchOption found ((q : ℕ) → q ≤ row → last_of q ≡ None) (λ run. (last_of run.0 ≡ Some run.1) × (run.0 ≤ row) × ((q : ℕ) → q ≤ row → IsSome (last_of q) → q ≤ run.0))
+    MatchOption found ((q : ℕ) → q ≤ row → last_of q ≡ None) (λ run. (last_of run.0 ≡ Some run.1) × (run.0 ≤ row)
+    × ((q : ℕ) → q ≤ row → IsSome (last_of q) → q ≤ run.0))
 
 -- the first entry that begins at this row or below it
 abbrev pub IsNextFrom : (ℕ → Option ℕ) → ℕ → Option ℕ → Type 0
 IsNextFrom last_of row found =
-    MatchOption found ((q : ℕ) → row ≤ q → last_of q ≡ None) (λ first. (row ≤ first) × IsSome (last_of first) × ((q : ℕ) → row ≤ q → q < first → last_of q ≡ None))
+    MatchOption found ((q : ℕ) → row ≤ q → last_of q ≡ None) (λ first. (row ≤ first) × IsSome (last_of first)
+    × ((q : ℕ) → row ≤ q → q < first → last_of q ≡ None))
 
 -- the run that holds a row, where one does
 abbrev pub IsRunAt : (ℕ → Option ℕ) → ℕ → Option (ℕ × ℕ) → Type 0

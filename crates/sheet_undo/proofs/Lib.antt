@@ -1,6 +1,6 @@
-pub mod FindLemmas
-pub mod FollowLemmas
-pub mod InverseLemmas
-pub mod PlaceLemmas
-pub mod ShareLemmas
+mod FindLemmas
+mod FollowLemmas
+mod InverseLemmas
+mod PlaceLemmas
+mod ShareLemmas
 pub mod UndoLemmas

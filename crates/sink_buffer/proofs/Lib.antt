@@ -1,2 +1,2 @@
 pub mod PassLemmas
-pub mod SendLemmas
+mod SendLemmas

@@ -17,7 +17,8 @@ passed_as old new a b held kept same alike passed =
     subst (λ l. HasPassed old new l kept) same (subst (HasPassed old new a) alike passed)
 
 -- bytes passed, and then some of those that are held
-pub passed_then : (old now new : Option (List ℕ)) (bytes held kept : List ℕ) → HasPassed old now bytes held → HasPassed now new held kept → HasPassed old new bytes kept
+pub passed_then : (old now new : Option (List ℕ)) (bytes held kept : List ℕ) → HasPassed old now bytes held
+    → HasPassed now new held kept → HasPassed old new bytes kept
 passed_then old now new bytes held kept first second = record {
   put = first.put ++ second.put;
   buffers = first.buffers + second.buffers;
@@ -43,11 +44,14 @@ cut_then old now new bytes held first part =
 
 -- ---- a loop over what came: room is made for more of it
 
-pub taken_more : (old now new : Option (List ℕ)) (bytes held kept rest last next : List ℕ) → HasPassed old now bytes (held ++ rest) → HasPassed now new held kept → kept ++ rest ≡ last ++ next → HasPassed old new bytes (last ++ next)
+pub taken_more : (old now new : Option (List ℕ)) (bytes held kept rest last next : List ℕ)
+    → HasPassed old now bytes (held ++ rest) → HasPassed now new held kept → kept ++ rest ≡ last ++ next
+    → HasPassed old new bytes (last ++ next)
 taken_more old now new bytes held kept rest last next first room same =
     subst (HasPassed old new bytes) same (passed_then old now new bytes (held ++ rest) (kept ++ rest) first (passed_before now new held kept rest room))
 
-pub taken_cut : (old now new : Option (List ℕ)) (bytes held rest : List ℕ) → HasPassed old now bytes (held ++ rest) → AppendsPrefix now new held → AppendsPrefix old new bytes
+pub taken_cut : (old now new : Option (List ℕ)) (bytes held rest : List ℕ) → HasPassed old now bytes (held ++ rest)
+    → AppendsPrefix now new held → AppendsPrefix old new bytes
 taken_cut old now new bytes held rest first part = cut_then old now new bytes (held ++ rest) first (prefix_more now new held rest part)
 
 pub taken_all : (old new : Option (List ℕ)) (bytes held rest : List ℕ) → HasPassed old new bytes (held ++ rest) → rest ≡ [] → HasPassed old new bytes held

@@ -24,22 +24,29 @@ module _ {F : Type 0} (taker : Taker F) (told : F → Option (List ℕ)) (faults
   no : {X : Type 0} → false ≡ true → X
   no h = absurd cc
 
-  sends_passed : (f last : F) (text : List ℕ) (answer : Bool) → answer ≡ true → Sends taker f text answer last → HasPassed (told f) (told last) (held f ++ text) (held last)
-  sends_passed _ _ _ _ is (nothing f) = passed_as (told f) (told f) (held f) (held f ++ []) (held f) (held f) (sym (append-nil (held f))) refl (passed_none (told f) (held f))
+  sends_passed : (f last : F) (text : List ℕ) (answer : Bool) → answer ≡ true → Sends taker f text answer last
+      → HasPassed (told f) (told last) (held f ++ text) (held last)
+  sends_passed _ _ _ _ is (nothing f) =
+      passed_as (told f) (told f) (held f) (held f ++ []) (held f) (held f) (sym (append-nil (held f))) refl
+      (passed_none (told f) (held f))
   sends_passed _ _ _ _ is (stops f last piece called) = no is
   sends_passed _ _ _ _ is (goes_on f mid last text piece rest answer parts called sends) =
       let first = takes f mid piece called in
       let second = sends_passed mid last rest answer is sends in
       passed_as (told f) (told last) ((held f ++ piece) ++ rest) (held f ++ text) (held last) (held last)
       (append_assoc (held f) piece rest ∙ ap (λ t. held f ++ t) (sym parts)) refl
-      (passed_then (told f) (told mid) (told last) ((held f ++ piece) ++ rest) (held mid ++ rest) (held last) (passed_before (told f) (told mid) (held f ++ piece) (held mid) rest first) second)
+      (passed_then (told f) (told mid) (told last) ((held f ++ piece) ++ rest) (held mid ++ rest) (held last)
+      (passed_before (told f) (told mid) (held f ++ piece) (held mid) rest first) second)
 
-  sends_cut : (f last : F) (text : List ℕ) (answer : Bool) → answer ≡ false → Sends taker f text answer last → AppendsPrefix (told f) (told last) (held f ++ text)
+  sends_cut : (f last : F) (text : List ℕ) (answer : Bool) → answer ≡ false → Sends taker f text answer last
+      → AppendsPrefix (told f) (told last) (held f ++ text)
   sends_cut _ _ _ _ is (nothing f) = no (sym is)
   sends_cut _ _ _ _ is (stops f last piece called) = cuts f last piece called
   sends_cut _ _ _ _ is (goes_on f mid last text piece rest answer parts called sends) =
       subst (AppendsPrefix (told f) (told last)) (append_assoc (held f) piece rest ∙ ap (λ t. held f ++ t) (sym parts))
-      (cut_then (told f) (told mid) (told last) ((held f ++ piece) ++ rest) (held mid ++ rest) (passed_before (told f) (told mid) (held f ++ piece) (held mid) rest (takes f mid piece called)) (sends_cut mid last rest answer is sends))
+      (cut_then (told f) (told mid) (told last) ((held f ++ piece) ++ rest) (held mid
+      ++ rest) (passed_before (told f) (told mid) (held f ++ piece) (held mid) rest (takes f mid piece called))
+      (sends_cut mid last rest answer is sends))
 
   sends_rise : (f last : F) (text : List ℕ) (answer : Bool) → answer ≡ false → Sends taker f text answer last → Rose (faults f) (faults last)
   sends_rise _ _ _ _ is (nothing f) = no (sym is)
@@ -58,7 +65,8 @@ module _ {F : Type 0} (taker : Taker F) (told : F → Option (List ℕ)) (faults
   text_passed : (f last : F) (text : List ℕ) → HandsOut taker f text true last → HasPassed (told f) (told last) (held f ++ text) (held last)
   text_passed f last text out =
       let whole : text ≡ out.sent = out.begins ∙ (ap (λ l. out.sent ++ l) (out.whole refl) ∙ append-nil out.sent) in
-      passed_as (told f) (told last) (held f ++ out.sent) (held f ++ text) (held last) (held last) (ap (λ t. held f ++ t) (sym whole)) refl (sends_passed f last out.sent true refl out.sends)
+      passed_as (told f) (told last) (held f ++ out.sent) (held f ++ text) (held last) (held last)
+      (ap (λ t. held f ++ t) (sym whole)) refl (sends_passed f last out.sent true refl out.sends)
 
   text_cut : (f last : F) (text : List ℕ) → HandsOut taker f text false last → AppendsPrefix (told f) (told last) (held f ++ text)
   text_cut f last text out =
@@ -66,7 +74,8 @@ module _ {F : Type 0} (taker : Taker F) (told : F → Option (List ℕ)) (faults
       (prefix_more (told f) (told last) (held f ++ out.sent) out.left (sends_cut f last out.sent false refl out.sends))
 
   -- a text that was handed out whole has passed; of one that wasn't a prefix was put, and a fault rose
-  pub text_passes : (f last : F) (text : List ℕ) (answer : Bool) → HandsOut taker f text answer last → Passes (told f) (told last) (faults f) (faults last) (held f ++ text) (held last) answer
+  pub text_passes : (f last : F) (text : List ℕ) (answer : Bool) → HandsOut taker f text answer last
+      → Passes (told f) (told last) (faults f) (faults last) (held f ++ text) (held last) answer
   text_passes f last text true out = record {
     passed = λ yes. text_passed f last text out;
     cut = λ no. absurd (no refl);

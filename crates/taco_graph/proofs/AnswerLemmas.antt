@@ -1,5 +1,6 @@
 -- Which keys have an answer, and what is added for one key after another.
-use Rattle.std.proofs.Common.{◌≡◌, ◌≢◌, ◌↔◌, ◌⊎◌, inl, inr, ℕ, zero, suc, ◌+◌, ◌<◌, List, [], ◌∷◌, ◌++◌, length, get_or, take, Option, Some, None, Contains, refl, sym, ◌∙◌, ap, subst, arith}
+use Rattle.std.proofs.Common.{◌≡◌, ◌≢◌, ◌↔◌, ◌⊎◌, inl, inr, ℕ, zero, suc, ◌+◌, ◌<◌, List, [], ◌∷◌, ◌++◌, length, get_or}
+use Rattle.std.proofs.Common.{take, Option, Some, None, Contains, refl, sym, ◌∙◌, ap, subst, arith}
 use Rattle.std.proofs.lemmas.List.{append-nil, append_assoc, get_or-map, length-map, map-append, take_more}
 use Rattle.std.proofs.lemmas.Option.{same_Some}
 use Rattle.std.proofs.lemmas.List.Elements.{Contains-append_cases, Contains-append_left, Contains-push, Contains-push_cases, Contains-get_or}
@@ -17,7 +18,8 @@ use Rattle.edge_patterns.specs.declared.edge.Pattern.{Pattern}
 use Rattle.edge_patterns.specs.declared.edge.Pattern.TheVariants.{Single, Rr, Rf, Fr, Ff, Chain}
 use Rattle.range_index.specs.Entries.{Entry, AddsOverlapping}
 use Rattle.taco_graph.specs.Stores.{edge_at, edges_of, AreStored, EdgesDiffer}
-use Rattle.taco_graph.specs.Answers.{IsMeant, ByPattern, IsMeantAt, IsAnswered, EdgeAnswer, edge_answer, answer_ranges, HasAnswer, IsAnswerAt, NamesAnswering, AddsAnswersOf, AddsAnswers, AddsOneEach}
+use Rattle.taco_graph.specs.Answers.{IsMeant, ByPattern, IsMeantAt, IsAnswered, EdgeAnswer, edge_answer, answer_ranges}
+use Rattle.taco_graph.specs.Answers.{HasAnswer, IsAnswerAt, NamesAnswering, AddsAnswersOf, AddsAnswers, AddsOneEach}
 use Rattle.taco_graph.specs.declared.answers.Question.{Question}
 use Rattle.taco_graph.specs.declared.answers.Question.TheVariants.{Dependents, Precedents, Ahead, Behind}
 use Rattle.slab.proofs.SlabLemmas.{Contains-cons}
@@ -59,16 +61,20 @@ module _ (slots : List (Option EdgeValue)) (runs rectangles : List Entry) (query
   edge_is key edge here = stored.edges edge (record { key = key; here = here })
 
   pub names_dependents : AddsOverlapping rectangles query old keys → NamesAnswering slots Dependents query keys
-  names_dependents adds key cell at = names slots (λ edge. edge.prec) rectangles query old keys stored.rectangles_filed adds key at.edge at.here (direct_overlaps at.edge query cell (edge_is key at.edge at.here) at.meant)
+  names_dependents adds key cell at = names slots (λ edge. edge.prec) rectangles query old keys stored.rectangles_filed
+      adds key at.edge at.here (direct_overlaps at.edge query cell (edge_is key at.edge at.here) at.meant)
 
   pub names_ahead : AddsOverlapping rectangles query old keys → NamesAnswering slots Ahead query keys
-  names_ahead adds key cell at = names slots (λ edge. edge.prec) rectangles query old keys stored.rectangles_filed adds key at.edge at.here (ahead_overlaps at.edge query cell (edge_is key at.edge at.here) at.meant)
+  names_ahead adds key cell at = names slots (λ edge. edge.prec) rectangles query old keys stored.rectangles_filed adds
+      key at.edge at.here (ahead_overlaps at.edge query cell (edge_is key at.edge at.here) at.meant)
 
   pub names_precedents : AddsOverlapping runs query old keys → NamesAnswering slots Precedents query keys
-  names_precedents adds key cell at = names slots (λ edge. edge.dep) runs query old keys stored.runs_filed adds key at.edge at.here (referred_overlaps at.edge query cell (edge_is key at.edge at.here) at.meant)
+  names_precedents adds key cell at = names slots (λ edge. edge.dep) runs query old keys stored.runs_filed adds key
+      at.edge at.here (referred_overlaps at.edge query cell (edge_is key at.edge at.here) at.meant)
 
   pub names_behind : AddsOverlapping runs query old keys → NamesAnswering slots Behind query keys
-  names_behind adds key cell at = names slots (λ edge. edge.dep) runs query old keys stored.runs_filed adds key at.edge at.here (behind_overlaps at.edge query cell (edge_is key at.edge at.here) at.meant)
+  names_behind adds key cell at = names slots (λ edge. edge.dep) runs query old keys stored.runs_filed adds key at.edge
+      at.here (behind_overlaps at.edge query cell (edge_is key at.edge at.here) at.meant)
 
 -- ---- and it names each key once
 
@@ -94,7 +100,8 @@ range_listed answers answer (k, below, is) = (
   get_or-map (λ (a : EdgeAnswer). a.range) answers k answer answer.range below ∙ ap (λ (a : EdgeAnswer). a.range) is,
 )
 
-answer_listed : (answers : List EdgeAnswer) (range : Corners) → Contains (answer_ranges answers) range → (answer : EdgeAnswer) × Contains answers answer × (answer.range ≡ range)
+answer_listed : (answers : List EdgeAnswer) (range : Corners) → Contains (answer_ranges answers) range
+    → (answer : EdgeAnswer) × Contains answers answer × (answer.range ≡ range)
 answer_listed [] range listed = absurd (omega (arith, listed.1))
 answer_listed (first ∷ answers) range (zero, below, is) = (first, (0, omega arith, refl), is)
 answer_listed (first ∷ answers) range (suc k, below, is) =
@@ -120,7 +127,9 @@ module _ (slots : List (Option EdgeValue)) (question : Question) (query : Corner
   only_key last key (zero, below, is) = sym is
   only_key last key (suc k, below, is) = absurd (omega arith)
 
-  pub adds_silent : (keys : List ℕ) (key : ℕ) (old new : List Corners) → ((cell : Position) → ¬ IsMeantAt slots question query key cell) → AddsAnswersOf slots question query keys old new → AddsAnswersOf slots question query (keys ++ key ∷ []) old new
+  pub adds_silent : (keys : List ℕ) (key : ℕ) (old new : List Corners)
+      → ((cell : Position) → ¬ IsMeantAt slots question query key cell)
+      → AddsAnswersOf slots question query keys old new → AddsAnswersOf slots question query (keys ++ key ∷ []) old new
   adds_silent keys key old new silent adds = record {
     answers = adds.answers;
     whole = adds.whole;
@@ -132,19 +141,31 @@ module _ (slots : List (Option EdgeValue)) (question : Question) (query : Corner
     ];
   }
 
-  pub adds_range : (keys : List ℕ) (key : ℕ) (old new newer : List Corners) (edge : EdgeValue) (range : Corners) → newer ≡ new ++ range ∷ [] → IsAnswerAt slots question query key (edge_answer edge range) → ¬ Contains keys key → EdgesDiffer slots → AddsAnswersOf slots question query keys old new → AddsAnswersOf slots question query (keys ++ key ∷ []) old newer
+  pub adds_range : (keys : List ℕ) (key : ℕ) (old new newer : List Corners) (edge : EdgeValue) (range : Corners)
+      → newer ≡ new ++ range ∷ [] → IsAnswerAt slots question query key (edge_answer edge range) → ¬ Contains keys key
+      → EdgesDiffer slots → AddsAnswersOf slots question query keys old new → AddsAnswersOf slots question query (keys
+      ++ key ∷ []) old newer
   adds_range keys key old new newer edge range pushed is absent differ adds = record {
     answers = adds.answers ++ one ∷ [];
     whole =
-        pushed ∙ (ap (λ (n : List Corners). n ++ range ∷ []) adds.whole ∙ (append_assoc old (answer_ranges adds.answers) (range ∷ []) ∙ ap (λ (n : List Corners). old ++ n) (sym (map-append (λ (a : EdgeAnswer). a.range) adds.answers (one ∷ [])))));
-    once = all_pairs_push (λ (a b : EdgeAnswer). a.edge ≢ b.edge) adds.answers one adds.once (λ k d within. other (get_or adds.answers k d) (Contains-get_or adds.answers k d within));
+        pushed ∙ (ap (λ (n : List Corners). n ++ range ∷ []) adds.whole
+        ∙ (append_assoc old (answer_ranges adds.answers) (range ∷ [])
+        ∙ ap (λ (n : List Corners). old
+        ++ n) (sym (map-append (λ (a : EdgeAnswer). a.range) adds.answers (one ∷ [])))));
+    once = all_pairs_push (λ (a b : EdgeAnswer). a.edge ≢ b.edge) adds.answers one adds.once
+        (λ k d within. other (get_or adds.answers k d) (Contains-get_or adds.answers k d within));
     exact = λ answer listed. elim (Contains-push_cases adds.answers one answer listed) [
       | inl before ↦ let (k, among, at) = adds.exact answer before in (k, Contains-append_left keys (key ∷ []) k among, at)
       | inr same ↦ (key, Contains-push keys key, subst (IsAnswerAt slots question query key) same is)
     ];
     all = λ k e cell listed here meant. elim (Contains-append_cases keys (key ∷ []) k listed) [
       | inl before ↦ still_answered adds.answers one e (adds.all k e cell before here meant)
-      | inr last ↦ subst (HasAnswer (adds.answers ++ one ∷ [])) (same_Some edge e (sym is.here ∙ (ap (edge_at slots) (sym (only_key key k last)) ∙ here))) (record { range = range; listed = Contains-push adds.answers one })
+      | inr last ↦
+          subst (HasAnswer (adds.answers ++ one ∷ [])) (same_Some edge e (sym is.here
+          ∙ (ap (edge_at slots) (sym (only_key key k last)) ∙ here))) (record {
+            range = range;
+            listed = Contains-push adds.answers one;
+          })
     ];
   }
     where
@@ -156,7 +177,8 @@ module _ (slots : List (Option EdgeValue)) (question : Question) (query : Corner
           let (k, among, at) = adds.exact answer listed in
           differ k key answer.edge edge (λ same. absent (subst (λ (i : ℕ). Contains keys i) same among)) at.here is.here
 
-  pub adds_all : (keys : List ℕ) (old new : List Corners) → NamesAnswering slots question query keys → AddsAnswersOf slots question query keys old new → AddsAnswers slots question query old new
+  pub adds_all : (keys : List ℕ) (old new : List Corners) → NamesAnswering slots question query keys
+      → AddsAnswersOf slots question query keys old new → AddsAnswers slots question query old new
   adds_all keys old new named adds = record { added = answer_ranges adds.answers; whole = adds.whole; all = all; only = only }
     where
       all : (cell : Position) → IsAnswered slots question query cell → IsAmong (answer_ranges adds.answers) cell
@@ -171,7 +193,9 @@ module _ (slots : List (Option EdgeValue)) (question : Question) (query : Corner
           let (key, there, is) = adds.exact answer listed in
           (key, record { edge = answer.edge; here = is.here; meant = (is.exact cell).0 (subst (λ (r : Corners). IsIn cell r) (sym same) among.inside) })
 
-  pub adds_one_each : (keys : List ℕ) (old new : List Corners) → NamesAnswering slots question query keys → AddsAnswersOf slots question query keys old new → AddsOneEach (edges_of slots) (λ edge. IsMeant question edge query) old new
+  pub adds_one_each : (keys : List ℕ) (old new : List Corners) → NamesAnswering slots question query keys
+      → AddsAnswersOf slots question query keys old new
+      → AddsOneEach (edges_of slots) (λ edge. IsMeant question edge query) old new
   adds_one_each keys old new named adds = record {
     answers = adds.answers;
     whole = adds.whole;
@@ -198,12 +222,31 @@ chain_or Fr = inr (λ is. absurd (cc))
 chain_or Ff = inr (λ is. absurd (cc))
 chain_or Chain = inl refl
 
-pub covers_by_pattern : (edge : EdgeValue) (OfChain OfOthers : Position → Type 0) (result : Option Corners) → ((edge.pattern ≡ Chain) → Covers result OfChain) → ((edge.pattern ≢ Chain) → Covers result OfOthers) → Covers result (ByPattern edge OfChain OfOthers)
+pub covers_by_pattern : (edge : EdgeValue) (OfChain OfOthers : Position → Type 0) (result : Option Corners)
+    → ((edge.pattern ≡ Chain) → Covers result OfChain) → ((edge.pattern ≢ Chain) → Covers result OfOthers)
+    → Covers result (ByPattern edge OfChain OfOthers)
 covers_by_pattern edge OfChain OfOthers result of_chain of_others = elim (chain_or edge.pattern) [
-  | inl chain ↦ covers_same result OfChain (λ cell. (λ is. inl (chain, is), λ by. elim by [ inl one ↦ one.1 | inr other ↦ absurd (other.0 chain) ])) (of_chain chain)
-  | inr other ↦ covers_same result OfOthers (λ cell. (λ is. inr (other, is), λ by. elim by [ inl one ↦ absurd (other one.0) | inr two ↦ two.1 ])) (of_others other)
+  | inl chain ↦
+      covers_same result OfChain (λ cell. (
+        λ is. inl (chain, is),
+        λ by. elim by [
+          | inl one ↦ one.1
+          | inr other ↦
+              absurd (other.0 chain)
+        ],
+      )) (of_chain chain)
+  | inr other ↦
+      covers_same result OfOthers (λ cell. (
+        λ is. inr (other, is),
+        λ by. elim by [
+          | inl one ↦ absurd (other one.0)
+          | inr two ↦ two.1
+        ],
+      )) (of_others other)
 ]
   where
-    covers_same : (r : Option Corners) (Cells : Position → Type 0) → ((cell : Position) → Cells cell ↔ ByPattern edge OfChain OfOthers cell) → Covers r Cells → Covers r (ByPattern edge OfChain OfOthers)
+    covers_same : (r : Option Corners) (Cells : Position → Type 0)
+        → ((cell : Position) → Cells cell ↔ ByPattern edge OfChain OfOthers cell) → Covers r Cells
+        → Covers r (ByPattern edge OfChain OfOthers)
     covers_same None Cells same none = λ cell by. none cell ((same cell).1 by)
     covers_same (Some range) Cells same exact = λ cell. (λ inside. (same cell).0 ((exact cell).0 inside), λ by. (exact cell).1 ((same cell).1 by))

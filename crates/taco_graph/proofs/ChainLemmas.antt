@@ -34,14 +34,56 @@ record IsMoved (edge : EdgeValue) (range : Corners) (cell : Position) : Type 0 w
   tail_row : range.tail.row + edge.dep.head.row ≡ cell.row + edge.prec.head.row
   tail_col : range.tail.col + edge.dep.head.col ≡ cell.col + edge.prec.head.col
 
-moved_at : (axis : Axis) (edge : EdgeValue) → edge.pattern ≡ Chain → IsBeside axis edge.dep edge.prec → IsLine axis edge.dep → IsOrdered edge.dep.head edge.dep.tail → (index : ℕ) → index < count_along axis edge.dep → IsMoved edge (range_along axis edge index) (cell_along axis edge.dep index)
+moved_at : (axis : Axis) (edge : EdgeValue) → edge.pattern ≡ Chain → IsBeside axis edge.dep edge.prec
+    → IsLine axis edge.dep → IsOrdered edge.dep.head edge.dep.tail → (index : ℕ) → index < count_along axis edge.dep
+    → IsMoved edge (range_along axis edge index) (cell_along axis edge.dep index)
 moved_at Down edge chain beside line ordered index within = elim beside.moved [
-  | inl on ↦ rw chain (record { head_row = omega arith; head_col = omega (arith, beside.head); tail_row = omega (arith, on.0, on.1, within, ordered.rows); tail_col = omega (arith, beside.head, beside.tail, line) })
-  | inr back ↦ rw chain (record { head_row = omega arith; head_col = omega (arith, beside.head); tail_row = omega (arith, back.0, back.1, within, ordered.rows); tail_col = omega (arith, beside.head, beside.tail, line) })
+  | inl on ↦ rw chain (record {
+    head_row = omega arith;
+    head_col = omega (arith, beside.head);
+    tail_row = omega (arith, on.0, on.1, within, ordered.rows);
+    tail_col = omega (
+      arith,
+      beside.head,
+      beside.tail,
+      line,
+    );
+  })
+  | inr back ↦ rw chain (record {
+    head_row = omega arith;
+    head_col = omega (arith, beside.head);
+    tail_row = omega (arith, back.0, back.1, within, ordered.rows);
+    tail_col = omega (
+      arith,
+      beside.head,
+      beside.tail,
+      line,
+    );
+  })
 ]
 moved_at Right edge chain beside line ordered index within = elim beside.moved [
-  | inl on ↦ rw chain (record { head_col = omega arith; head_row = omega (arith, beside.head); tail_col = omega (arith, on.0, on.1, within, ordered.cols); tail_row = omega (arith, beside.head, beside.tail, line) })
-  | inr back ↦ rw chain (record { head_col = omega arith; head_row = omega (arith, beside.head); tail_col = omega (arith, back.0, back.1, within, ordered.cols); tail_row = omega (arith, beside.head, beside.tail, line) })
+  | inl on ↦ rw chain (record {
+    head_col = omega arith;
+    head_row = omega (arith, beside.head);
+    tail_col = omega (arith, on.0, on.1, within, ordered.cols);
+    tail_row = omega (
+      arith,
+      beside.head,
+      beside.tail,
+      line,
+    );
+  })
+  | inr back ↦ rw chain (record {
+    head_col = omega arith;
+    head_row = omega (arith, beside.head);
+    tail_col = omega (arith, back.0, back.1, within, ordered.cols);
+    tail_row = omega (
+      arith,
+      beside.head,
+      beside.tail,
+      line,
+    );
+  })
 ]
 
 -- the rectangle ends as far behind its head as the run does
@@ -70,7 +112,8 @@ module _ (edge : EdgeValue) (is : IsEdge edge) (chain : edge.pattern ≡ Chain) 
       (moved_at (axis_of edge.dep) edge chain beside is.line is.dep.ordered pair.index pair.within))
 
   -- a cell that stands to one of the run as the rectangle stands to the run has a name
-  pub is_named : (cell : Position) → IsIn cell edge.dep → IsNamed (cell.row - edge.dep.head.row + edge.prec.head.row) (cell.col - edge.dep.head.col + edge.prec.head.col)
+  pub is_named : (cell : Position) → IsIn cell edge.dep → IsNamed (cell.row - edge.dep.head.row + edge.prec.head.row)
+      (cell.col - edge.dep.head.col + edge.prec.head.col)
   is_named cell inside =
       let same = alike (axis_of edge.dep) edge beside in
       let rows = same.rows in
@@ -82,7 +125,12 @@ module _ (edge : EdgeValue) (is : IsEdge edge) (chain : edge.pattern ≡ Chain) 
         col_to = omega (arith, is.prec.tail.col_to, inside.col_from, inside.col_to, cols);
       }
 
-  module _ (query asked : Corners) (head tail : Position) (shared : HoldsShared edge.dep query asked) (ordered : IsOrdered asked.head asked.tail) (head_row : head.row + edge.dep.head.row ≡ asked.head.row + edge.prec.head.row) (head_col : head.col + edge.dep.head.col ≡ asked.head.col + edge.prec.head.col) (tail_row : tail.row + edge.dep.head.row ≡ asked.tail.row + edge.prec.head.row) (tail_col : tail.col + edge.dep.head.col ≡ asked.tail.col + edge.prec.head.col) where
+  module _ (query asked : Corners) (head tail : Position) (shared : HoldsShared edge.dep query asked)
+      (ordered : IsOrdered asked.head asked.tail)
+      (head_row : head.row + edge.dep.head.row ≡ asked.head.row + edge.prec.head.row)
+      (head_col : head.col + edge.dep.head.col ≡ asked.head.col + edge.prec.head.col)
+      (tail_row : tail.row + edge.dep.head.row ≡ asked.tail.row + edge.prec.head.row)
+      (tail_col : tail.col + edge.dep.head.col ≡ asked.tail.col + edge.prec.head.col) where
     pub moved_covers : (cell : Position) → IsIn cell (span_of head tail) ↔ IsReferred edge query cell
     moved_covers cell = (to, from)
       where
@@ -94,7 +142,10 @@ module _ (edge : EdgeValue) (is : IsEdge edge) (chain : edge.pattern ≡ Chain) 
 
         to : IsIn cell (span_of head tail) → IsReferred edge query cell
         to inside =
-            let source : Position = record { row = cell.row + edge.dep.head.row - edge.prec.head.row; col = cell.col + edge.dep.head.col - edge.prec.head.col } in
+            let source : Position = record {
+              row = cell.row + edge.dep.head.row - edge.prec.head.row;
+              col = cell.col + edge.dep.head.col - edge.prec.head.col;
+            } in
             let within : IsIn source asked = record {
               row_from = omega (arith, inside.row_from, head_row, rows);
               row_to = omega (arith, inside.row_to, tail_row, rows);

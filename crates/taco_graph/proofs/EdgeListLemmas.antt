@@ -1,5 +1,6 @@
 -- What pairs a list of edges has: no pair twice, and no more than there can be.
-use Rattle.std.proofs.Common.{◌≡◌, ◌≢◌, inl, inr, ℕ, suc, ◌+◌, ◌*◌, ◌<◌, ◌≤◌, List, [], ◌∷◌, ◌++◌, map, length, take, get_or, Option, Some, None, Contains, refl, sym, ◌∙◌, ap, ap₂, subst, arith}
+use Rattle.std.proofs.Common.{◌≡◌, ◌≢◌, inl, inr, ℕ, suc, ◌+◌, ◌*◌, ◌<◌, ◌≤◌, List, [], ◌∷◌, ◌++◌, map, length, take}
+use Rattle.std.proofs.Common.{get_or, Option, Some, None, Contains, refl, sym, ◌∙◌, ap, ap₂, subst, arith}
 use Rattle.std.specs.List.{All, AllPairs, sum_by}
 use Rattle.std.specs.List.Sorted.{IsPermutation}
 use Rattle.std.proofs.lemmas.List.{length-append, length-map, get_or-map, take_more}
@@ -31,7 +32,9 @@ use Rattle.range_index.proofs.DistinctLemmas.{no_longer}
 edge_once : (edge : EdgeValue) → AllPairs (λ a b. a ≢ b) (pairs_of_edge edge)
 edge_once edge i j d before within same =
     let below : j < run_length edge = omega (arith, within, pairs_long edge) in
-    let cells : run_cell edge i ≡ run_cell edge j = ap (λ (p : Pair). p.cell) (sym (pair_listed edge i d (omega (arith, before, below))) ∙ same ∙ pair_listed edge j d below) in
+    let cells : run_cell edge i ≡ run_cell edge j =
+    ap (λ (p : Pair). p.cell) (sym (pair_listed edge i d (omega (arith, before, below))) ∙ same
+    ∙ pair_listed edge j d below) in
     omega (arith, before, one_index edge i j cells)
 
 pub pairs_once : (edges : List EdgeValue) → AllPairs AreApart edges → AllPairs (λ a b. a ≢ b) (pairs_of edges)
@@ -47,13 +50,18 @@ pairs_once (edge ∷ edges) apart =
         let of_both = apart 0 (suc k) later.edge (omega arith) (omega (arith, below)) in
         subst (λ (e : EdgeValue). AreApart edge e) is of_both pair.range pair.cell ((edge_lists edge pair).0 here) later.has
 
-    differ : (i j : ℕ) (d : Pair) → i < length (pairs_of_edge edge) → j < length (pairs_of edges) → get_or (pairs_of_edge edge) i d ≢ get_or (pairs_of edges) j d
+    differ : (i j : ℕ) (d : Pair) → i < length (pairs_of_edge edge) → j < length (pairs_of edges)
+        → get_or (pairs_of_edge edge) i d ≢ get_or (pairs_of edges) j d
     differ i j d i_in j_in same =
-        clash (get_or (pairs_of edges) j d) (subst (λ (p : Pair). Contains (pairs_of_edge edge) p) same (Contains-get_or (pairs_of_edge edge) i d i_in)) (Contains-get_or (pairs_of edges) j d j_in)
+        clash (get_or (pairs_of edges) j d) (subst (λ (p : Pair). Contains (pairs_of_edge edge) p) same
+        (Contains-get_or (pairs_of_edge edge) i d i_in)) (Contains-get_or (pairs_of edges) j d j_in)
 
-edges_apart : (slots : List (Option EdgeValue)) → ((key other : ℕ) (a b : EdgeValue) → key ≢ other → edge_at slots key ≡ Some a → edge_at slots other ≡ Some b → AreApart a b) → AllPairs AreApart (edges_of slots)
+edges_apart : (slots : List (Option EdgeValue)) → ((key other : ℕ) (a b : EdgeValue) → key ≢ other
+    → edge_at slots key ≡ Some a → edge_at slots other ≡ Some b → AreApart a b) → AllPairs AreApart (edges_of slots)
 edges_apart [] apart = λ i j d before within. absurd (omega (arith, within))
-edges_apart (None ∷ slots) apart = edges_apart slots (λ key other a b differ here there. apart (suc key) (suc other) a b (λ same. differ (omega (arith, same))) here there)
+edges_apart (None ∷ slots) apart =
+    edges_apart slots (λ key other a b differ here there. apart (suc key) (suc other) a b
+    (λ same. differ (omega (arith, same))) here there)
 edges_apart (Some edge ∷ slots) apart =
     AllPairs-cons AreApart edge (edges_of slots) first
     (edges_apart slots (λ key other a b differ here there. apart (suc key) (suc other) a b (λ same. differ (omega (arith, same))) here there))
@@ -63,7 +71,8 @@ edges_apart (Some edge ∷ slots) apart =
         let kept = listed_kept slots (get_or (edges_of slots) k d) (Contains-get_or (edges_of slots) k d within) in
         apart 0 (suc kept.key) edge (get_or (edges_of slots) k d) (λ same. omega (arith, same)) refl kept.here
 
-pub stored_apart : (slots : List (Option EdgeValue)) → AreEdges slots → ((key other : ℕ) (a b : EdgeValue) → key ≢ other → edge_at slots key ≡ Some a → edge_at slots other ≡ Some b → AreApart a b) → AreEdgesApart (edges_of slots)
+pub stored_apart : (slots : List (Option EdgeValue)) → AreEdges slots → ((key other : ℕ) (a b : EdgeValue) → key ≢ other
+    → edge_at slots key ≡ Some a → edge_at slots other ≡ Some b → AreApart a b) → AreEdgesApart (edges_of slots)
 stored_apart slots edges apart = record {
   are_edges = λ k d within. edges (get_or (edges_of slots) k d) (listed_kept slots (get_or (edges_of slots) k d) (Contains-get_or (edges_of slots) k d within));
   apart = edges_apart slots apart;
@@ -111,12 +120,16 @@ pub run_cells : (edge : EdgeValue) → IsEdge edge → run_length edge ≡ heigh
 run_cells edge is = one_wide (axis_of edge.dep) edge.dep is.line
 
 -- the pairs of one edge more
-pub pairs_more : (edges : List EdgeValue) (k count cells : ℕ) (edge : EdgeValue) (dep : Corners) → k < length edges → edge ≡ get_or edges k edge → IsEdge edge → dep ≡ edge.dep → cells ≡ height dep * width dep → count ≡ length (pairs_of (take k edges)) → count + cells ≡ length (pairs_of (take (k + 1) edges))
+pub pairs_more : (edges : List EdgeValue) (k count cells : ℕ) (edge : EdgeValue) (dep : Corners) → k < length edges
+    → edge ≡ get_or edges k edge → IsEdge edge → dep ≡ edge.dep → cells ≡ height dep * width dep
+    → count ≡ length (pairs_of (take k edges)) → count + cells ≡ length (pairs_of (take (k + 1) edges))
 pairs_more edges k count cells edge dep within here is dep_is cells_are so_far =
     let more : take (k + 1) edges ≡ take k edges ++ edge ∷ [] = take_more edges k edge within ∙ ap (λ (e : EdgeValue). take k edges ++ e ∷ []) (sym here) in
     let one : cells ≡ run_length edge = cells_are ∙ (ap (λ (d : Corners). height d * width d) dep_is ∙ sym (run_cells edge is)) in
     let all : length (pairs_of (take (k + 1) edges)) ≡ length (pairs_of (take k edges)) + sum_by run_length (edge ∷ []) =
-    pairs_summed (take (k + 1) edges) ∙ (ap (sum_by run_length) more ∙ (sum_by-append run_length (take k edges) (edge ∷ []) ∙ ap (λ n. n + sum_by run_length (edge ∷ [])) (sym (pairs_summed (take k edges))))) in
+    pairs_summed (take (k + 1) edges)
+    ∙ (ap (sum_by run_length) more ∙ (sum_by-append run_length (take k edges) (edge ∷ [])
+    ∙ ap (λ n. n + sum_by run_length (edge ∷ [])) (sym (pairs_summed (take k edges))))) in
     let single : sum_by run_length (edge ∷ []) ≡ run_length edge + 0 = sum_by-cons run_length edge [] in
     omega (arith, all, one, so_far, single)
 
@@ -135,12 +148,19 @@ module _ (ranges_at : Position → List Corners) where
   all_few : ((cell : Position) → length (ranges_at cell) ≤ 255) → (cells : List Position) → length (all_pairs cells) ≤ 255 * length cells
   all_few few [] = omega arith
   all_few few (cell ∷ cells) =
-      omega (arith, length-append (map (λ range. pair_of range cell) (ranges_at cell)) (all_pairs cells), length-map (ranges_at cell) (λ range. pair_of range cell), few cell, all_few few cells)
+      omega (
+        arith,
+        length-append (map (λ range. pair_of range cell) (ranges_at cell)) (all_pairs cells),
+        length-map (ranges_at cell) (λ range. pair_of range cell),
+        few cell,
+        all_few few cells,
+      )
 
   all_there : (cells : List Position) (pair : Pair) → Contains cells pair.cell → Contains (ranges_at pair.cell) pair.range → Contains (all_pairs cells) pair
   all_there [] pair listed ranges = absurd (omega (arith, listed.1))
   all_there (cell ∷ cells) pair listed ranges = elim (Contains-cons_cases cell pair.cell cells listed) [
-    | inl same ↦ Contains-append_left (map (λ range. pair_of range cell) (ranges_at cell)) (all_pairs cells) pair (here (subst (λ (c : Position). Contains (ranges_at c) pair.range) (sym same) ranges) same)
+    | inl same ↦ Contains-append_left (map (λ range. pair_of range cell) (ranges_at cell)) (all_pairs cells) pair
+        (here (subst (λ (c : Position). Contains (ranges_at c) pair.range) (sym same) ranges) same)
     | inr there ↦ Contains-append_right (map (λ range. pair_of range cell) (ranges_at cell)) (all_pairs cells) pair (all_there cells pair there ranges)
   ]
     where
@@ -158,7 +178,8 @@ record IsEverything (all : Corners) : Type 0 where
   last_row : all.tail.row ≡ 1048576
   last_col : all.tail.col ≡ 16384
 
-few_in : (all : Corners) (slots : List (Option EdgeValue)) → IsEverything all → AreEdgesApart (edges_of slots) → EachHasAtMost slots 255 → length (pairs_of (edges_of slots)) ≤ 4380866641920
+few_in : (all : Corners) (slots : List (Option EdgeValue)) → IsEverything all → AreEdgesApart (edges_of slots)
+    → EachHasAtMost slots 255 → length (pairs_of (edges_of slots)) ≤ 4380866641920
 few_in all slots every are few =
     let rows : height all ≡ 1048576 = omega (arith, every.first_row, every.last_row) in
     let cols : width all ≡ 16384 = omega (arith, every.first_col, every.last_col) in
@@ -187,9 +208,11 @@ few_in all slots every are few =
 
     listed : (pair : Pair) → Contains (pairs_of (edges_of slots)) pair → Contains (all_pairs ranges_at (cells_of all)) pair
     listed pair there =
-        all_there ranges_at (cells_of all) pair ((cells_listed all ordered pair.cell).1 (named pair there)) ((few pair.cell).listed pair.range ((pairs_kept slots pair).0 there))
+        all_there ranges_at (cells_of all) pair ((cells_listed all ordered pair.cell).1 (named pair there))
+        ((few pair.cell).listed pair.range ((pairs_kept slots pair).0 there))
 
-pub few_pairs : (slots : List (Option EdgeValue)) (moved : List EdgeValue) → AreEdgesApart (edges_of slots) → EachHasAtMost slots 255 → IsPermutation (edges_of slots) moved → HaveFewPairs moved
+pub few_pairs : (slots : List (Option EdgeValue)) (moved : List EdgeValue) → AreEdgesApart (edges_of slots)
+    → EachHasAtMost slots 255 → IsPermutation (edges_of slots) moved → HaveFewPairs moved
 few_pairs slots moved are few same =
     let all : Corners = record { head = record { row = 1; col = 1 }; tail = record { row = 1048576; col = 16384 } } in
     let less = few_in all slots (record { first_row = refl; first_col = refl; last_row = refl; last_col = refl }) are few in

@@ -74,7 +74,8 @@ module _ (run first : Corners) (can : CanBeFilled run first) where
 
   -- the pattern has the one cell, or moves both ends
   abbrev Fits : Pattern → Type 0
-  Fits pattern = IsShapeOf Down pattern (edge_of run prec pattern) × (((steps ≡ 0) × (pattern ≡ Single)) ⊎ ((head_moves pattern ≡ true) × (tail_moves pattern ≡ true)))
+  Fits pattern = IsShapeOf Down pattern (edge_of run prec pattern)
+      × (((steps ≡ 0) × (pattern ≡ Single)) ⊎ ((head_moves pattern ≡ true) × (tail_moves pattern ≡ true)))
 
   pattern_is : (pattern : Pattern) × Fits pattern
   pattern_is =
@@ -100,7 +101,8 @@ module _ (run first : Corners) (can : CanBeFilled run first) where
       let tail : first.tail.row + steps - (run.tail.row + 1 - run.head.row - 1 - rows) ≡ first.tail.row + rows = omega (arith, o, within) in
       rw (heads, tails, tail) refl
 
-  module _ (calls : List Call) (edges : List EdgeValue) (fill : FillDown calls run first) (after : After [] calls (pairs_of edges)) (pattern : Pattern) (fits : Fits pattern) where
+  module _ (calls : List Call) (edges : List EdgeValue) (fill : FillDown calls run first)
+      (after : After [] calls (pairs_of edges)) (pattern : Pattern) (fits : Fits pattern) where
     in_column : (cell : Position) → IsIn cell run → cell ≡ cell_below run (cell.row - run.head.row)
     in_column cell inside =
         let l = inside.col_from in
@@ -127,8 +129,10 @@ module _ (run first : Corners) (can : CanBeFilled run first) where
           let t = inside.row_to in
           let o = can.run_named.ordered.rows in
           let cell : pair.cell ≡ cell_below run rows = in_column pair.cell inside in
-          let at : Contains (pairs_of edges) (pair_of pair.range (cell_below run rows)) = subst (λ (c : Position). Contains (pairs_of edges) (pair_of pair.range c)) cell there in
-          let given = (last_left [] calls (pairs_of edges) (cell_below run rows) (moved_down first rows ∷ []) after (fill.each rows (omega (arith, f, t))) pair.range).0 at in
+          let at : Contains (pairs_of edges) (pair_of pair.range (cell_below run rows)) =
+          subst (λ (c : Position). Contains (pairs_of edges) (pair_of pair.range c)) cell there in
+          let given = (last_left [] calls (pairs_of edges) (cell_below run rows) (moved_down first rows
+          ∷ []) after (fill.each rows (omega (arith, f, t))) pair.range).0 at in
           from_along (edge_of run prec pattern) (edge_is pattern fits.0) Down can.column pair.range pair.cell (record {
             index = rows;
             within = omega (arith, f, t, o);
@@ -147,10 +151,13 @@ module _ (run first : Corners) (can : CanBeFilled run first) where
         let w = at.within in
         let o = can.run_named.ordered.rows in
         let range : moved_down first at.index ≡ pair.range = sym (at.range_is ∙ range_is pattern fits at.index (omega (arith, w, o))) in
-        let given = (last_left [] calls (pairs_of edges) (cell_below run at.index) (moved_down first at.index ∷ []) after (fill.each at.index (omega (arith, w, o))) pair.range).1 (0, omega arith, range) in
+        let given = (last_left [] calls (pairs_of edges) (cell_below run at.index) (moved_down first at.index
+        ∷ []) after (fill.each at.index (omega (arith, w, o))) pair.range).1 (0, omega arith, range) in
         subst (λ (c : Position). Contains (pairs_of edges) (pair_of pair.range c)) (sym at.cell_is) given
 
-pub filled_is_one : (calls : List Call) (edges : List EdgeValue) (run first : Corners) → CanBeFilled run first → FillDown calls run first → After [] calls (pairs_of edges) → AreJustOne edges → (edge : EdgeValue) × ((edges ≡ edge ∷ []) × (edge.dep ≡ run))
+pub filled_is_one : (calls : List Call) (edges : List EdgeValue) (run first : Corners) → CanBeFilled run first
+    → FillDown calls run first → After [] calls (pairs_of edges) → AreJustOne edges → (edge : EdgeValue)
+    × ((edges ≡ edge ∷ []) × (edge.dep ≡ run))
 filled_is_one calls edges run first can fill after just =
     let chosen = pattern_is run first can in
     let pattern = chosen.0 in
@@ -192,16 +199,30 @@ two_each (suc zero) within = record {
   earlier = [];
   split = refl;
   none_later =
-      leave_more (record { row = 1; col = 2 }) (one_cell 1 1 ∷ []) [] (record { row = 2; col = 2 }) (λ same. let rows = ap (λ (p : Position). p.row) same in omega (arith, rows)) (λ ranges there. omega (arith, there.1));
+      leave_more (record { row = 1; col = 2 }) (one_cell 1 1 ∷ []) [] (record { row = 2; col = 2 })
+      (λ same. let rows = ap (λ (p : Position). p.row) same in omega (arith, rows)) (λ ranges there. omega (
+        arith,
+        there.1,
+      ));
 }
 two_each (suc (suc rows)) within = absurd (omega (arith, within))
 
 two_others : (cell : Position) → ¬ IsIn cell two_cells → LeaveCell two_calls cell
 two_others cell outside =
     leave_more (record { row = 1; col = 2 }) (one_cell 1 1 ∷ []) (replacement (record { row = 2; col = 2 }) (one_cell 2 1 ∷ []) ∷ []) cell
-    (λ same. outside (subst (λ (c : Position). IsIn c two_cells) (sym same) (record { row_from = omega arith; row_to = omega arith; col_from = omega arith; col_to = omega arith })))
+    (λ same. outside (subst (λ (c : Position). IsIn c two_cells) (sym same) (record {
+      row_from = omega arith;
+      row_to = omega arith;
+      col_from = omega arith;
+      col_to = omega arith;
+    })))
     (leave_more (record { row = 2; col = 2 }) (one_cell 2 1 ∷ []) [] cell
-    (λ same. outside (subst (λ (c : Position). IsIn c two_cells) (sym same) (record { row_from = omega arith; row_to = omega arith; col_from = omega arith; col_to = omega arith })))
+    (λ same. outside (subst (λ (c : Position). IsIn c two_cells) (sym same) (record {
+      row_from = omega arith;
+      row_to = omega arith;
+      col_from = omega arith;
+      col_to = omega arith;
+    })))
     (λ ranges there. omega (arith, there.1)))
 
 pub two_filled : CanBeFilled two_cells (one_cell 1 1) × FillDown two_calls two_cells (one_cell 1 1)

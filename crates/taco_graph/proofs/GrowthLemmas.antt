@@ -22,7 +22,9 @@ no_shared a b cell (Right, inl follows) here there = omega (arith, follows.next,
 no_shared a b cell (Right, inr follows) here there = omega (arith, follows.next, there.col_to, here.col_from)
 
 -- an edge takes the place of one whose pairs it has
-pub widened : (old new : List (Option EdgeValue)) (key : ℕ) (was now : EdgeValue) → edge_at old key ≡ Some was → ((range : Corners) (at : Position) → IsPair was range at → IsPair now range at) → PutsEdge old new key (Some now) → GainsPairs old new now
+pub widened : (old new : List (Option EdgeValue)) (key : ℕ) (was now : EdgeValue) → edge_at old key ≡ Some was
+    → ((range : Corners) (at : Position) → IsPair was range at → IsPair now range at) → PutsEdge old new key (Some now)
+    → GainsPairs old new now
 widened old new key was now here within puts range at = (to, from)
   where
     to : IsKeptPair new range at → IsPair now range at ⊎ IsKeptPair old range at
@@ -40,7 +42,16 @@ widened old new key was now here within puts range at = (to, from)
       | inl same ↦
           let is : kept.edge ≡ was = same_Some kept.edge was (sym kept.kept.here ∙ (ap (edge_at old) same ∙ here)) in
           grown (within range at (subst (λ (e : EdgeValue). IsPair e range at) is kept.pair))
-      | inr other ↦ record { edge = kept.edge; kept = record { key = kept.kept.key; here = puts.others kept.kept.key other ∙ kept.kept.here }; pair = kept.pair }
+      | inr other ↦
+          record {
+            edge = kept.edge;
+            kept = record {
+              key = kept.kept.key;
+              here = puts.others kept.kept.key other
+                  ∙ kept.kept.here;
+            };
+            pair = kept.pair;
+          }
     ]
 
 module _ (old : List (Option EdgeValue)) (key : ℕ) (edge joined : EdgeValue) (cell : Position) (union : IsJoinedAt old key edge cell joined) where
@@ -81,14 +92,16 @@ module _ (old : List (Option EdgeValue)) (key : ℕ) (edge joined : EdgeValue) (
 
   -- ---- and over a third edge, which is taken out
 
-  module _ (mid : List (Option EdgeValue)) (beyond : ℕ) (last : EdgeValue) (second : IsJoinedAt old beyond joined cell last) (gone : PutsEdge old mid beyond None) where
+  module _ (mid : List (Option EdgeValue)) (beyond : ℕ) (last : EdgeValue) (second : IsJoinedAt old beyond joined cell
+      last) (gone : PutsEdge old mid beyond None) where
     pub across_differ : key ≢ beyond
     across_differ same =
         let is : second.other ≡ union.other = same_Some second.other union.other (sym second.here ∙ (ap (edge_at old) (sym same) ∙ union.here)) in
         let (range, pair) = first_pair union.other union.is_edge in
         let inside = (run_has_ranges union.other union.is_edge union.other.dep.head).1 (range, pair) in
         let in_joined = (run_has_ranges joined union.join.union.is_edge union.other.dep.head).1 (range, other_within range union.other.dep.head pair) in
-        no_shared joined.dep union.other.dep union.other.dep.head (subst (λ (e : EdgeValue). AreNeighbours joined.dep e.dep) is second.join.neighbours) in_joined inside
+        no_shared joined.dep union.other.dep union.other.dep.head
+        (subst (λ (e : EdgeValue). AreNeighbours joined.dep e.dep) is second.join.neighbours) in_joined inside
 
     still : edge_at mid key ≡ Some union.other
     still = gone.others key across_differ ∙ union.here
@@ -109,7 +122,8 @@ module _ (old : List (Option EdgeValue)) (key : ℕ) (edge joined : EdgeValue) (
       pub across_pairs : GainsPairs old new edge
       across_pairs range at = (to, from)
         where
-          wide : (IsKeptPair new range at → IsPair last range at ⊎ IsKeptPair mid range at) × (IsPair last range at ⊎ IsKeptPair mid range at → IsKeptPair new range at)
+          wide : (IsKeptPair new range at → IsPair last range at ⊎ IsKeptPair mid range at)
+              × (IsPair last range at ⊎ IsKeptPair mid range at → IsKeptPair new range at)
           wide = widened mid new key union.other last still (λ r p pair. (second.join.union.pairs r p).1 (inl (other_within r p pair))) puts range at
 
           to : IsKeptPair new range at → IsPair edge range at ⊎ IsKeptPair old range at

@@ -35,7 +35,8 @@ one_axis Down Right run line same several = absurd (omega (arith, same, several)
 one_axis Right Down run line same several = absurd (omega (arith, same, several))
 
 -- what can be joined with a union can be joined with the one of its two edges at whose end it stands
-module _ (axis : Axis) (front rear joined third : EdgeValue) (front_is : IsEdge front) (rear_is : IsEdge rear) (third_is : IsEdge third) (follows : Follows axis front.dep rear.dep) (union : HasBothPairs front rear joined) where
+module _ (axis : Axis) (front rear joined third : EdgeValue) (front_is : IsEdge front) (rear_is : IsEdge rear)
+    (third_is : IsEdge third) (follows : Follows axis front.dep rear.dep) (union : HasBothPairs front rear joined) where
   pub run : joined.dep ≡ whole axis front rear front_is rear_is follows
   run = (union_ends axis front rear front_is rear_is follows joined union).dep_is
 
@@ -85,7 +86,9 @@ module _ (axis : Axis) (front rear joined third : EdgeValue) (front_is : IsEdge 
           one_axis axis other joined.dep (subst (IsLine axis) (sym run) own) line (subst (λ (r : Corners). 2 ≤ count_along axis r) (sym run) several)
 
 -- no run stands before a run and behind its last part, or behind it and before its first part
-not_round : (axis : Axis) (joined part third : EdgeValue) → IsEdge joined → IsEdge third → along axis joined.dep.tail ≡ along axis part.dep.tail → Follows axis third.dep joined.dep → Follows axis part.dep third.dep → ⊥
+not_round : (axis : Axis) (joined part third : EdgeValue) → IsEdge joined → IsEdge third
+    → along axis joined.dep.tail ≡ along axis part.dep.tail → Follows axis third.dep joined.dep
+    → Follows axis part.dep third.dep → ⊥
 not_round axis joined part third joined_is third_is ends before after =
     let j = (ordered axis joined.dep joined_is.dep.ordered).line in
     let t = (ordered axis third.dep third_is.dep.ordered).line in
@@ -93,7 +96,9 @@ not_round axis joined part third joined_is third_is ends before after =
     let a = after.next in
     omega (arith, j, t, b, a, ends)
 
-not_round_back : (axis : Axis) (joined part third : EdgeValue) → IsEdge joined → IsEdge third → along axis joined.dep.head ≡ along axis part.dep.head → Follows axis joined.dep third.dep → Follows axis third.dep part.dep → ⊥
+not_round_back : (axis : Axis) (joined part third : EdgeValue) → IsEdge joined → IsEdge third
+    → along axis joined.dep.head ≡ along axis part.dep.head → Follows axis joined.dep third.dep
+    → Follows axis third.dep part.dep → ⊥
 not_round_back axis joined part third joined_is third_is begins after before =
     let j = (ordered axis joined.dep joined_is.dep.ordered).line in
     let t = (ordered axis third.dep third_is.dep.ordered).line in
@@ -101,12 +106,14 @@ not_round_back axis joined part third joined_is third_is begins after before =
     let a = after.next in
     omega (arith, j, t, b, a, begins)
 
-module _ (old : List (Option EdgeValue)) (key : ℕ) (edge joined : EdgeValue) (cell : Position) (edge_is : IsEdge edge) (union : IsJoinedAt old key edge cell joined) (others : OthersAreJoined old cell) where
+module _ (old : List (Option EdgeValue)) (key : ℕ) (edge joined : EdgeValue) (cell : Position) (edge_is : IsEdge edge)
+    (union : IsJoinedAt old key edge cell joined) (others : OthersAreJoined old cell) where
   clash : (k : ℕ) (third : EdgeValue) → k ≢ key → edge_at old k ≡ Some third → LacksCell third cell → CanBeJoined union.other third → ⊥
   clash k third differ here lacks = others key k union.other third (λ same. differ (sym same)) union.here here union.lacks lacks
 
   -- what lacks the cell and can be joined with the union stands beyond the edge that has come
-  pub beyond_only : (k : ℕ) (third : EdgeValue) → k ≢ key → edge_at old k ≡ Some third → IsEdge third → LacksCell third cell → CanBeJoined joined third → StandsBeyond edge union.other third
+  pub beyond_only : (k : ℕ) (third : EdgeValue) → k ≢ key → edge_at old k ≡ Some third → IsEdge third
+      → LacksCell third cell → CanBeJoined joined third → StandsBeyond edge union.other third
   beyond_only k third differ here third_is lacks able = by_side union.join.neighbours.0 union.join.neighbours.1
     where
       by_side : (axis : Axis) → Follows axis edge.dep union.other.dep ⊎ Follows axis union.other.dep edge.dep → StandsBeyond edge union.other third
@@ -114,13 +121,17 @@ module _ (old : List (Option EdgeValue)) (key : ℕ) (edge joined : EdgeValue) (
         | inl (first, joins) ↦ (axis, inr (front, first))
         | inr (last, joins) ↦ absurd (clash k third differ here lacks joins)
       ]
-      by_side axis (inr rear) = elim (at_an_end axis union.other edge joined third union.is_edge edge_is third_is rear (flipped edge union.other joined union.join.union) able) [
-        | inl (first, joins) ↦ absurd (clash k third differ here lacks joins)
-        | inr (last, joins) ↦ (axis, inl (rear, last))
-      ]
+      by_side axis (inr rear) =
+          elim (at_an_end axis union.other edge joined third union.is_edge edge_is third_is rear
+          (flipped edge union.other joined union.join.union) able) [
+            | inl (first, joins) ↦ absurd (clash k third differ here lacks joins)
+            | inr (last, joins) ↦ (axis, inl (rear, last))
+          ]
 
   -- and after the third has been joined as well, nothing is left
-  pub none_left : (beyond : ℕ) (last : EdgeValue) → IsJoinedAt old beyond joined cell last → beyond ≢ key → (k : ℕ) (fourth : EdgeValue) → k ≢ key → k ≢ beyond → edge_at old k ≡ Some fourth → IsEdge fourth → LacksCell fourth cell → ¬ CanBeJoined last fourth
+  pub none_left : (beyond : ℕ) (last : EdgeValue) → IsJoinedAt old beyond joined cell last → beyond ≢ key
+      → (k : ℕ) (fourth : EdgeValue) → k ≢ key → k ≢ beyond → edge_at old k ≡ Some fourth → IsEdge fourth
+      → LacksCell fourth cell → ¬ CanBeJoined last fourth
   none_left beyond last second apart k fourth differ other here fourth_is lacks able =
       by_side (beyond_only beyond second.other apart second.here second.is_edge second.lacks (last, second.join))
     where
@@ -138,10 +149,13 @@ module _ (old : List (Option EdgeValue)) (key : ℕ) (edge joined : EdgeValue) (
             next = ap (λ (r : Corners). along axis r.tail + 1) run_is ∙ behind.next;
           } in
           elim (at_an_end axis joined second.other last fourth union.join.union.is_edge second.is_edge fourth_is joined_behind second.join.union able) [
-            | inl (first, joins) ↦ elim (at_an_end axis union.other edge joined fourth union.is_edge edge_is fourth_is rear (flipped edge union.other joined union.join.union) joins) [
-              | inl (at_other, with_other) ↦ clash k fourth differ here lacks with_other
-              | inr (at_edge, with_edge) ↦ not_round axis joined edge fourth union.join.union.is_edge fourth_is (ap (λ (r : Corners). along axis r.tail) run_is) first at_edge
-            ]
+            | inl (first, joins) ↦
+                elim (at_an_end axis union.other edge joined fourth union.is_edge edge_is fourth_is rear
+                (flipped edge union.other joined union.join.union) joins) [
+                  | inl (at_other, with_other) ↦ clash k fourth differ here lacks with_other
+                  | inr (at_edge, with_edge) ↦ not_round axis joined edge fourth union.join.union.is_edge fourth_is
+                      (ap (λ (r : Corners). along axis r.tail) run_is) first at_edge
+                ]
             | inr (at_third, with_third) ↦ third_clash with_third
           ]
       by_side (axis, inr (front, before)) =
@@ -153,17 +167,20 @@ module _ (old : List (Option EdgeValue)) (key : ℕ) (edge joined : EdgeValue) (
             same_line = before.same_line ∙ ap (λ (r : Corners). across axis r.head) (sym run_is);
             next = before.next ∙ ap (λ (r : Corners). along axis r.head) (sym run_is);
           } in
-          elim (at_an_end axis second.other joined last fourth second.is_edge union.join.union.is_edge fourth_is third_before (flipped joined second.other last second.join.union) able) [
+          elim (at_an_end axis second.other joined last fourth second.is_edge union.join.union.is_edge fourth_is
+          third_before (flipped joined second.other last second.join.union) able) [
             | inl (at_third, with_third) ↦ third_clash with_third
             | inr (last_one, joins) ↦ elim (at_an_end axis edge union.other joined fourth edge_is union.is_edge fourth_is front union.join.union joins) [
-              | inl (at_edge, with_edge) ↦ not_round_back axis joined edge fourth union.join.union.is_edge fourth_is (ap (λ (r : Corners). along axis r.head) run_is) last_one at_edge
+              | inl (at_edge, with_edge) ↦ not_round_back axis joined edge fourth union.join.union.is_edge fourth_is
+                  (ap (λ (r : Corners). along axis r.head) run_is) last_one at_edge
               | inr (at_other, with_other) ↦ clash k fourth differ here lacks with_other
             ]
           ]
 
 -- ---- an edge has come, and nothing that lacks the cell can be joined with it
 
-pub adds_alone : (old new : List (Option EdgeValue)) (edge : EdgeValue) (cell : Position) → Gains old new edge → CantJoinAny old edge cell → AddsJoined old new edge cell
+pub adds_alone : (old new : List (Option EdgeValue)) (edge : EdgeValue) (cell : Position) → Gains old new edge
+    → CantJoinAny old edge cell → AddsJoined old new edge cell
 adds_alone old new edge cell gained none = record {
   key = gained.key;
   became = edge;
@@ -173,7 +190,8 @@ adds_alone old new edge cell gained none = record {
   whole = λ other differ b there lacks able. none other b (sym (gained.puts.others other differ) ∙ there) lacks able;
 }
 
-pub adds_grown : (old new : List (Option EdgeValue)) (key : ℕ) (edge joined : EdgeValue) (cell : Position) → AreEdges old → IsEdge edge → (union : IsJoinedAt old key edge cell joined) → OthersAreJoined old cell
+pub adds_grown : (old new : List (Option EdgeValue)) (key : ℕ) (edge joined : EdgeValue) (cell : Position)
+    → AreEdges old → IsEdge edge → (union : IsJoinedAt old key edge cell joined) → OthersAreJoined old cell
     → CantJoinBeyond old edge joined cell
     → PutsEdge old new key (Some joined) → AddsJoined old new edge cell
 adds_grown old new key edge joined cell edges edge_is union others none puts = record {
@@ -185,10 +203,13 @@ adds_grown old new key edge joined cell edges edge_is union others none puts = r
   whole = λ other differ b there lacks able.
       let was = sym (puts.others other differ) ∙ there in
       let is = edges b (record { key = other; here = was }) in
-      none other union.other b union.is_edge union.join was lacks (beyond_only old key edge joined cell edge_is union others other b differ was is lacks able) able;
+      none other union.other b union.is_edge union.join was lacks (beyond_only old key edge joined cell edge_is union
+      others other b differ was is lacks able) able;
 }
 
-pub adds_across : (old mid new : List (Option EdgeValue)) (key beyond : ℕ) (edge joined last : EdgeValue) (cell : Position) → AreEdges old → IsEdge edge → (union : IsJoinedAt old key edge cell joined) → OthersAreJoined old cell
+pub adds_across : (old mid new : List (Option EdgeValue)) (key beyond : ℕ) (edge joined last : EdgeValue)
+    (cell : Position) → AreEdges old → IsEdge edge → (union : IsJoinedAt old key edge cell joined)
+    → OthersAreJoined old cell
     → IsJoinedAt old beyond joined cell last → beyond ≢ key → PutsEdge old mid beyond None → PutsEdge mid new key (Some last) → AddsJoined old new edge cell
 adds_across old mid new key beyond edge joined last cell edges edge_is union others second apart gone puts = record {
   key = key;
@@ -198,11 +219,13 @@ adds_across old mid new key beyond edge joined last cell edges edge_is union oth
   others = λ other b differ there. (still_here old mid beyond other b gone (sym (puts.others other differ) ∙ there)).1;
   whole = λ other differ b there lacks able.
       let was = still_here old mid beyond other b gone (sym (puts.others other differ) ∙ there) in
-      none_left old key edge joined cell edge_is union others beyond last second apart other b differ was.0 was.1 (edges b (record { key = other; here = was.1 })) lacks able;
+      none_left old key edge joined cell edge_is union others beyond last second apart other b differ was.0 was.1
+      (edges b (record { key = other; here = was.1 })) lacks able;
 }
 
 -- what an edge has that has come
-pub named_on : (old new : List (Option EdgeValue)) (edge : EdgeValue) (cell : Position) (sides : Sides) → AddsJoined old new edge cell → NameBeside old cell sides → HoldsCell edge cell → NameBeside new cell sides
+pub named_on : (old new : List (Option EdgeValue)) (edge : EdgeValue) (cell : Position) (sides : Sides)
+    → AddsJoined old new edge cell → NameBeside old cell sides → HoldsCell edge cell → NameBeside new cell sides
 named_on old new edge cell sides adds names (range, holds) = record {
   above = λ asked whole. on sides.above.beside sides.above.keys.items (names.above asked whole);
   below = λ asked whole. on sides.below.beside sides.below.keys.items (names.below asked whole);
@@ -219,7 +242,8 @@ named_on old new edge cell sides adds names (range, holds) = record {
     ]
 
 -- while the cell is taken out
-pub others_less : (old new : List (Option EdgeValue)) (gone : ℕ) (cell : Position) → PutsEdge old new gone None → OthersAreJoined old cell → OthersAreJoined new cell
+pub others_less : (old new : List (Option EdgeValue)) (gone : ℕ) (cell : Position) → PutsEdge old new gone None
+    → OthersAreJoined old cell → OthersAreJoined new cell
 others_less old new gone cell puts others key other a b differ here there =
     others key other a b differ (still_here old new gone key a puts here).1 (still_here old new gone other b puts there).1
 
@@ -232,7 +256,8 @@ kept_of_others slots cell lack others key other a b differ here there = others k
     lacks : (k : ℕ) (e : EdgeValue) → edge_at slots k ≡ Some e → LacksCell e cell
     lacks k e at range pair = lack range (record { edge = e; kept = record { key = k; here = at }; pair = pair })
 
-pub others_still : (old new : List (Option EdgeValue)) (edge : EdgeValue) (cell : Position) → OthersAreJoined old cell → AddsJoined old new edge cell → OthersAreJoined new cell
+pub others_still : (old new : List (Option EdgeValue)) (edge : EdgeValue) (cell : Position) → OthersAreJoined old cell
+    → AddsJoined old new edge cell → OthersAreJoined new cell
 others_still old new edge cell others adds key other a b differ here there lacks_a lacks_b able = elim (cases_eq key adds.key) [
   | inl same ↦
       let is : a ≡ adds.became = same_Some a adds.became (sym here ∙ (ap (edge_at new) same ∙ adds.here)) in
@@ -255,7 +280,12 @@ decide_in cell range = elim (cases_lt cell.row range.head.row) [
       | inl out ↦ inr (λ inside. omega (arith, out, inside.col_from))
       | inr col_from ↦ elim (cases_lt range.tail.col cell.col) [
         | inl out ↦ inr (λ inside. omega (arith, out, inside.col_to))
-        | inr col_to ↦ inl (record { row_from = omega (arith, row_from); row_to = omega (arith, row_to); col_from = omega (arith, col_from); col_to = omega (arith, col_to) })
+        | inr col_to ↦ inl (record {
+          row_from = omega (arith, row_from);
+          row_to = omega (arith, row_to);
+          col_from = omega (arith, col_from);
+          col_to = omega (arith, col_to);
+        })
       ]
     ]
   ]
@@ -269,7 +299,8 @@ decided cell b is = elim (decide_in cell b.dep) [
 ]
 
 -- and when it gets its ranges: two edges that hold it are no neighbours
-pub all_still : (old new : List (Option EdgeValue)) (edge : EdgeValue) (cell : Position) (range : Corners) → AreEdges new → IsPair edge range cell → KeptAreJoined old → AddsJoined old new edge cell → KeptAreJoined new
+pub all_still : (old new : List (Option EdgeValue)) (edge : EdgeValue) (cell : Position) (range : Corners)
+    → AreEdges new → IsPair edge range cell → KeptAreJoined old → AddsJoined old new edge cell → KeptAreJoined new
 all_still old new edge cell range edges holds joined adds key other a b differ here there able = elim (cases_eq key adds.key) [
   | inl same ↦
       let is : a ≡ adds.became = same_Some a adds.became (sym here ∙ (ap (edge_at new) same ∙ adds.here)) in
@@ -286,7 +317,8 @@ all_still old new edge cell range edges holds joined adds key other a b differ h
     with_new k x away at able = elim (decided cell x (edges x (record { key = k; here = at }))) [
       | inl lacks ↦ adds.whole k away x at lacks able
       | inr (r, pair) ↦
-          let in_new = (run_has_ranges adds.became (edges adds.became (record { key = adds.key; here = adds.here })) cell).1 (range, adds.has range cell holds) in
+          let in_new = (run_has_ranges adds.became (edges adds.became (record { key = adds.key; here = adds.here }))
+          cell).1 (range, adds.has range cell holds) in
           let in_x = (run_has_ranges x (edges x (record { key = k; here = at })) cell).1 (r, pair) in
           no_shared adds.became.dep x.dep cell able.1.neighbours in_new in_x
     ]
@@ -295,7 +327,9 @@ all_still old new edge cell range edges holds joined adds key other a b differ h
 
 pub none_joins : (slots : List (Option EdgeValue)) → KeptAreJoined slots → NoneJoins (edges_of slots)
 none_joins [] joined = λ i j d before within. absurd (omega (arith, within))
-none_joins (None ∷ slots) joined = none_joins slots (λ key other a b differ here there. joined (suc key) (suc other) a b (λ same. differ (omega (arith, same))) here there)
+none_joins (None ∷ slots) joined =
+    none_joins slots (λ key other a b differ here there. joined (suc key) (suc other) a b
+    (λ same. differ (omega (arith, same))) here there)
 none_joins (Some edge ∷ slots) joined =
     AllPairs-cons (λ a b. ¬ CanBeJoined a b) edge (edges_of slots) first
     (none_joins slots (λ key other a b differ here there. joined (suc key) (suc other) a b (λ same. differ (omega (arith, same))) here there))
@@ -306,4 +340,6 @@ none_joins (Some edge ∷ slots) joined =
         joined 0 (suc kept.key) edge (get_or (edges_of slots) k d) (λ same. omega (arith, same)) refl kept.here
 
 pub none_joins_moved : (edges moved : List EdgeValue) → IsPermutation edges moved → NoneJoins edges → NoneJoins moved
-none_joins_moved edges moved same none = AllPairs-IsPermutation (λ a b. ¬ CanBeJoined a b) (λ a b apart able. apart (joins_flipped b a able)) edges moved same none
+none_joins_moved edges moved same none =
+    AllPairs-IsPermutation (λ a b. ¬ CanBeJoined a b) (λ a b apart able. apart (joins_flipped b a able)) edges moved
+    same none

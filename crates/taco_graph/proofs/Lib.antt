@@ -10,6 +10,6 @@ mod OneEdgeLemmas
 mod ReplaceLemmas
 mod SideLemmas
 mod StoreLemmas
-pub mod LawLemmas
-pub mod ListLemmas
-pub mod OrderLemmas
+mod LawLemmas
+mod ListLemmas
+mod OrderLemmas

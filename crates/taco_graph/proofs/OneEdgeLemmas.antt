@@ -1,5 +1,6 @@
 -- Where the pairs of edges that can't be joined are those of one edge, there is just that edge.
-use Rattle.std.proofs.Common.{◌≡◌, ◌≢◌, ◌⊎◌, inl, inr, ℕ, zero, suc, ◌+◌, ◌-◌, ◌<◌, ◌≤◌, List, [], ◌∷◌, length, get_or, Contains, refl, sym, ◌∙◌, ap, subst, arith}
+use Rattle.std.proofs.Common.{◌≡◌, ◌≢◌, ◌⊎◌, inl, inr, ℕ, zero, suc, ◌+◌, ◌-◌, ◌<◌, ◌≤◌, List, [], ◌∷◌, length, get_or}
+use Rattle.std.proofs.Common.{Contains, refl, sym, ◌∙◌, ap, subst, arith}
 use Rattle.std.specs.List.{All, AllPairs}
 use Rattle.std.proofs.lemmas.Bool.{cases_lt}
 use Rattle.std.proofs.lemmas.List.{get_or-append-add, get_or_append_left, length-append}
@@ -37,7 +38,8 @@ apart_of (edge ∷ edges) once = AllPairs-cons AreApart edge edges first (apart_
 
     later : AllPairs (λ (a b : Pair). a ≢ b) (pairs_of edges)
     later i j d before within same =
-        once (length (pairs_of_edge edge) + i) (length (pairs_of_edge edge) + j) d (omega (arith, before)) (omega (arith, within, long)) (behind i d ∙ (same ∙ sym (behind j d)))
+        once (length (pairs_of_edge edge) + i) (length (pairs_of_edge edge) + j) d (omega (arith, before))
+        (omega (arith, within, long)) (behind i d ∙ (same ∙ sym (behind j d)))
 
     first : All (AreApart edge) edges
     first k d within range cell here there =
@@ -47,7 +49,10 @@ apart_of (edge ∷ edges) once = AllPairs-cons AreApart edge edges first (apart_
         once i (length (pairs_of_edge edge) + j) pair (omega (arith, i_in)) (omega (arith, j_in, long))
         (get_or_append_left (pairs_of_edge edge) (pairs_of edges) pair i i_in ∙ (i_is ∙ (sym j_is ∙ sym (behind j pair))))
 
-module _ (edges : List EdgeValue) (edge : EdgeValue) (edge_is : IsEdge edge) (are : (e : EdgeValue) → Contains edges e → IsEdge e) (within : (e : EdgeValue) → Contains edges e → PairsAreOf e edge) (covers : (range : Corners) (cell : Position) → IsPair edge range cell → (e : EdgeValue) × (Contains edges e × IsPair e range cell)) (apart : AllPairs AreApart edges) (none : NoneJoins edges) where
+module _ (edges : List EdgeValue) (edge : EdgeValue) (edge_is : IsEdge edge) (are : (e : EdgeValue) → Contains edges e
+    → IsEdge e) (within : (e : EdgeValue) → Contains edges e → PairsAreOf e edge)
+    (covers : (range : Corners) (cell : Position) → IsPair edge range cell → (e : EdgeValue)
+    × (Contains edges e × IsPair e range cell)) (apart : AllPairs AreApart edges) (none : NoneJoins edges) where
   abbrev axis : Axis
   axis = axis_of edge.dep
 
@@ -72,7 +77,8 @@ module _ (edges : List EdgeValue) (edge : EdgeValue) (edge_is : IsEdge edge) (ar
     e_line = wide e.dep.head (in_run e.dep.head e_head) ∙ sym (wide e.dep.tail (in_run e.dep.tail e_tail))
 
   -- no cell of the run stands just before one of the edges, or just behind it
-  gap : (e : EdgeValue) → Contains edges e → (range : Corners) (cell : Position) → IsPair edge range cell → (along axis cell + 1 ≡ along axis e.dep.head) ⊎ (along axis e.dep.tail + 1 ≡ along axis cell) → ⊥
+  gap : (e : EdgeValue) → Contains edges e → (range : Corners) (cell : Position) → IsPair edge range cell
+      → (along axis cell + 1 ≡ along axis e.dep.head) ⊎ (along axis e.dep.tail + 1 ≡ along axis cell) → ⊥
   gap e e_in range cell pair beside = let has = covers range cell pair in by_edge has.0 has.1.0 has.1.1
     where
       by_edge : (f : EdgeValue) → Contains edges f → IsPair f range cell → ⊥
@@ -118,7 +124,13 @@ module _ (edges : List EdgeValue) (edge : EdgeValue) (edge_is : IsEdge edge) (ar
               let line = wide shared (in_run e e_in shared here) in
               let head = wide f.dep.head (in_run f f_in f.dep.head (e_head f f_in)) in
               let tail = wide f.dep.tail (in_run f f_in f.dep.tail (e_tail f f_in)) in
-              disjoint shared here (is_in axis shared f.dep (record { from = low; to = high; left = omega (arith, line, head); right = omega (arith, line, tail) }))
+              disjoint shared here
+              (is_in axis shared f.dep (record {
+                from = low;
+                to = high;
+                left = omega (arith, line, head);
+                right = omega (arith, line, tail);
+              }))
 
           by_side : (along axis cell + 1 ≡ along axis e.dep.head) ⊎ (along axis e.dep.tail + 1 ≡ along axis cell) → ⊥
           by_side (inl ahead) =
@@ -167,7 +179,8 @@ module _ (edges : List EdgeValue) (edge : EdgeValue) (edge_is : IsEdge edge) (ar
       | inl less ↦
           let index = along axis e.dep.head - 1 - along axis edge.dep.head in
           let coordinate = along_of axis (along axis edge.dep.head + index) (across axis edge.dep.head) in
-          absurd (gap e e_in (range_at edge index) (run_cell edge index) (pair_at index (omega (arith, less, at_head.to))) (inl (omega (arith, less, coordinate))))
+          absurd (gap e e_in (range_at edge index) (run_cell edge index)
+          (pair_at index (omega (arith, less, at_head.to))) (inl (omega (arith, less, coordinate))))
     ]
 
     ends : along axis edge.dep.tail ≤ along axis e.dep.tail
@@ -176,7 +189,8 @@ module _ (edges : List EdgeValue) (edge : EdgeValue) (edge_is : IsEdge edge) (ar
       | inl less ↦
           let index = along axis e.dep.tail + 1 - along axis edge.dep.head in
           let coordinate = along_of axis (along axis edge.dep.head + index) (across axis edge.dep.head) in
-          absurd (gap e e_in (range_at edge index) (run_cell edge index) (pair_at index (omega (arith, less, at_tail.from))) (inr (omega (arith, less, at_tail.from, coordinate))))
+          absurd (gap e e_in (range_at edge index) (run_cell edge index)
+          (pair_at index (omega (arith, less, at_tail.from))) (inr (omega (arith, less, at_tail.from, coordinate))))
     ]
 
     whole_run : (cell : Position) → IsIn cell edge.dep → IsIn cell e.dep
@@ -185,7 +199,12 @@ module _ (edges : List EdgeValue) (edge : EdgeValue) (edge_is : IsEdge edge) (ar
         let line = wide cell here in
         let head = wide e.dep.head (in_run e e_in e.dep.head (e_head e e_in)) in
         let tail = wide e.dep.tail (in_run e e_in e.dep.tail (e_tail e e_in)) in
-        is_in axis cell e.dep (record { from = omega (arith, begins, at.from); to = omega (arith, ends, at.to); left = omega (arith, line, head); right = omega (arith, line, tail) })
+        is_in axis cell e.dep (record {
+          from = omega (arith, begins, at.from);
+          to = omega (arith, ends, at.to);
+          left = omega (arith, line, head);
+          right = omega (arith, line, tail);
+        })
 
     is_the_edge : e ≡ edge
     is_the_edge = pairs_tell e edge (are e e_in) edge_is (λ range cell. (
@@ -193,17 +212,22 @@ module _ (edges : List EdgeValue) (edge : EdgeValue) (edge_is : IsEdge edge) (ar
       λ pair. pair_of_part edge e (are e e_in) (within e e_in) range cell pair (whole_run cell ((run_has_ranges edge edge_is cell).1 (range, pair))),
     ))
 
-just_one : (edges : List EdgeValue) (edge : EdgeValue) → IsEdge edge → ((e : EdgeValue) → Contains edges e → e ≡ edge) → AllPairs AreApart edges → (e : EdgeValue) × Contains edges e → edges ≡ edge ∷ []
+just_one : (edges : List EdgeValue) (edge : EdgeValue) → IsEdge edge → ((e : EdgeValue) → Contains edges e → e ≡ edge)
+    → AllPairs AreApart edges → (e : EdgeValue) × Contains edges e → edges ≡ edge ∷ []
 just_one [] edge is each apart (e, there) = absurd (omega (arith, there.1))
 just_one (e ∷ []) edge is each apart some = ap (λ (x : EdgeValue). x ∷ []) (each e (0, omega arith, refl))
 just_one (e ∷ f ∷ rest) edge is each apart some =
     let one = each e (0, omega arith, refl) in
     let two = each f (1, omega arith, refl) in
     let (range, pair) = first_pair edge is in
-    absurd (apart 0 1 e (omega arith) (omega arith) range edge.dep.head (subst (λ (x : EdgeValue). IsPair x range edge.dep.head) (sym one) pair) (subst (λ (x : EdgeValue). IsPair x range edge.dep.head) (sym two) pair))
+    absurd (apart 0 1 e (omega arith) (omega arith) range edge.dep.head
+    (subst (λ (x : EdgeValue). IsPair x range edge.dep.head) (sym one) pair)
+    (subst (λ (x : EdgeValue). IsPair x range edge.dep.head) (sym two) pair))
 
 -- edges apart that can't be joined and have the pairs of one edge
-pub one_edge : (edges : List EdgeValue) (edge : EdgeValue) → IsEdge edge → All IsEdge edges → AllPairs AreApart edges → NoneJoins edges → ((pair : Pair) → Contains (pairs_of edges) pair → IsPair edge pair.range pair.cell) → ((pair : Pair) → IsPair edge pair.range pair.cell → Contains (pairs_of edges) pair) → edges ≡ edge ∷ []
+pub one_edge : (edges : List EdgeValue) (edge : EdgeValue) → IsEdge edge → All IsEdge edges → AllPairs AreApart edges
+    → NoneJoins edges → ((pair : Pair) → Contains (pairs_of edges) pair → IsPair edge pair.range pair.cell)
+    → ((pair : Pair) → IsPair edge pair.range pair.cell → Contains (pairs_of edges) pair) → edges ≡ edge ∷ []
 one_edge edges edge is all apart none listed lists =
     just_one edges edge is (λ e there. is_the_edge edges edge is are within covers apart none e there) apart some
   where
@@ -221,12 +245,16 @@ one_edge edges edge is all apart none listed lists =
 
 -- the pairs of one edge as a list
 pub pairs_of_one : (edge : EdgeValue) (pair : Pair) → Contains (pairs_of (edge ∷ [])) pair → IsPair edge pair.range pair.cell
-pairs_of_one edge pair there = let of = all_list (edge ∷ []) pair there in subst (λ (e : EdgeValue). IsPair e pair.range pair.cell) (sym (only edge of.edge of.listed)) of.has
+pairs_of_one edge pair there =
+    let of = all_list (edge ∷ []) pair there in
+    subst (λ (e : EdgeValue). IsPair e pair.range pair.cell) (sym (only edge of.edge of.listed)) of.has
   where
     only : (one other : EdgeValue) → Contains (one ∷ []) other → one ≡ other
     only one other (zero, below, is) = is
     only one other (suc k, below, is) = absurd (omega arith)
 
-pub one_alone : (edges : List EdgeValue) (edge : EdgeValue) → IsEdge edge → All IsEdge edges → AllPairs AreApart edges → NoneJoins edges → SamePairs (pairs_of (edge ∷ [])) (pairs_of edges) → edges ≡ edge ∷ []
+pub one_alone : (edges : List EdgeValue) (edge : EdgeValue) → IsEdge edge → All IsEdge edges → AllPairs AreApart edges
+    → NoneJoins edges → SamePairs (pairs_of (edge ∷ [])) (pairs_of edges) → edges ≡ edge ∷ []
 one_alone edges edge is all apart none same =
-    one_edge edges edge is all apart none (λ pair there. pairs_of_one edge pair ((same pair).0 there)) (λ pair has. (same pair).1 (list_all (edge ∷ []) edge pair (0, omega arith, refl) has))
+    one_edge edges edge is all apart none (λ pair there. pairs_of_one edge pair ((same pair).0 there))
+    (λ pair has. (same pair).1 (list_all (edge ∷ []) edge pair (0, omega arith, refl) has))

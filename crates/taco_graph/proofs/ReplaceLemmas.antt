@@ -1,5 +1,6 @@
 -- The cell is taken out of one edge after another, and then gets one range after another.
-use Rattle.std.proofs.Common.{◌≡◌, ◌≢◌, ◌↔◌, ◌⊎◌, inl, inr, ℕ, zero, suc, ◌+◌, ◌<◌, ◌≤◌, List, [], ◌∷◌, ◌++◌, length, get_or, take, Option, Some, Contains, sym, ◌∙◌, subst, arith}
+use Rattle.std.proofs.Common.{◌≡◌, ◌≢◌, ◌↔◌, ◌⊎◌, inl, inr, ℕ, zero, suc, ◌+◌, ◌<◌, ◌≤◌, List, [], ◌∷◌, ◌++◌, length}
+use Rattle.std.proofs.Common.{get_or, take, Option, Some, Contains, sym, ◌∙◌, subst, arith}
 use Rattle.std.proofs.lemmas.Bool.{cases_eq}
 use Rattle.std.proofs.lemmas.Option.{none-some}
 use Rattle.std.proofs.lemmas.List.{take_all, take_more}
@@ -26,13 +27,17 @@ AreSwept old now cell Passed =
 pub swept_none : (slots : List (Option EdgeValue)) (cell : Position) (Passed : ℕ → Type 0) → ((key : ℕ) → ¬ Passed key) → AreSwept slots slots cell Passed
 swept_none slots cell Passed none key edge range here pair = (here, none key)
 
-pub swept_more : (old now next : List (Option EdgeValue)) (cell : Position) (Passed More : ℕ → Type 0) (taken : ℕ) → ((key : ℕ) → More key → Passed key ⊎ (key ≡ taken)) → HoldElsewhere now next cell taken → AreSwept old now cell Passed → AreSwept old next cell More
+pub swept_more : (old now next : List (Option EdgeValue)) (cell : Position) (Passed More : ℕ → Type 0) (taken : ℕ)
+    → ((key : ℕ) → More key → Passed key ⊎ (key ≡ taken)) → HoldElsewhere now next cell taken
+    → AreSwept old now cell Passed → AreSwept old next cell More
 swept_more old now next cell Passed More taken cases elsewhere swept key edge range here pair =
     let was = elsewhere key edge range here pair in
     let before = swept key edge range was.0 pair in
     (before.0, λ more. elim (cases key more) [ inl passed ↦ before.1 passed | inr same ↦ was.1 same ])
 
-pub swept_all : (old now : List (Option EdgeValue)) (cell : Position) (Passed : ℕ → Type 0) → ((key : ℕ) (edge : EdgeValue) (range : Corners) → edge_at old key ≡ Some edge → IsPair edge range cell → Passed key) → AreSwept old now cell Passed → LackCell now cell
+pub swept_all : (old now : List (Option EdgeValue)) (cell : Position) (Passed : ℕ → Type 0)
+    → ((key : ℕ) (edge : EdgeValue) (range : Corners) → edge_at old key ≡ Some edge → IsPair edge range cell
+    → Passed key) → AreSwept old now cell Passed → LackCell now cell
 swept_all old now cell Passed all swept range kept =
     let left = swept kept.kept.key kept.edge range kept.kept.here kept.pair in
     left.1 (all kept.kept.key kept.edge range left.0 kept.pair)
@@ -70,7 +75,9 @@ only_range : (last range : Corners) → Contains (last ∷ []) range → range �
 only_range last range (zero, below, is) = sym is
 only_range last range (suc k, below, is) = absurd (omega arith)
 
-pub replaced_more : (old now next : List (Option EdgeValue)) (cell : Position) (refs : List Corners) (one : Corners) → GainsPairs now next (single_edge cell one) → AreReplaced old now cell refs → AreReplaced old next cell (refs ++ one ∷ [])
+pub replaced_more : (old now next : List (Option EdgeValue)) (cell : Position) (refs : List Corners) (one : Corners)
+    → GainsPairs now next (single_edge cell one) → AreReplaced old now cell refs
+    → AreReplaced old next cell (refs ++ one ∷ [])
 replaced_more old now next cell refs one gains replaced range at = (to, from)
   where
     to : IsKeptPair next range at → ((at ≡ cell) × Contains (refs ++ one ∷ []) range) ⊎ ((at ≢ cell) × IsKeptPair old range at)
@@ -92,7 +99,8 @@ replaced_more old now next cell refs one gains replaced range at = (to, from)
     from (inr other) = (gains range at).1 (inr ((replaced range at).1 (inr other)))
 
 -- a further range of the cell is new
-pub single_apart : (old now : List (Option EdgeValue)) (cell : Position) (refs : List Corners) (one : Corners) → ¬ Contains refs one → AreReplaced old now cell refs → IsApart now (single_edge cell one)
+pub single_apart : (old now : List (Option EdgeValue)) (cell : Position) (refs : List Corners) (one : Corners)
+    → ¬ Contains refs one → AreReplaced old now cell refs → IsApart now (single_edge cell one)
 single_apart old now cell refs one absent replaced range at came kept =
     let is = (single_pair cell at one range).0 came in
     elim ((replaced range at).0 kept) [
@@ -101,7 +109,8 @@ single_apart old now cell refs one absent replaced range at came kept =
     ]
 
 -- each cell still has at most 255 pairs
-pub at_most_still : (old now : List (Option EdgeValue)) (cell : Position) (refs : List Corners) → AreRefs refs → AreReplaced old now cell refs → ((at : Position) → HasAtMost old at 255) → (at : Position) → HasAtMost now at 255
+pub at_most_still : (old now : List (Option EdgeValue)) (cell : Position) (refs : List Corners) → AreRefs refs
+    → AreReplaced old now cell refs → ((at : Position) → HasAtMost old at 255) → (at : Position) → HasAtMost now at 255
 at_most_still old now cell refs are replaced few at = elim (same_or at cell) [
   | inl same ↦ record {
     ranges = refs;
@@ -115,20 +124,24 @@ at_most_still old now cell refs are replaced few at = elim (same_or at cell) [
   }
 ]
 
-pub replaces_pairs : (old now : List (Option EdgeValue)) (cell : Position) (refs : List Corners) → AreReplaced old now cell refs → Replaces (pairs_of (edges_of old)) (pairs_of (edges_of now)) cell refs
+pub replaces_pairs : (old now : List (Option EdgeValue)) (cell : Position) (refs : List Corners)
+    → AreReplaced old now cell refs → Replaces (pairs_of (edges_of old)) (pairs_of (edges_of now)) cell refs
 replaces_pairs old now cell refs replaced pair = (to, from)
   where
-    to : Contains (pairs_of (edges_of now)) pair → ((pair.cell ≡ cell) × Contains refs pair.range) ⊎ ((pair.cell ≢ cell) × Contains (pairs_of (edges_of old)) pair)
+    to : Contains (pairs_of (edges_of now)) pair → ((pair.cell ≡ cell) × Contains refs pair.range)
+        ⊎ ((pair.cell ≢ cell) × Contains (pairs_of (edges_of old)) pair)
     to listed = elim ((replaced pair.range pair.cell).0 ((pairs_kept now pair).0 listed)) [
       | inl own ↦ inl own
       | inr (differ, was) ↦ inr (differ, (pairs_kept old pair).1 was)
     ]
 
-    from : ((pair.cell ≡ cell) × Contains refs pair.range) ⊎ ((pair.cell ≢ cell) × Contains (pairs_of (edges_of old)) pair) → Contains (pairs_of (edges_of now)) pair
+    from : ((pair.cell ≡ cell) × Contains refs pair.range)
+        ⊎ ((pair.cell ≢ cell) × Contains (pairs_of (edges_of old)) pair) → Contains (pairs_of (edges_of now)) pair
     from (inl own) = (pairs_kept now pair).1 ((replaced pair.range pair.cell).1 (inl own))
     from (inr (differ, was)) = (pairs_kept now pair).1 ((replaced pair.range pair.cell).1 (inr (differ, (pairs_kept old pair).0 was)))
 
-pub replaced_on : (old mid now : List (Option EdgeValue)) (cell : Position) (refs : List Corners) → KeepsOthers old mid cell → AreReplaced mid now cell refs → AreReplaced old now cell refs
+pub replaced_on : (old mid now : List (Option EdgeValue)) (cell : Position) (refs : List Corners)
+    → KeepsOthers old mid cell → AreReplaced mid now cell refs → AreReplaced old now cell refs
 replaced_on old mid now cell refs others replaced range at = (to, from)
   where
     to : IsKeptPair now range at → ((at ≡ cell) × Contains refs range) ⊎ ((at ≢ cell) × IsKeptPair old range at)
@@ -140,11 +153,14 @@ replaced_on old mid now cell refs others replaced range at = (to, from)
 
 -- ---- the keys that are passed
 
-pub next_key : (held : List ℕ) (place taken : ℕ) → place < length held → taken ≡ get_or held place 0 → (key : ℕ) → Contains (take (place + 1) held) key → Contains (take place held) key ⊎ (key ≡ taken)
-next_key held place taken within is key there = elim (Contains-push_cases (take place held) (get_or held place 0) key (subst (λ (l : List ℕ). Contains l key) (take_more held place 0 within) there)) [
-  | inl before ↦ inl before
-  | inr same ↦ inr (sym same ∙ sym is)
-]
+pub next_key : (held : List ℕ) (place taken : ℕ) → place < length held → taken ≡ get_or held place 0 → (key : ℕ)
+    → Contains (take (place + 1) held) key → Contains (take place held) key ⊎ (key ≡ taken)
+next_key held place taken within is key there =
+    elim (Contains-push_cases (take place held) (get_or held place 0) key (subst (λ (l : List ℕ). Contains l key)
+    (take_more held place 0 within) there)) [
+      | inl before ↦ inl before
+      | inr same ↦ inr (sym same ∙ sym is)
+    ]
 
 pub none_passed : (held : List ℕ) (key : ℕ) → ¬ Contains (take 0 held) key
 none_passed held key there = omega (arith, there.1)
@@ -156,7 +172,8 @@ pub next_below : (place key : ℕ) → key < place + 1 → (key < place) ⊎ (ke
 next_below place key below = elim (cases_eq key place) [ inl same ↦ inr same | inr other ↦ inl (omega (arith, below, other)) ]
 
 -- what an index of runs names, where it names the edges whose runs have a cell
-pub holders_named : (slots : List (Option EdgeValue)) (cell : Position) (query : Corners) (keys : List ℕ) → AreEdges slots → IsIn cell query → NamesOverlapping slots query keys → HoldersAreAmong slots cell keys
+pub holders_named : (slots : List (Option EdgeValue)) (cell : Position) (query : Corners) (keys : List ℕ)
+    → AreEdges slots → IsIn cell query → NamesOverlapping slots query keys → HoldersAreAmong slots cell keys
 holders_named slots cell query keys edges inside names key edge range here pair =
     let is : IsEdge edge = edges edge (record { key = key; here = here }) in
     names key edge here (cell, record { first = (run_has_ranges edge is cell).1 (range, pair); second = inside })

@@ -11,17 +11,21 @@ use Rattle.sheet_refs.specs.Rectangles.{Overlap}
 use Rattle.edge_patterns.specs.Edges.{EdgeValue, IsEdge, IsPair}
 use Rattle.range_index.specs.Entries.{Entry, entry_of, HasNoId, SameEntries, Inserts, Removes, ChangesRange, AddsOverlapping}
 use Rattle.taco_graph.specs.Pairs.{AreApart}
-use Rattle.taco_graph.specs.Stores.{edge_at, IsKeptEdge, IsKeptPair, IsApart, IsApartBeside, IsFiled, FilesAll, AreStored, PutsEdge, NamesOverlapping, LeavesApart}
+use Rattle.taco_graph.specs.Stores.{edge_at, IsKeptEdge, IsKeptPair, IsApart, IsApartBeside, IsFiled, FilesAll}
+use Rattle.taco_graph.specs.Stores.{AreStored, PutsEdge, NamesOverlapping, LeavesApart}
 
 -- an edge that is there after one was taken out was there before, under another key
-pub still_here : (old new : List (Option EdgeValue)) (taken key : ℕ) (edge : EdgeValue) → PutsEdge old new taken None → edge_at new key ≡ Some edge → (key ≢ taken) × (edge_at old key ≡ Some edge)
+pub still_here : (old new : List (Option EdgeValue)) (taken key : ℕ) (edge : EdgeValue) → PutsEdge old new taken None
+    → edge_at new key ≡ Some edge → (key ≢ taken) × (edge_at old key ≡ Some edge)
 still_here old new taken key edge puts here = elim (cases_eq key taken) [
   | inl same ↦ absurd (none-some edge (sym puts.changed ∙ (ap (edge_at new) (sym same) ∙ here)))
   | inr other ↦ (other, sym (puts.others key other) ∙ here)
 ]
 
 -- an edge that is there after one has come is that one, or was there before under another key
-pub here_more : (old new : List (Option EdgeValue)) (came key : ℕ) (one edge : EdgeValue) → PutsEdge old new came (Some one) → edge_at new key ≡ Some edge → ((key ≡ came) × (edge ≡ one)) ⊎ ((key ≢ came) × (edge_at old key ≡ Some edge))
+pub here_more : (old new : List (Option EdgeValue)) (came key : ℕ) (one edge : EdgeValue)
+    → PutsEdge old new came (Some one) → edge_at new key ≡ Some edge → ((key ≡ came) × (edge ≡ one))
+    ⊎ ((key ≢ came) × (edge_at old key ≡ Some edge))
 here_more old new came key one edge puts here = elim (cases_eq key came) [
   | inl same ↦ inl (same, same_Some edge one (sym here ∙ (ap (edge_at new) same ∙ puts.changed)))
   | inr other ↦ inr (other, sym (puts.others key other) ∙ here)
@@ -49,7 +53,9 @@ none_stored runs rectangles no_run no_rectangle = record {
 
 -- ---- the same is stored
 
-pub same_stored : (slots : List (Option EdgeValue)) (runs new_runs rectangles new_rectangles : List Entry) → SameEntries runs new_runs → SameEntries rectangles new_rectangles → AreStored slots runs rectangles → AreStored slots new_runs new_rectangles
+pub same_stored : (slots : List (Option EdgeValue)) (runs new_runs rectangles new_rectangles : List Entry)
+    → SameEntries runs new_runs → SameEntries rectangles new_rectangles → AreStored slots runs rectangles
+    → AreStored slots new_runs new_rectangles
 same_stored slots runs new_runs rectangles new_rectangles same_runs same_rectangles stored = record {
   edges = stored.edges;
   apart = stored.apart;
@@ -62,7 +68,8 @@ same_stored slots runs new_runs rectangles new_rectangles same_runs same_rectang
 
 -- ---- one edge less
 
-filed_less : (old new : List (Option EdgeValue)) (side : EdgeValue → Corners) (entries less : List Entry) (key : ℕ) → PutsEdge old new key None → Removes entries less key → FilesAll old side entries → FilesAll new side less
+filed_less : (old new : List (Option EdgeValue)) (side : EdgeValue → Corners) (entries less : List Entry) (key : ℕ)
+    → PutsEdge old new key None → Removes entries less key → FilesAll old side entries → FilesAll new side less
 filed_less old new side entries less key puts removes files entry = (to, from)
   where
     to : Contains less entry → IsFiled new side entry
@@ -76,24 +83,34 @@ filed_less old new side entries less key puts removes files entry = (to, from)
         let was = still_here old new key entry.id filed.edge puts filed.here in
         (removes entry).1 (was.0, (files entry).1 (record { edge = filed.edge; here = was.1; range_is = filed.range_is }))
 
-pub stored_less : (old new : List (Option EdgeValue)) (runs less_runs rectangles less_rectangles : List Entry) (key : ℕ) → PutsEdge old new key None → Removes runs less_runs key → Removes rectangles less_rectangles key → AreStored old runs rectangles → AreStored new less_runs less_rectangles
+pub stored_less : (old new : List (Option EdgeValue)) (runs less_runs rectangles less_rectangles : List Entry) (key : ℕ)
+    → PutsEdge old new key None → Removes runs less_runs key → Removes rectangles less_rectangles key
+    → AreStored old runs rectangles → AreStored new less_runs less_rectangles
 stored_less old new runs less_runs rectangles less_rectangles key puts run_gone rectangle_gone stored = record {
   edges = λ edge kept. stored.edges edge (record { key = kept.key; here = (still_here old new key kept.key edge puts kept.here).1 });
-  apart = λ k other a b differ here there. stored.apart k other a b differ (still_here old new key k a puts here).1 (still_here old new key other b puts there).1;
+  apart = λ k other a b differ here there. stored.apart k other a b differ (still_here old new key k a puts here).1
+      (still_here old new key other b puts there).1;
   runs_filed = filed_less old new (λ edge. edge.dep) runs less_runs key puts run_gone stored.runs_filed;
   rectangles_filed = filed_less old new (λ edge. edge.prec) rectangles less_rectangles key puts rectangle_gone stored.rectangles_filed;
 }
 
 -- ---- one edge more
 
-filed_more : (old new : List (Option EdgeValue)) (side : EdgeValue → Corners) (entries more : List Entry) (key : ℕ) (one : EdgeValue) → edge_at old key ≡ None → PutsEdge old new key (Some one) → Inserts entries more key (side one) → FilesAll old side entries → FilesAll new side more
+filed_more : (old new : List (Option EdgeValue)) (side : EdgeValue → Corners) (entries more : List Entry) (key : ℕ)
+    (one : EdgeValue) → edge_at old key ≡ None → PutsEdge old new key (Some one) → Inserts entries more key (side one)
+    → FilesAll old side entries → FilesAll new side more
 filed_more old new side entries more key one free puts inserts files entry = (to, from)
   where
     to : Contains more entry → IsFiled new side entry
     to there = elim ((inserts entry).0 there) [
       | inl was ↦
           let filed = (files entry).0 was in
-          record { edge = filed.edge; here = puts.others entry.id (not_free old key entry.id filed.edge free filed.here) ∙ filed.here; range_is = filed.range_is }
+          record {
+            edge = filed.edge;
+            here = puts.others entry.id (not_free old key entry.id filed.edge free filed.here)
+                ∙ filed.here;
+            range_is = filed.range_is;
+          }
       | inr is ↦ subst (IsFiled new side) (sym is) (record { edge = one; here = puts.changed; range_is = refl })
     ]
 
@@ -103,7 +120,10 @@ filed_more old new side entries more key one free puts inserts files entry = (to
       | inr (other, was) ↦ inl ((files entry).1 (record { edge = filed.edge; here = was; range_is = filed.range_is }))
     ])
 
-pub stored_more : (old new : List (Option EdgeValue)) (runs more_runs rectangles more_rectangles : List Entry) (key : ℕ) (one : EdgeValue) → edge_at old key ≡ None → PutsEdge old new key (Some one) → IsEdge one → IsApart old one → Inserts runs more_runs key one.dep → Inserts rectangles more_rectangles key one.prec → AreStored old runs rectangles → AreStored new more_runs more_rectangles
+pub stored_more : (old new : List (Option EdgeValue)) (runs more_runs rectangles more_rectangles : List Entry) (key : ℕ)
+    (one : EdgeValue) → edge_at old key ≡ None → PutsEdge old new key (Some one) → IsEdge one → IsApart old one
+    → Inserts runs more_runs key one.dep → Inserts rectangles more_rectangles key one.prec
+    → AreStored old runs rectangles → AreStored new more_runs more_rectangles
 stored_more old new runs more_runs rectangles more_rectangles key one free puts is_edge away run_came rectangle_came stored = record {
   edges = edges;
   apart = apart;
@@ -134,7 +154,9 @@ stored_more old new runs more_runs rectangles more_rectangles key one free puts 
 
 -- ---- another edge under a key
 
-filed_changed : (old new : List (Option EdgeValue)) (side : EdgeValue → Corners) (entries changed : List Entry) (key : ℕ) (one : EdgeValue) → PutsEdge old new key (Some one) → ChangesRange entries changed key (side one) → FilesAll old side entries → FilesAll new side changed
+filed_changed : (old new : List (Option EdgeValue)) (side : EdgeValue → Corners) (entries changed : List Entry)
+    (key : ℕ) (one : EdgeValue) → PutsEdge old new key (Some one) → ChangesRange entries changed key (side one)
+    → FilesAll old side entries → FilesAll new side changed
 filed_changed old new side entries changed key one puts changes files entry = (to, from)
   where
     to : Contains changed entry → IsFiled new side entry
@@ -152,7 +174,8 @@ filed_changed old new side entries changed key one puts changes files entry = (t
     ])
 
 -- what a write under a key does
-pub puts_by_write : (slots : List (Option EdgeValue)) (key : ℕ) (was one : EdgeValue) → edge_at slots key ≡ Some was → PutsEdge slots (slice_set slots key (Some one)) key (Some one)
+pub puts_by_write : (slots : List (Option EdgeValue)) (key : ℕ) (was one : EdgeValue) → edge_at slots key ≡ Some was
+    → PutsEdge slots (slice_set slots key (Some one)) key (Some one)
 puts_by_write slots key was one here = record {
   changed = get_or-set_same slots key (Some one) None within;
   others = λ other differ. get_or-set_other slots key other (Some one) None differ;
@@ -164,7 +187,10 @@ puts_by_write slots key was one here = record {
       | inr past ↦ absurd (none-some was (sym (get_or_past slots key None past) ∙ here))
     ]
 
-pub stored_changed : (old new : List (Option EdgeValue)) (runs changed_runs rectangles changed_rectangles : List Entry) (key : ℕ) (one : EdgeValue) → PutsEdge old new key (Some one) → IsEdge one → IsApartBeside old key one → ChangesRange runs changed_runs key one.dep → ChangesRange rectangles changed_rectangles key one.prec → AreStored old runs rectangles → AreStored new changed_runs changed_rectangles
+pub stored_changed : (old new : List (Option EdgeValue)) (runs changed_runs rectangles changed_rectangles : List Entry)
+    (key : ℕ) (one : EdgeValue) → PutsEdge old new key (Some one) → IsEdge one → IsApartBeside old key one
+    → ChangesRange runs changed_runs key one.dep → ChangesRange rectangles changed_rectangles key one.prec
+    → AreStored old runs rectangles → AreStored new changed_runs changed_rectangles
 stored_changed old new runs changed_runs rectangles changed_rectangles key one puts is_edge away run_changed rectangle_changed stored = record {
   edges = edges;
   apart = apart;
@@ -179,7 +205,8 @@ stored_changed old new runs changed_runs rectangles changed_rectangles key one p
     ]
 
     -- a pair of the new edge is in none that stands under another key
-    none_beside : (k : ℕ) (edge : EdgeValue) (range : Corners) (cell : Position) → k ≢ key → edge_at old k ≡ Some edge → IsPair edge range cell → ¬ IsPair one range cell
+    none_beside : (k : ℕ) (edge : EdgeValue) (range : Corners) (cell : Position) → k ≢ key → edge_at old k ≡ Some edge
+        → IsPair edge range cell → ¬ IsPair one range cell
     none_beside k edge range cell other here pair of_one =
         let was = away range cell of_one (record { edge = edge; kept = record { key = k; here = here }; pair = pair }) in
         stored.apart k key edge was.edge other here was.here range cell pair was.pair
@@ -198,22 +225,35 @@ stored_changed old new runs changed_runs rectangles changed_rectangles key one p
 
 -- ---- what the indexes ask and answer
 
-pub is_listed : (slots : List (Option EdgeValue)) (side : EdgeValue → Corners) (entries : List Entry) (key : ℕ) (edge : EdgeValue) → FilesAll slots side entries → edge_at slots key ≡ Some edge → Contains entries (entry_of key (side edge))
+pub is_listed : (slots : List (Option EdgeValue)) (side : EdgeValue → Corners) (entries : List Entry) (key : ℕ)
+    (edge : EdgeValue) → FilesAll slots side entries → edge_at slots key ≡ Some edge
+    → Contains entries (entry_of key (side edge))
 is_listed slots side entries key edge files here = (files (entry_of key (side edge))).1 (record { edge = edge; here = here; range_is = refl })
 
-pub has_no_id : (slots : List (Option EdgeValue)) (side : EdgeValue → Corners) (entries : List Entry) (key : ℕ) → FilesAll slots side entries → edge_at slots key ≡ None → HasNoId entries key
+pub has_no_id : (slots : List (Option EdgeValue)) (side : EdgeValue → Corners) (entries : List Entry) (key : ℕ)
+    → FilesAll slots side entries → edge_at slots key ≡ None → HasNoId entries key
 has_no_id slots side entries key files free entry there = let filed = (files entry).0 there in not_free slots key entry.id filed.edge free filed.here
 
-pub names : (slots : List (Option EdgeValue)) (side : EdgeValue → Corners) (entries : List Entry) (query : Corners) (old new : List ℕ) → FilesAll slots side entries → AddsOverlapping entries query old new → (key : ℕ) (edge : EdgeValue) → edge_at slots key ≡ Some edge → Overlap (side edge) query → Contains new key
+pub names : (slots : List (Option EdgeValue)) (side : EdgeValue → Corners) (entries : List Entry) (query : Corners)
+    (old new : List ℕ) → FilesAll slots side entries → AddsOverlapping entries query old new
+    → (key : ℕ) (edge : EdgeValue) → edge_at slots key ≡ Some edge → Overlap (side edge) query → Contains new key
 names slots side entries query old new files adds key edge here overlap =
     subst (λ (keys : List ℕ). Contains keys key) (sym adds.whole)
-    (Contains-append_right old adds.added key ((adds.exact key).1 (record { range = side edge; listed = is_listed slots side entries key edge files here; overlaps = overlap })))
+    (Contains-append_right old adds.added key
+    ((adds.exact key).1 (record {
+      range = side edge;
+      listed = is_listed slots side entries key edge files here;
+      overlaps = overlap;
+    })))
 
-pub names_runs : {E : Type 0} (result : Result (Unit {0}) E) (slots : List (Option EdgeValue)) (runs rectangles : List Entry) (query : Corners) (old new : List ℕ) → AreStored slots runs rectangles → OnOk result (AddsOverlapping runs query old new) → OnOk result (NamesOverlapping slots query new)
+pub names_runs : {E : Type 0} (result : Result (Unit {0}) E) (slots : List (Option EdgeValue))
+    (runs rectangles : List Entry) (query : Corners) (old new : List ℕ) → AreStored slots runs rectangles
+    → OnOk result (AddsOverlapping runs query old new) → OnOk result (NamesOverlapping slots query new)
 names_runs (Ok x) slots runs rectangles query old new stored adds = names slots (λ edge. edge.dep) runs query old new stored.runs_filed adds
 names_runs (Err e) slots runs rectangles query old new stored adds = adds
 
-pub leaves_apart : (old new : List (Option EdgeValue)) (runs rectangles : List Entry) (key : ℕ) → AreStored old runs rectangles → PutsEdge old new key None → LeavesApart old new key
+pub leaves_apart : (old new : List (Option EdgeValue)) (runs rectangles : List Entry) (key : ℕ)
+    → AreStored old runs rectangles → PutsEdge old new key None → LeavesApart old new key
 leaves_apart old new runs rectangles key stored puts edge here range cell pair kept =
     let was = still_here old new key kept.kept.key kept.edge puts kept.kept.here in
     stored.apart kept.kept.key key kept.edge edge was.0 was.1 here range cell kept.pair pair

@@ -93,7 +93,8 @@ pub record AddsAnswersOf (slots : List (Option EdgeValue)) (question : Question)
   pub whole : new ≡ old ++ answer_ranges answers
   pub once : HaveOneAnswer answers
   pub exact : (answer : EdgeAnswer) → Contains answers answer → (key : ℕ) × Contains keys key × IsAnswerAt slots question query key answer
-  pub all : (key : ℕ) (edge : EdgeValue) (cell : Position) → Contains keys key → edge_at slots key ≡ Some edge → IsMeant question edge query cell → HasAnswer answers edge
+  pub all : (key : ℕ) (edge : EdgeValue) (cell : Position) → Contains keys key → edge_at slots key ≡ Some edge
+      → IsMeant question edge query cell → HasAnswer answers edge
 
 -- ranges were added whose cells are exactly those that some edge answers
 abbrev pub AddsAnswers : List (Option EdgeValue) → Question → Corners → List Corners → List Corners → Type 0

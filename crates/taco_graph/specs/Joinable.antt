@@ -50,7 +50,8 @@ StandsBeyond edge other third =
 -- what an edge has grown into with another can't be joined with an edge that lacks the cell and stands beyond
 abbrev pub CantJoinBeyond : List (Option EdgeValue) → EdgeValue → EdgeValue → Position → Type 0
 CantJoinBeyond slots edge grown cell =
-    (key : ℕ) (other third : EdgeValue) → IsEdge other → IsJoin edge other grown → edge_at slots key ≡ Some third → LacksCell third cell → StandsBeyond edge other third
+    (key : ℕ) (other third : EdgeValue) → IsEdge other → IsJoin edge other grown → edge_at slots key ≡ Some third
+    → LacksCell third cell → StandsBeyond edge other third
     → ¬ CanBeJoined grown third
 
 -- an edge has come, alone or joined with others; what it has become stands under one key, what stands under another key

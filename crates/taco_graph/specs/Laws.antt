@@ -14,7 +14,8 @@ use Rattle.taco_graph.specs.Pairs.{StandFor, pairs_of}
 -- a list gains no more ranges than there are edges
 abbrev pub AnswersAreFew : Type 0
 AnswersAreFew =
-    (edges : List EdgeValue) (question : Question) (query : Corners) (old new : List Corners) → AddsOneEach edges (λ edge. IsMeant question edge query) old new → length new ≤ length old + length edges
+    (edges : List EdgeValue) (question : Question) (query : Corners) (old new : List Corners)
+    → AddsOneEach edges (λ edge. IsMeant question edge query) old new → length new ≤ length old + length edges
 
 -- a list that has one range more, with exactly some cells
 pub record GainsOne (old new : List Corners) (cells : Position → Type 0) : Type 0 where
@@ -25,7 +26,8 @@ pub record GainsOne (old new : List Corners) (cells : Position → Type 0) : Typ
 -- one edge of which a cell is meant gives one range, with exactly the cells that are meant
 abbrev pub OneEdgeGivesOne : Type 0
 OneEdgeGivesOne =
-    (edge : EdgeValue) (question : Question) (query : Corners) (old new : List Corners) (cell : Position) → AddsOneEach (edge ∷ []) (λ e. IsMeant question e query) old new
+    (edge : EdgeValue) (question : Question) (query : Corners) (old new : List Corners) (cell : Position)
+    → AddsOneEach (edge ∷ []) (λ e. IsMeant question e query) old new
     → IsMeant question edge query cell → GainsOne old new (IsMeant question edge query)
 
 -- edges that stand for some pairs are no more than these: each has one of its own
@@ -64,5 +66,6 @@ TwoCellsAreFilled = CanBeFilled two_cells (one_cell 1 1) × FillDown two_calls t
 -- a column that is filled down, of whatever length and in whatever order of its cells, is one edge
 abbrev pub FilledColumnsAreOneEdge : Type 0
 FilledColumnsAreOneEdge =
-    (calls : List Call) (edges : List EdgeValue) (run first : Corners) → CanBeFilled run first → FillDown calls run first → After [] calls (pairs_of edges) → AreJustOne edges
+    (calls : List Call) (edges : List EdgeValue) (run first : Corners) → CanBeFilled run first
+    → FillDown calls run first → After [] calls (pairs_of edges) → AreJustOne edges
     → (edge : EdgeValue) × ((edges ≡ edge ∷ []) × (edge.dep ≡ run))

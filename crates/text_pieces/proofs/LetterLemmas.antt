@@ -12,7 +12,8 @@ pub no_column : (most column : ℕ) → column ≡ 0 → last_letters most colum
 no_column zero column is = refl
 no_column (suc more) column is = rw is refl
 
-pub last_letter : (most column : ℕ) → most ≢ 0 → column ≢ 0 → last_letters most column ≡ last_letters (most - 1) ((column - 1) / 26) ++ (65 + (column - 1) % 26) ∷ []
+pub last_letter : (most column : ℕ) → most ≢ 0 → column ≢ 0
+    → last_letters most column ≡ last_letters (most - 1) ((column - 1) / 26) ++ (65 + (column - 1) % 26) ∷ []
 last_letter zero column some named = absurd (some refl)
 last_letter (suc more) column some named =
     let less : suc more - 1 ≡ more = omega arith in

@@ -8,7 +8,8 @@ use Rattle.text_pieces.specs.Pieces.Sends.{nothing, stops, goes_on}
 
 module _ {F : Type 0} (taker : Taker F) where
   one_call : (f last : F) (piece : Bor (List ℕ)) (told : Bool) → Called taker f (piece, tt) told last → Sends taker f piece.now told last
-  one_call f last piece true called = goes_on f last last piece.now piece.now [] true (sym (append-nil piece.now)) (record { shown = piece; shows = refl; called = called }) (nothing last)
+  one_call f last piece true called = goes_on f last last piece.now piece.now [] true (sym (append-nil piece.now))
+      (record { shown = piece; shows = refl; called = called }) (nothing last)
   one_call f last piece false called = stops f last piece.now (record { shown = piece; shows = refl; called = called })
 
   -- one call hands out its piece
@@ -20,17 +21,20 @@ module _ {F : Type 0} (taker : Taker F) where
   pub none : (f : F) → HandsOut taker f [] true f
   none f = record { sent = []; left = []; sends = nothing f; begins = refl; whole = λ _. refl }
 
-  sends_on : (f mid last : F) (a b : List ℕ) (taken told : Bool) → taken ≡ true → Sends taker f a taken mid → Sends taker mid b told last → Sends taker f (a ++ b) told last
+  sends_on : (f mid last : F) (a b : List ℕ) (taken told : Bool) → taken ≡ true → Sends taker f a taken mid
+      → Sends taker mid b told last → Sends taker f (a ++ b) told last
   sends_on _ _ last _ b _ told is (nothing f) rest = rest
   sends_on _ _ last _ b _ told is (stops f mid piece called) rest = absurd (no is)
     where
       no : false ≡ true → ⊥
       no h = cc
   sends_on _ _ last _ b _ told is (goes_on f next mid text piece more taken parts called sends) rest =
-      goes_on f next last (text ++ b) piece (more ++ b) told (ap (λ t. t ++ b) parts ∙ append_assoc piece more b) called (sends_on next mid last more b taken told is sends rest)
+      goes_on f next last (text ++ b) piece (more ++ b) told (ap (λ t. t ++ b) parts ∙ append_assoc piece more b) called
+      (sends_on next mid last more b taken told is sends rest)
 
   -- a whole text, and then another
-  pub and_then : (f mid last : F) (a b : List ℕ) (told : Bool) → HandsOut taker f a true mid → HandsOut taker mid b told last → HandsOut taker f (a ++ b) told last
+  pub and_then : (f mid last : F) (a b : List ℕ) (told : Bool) → HandsOut taker f a true mid
+      → HandsOut taker mid b told last → HandsOut taker f (a ++ b) told last
   and_then f mid last a b told first second =
       let whole : a ≡ first.sent = first.begins ∙ (ap (λ l. first.sent ++ l) (first.whole refl) ∙ append-nil first.sent) in
       record {

@@ -12,7 +12,8 @@ Taker F = Mut F (Bor (List ℕ) × Unit {0}) Bool
 pub data Sends {F : Type 0} (taker : Taker F) : F → List ℕ → Bool → F → Type 0 where
   nothing : (f : F) → Sends taker f [] true f
   stops : (f last : F) (piece : List ℕ) → CalledAt taker f piece false last → Sends taker f piece false last
-  goes_on : (f mid last : F) (text piece rest : List ℕ) (told : Bool) → text ≡ piece ++ rest → CalledAt taker f piece true mid → Sends taker mid rest told last → Sends taker f text told last
+  goes_on : (f mid last : F) (text piece rest : List ℕ) (told : Bool) → text ≡ piece ++ rest
+      → CalledAt taker f piece true mid → Sends taker mid rest told last → Sends taker f text told last
 
 -- calls that hand out a whole text, or a beginning of it up to the first false, which is then the answer
 pub record HandsOut {F : Type 0} (taker : Taker F) (old : F) (text : List ℕ) (told : Bool) (new : F) : Type 0 where

@@ -15,7 +15,8 @@ use Rattle.tree_index.proofs.ShapeLemmas.{link_cases, listed_in, same_level}
 use Rattle.tree_index.proofs.WayLemmas.{range_rest}
 
 module _ (old new : Tree) (key place : ℕ) (range wide : Corners) (tree : HoldTree old) (inside : IsInner old key) (has : Admits (node_at old) key range)
-    (child : Entry) (child_is : child_of old key place ≡ Some child) (sets : SetsRange old new key place wide) (first : Covers wide child.range) (second : Covers wide range) (least : IsSpan child.range range wide) where
+    (child : Entry) (child_is : child_of old key place ≡ Some child) (sets : SetsRange old new key place wide)
+    (first : Covers wide child.range) (second : Covers wide range) (least : IsSpan child.range range wide) where
   same_child : sets.child ≡ child
   same_child = some_same sets.child child (sym sets.here ∙ ap (λ (o : Option Node). child_in o place) (sym sets.there) ∙ child_is)
 
@@ -23,18 +24,32 @@ module _ (old new : Tree) (key place : ℕ) (range wide : Corners) (tree : HoldT
   inner = omega (arith, inside.inner, same_level (node_at old key) inside.node sets.node inside.there sets.there)
 
   here : IsBelow (node_at old) sets.node.level sets.child
-  here = tree.shape.below key sets.child (record { node = sets.node; there = sets.there; inner = inner; listed = listed_at sets.node.children place sets.child sets.here })
+  here =
+      tree.shape.below key sets.child (record {
+        node = sets.node;
+        there = sets.there;
+        inner = inner;
+        listed = listed_at sets.node.children place sets.child sets.here;
+      })
 
   differs : child.id ≢ key
   differs same =
-      absurd (omega (arith, here.one_down, same_level (node_at old sets.child.id) here.node sets.node here.there (ap (node_at old) (ap (λ (e : Entry). e.id) same_child ∙ same) ∙ sets.there)))
+      absurd (omega (
+        arith,
+        here.one_down,
+        same_level (node_at old sets.child.id) here.node sets.node here.there
+            (ap (node_at old) (ap (λ (e : Entry). e.id) same_child ∙ same) ∙ sets.there),
+      ))
 
   pub widened : Rearranges old new
   widened = range_rest old new key place wide sets tree inner
-      (λ m is e listed. covers_more wide child.range e.range first (subst (λ (c : Entry). Covers c.range e.range) same_child (here.covers e (listed_in (node_at old sets.child.id) m here.node e is here.there listed))))
+      (λ m is e listed. covers_more wide child.range e.range first (subst (λ (c : Entry). Covers c.range e.range)
+      same_child (here.covers e (listed_in (node_at old sets.child.id) m here.node e is here.there listed))))
       (λ parent rectangle link. least rectangle
       (let over = tree.shape.below parent (entry_of key rectangle) link in
-      subst (λ (c : Entry). Covers rectangle c.range) same_child (over.covers sets.child (listed_in (node_at old key) sets.node over.node sets.child sets.there over.there (listed_at sets.node.children place sets.child sets.here))))
+      subst (λ (c : Entry). Covers rectangle c.range) same_child
+      (over.covers sets.child (listed_in (node_at old key) sets.node over.node sets.child sets.there over.there
+      (listed_at sets.node.children place sets.child sets.here))))
       (has parent rectangle link))
 
   pub place_below : HasPlaceBelow old key place → HasPlace new child.id
@@ -46,11 +61,20 @@ module _ (old new : Tree) (key place : ℕ) (range wide : Corners) (tree : HoldT
   pub admits_below : Admits (node_at new) child.id range
   admits_below parent rectangle link = elim (link_cases sets.there sets.set.nodes refl parent (entry_of child.id rectangle) link) [
     | inl own ↦
-        let changes : ChangesRange sets.node.children (slice_set sets.node.children place (entry_of sets.child.id wide)) sets.child.id wide = changes_set sets.node.children place sets.child wide sets.here (tree.shape.once key sets.node sets.there) in
+        let changes : ChangesRange sets.node.children (slice_set sets.node.children place (entry_of sets.child.id wide))
+        sets.child.id wide =
+        changes_set sets.node.children place sets.child wide sets.here (tree.shape.once key sets.node sets.there) in
         elim ((changes (entry_of child.id rectangle)).0 own.1) [
           | inl kept ↦ absurd (kept.0 (ap (λ (e : Entry). e.id) (sym same_child)))
           | inr is ↦ subst (λ (r : Corners). Covers r range) (sym (ap (λ (e : Entry). e.range) is)) second
         ]
     | inr other ↦
-        absurd (other.0 (tree.shape.single parent key (entry_of child.id rectangle) sets.child other.1 (record { node = sets.node; there = sets.there; inner = inner; listed = listed_at sets.node.children place sets.child sets.here }) (ap (λ (e : Entry). e.id) (sym same_child))))
+        absurd (other.0 (tree.shape.single parent key (entry_of child.id rectangle) sets.child other.1
+        (record {
+          node = sets.node;
+          there = sets.there;
+          inner = inner;
+          listed = listed_at sets.node.children place sets.child sets.here;
+        })
+        (ap (λ (e : Entry). e.id) (sym same_child))))
   ]

@@ -32,7 +32,9 @@ adds_same P Q query old new same adds = record {
 }
 
 -- of some, and of others that have other ids
-pub adds_both : (P Q : Entry → Type 0) (query : Corners) (old mid new : List ℕ) → ((a b : Entry) → P a → Q b → a.id ≡ b.id → ⊥) → AddsThose P query old mid → AddsThose Q query mid new → AddsThose (λ e. P e ⊎ Q e) query old new
+pub adds_both : (P Q : Entry → Type 0) (query : Corners) (old mid new : List ℕ)
+    → ((a b : Entry) → P a → Q b → a.id ≡ b.id → ⊥) → AddsThose P query old mid → AddsThose Q query mid new
+    → AddsThose (λ e. P e ⊎ Q e) query old new
 adds_both P Q query old mid new apart first second = record {
   added = first.added ++ second.added;
   whole = second.whole ∙ (ap (λ (l : List ℕ). l ++ second.added) first.whole ∙ append_assoc old first.added second.added);
@@ -56,10 +58,13 @@ adds_both P Q query old mid new apart first second = record {
         apart (entry_of a is.range) (entry_of b is_too.range) is.one_of is_too.one_of same
 
     across : (i j : ℕ) (d : ℕ) → i < length first.added → j < length second.added → get_or first.added i d ≢ get_or second.added j d
-    across i j d inside inside_too = differ (get_or first.added i d) (get_or second.added j d) (Contains-get_or first.added i d inside) (Contains-get_or second.added j d inside_too)
+    across i j d inside inside_too =
+        differ (get_or first.added i d) (get_or second.added j d) (Contains-get_or first.added i d inside)
+        (Contains-get_or second.added j d inside_too)
 
 -- of a list
-pub adds_listed : (entries : List Entry) (query : Corners) (old new : List ℕ) → AddsOverlapping entries query old new → AddsThose (λ e. Contains entries e) query old new
+pub adds_listed : (entries : List Entry) (query : Corners) (old new : List ℕ) → AddsOverlapping entries query old new
+    → AddsThose (λ e. Contains entries e) query old new
 adds_listed entries query old new adds = record {
   added = adds.added;
   whole = adds.whole;
@@ -70,7 +75,8 @@ adds_listed entries query old new adds = record {
   );
 }
 
-pub listed_adds : (entries : List Entry) (query : Corners) (old new : List ℕ) → AddsThose (λ e. Contains entries e) query old new → AddsOverlapping entries query old new
+pub listed_adds : (entries : List Entry) (query : Corners) (old new : List ℕ)
+    → AddsThose (λ e. Contains entries e) query old new → AddsOverlapping entries query old new
 listed_adds entries query old new adds = record {
   added = adds.added;
   whole = adds.whole;

@@ -1,13 +1,13 @@
-pub mod ChildLemmas
-pub mod DownLemmas
-pub mod FindLemmas
-pub mod MoveLemmas
-pub mod NoteLemmas
-pub mod RectangleLemmas
-pub mod ShapeLemmas
-pub mod SplitLemmas
-pub mod StandLemmas
-pub mod StepLemmas
-pub mod TreeLemmas
-pub mod UnderLemmas
-pub mod WayLemmas
+mod ChildLemmas
+mod DownLemmas
+mod FindLemmas
+mod MoveLemmas
+mod NoteLemmas
+mod RectangleLemmas
+mod ShapeLemmas
+mod SplitLemmas
+mod StandLemmas
+mod StepLemmas
+mod TreeLemmas
+mod UnderLemmas
+mod WayLemmas

@@ -1,5 +1,6 @@
 -- What is noted of entries, and the entries that are noted.
-use Rattle.std.proofs.Common.{◌≡◌, ◌≢◌, ◌↔◌, ◌⊎◌, inl, inr, ℕ, ◌<◌, Bool, true, false, true≢false, cond, List, length, get_or, Option, Some, None, refl, sym, ◌∙◌, ap, subst, arith, nat_eq}
+use Rattle.std.proofs.Common.{◌≡◌, ◌≢◌, ◌↔◌, ◌⊎◌, inl, inr, ℕ, ◌<◌, Bool, true, false, true≢false, cond, List, length}
+use Rattle.std.proofs.Common.{get_or, Option, Some, None, refl, sym, ◌∙◌, ap, subst, arith, nat_eq}
 use Rattle.std.specs.List.{Contains, IsDistinct}
 use Rattle.std.specs.Map.{lookup, keys_of}
 use Rattle.std.proofs.lemmas.Bool.{cases_eq}
@@ -32,12 +33,17 @@ abbrev pub note_in : List (ℕ × Note) → ℕ → Option Note
 note_in notes id = lookup (nat_eq id) notes
 
 -- an entry is put at a place, whether it was at another or not
-pub put_noted : (S T : Entry → Place → Type 0) (noted new : ℕ → Option Note) (id : ℕ) (range : Corners) (at : Place) → AreNoted S noted → SetsKey noted new id (Some (note_of range at)) → ((e : Entry) (p : Place) → T e p ↔ (((e.id ≢ id) × S e p) ⊎ ((e ≡ entry_of id range) × (p ≡ at)))) → AreNoted T new
+pub put_noted : (S T : Entry → Place → Type 0) (noted new : ℕ → Option Note) (id : ℕ) (range : Corners) (at : Place)
+    → AreNoted S noted → SetsKey noted new id (Some (note_of range at))
+    → ((e : Entry) (p : Place) → T e p ↔ (((e.id ≢ id) × S e p) ⊎ ((e ≡ entry_of id range) × (p ≡ at))))
+    → AreNoted T new
 put_noted S T noted new id range at are sets moved e p = (
   λ stands. elim ((moved e p).0 stands) [
     | inl kept ↦ sets.others e.id kept.0 ∙ (are e p).0 kept.1
     | inr is ↦
-        ap new (ap (λ (x : Entry). x.id) is.0) ∙ sets.here ∙ ap (λ (r : Corners). Some (note_of r at)) (sym (ap (λ (x : Entry). x.range) is.0)) ∙ ap (λ (q : Place). Some (note_of e.range q)) (sym is.1)
+        ap new (ap (λ (x : Entry). x.id) is.0) ∙ sets.here
+        ∙ ap (λ (r : Corners). Some (note_of r at)) (sym (ap (λ (x : Entry). x.range) is.0))
+        ∙ ap (λ (q : Place). Some (note_of e.range q)) (sym is.1)
   ],
   λ there. (moved e p).1 (elim (cases_eq e.id id) [
     | inl same ↦
@@ -48,7 +54,8 @@ put_noted S T noted new id range at are sets moved e p = (
 )
 
 -- an entry is nowhere
-pub gone_noted : (S T : Entry → Place → Type 0) (noted new : ℕ → Option Note) (id : ℕ) → AreNoted S noted → SetsKey noted new id None → ((e : Entry) (p : Place) → T e p ↔ ((e.id ≢ id) × S e p)) → AreNoted T new
+pub gone_noted : (S T : Entry → Place → Type 0) (noted new : ℕ → Option Note) (id : ℕ) → AreNoted S noted
+    → SetsKey noted new id None → ((e : Entry) (p : Place) → T e p ↔ ((e.id ≢ id) × S e p)) → AreNoted T new
 gone_noted S T noted new id are sets moved e p = (
   λ stands. let kept = (moved e p).0 stands in sets.others e.id kept.0 ∙ (are e p).0 kept.1,
   λ there. (moved e p).1 (elim (cases_eq e.id id) [
@@ -83,7 +90,8 @@ sets_note old new key value step = record {
 -- the entries that are noted
 
 -- an entry is listed exactly where it is noted somewhere
-pub listed_noted : (notes : List (ℕ × Note)) → IsDistinct nat_eq (keys_of notes) → (e : Entry) → Contains (noted_entries notes) e ↔ ((p : Place) × (lookup (nat_eq e.id) notes ≡ Some (note_of e.range p)))
+pub listed_noted : (notes : List (ℕ × Note)) → IsDistinct nat_eq (keys_of notes) → (e : Entry)
+    → Contains (noted_entries notes) e ↔ ((p : Place) × (lookup (nat_eq e.id) notes ≡ Some (note_of e.range p)))
 listed_noted notes unique e = (to, from)
   where
     none : ℕ × Note
@@ -105,7 +113,8 @@ listed_noted notes unique e = (to, from)
         let at : ℕ × Note = (e.id, note_of e.range p) in (
           there.0,
           omega (arith, there.1, length-map notes (λ (noted : ℕ × Note). entry_of noted.0 noted.1.range)),
-          get_or-map (λ (noted : ℕ × Note). entry_of noted.0 noted.1.range) notes there.0 at e there.1 ∙ ap (λ (noted : ℕ × Note). entry_of noted.0 noted.1.range) there.2,
+          get_or-map (λ (noted : ℕ × Note). entry_of noted.0 noted.1.range) notes there.0 at e there.1
+              ∙ ap (λ (noted : ℕ × Note). entry_of noted.0 noted.1.range) there.2,
         )
 
 -- no id is listed twice
@@ -122,32 +131,44 @@ one_range notes unique i j d before within same =
 
     key_at : (k : ℕ) → k < length notes → get_or (keys_of notes) k 0 ≡ (get_or (noted_entries notes) k d).id
     key_at k inside =
-        get_or-map (λ (noted : ℕ × Note). noted.0) notes k none 0 inside ∙ sym (ap (λ (x : Entry). x.id) (get_or-map (λ (noted : ℕ × Note). entry_of noted.0 noted.1.range) notes k none d inside))
+        get_or-map (λ (noted : ℕ × Note). noted.0) notes k none 0 inside
+        ∙ sym (ap (λ (x : Entry). x.id) (get_or-map (λ (noted : ℕ × Note). entry_of noted.0 noted.1.range) notes k
+        none d inside))
 
 module _ (notes new : List (ℕ × Note)) (unique : IsDistinct nat_eq (keys_of notes)) (unique_new : IsDistinct nat_eq (keys_of new)) where
   -- the entry of one id has another range or has come
-  pub changes_noted : (id : ℕ) (range : Corners) (place : Place) → SetsKey (λ i. lookup (nat_eq i) notes) (λ i. lookup (nat_eq i) new) id (Some (note_of range place)) → ChangesRange (noted_entries notes) (noted_entries new) id range
+  pub changes_noted : (id : ℕ) (range : Corners) (place : Place)
+      → SetsKey (λ i. lookup (nat_eq i) notes) (λ i. lookup (nat_eq i) new) id (Some (note_of range place))
+      → ChangesRange (noted_entries notes) (noted_entries new) id range
   changes_noted id range place sets e = (
     λ listed. let now = (listed_noted new unique_new e).0 listed in elim (cases_eq e.id id) [
       | inl same ↦
-          let note = one_note (lookup (nat_eq e.id) new) (note_of e.range now.0) (note_of range place) now.1 (ap (λ (i : ℕ). lookup (nat_eq i) new) same ∙ sets.here) in
+          let note = one_note (lookup (nat_eq e.id) new) (note_of e.range now.0) (note_of range place) now.1
+          (ap (λ (i : ℕ). lookup (nat_eq i) new) same ∙ sets.here) in
           inr (entry_is e id range same (ap (λ (n : Note). n.range) note))
       | inr other ↦ inl (other, (listed_noted notes unique e).1 (now.0, sym (sets.others e.id other) ∙ now.1))
     ],
     λ either. (listed_noted new unique_new e).1 (elim either [
       | inl kept ↦ let was = (listed_noted notes unique e).0 kept.1 in (was.0, sets.others e.id kept.0 ∙ was.1)
-      | inr is ↦
-          (place, ap (λ (i : ℕ). lookup (nat_eq i) new) (ap (λ (x : Entry). x.id) is) ∙ sets.here ∙ ap (λ (r : Corners). Some (note_of r place)) (sym (ap (λ (x : Entry). x.range) is)))
+      | inr is ↦ (
+        place,
+        ap (λ (i : ℕ). lookup (nat_eq i) new) (ap (λ (x : Entry). x.id) is) ∙ sets.here
+            ∙ ap (λ (r : Corners). Some (note_of r place)) (sym (ap (λ (x : Entry). x.range) is)),
+      )
     ]),
   )
 
-  pub inserts_noted : (id : ℕ) (range : Corners) → HasNoId (noted_entries notes) id → ChangesRange (noted_entries notes) (noted_entries new) id range → Inserts (noted_entries notes) (noted_entries new) id range
+  pub inserts_noted : (id : ℕ) (range : Corners) → HasNoId (noted_entries notes) id
+      → ChangesRange (noted_entries notes) (noted_entries new) id range
+      → Inserts (noted_entries notes) (noted_entries new) id range
   inserts_noted id range absent changes e = (
     λ listed. elim ((changes e).0 listed) [ inl kept ↦ inl kept.1 | inr is ↦ inr is ],
     λ either. (changes e).1 (elim either [ inl was ↦ inl (absent e was, was) | inr is ↦ inr is ]),
   )
 
-  pub same_entries : (id : ℕ) (range : Corners) (place : Place) → lookup (nat_eq id) notes ≡ Some (note_of range place) → ChangesRange (noted_entries notes) (noted_entries new) id range → SameEntries (noted_entries notes) (noted_entries new)
+  pub same_entries : (id : ℕ) (range : Corners) (place : Place) → lookup (nat_eq id) notes ≡ Some (note_of range place)
+      → ChangesRange (noted_entries notes) (noted_entries new) id range
+      → SameEntries (noted_entries notes) (noted_entries new)
   same_entries id range place there changes e = (
     λ listed. elim ((changes e).0 listed) [
       | inl kept ↦ kept.1
@@ -156,17 +177,20 @@ module _ (notes new : List (ℕ × Note)) (unique : IsDistinct nat_eq (keys_of n
     λ was. (changes e).1 (elim (cases_eq e.id id) [
       | inl same ↦
           let noted = (listed_noted notes unique e).0 was in
-          let note = one_note (lookup (nat_eq e.id) notes) (note_of e.range noted.0) (note_of range place) noted.1 (ap (λ (i : ℕ). lookup (nat_eq i) notes) same ∙ there) in
+          let note = one_note (lookup (nat_eq e.id) notes) (note_of e.range noted.0) (note_of range place) noted.1
+          (ap (λ (i : ℕ). lookup (nat_eq i) notes) same ∙ there) in
           inr (entry_is e id range same (ap (λ (n : Note). n.range) note))
       | inr other ↦ inl (other, was)
     ]),
   )
 
-  pub removes_noted : (id : ℕ) → SetsKey (λ i. lookup (nat_eq i) notes) (λ i. lookup (nat_eq i) new) id None → Removes (noted_entries notes) (noted_entries new) id
+  pub removes_noted : (id : ℕ) → SetsKey (λ i. lookup (nat_eq i) notes) (λ i. lookup (nat_eq i) new) id None
+      → Removes (noted_entries notes) (noted_entries new) id
   removes_noted id sets e = (
     λ listed.
         let now = (listed_noted new unique_new e).0 listed in
-        let other : e.id ≢ id = λ same. no_note (lookup (nat_eq e.id) new) (note_of e.range now.0) (ap (λ (i : ℕ). lookup (nat_eq i) new) same ∙ sets.here) now.1 in
+        let other : e.id ≢ id = λ same. no_note (lookup (nat_eq e.id) new) (note_of e.range now.0)
+        (ap (λ (i : ℕ). lookup (nat_eq i) new) same ∙ sets.here) now.1 in
         (other, (listed_noted notes unique e).1 (now.0, sym (sets.others e.id other) ∙ now.1)),
     λ kept. let was = (listed_noted notes unique e).0 kept.1 in (listed_noted new unique_new e).1 (was.0, sets.others e.id kept.0 ∙ was.1),
   )

@@ -34,7 +34,8 @@ overlaps_more outer inner query covers shares =
     )
 
 -- a rectangle that has another and one range more
-pub covers_pushed : (entries : List Entry) (entry : Entry) (old new : Corners) → Covers new old → Covers new entry.range → CoverAll old entries → CoverAll new (entries ++ entry ∷ [])
+pub covers_pushed : (entries : List Entry) (entry : Entry) (old new : Corners) → Covers new old → Covers new entry.range
+    → CoverAll old entries → CoverAll new (entries ++ entry ∷ [])
 covers_pushed entries entry old new more has covers e listed = elim (Contains-push_cases entries entry e listed) [
   | inl before ↦ covers_more new old e.range more (covers e before)
   | inr same ↦ subst (λ (x : Entry). Covers new x.range) same has

@@ -45,7 +45,8 @@ alone at a b shape none = record {
 }
 
 -- a node one level up that isn't the one that changes
-pub above_on : (at new : ℕ → Option Node) (changed key level : ℕ) (above : HasAbove at key level) → above.parent ≢ changed → ((k : ℕ) → k ≢ changed → new k ≡ at k) → HasAbove new key level
+pub above_on : (at new : ℕ → Option Node) (changed key level : ℕ) (above : HasAbove at key level)
+    → above.parent ≢ changed → ((k : ℕ) → k ≢ changed → new k ≡ at k) → HasAbove new key level
 above_on at new changed key level above other same = record {
   parent = above.parent;
   above = above.above;
@@ -58,11 +59,16 @@ above_on at new changed key level above other same = record {
 module _ {at new : ℕ → Option Node} {key : ℕ} {node changed : Node}
     (there : at key ≡ Some node) (sets : SetsKey at new key (Some changed)) (level_is : changed.level ≡ node.level) where
   -- a child is one of the changed node, or of another
-  pub link_cases : (parent : ℕ) (child : Entry) → Links new parent child → ((parent ≡ key) × Contains changed.children child × (0 < node.level)) ⊎ ((parent ≢ key) × Links at parent child)
+  pub link_cases : (parent : ℕ) (child : Entry) → Links new parent child
+      → ((parent ≡ key) × Contains changed.children child × (0 < node.level)) ⊎ ((parent ≢ key) × Links at parent child)
   link_cases parent child link = elim (cases_eq parent key) [
     | inl is ↦
         let here : new parent ≡ Some changed = ap new is ∙ sets.here in
-        inl (is, listed_in (new parent) link.node changed child link.there here link.listed, omega (arith, link.inner, same_level (new parent) link.node changed link.there here, level_is))
+        inl (
+          is,
+          listed_in (new parent) link.node changed child link.there here link.listed,
+          omega (arith, link.inner, same_level (new parent) link.node changed link.there here, level_is),
+        )
     | inr other ↦ inr (other, record { node = link.node; there = sym (sets.others parent other) ∙ link.there; inner = link.inner; listed = link.listed })
   ]
 
@@ -104,7 +110,9 @@ module _ {at new : ℕ → Option Node} {key : ℕ} {node changed : Node} {a b :
   -- the shape is kept
   pub shape_on : (c d : ℕ)
       → HaveOneRange changed.children
-      → ((child : Entry) → 0 < node.level → Contains changed.children child → IsBelow at node.level child × ((child.id ≢ c) × (child.id ≢ d)) × ((other : ℕ) (sibling : Entry) → Links at other sibling → sibling.id ≡ child.id → other ≡ key))
+      → ((child : Entry) → 0 < node.level → Contains changed.children child → IsBelow at node.level child
+      × ((child.id ≢ c) × (child.id ≢ d)) × ((other : ℕ) (sibling : Entry) → Links at other sibling
+      → sibling.id ≡ child.id → other ≡ key))
       → ((parent : ℕ) (range : Corners) → Links at parent (entry_of key range) → CoverAll range changed.children)
       → ((parent : ℕ) (child : Entry) → parent ≢ key → Links at parent child → (child.id ≢ c) × (child.id ≢ d))
       → ((other : ℕ) (m : Node) → new other ≡ Some m → other ≢ c → other ≢ d → HasAbove new other m.level)
@@ -123,11 +131,17 @@ module _ {at new : ℕ → Option Node} {key : ℕ} {node changed : Node} {a b :
           let level : node.level ≡ link.node.level = omega (arith, level_is, same_level (new k) link.node changed link.there (ap new own.0 ∙ sets.here)) in
           let below = (kids child own.2 own.1).0 in
           subst (λ (l : ℕ). IsBelow new l child) level
-          (below_on node.level child below (λ is. absurd (omega (arith, below.one_down, same_level (at child.id) below.node node below.there (ap at is ∙ there)))))
+          (below_on node.level child below
+          (λ is. absurd (omega (
+            arith,
+            below.one_down,
+            same_level (at child.id) below.node node below.there (ap at is ∙ there),
+          ))))
       | inr old ↦
           let level : old.1.node.level ≡ link.node.level = same_level (new k) old.1.node link.node (sets.others k old.0 ∙ old.1.there) link.there in
           subst (λ (l : ℕ). IsBelow new l child) level
-          (below_on old.1.node.level child (shape.below k child old.1) (λ is. covers k child.range (subst (λ (i : ℕ). Links at k (entry_of i child.range)) is old.1)))
+          (below_on old.1.node.level child (shape.below k child old.1)
+          (λ is. covers k child.range (subst (λ (i : ℕ). Links at k (entry_of i child.range)) is old.1)))
     ];
     no_top = λ k child link. elim (link_cases there sets level_is k child link) [
       | inl own ↦ (kids child own.2 own.1).1
@@ -157,17 +171,23 @@ module _ {at new : ℕ → Option Node} {key : ℕ} {node changed : Node} {a b :
     | inr differs ↦ shape.above other m (sym (sets.others other differs) ∙ is) no_a no_b
   ]
 
-  pub above_through : (other level : ℕ) (above : HasAbove at other level) → (0 < node.level → (range : Corners) → Contains node.children (entry_of other range) → (kept : Corners) × Contains changed.children (entry_of other kept)) → HasAbove new other level
+  pub above_through : (other level : ℕ) (above : HasAbove at other level)
+      → (0 < node.level → (range : Corners) → Contains node.children (entry_of other range) → (kept : Corners)
+      × Contains changed.children (entry_of other kept)) → HasAbove new other level
   above_through other level above keeps = elim (cases_eq above.parent key) [
     | inl same ↦
         let up : node.level ≡ level + 1 = omega (arith, above.one_up, same_level (at above.parent) above.above node above.there (ap at same ∙ there)) in
-        let kept = keeps (omega (arith, up)) above.range (listed_in (at above.parent) above.above node (entry_of other above.range) above.there (ap at same ∙ there) above.listed) in
+        let kept =
+        keeps (omega (arith, up)) above.range (listed_in (at above.parent) above.above node
+        (entry_of other above.range) above.there (ap at same ∙ there) above.listed) in
         record { parent = key; above = changed; range = kept.0; there = sets.here; one_up = omega (arith, up, level_is); listed = kept.1 }
     | inr differs ↦ above_on at new key other level above differs sets.others
   ]
 
   -- a leaf has other entries, which its rectangle has
-  pub leaf_on : node.level ≡ 0 → HaveOneRange changed.children → ((parent : ℕ) (range : Corners) → Links at parent (entry_of key range) → CoverAll range changed.children) → IsShape new a b
+  pub leaf_on : node.level ≡ 0 → HaveOneRange changed.children
+      → ((parent : ℕ) (range : Corners) → Links at parent (entry_of key range) → CoverAll range changed.children)
+      → IsShape new a b
   leaf_on lowest once covers = shape_on shape there sets level_is a b once
       (λ child inner listed. absurd (omega (arith, lowest, inner)))
       covers
@@ -175,12 +195,15 @@ module _ {at new : ℕ → Option Node} {key : ℕ} {node changed : Node} {a b :
       (λ other m is no_a no_b. above_through other m.level (above_of other m is no_a no_b) (λ inner range listed. absurd (omega (arith, lowest, inner))))
 
   -- a child has another rectangle, which has what is below it, and lies in that of its node
-  pub range_on : (id : ℕ) (old range : Corners) → 0 < node.level → HaveOneRange changed.children → Contains node.children (entry_of id old) → ChangesRange node.children changed.children id range
+  pub range_on : (id : ℕ) (old range : Corners) → 0 < node.level → HaveOneRange changed.children
+      → Contains node.children (entry_of id old) → ChangesRange node.children changed.children id range
       → ((below : Node) → at id ≡ Some below → CoverAll range below.children) → Admits at key range → IsShape new a b
   range_on id old range inner once listed changes covers admits = shape_on shape there sets level_is a b once
       (λ child up now. kid child (elim ((changes child).0 now) [ inl kept ↦ inl kept | inr is ↦ inr is ]))
       (λ parent rectangle link entry now. elim ((changes entry).0 now) [
-        | inl kept ↦ (shape.below parent (entry_of key rectangle) link).covers entry (listed_in (at key) node (shape.below parent (entry_of key rectangle) link).node entry there (shape.below parent (entry_of key rectangle) link).there kept.1)
+        | inl kept ↦ (shape.below parent (entry_of key rectangle) link).covers entry
+            (listed_in (at key) node (shape.below parent (entry_of key rectangle) link).node entry there
+            (shape.below parent (entry_of key rectangle) link).there kept.1)
         | inr is ↦ subst (λ (e : Entry). Covers rectangle e.range) (sym is) (admits parent rectangle link)
       ])
       (λ parent child other link. shape.no_top parent child link)
@@ -192,7 +215,9 @@ module _ {at new : ℕ → Option Node} {key : ℕ} {node changed : Node} {a b :
       link_old : Links at key (entry_of id old)
       link_old = record { node = node; there = there; inner = inner; listed = listed }
 
-      kid : (child : Entry) → ((child.id ≢ id) × Contains node.children child) ⊎ (child ≡ entry_of id range) → IsBelow at node.level child × ((child.id ≢ a) × (child.id ≢ b)) × ((other : ℕ) (sibling : Entry) → Links at other sibling → sibling.id ≡ child.id → other ≡ key)
+      kid : (child : Entry) → ((child.id ≢ id) × Contains node.children child) ⊎ (child ≡ entry_of id range)
+          → IsBelow at node.level child × ((child.id ≢ a) × (child.id ≢ b))
+          × ((other : ℕ) (sibling : Entry) → Links at other sibling → sibling.id ≡ child.id → other ≡ key)
       kid child (inl kept) =
           let link : Links at key child = record { node = node; there = there; inner = inner; listed = kept.1 } in
           (shape.below key child link, shape.no_top key child link, λ other sibling link_too ids. shape.single other key sibling child link_too link ids)
@@ -201,7 +226,13 @@ module _ {at new : ℕ → Option Node} {key : ℕ} {node changed : Node} {a b :
           let range_is : child.range ≡ range = ap (λ (e : Entry). e.range) is in
           let below = shape.below key (entry_of id old) link_old in
           let tops = shape.no_top key (entry_of id old) link_old in (
-            record { node = below.node; there = ap at id_is ∙ below.there; one_down = below.one_down; covers = subst (λ (r : Corners). CoverAll r below.node.children) (sym range_is) (covers below.node below.there) },
+            record {
+              node = below.node;
+              there = ap at id_is ∙ below.there;
+              one_down = below.one_down;
+              covers = subst (λ (r : Corners). CoverAll r below.node.children) (sym range_is)
+                  (covers below.node below.there);
+            },
             ((λ same. tops.0 (sym id_is ∙ same)), (λ same. tops.1 (sym id_is ∙ same))),
             λ other sibling link_too ids. shape.single other key sibling (entry_of id old) link_too link_old (ids ∙ id_is),
           )
@@ -211,4 +242,5 @@ pub one_link : (at : ℕ → Option Node) (a b p q : ℕ) (c d : Entry) → IsSh
 one_link at a b p q c d shape link link_too ids =
     let same : p ≡ q = shape.single p q c d link link_too ids in
     let there : at q ≡ Some link.node = ap at (sym same) ∙ link.there in
-    one_listed link.node.children c d (shape.once q link.node there) link.listed (listed_in (at q) link_too.node link.node d link_too.there there link_too.listed) ids
+    one_listed link.node.children c d (shape.once q link.node there) link.listed
+    (listed_in (at q) link_too.node link.node d link_too.there there link_too.listed) ids

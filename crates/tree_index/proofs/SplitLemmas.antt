@@ -12,7 +12,13 @@ use Rattle.tree_index.proofs.ShapeLemmas.{no_node, one_node, same_level}
 
 module _ (old mid : Tree) (above place to : ℕ) (tree : HoldTree old) (b : IsBeside old mid above place to) where
   pub below_it : IsBelow (node_at old) b.over.level b.child
-  below_it = tree.shape.below above b.child (record { node = b.over; there = b.above_is; inner = b.inner; listed = listed_at b.over.children place b.child b.here })
+  below_it =
+      tree.shape.below above b.child (record {
+        node = b.over;
+        there = b.above_is;
+        inner = b.inner;
+        listed = listed_at b.over.children place b.child b.here;
+      })
 
   pub no_above : b.child.id ≢ above
   no_above same =
@@ -27,7 +33,8 @@ module _ (old mid : Tree) (above place to : ℕ) (tree : HoldTree old) (b : IsBe
   pub child_is : (child : Entry) → child_of old above place ≡ Some child → child ≡ b.child
   child_is child is = some_same child b.child (sym is ∙ ap (λ (o : Option Node). child_in o place) b.above_is ∙ b.here)
 
-  pub may_share : (node : Node) (from level : ℕ) → from ≡ b.child.id → node_at old from ≡ Some node → node.level ≡ level → length node.children ≤ 16 → MayShare mid level from to
+  pub may_share : (node : Node) (from level : ℕ) → from ≡ b.child.id → node_at old from ≡ Some node → node.level ≡ level
+      → length node.children ≤ 16 → MayShare mid level from to
   may_share node from level from_is there level_is few = record {
     source = node;
     target = new_node b.made.0;

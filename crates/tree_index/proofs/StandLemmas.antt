@@ -25,7 +25,8 @@ moves_to S M T id range at goes comes e p = (
   λ either. (comes e p).1 (elim either [ inl kept ↦ inl (kept.0, (goes e p).1 kept) | inr is ↦ inr is ]),
 )
 
-module _ {at new : ℕ → Option Node} {key : ℕ} {leaf changed : Node} (there : at key ≡ Some leaf) (lowest : leaf.level ≡ 0) (sets : SetsKey at new key (Some changed)) (lowest_too : changed.level ≡ 0) where
+module _ {at new : ℕ → Option Node} {key : ℕ} {leaf changed : Node} (there : at key ≡ Some leaf)
+    (lowest : leaf.level ≡ 0) (sets : SetsKey at new key (Some changed)) (lowest_too : changed.level ≡ 0) where
   in_other : (k : ℕ) (e : Entry) → k ≢ key → IsInLeaf new k e → IsInLeaf at k e
   in_other k e other is = record { node = is.node; there = sym (sets.others k other) ∙ is.there; lowest = is.lowest; listed = is.listed }
 
@@ -45,7 +46,10 @@ module _ {at new : ℕ → Option Node} {key : ℕ} {leaf changed : Node} (there
   in_old k e same listed = record { node = leaf; there = ap at same ∙ there; lowest = lowest; listed = listed }
 
   -- a leaf has an entry more, or with another range
-  pub leaf_gets : (late late_new : List Entry) (id : ℕ) (range : Corners) → ChangesRange leaf.children changed.children id range → Removes late late_new id → ((k : ℕ) (e : Entry) → k ≢ key → IsInLeaf at k e → e.id ≢ id) → ComesTo (StandsAt at late) (StandsAt new late_new) id range (Leaf key)
+  pub leaf_gets : (late late_new : List Entry) (id : ℕ) (range : Corners)
+      → ChangesRange leaf.children changed.children id range → Removes late late_new id
+      → ((k : ℕ) (e : Entry) → k ≢ key → IsInLeaf at k e → e.id ≢ id)
+      → ComesTo (StandsAt at late) (StandsAt new late_new) id range (Leaf key)
   leaf_gets late late_new id range changes removes elsewhere e Late = (
     λ listed. inl ((removes e).0 listed),
     λ either. elim either [ inl kept ↦ (removes e).1 kept | inr is ↦ absurd (let places : Late ≡ Leaf key = is.1 in cc) ],
@@ -68,7 +72,9 @@ module _ {at new : ℕ → Option Node} {key : ℕ} {leaf changed : Node} (there
   )
 
   -- a leaf has an entry less
-  pub leaf_loses : (late : List Entry) (id : ℕ) → Removes leaf.children changed.children id → Removes late late id → ((k : ℕ) (e : Entry) → k ≢ key → IsInLeaf at k e → e.id ≢ id) → GoesAway (StandsAt at late) (StandsAt new late) id
+  pub leaf_loses : (late : List Entry) (id : ℕ) → Removes leaf.children changed.children id → Removes late late id
+      → ((k : ℕ) (e : Entry) → k ≢ key → IsInLeaf at k e → e.id ≢ id)
+      → GoesAway (StandsAt at late) (StandsAt new late) id
   leaf_loses late id removes lates elsewhere e Late = ((λ listed. (lates e).0 listed), (λ kept. (lates e).1 kept))
   leaf_loses late id removes lates elsewhere e (Leaf k) = (
     λ is. elim (cases_eq k key) [
@@ -82,7 +88,9 @@ module _ {at new : ℕ → Option Node} {key : ℕ} {leaf changed : Node} (there
   )
 
 -- an entry comes to the list of those that are still to come, or goes from it
-pub late_gets : (at : ℕ → Option Node) (late new : List Entry) (id : ℕ) (range : Corners) → ChangesRange late new id range → ((k : ℕ) (e : Entry) → IsInLeaf at k e → e.id ≢ id) → ComesTo (StandsAt at late) (StandsAt at new) id range Late
+pub late_gets : (at : ℕ → Option Node) (late new : List Entry) (id : ℕ) (range : Corners)
+    → ChangesRange late new id range → ((k : ℕ) (e : Entry) → IsInLeaf at k e → e.id ≢ id)
+    → ComesTo (StandsAt at late) (StandsAt at new) id range Late
 late_gets at late new id range changes elsewhere e Late = (
   λ listed. elim ((changes e).0 listed) [ inl kept ↦ inl kept | inr is ↦ inr (is, refl) ],
   λ either. (changes e).1 (elim either [ inl kept ↦ inl kept | inr is ↦ inr is.0 ]),
@@ -92,12 +100,15 @@ late_gets at late new id range changes elsewhere e (Leaf k) = (
   λ either. elim either [ inl kept ↦ kept.1 | inr is ↦ absurd (let places : Leaf k ≡ Late = is.1 in cc) ],
 )
 
-pub late_loses : (at : ℕ → Option Node) (late new : List Entry) (id : ℕ) → Removes late new id → ((k : ℕ) (e : Entry) → IsInLeaf at k e → e.id ≢ id) → GoesAway (StandsAt at late) (StandsAt at new) id
+pub late_loses : (at : ℕ → Option Node) (late new : List Entry) (id : ℕ) → Removes late new id
+    → ((k : ℕ) (e : Entry) → IsInLeaf at k e → e.id ≢ id) → GoesAway (StandsAt at late) (StandsAt at new) id
 late_loses at late new id removes elsewhere e Late = ((λ listed. (removes e).0 listed), (λ kept. (removes e).1 kept))
 late_loses at late new id removes elsewhere e (Leaf k) = ((λ is. (elsewhere k e is, is)), (λ kept. kept.1))
 
 -- a node above the leaves has other children, or one without children comes or goes
-pub no_leaf : (at new : ℕ → Option Node) (late : List Entry) (key : ℕ) → ((k : ℕ) → k ≢ key → new k ≡ at k) → ((e : Entry) → IsInLeaf at key e → ⊥) → ((e : Entry) → IsInLeaf new key e → ⊥) → (e : Entry) (p : Place) → StandsAt new late e p ↔ StandsAt at late e p
+pub no_leaf : (at new : ℕ → Option Node) (late : List Entry) (key : ℕ) → ((k : ℕ) → k ≢ key → new k ≡ at k)
+    → ((e : Entry) → IsInLeaf at key e → ⊥) → ((e : Entry) → IsInLeaf new key e → ⊥) → (e : Entry) (p : Place)
+    → StandsAt new late e p ↔ StandsAt at late e p
 no_leaf at new late key others old_none new_none e Late = ((λ listed. listed), (λ listed. listed))
 no_leaf at new late key others old_none new_none e (Leaf k) = (
   λ is. elim (cases_eq k key) [
@@ -117,7 +128,8 @@ inner_no_leaf at key node there inner e is = absurd (omega (arith, inner, is.low
 pub none_no_leaf : (at : ℕ → Option Node) (key : ℕ) → at key ≡ None → (e : Entry) → IsInLeaf at key e → ⊥
 none_no_leaf at key none e is = no_node (at key) is.node none is.there
 
-pub empty_no_leaf : (at : ℕ → Option Node) (key : ℕ) → ((node : Node) → at key ≡ Some node → (e : Entry) → Contains node.children e → ⊥) → (e : Entry) → IsInLeaf at key e → ⊥
+pub empty_no_leaf : (at : ℕ → Option Node) (key : ℕ) → ((node : Node) → at key ≡ Some node → (e : Entry)
+    → Contains node.children e → ⊥) → (e : Entry) → IsInLeaf at key e → ⊥
 empty_no_leaf at key empty e is = empty is.node is.there e is.listed
 
 pub new_no_leaf : (at : ℕ → Option Node) (key level : ℕ) → at key ≡ Some (new_node level) → (e : Entry) → IsInLeaf at key e → ⊥

@@ -27,23 +27,29 @@ module _ {at : ℕ → Option Node} {root : ℕ} {late : List Entry} {notes : Li
   absent_note id absent note there = absent (entry_of id note.range) ((listed_noted notes tree.unique (entry_of id note.range)).1 (note.place, there)) refl
 
   pub not_in_leaf : (id : ℕ) → HasNoId (noted_entries notes) id → (key : ℕ) (e : Entry) → IsInLeaf at key e → e.id ≢ id
-  not_in_leaf id absent key e is same = absent_note id absent (note_of e.range (Leaf key)) (ap (λ (i : ℕ). lookup (nat_eq i) notes) (sym same) ∙ noted_in key e is)
+  not_in_leaf id absent key e is same =
+      absent_note id absent (note_of e.range (Leaf key)) (ap (λ (i : ℕ). lookup (nat_eq i) notes) (sym same)
+      ∙ noted_in key e is)
 
   pub not_late : (id : ℕ) → HasNoId (noted_entries notes) id → (e : Entry) → Contains late e → e.id ≢ id
   not_late id absent e is same = absent_note id absent (note_of e.range Late) (ap (λ (i : ℕ). lookup (nat_eq i) notes) (sym same) ∙ noted_late e is)
 
   -- an id that is noted at a place stands at no other
-  pub at_place : (id : ℕ) (range : Corners) (place : Place) → lookup (nat_eq id) notes ≡ Some (note_of range place) → (e : Entry) (p : Place) → StandsAt at late e p → e.id ≡ id → p ≡ place
+  pub at_place : (id : ℕ) (range : Corners) (place : Place) → lookup (nat_eq id) notes ≡ Some (note_of range place)
+      → (e : Entry) (p : Place) → StandsAt at late e p → e.id ≡ id → p ≡ place
   at_place id range place there e p stands same =
-      let note = one_note (lookup (nat_eq e.id) notes) (note_of e.range p) (note_of range place) ((tree.noted e p).0 stands) (ap (λ (i : ℕ). lookup (nat_eq i) notes) same ∙ there) in
+      let note = one_note (lookup (nat_eq e.id) notes) (note_of e.range p) (note_of range place)
+      ((tree.noted e p).0 stands) (ap (λ (i : ℕ). lookup (nat_eq i) notes) same ∙ there) in
       ap (λ (n : Note). n.place) note
 
-  pub leaf_alone : (id : ℕ) (range : Corners) (key : ℕ) → lookup (nat_eq id) notes ≡ Some (note_of range (Leaf key)) → (k : ℕ) (e : Entry) → k ≢ key → IsInLeaf at k e → e.id ≢ id
+  pub leaf_alone : (id : ℕ) (range : Corners) (key : ℕ) → lookup (nat_eq id) notes ≡ Some (note_of range (Leaf key))
+      → (k : ℕ) (e : Entry) → k ≢ key → IsInLeaf at k e → e.id ≢ id
   leaf_alone id range key there k e other is same =
       let places : Leaf k ≡ Leaf key = at_place id range (Leaf key) there e (Leaf k) is same in
       other (cc)
 
-  pub leaf_not_late : (id : ℕ) (range : Corners) (key : ℕ) → lookup (nat_eq id) notes ≡ Some (note_of range (Leaf key)) → (e : Entry) → Contains late e → e.id ≢ id
+  pub leaf_not_late : (id : ℕ) (range : Corners) (key : ℕ) → lookup (nat_eq id) notes ≡ Some (note_of range (Leaf key))
+      → (e : Entry) → Contains late e → e.id ≢ id
   leaf_not_late id range key there e is same =
       let places : Late ≡ Leaf key = at_place id range (Leaf key) there e Late is same in
       cc
@@ -66,36 +72,57 @@ module _ {at : ℕ → Option Node} {root : ℕ} {late : List Entry} {notes : Li
 
   module _ (new_notes : List (ℕ × Note)) (unique : IsDistinct nat_eq (keys_of new_notes)) where
     -- the list has changed
-    pub tree_late_gets : (new_late : List Entry) (id : ℕ) (range : Corners) → ChangesRange late new_late id range → HaveOneRange new_late → ((k : ℕ) (e : Entry) → IsInLeaf at k e → e.id ≢ id) → SetsKey (λ i. lookup (nat_eq i) notes) (λ i. lookup (nat_eq i) new_notes) id (Some (note_of range Late)) → IsTree at root new_late new_notes
+    pub tree_late_gets : (new_late : List Entry) (id : ℕ) (range : Corners) → ChangesRange late new_late id range
+        → HaveOneRange new_late → ((k : ℕ) (e : Entry) → IsInLeaf at k e → e.id ≢ id)
+        → SetsKey (λ i. lookup (nat_eq i) notes) (λ i. lookup (nat_eq i) new_notes) id (Some (note_of range Late))
+        → IsTree at root new_late new_notes
     tree_late_gets new_late id range changes once elsewhere sets = record {
       shape = tree.shape;
-      noted = put_noted (StandsAt at late) (StandsAt at new_late) (λ i. lookup (nat_eq i) notes) (λ i. lookup (nat_eq i) new_notes) id range Late tree.noted sets (late_gets at late new_late id range changes elsewhere);
+      noted = put_noted (StandsAt at late) (StandsAt at new_late) (λ i. lookup (nat_eq i) notes)
+          (λ i. lookup (nat_eq i) new_notes) id range Late tree.noted sets (late_gets at late new_late id range changes
+          elsewhere);
       late_once = once;
       unique = unique;
     }
 
-    pub tree_late_loses : (new_late : List Entry) (id : ℕ) → Removes late new_late id → HaveOneRange new_late → ((k : ℕ) (e : Entry) → IsInLeaf at k e → e.id ≢ id) → SetsKey (λ i. lookup (nat_eq i) notes) (λ i. lookup (nat_eq i) new_notes) id None → IsTree at root new_late new_notes
+    pub tree_late_loses : (new_late : List Entry) (id : ℕ) → Removes late new_late id → HaveOneRange new_late
+        → ((k : ℕ) (e : Entry) → IsInLeaf at k e → e.id ≢ id)
+        → SetsKey (λ i. lookup (nat_eq i) notes) (λ i. lookup (nat_eq i) new_notes) id None
+        → IsTree at root new_late new_notes
     tree_late_loses new_late id removes once elsewhere sets = record {
       shape = tree.shape;
-      noted = gone_noted (StandsAt at late) (StandsAt at new_late) (λ i. lookup (nat_eq i) notes) (λ i. lookup (nat_eq i) new_notes) id tree.noted sets (late_loses at late new_late id removes elsewhere);
+      noted = gone_noted (StandsAt at late) (StandsAt at new_late) (λ i. lookup (nat_eq i) notes)
+          (λ i. lookup (nat_eq i) new_notes) id tree.noted sets (late_loses at late new_late id removes elsewhere);
       late_once = once;
       unique = unique;
     }
 
     -- a leaf has changed
-    module _ (new : ℕ → Option Node) (key : ℕ) (leaf changed : Node) (there : at key ≡ Some leaf) (lowest : leaf.level ≡ 0) (sets : SetsKey at new key (Some changed)) (level_is : changed.level ≡ leaf.level) (once : HaveOneRange changed.children) where
-      pub tree_gets : (new_late : List Entry) (id : ℕ) (range : Corners) → ChangesRange leaf.children changed.children id range → Admits at key range → Removes late new_late id → HaveOneRange new_late → ((k : ℕ) (e : Entry) → k ≢ key → IsInLeaf at k e → e.id ≢ id) → SetsKey (λ i. lookup (nat_eq i) notes) (λ i. lookup (nat_eq i) new_notes) id (Some (note_of range (Leaf key))) → IsTree new root new_late new_notes
+    module _ (new : ℕ → Option Node) (key : ℕ) (leaf changed : Node) (there : at key ≡ Some leaf)
+        (lowest : leaf.level ≡ 0) (sets : SetsKey at new key (Some changed)) (level_is : changed.level ≡ leaf.level)
+        (once : HaveOneRange changed.children) where
+      pub tree_gets : (new_late : List Entry) (id : ℕ) (range : Corners)
+          → ChangesRange leaf.children changed.children id range → Admits at key range → Removes late new_late id
+          → HaveOneRange new_late → ((k : ℕ) (e : Entry) → k ≢ key → IsInLeaf at k e → e.id ≢ id)
+          → SetsKey (λ i. lookup (nat_eq i) notes) (λ i. lookup (nat_eq i) new_notes) id
+          (Some (note_of range (Leaf key))) → IsTree new root new_late new_notes
       tree_gets new_late id range changes admits removes late_once elsewhere noted = record {
         shape = leaf_on tree.shape there sets level_is lowest once (λ parent rectangle link.
             let below = tree.shape.below parent (entry_of key rectangle) link in
-            covers_changed rectangle leaf.children changed.children id range (λ e listed. below.covers e (listed_in (at key) leaf below.node e there below.there listed)) changes (admits parent rectangle link));
-        noted = put_noted (StandsAt at late) (StandsAt new new_late) (λ i. lookup (nat_eq i) notes) (λ i. lookup (nat_eq i) new_notes) id range (Leaf key) tree.noted noted
+            covers_changed rectangle leaf.children changed.children id range
+            (λ e listed. below.covers e (listed_in (at key) leaf below.node e there below.there listed)) changes
+            (admits parent rectangle link));
+        noted = put_noted (StandsAt at late) (StandsAt new new_late) (λ i. lookup (nat_eq i) notes)
+            (λ i. lookup (nat_eq i) new_notes) id range (Leaf key) tree.noted noted
             (leaf_gets there lowest sets (level_is ∙ lowest) late new_late id range changes removes elsewhere);
         late_once = late_once;
         unique = unique;
       }
 
-      pub tree_loses : (id : ℕ) → Removes leaf.children changed.children id → Removes late late id → ((k : ℕ) (e : Entry) → k ≢ key → IsInLeaf at k e → e.id ≢ id) → SetsKey (λ i. lookup (nat_eq i) notes) (λ i. lookup (nat_eq i) new_notes) id None → IsTree new root late new_notes
+      pub tree_loses : (id : ℕ) → Removes leaf.children changed.children id → Removes late late id
+          → ((k : ℕ) (e : Entry) → k ≢ key → IsInLeaf at k e → e.id ≢ id)
+          → SetsKey (λ i. lookup (nat_eq i) notes) (λ i. lookup (nat_eq i) new_notes) id None
+          → IsTree new root late new_notes
       tree_loses id removes lates elsewhere noted = record {
         shape = leaf_on tree.shape there sets level_is lowest once (λ parent rectangle link e listed.
             let below = tree.shape.below parent (entry_of key rectangle) link in

@@ -17,7 +17,9 @@ use Rattle.tree_index.proofs.ShapeLemmas.{level_on, link_cases, range_on}
 use Rattle.tree_index.proofs.StandLemmas.{inner_no_leaf, no_leaf}
 
 -- nodes have another shape, and entries stand where they stood
-pub reshaped : {at new : ℕ → Option Node} {root root_new : ℕ} {late : List Entry} {notes : List (ℕ × Note)} → IsTree at root late notes → IsShape new root_new root_new → ((e : Entry) (p : Place) → StandsAt new late e p ↔ StandsAt at late e p) → IsTree new root_new late notes
+pub reshaped : {at new : ℕ → Option Node} {root root_new : ℕ} {late : List Entry} {notes : List (ℕ × Note)}
+    → IsTree at root late notes → IsShape new root_new root_new → ((e : Entry) (p : Place) → StandsAt new late e p
+    ↔ StandsAt at late e p) → IsTree new root_new late notes
 reshaped {at} {new} {root} {root_new} {late} {notes} tree shape stands = record {
   shape = shape;
   noted = same_noted (StandsAt at late) (StandsAt new late) (note_in notes) tree.noted stands;
@@ -37,7 +39,13 @@ rearranged old new tree late notes = record {
 }
 
 pub rearranged_none : (old new : Tree) → new ≡ old → HoldTree old → Rearranges old new
-rearranged_none old new same tree = subst (λ (t : Tree). Rearranges old t) (sym same) (record { tree = tree; same = same_listed (entries_in old); late = refl; room = omega arith })
+rearranged_none old new same tree =
+    subst (λ (t : Tree). Rearranges old t) (sym same) (record {
+      tree = tree;
+      same = same_listed (entries_in old);
+      late = refl;
+      room = omega arith;
+    })
 
 pub rearranged_on : (a b c : Tree) → Rearranges a b → Rearranges b c → Rearranges a c
 rearranged_on a b c first second = record {
@@ -48,7 +56,11 @@ rearranged_on a b c first second = record {
 }
 
 pub kept_none : (old new : Tree) (key : ℕ) → new ≡ old → KeepsNode old new key
-kept_none old new key same = subst (λ (t : Tree). KeepsNode old t key) (sym same) (record { level = λ node there. (node, there, refl); admits = λ range has. has })
+kept_none old new key same =
+    subst (λ (t : Tree). KeepsNode old t key) (sym same) (record {
+      level = λ node there. (node, there, refl);
+      admits = λ range has. has;
+    })
 
 pub kept_on : (a b c : Tree) (key : ℕ) → KeepsNode a b key → KeepsNode b c key → KeepsNode a c key
 kept_on a b c key first second = record {
@@ -60,43 +72,55 @@ kept_on a b c key first second = record {
 }
 
 -- a node is kept where it keeps its level, and is a child with a rectangle that it had
-pub kept_by : (old new : Tree) (key : ℕ) → ((node : Node) → node_at old key ≡ Some node → (kept : Node) × (node_at new key ≡ Some kept) × (kept.level ≡ node.level)) → ((parent : ℕ) (r : Corners) → Links (node_at new) parent (entry_of key r) → (q : ℕ) × Links (node_at old) q (entry_of key r)) → KeepsNode old new key
+pub kept_by : (old new : Tree) (key : ℕ) → ((node : Node) → node_at old key ≡ Some node → (kept : Node)
+    × (node_at new key ≡ Some kept) × (kept.level ≡ node.level))
+    → ((parent : ℕ) (r : Corners) → Links (node_at new) parent (entry_of key r) → (q : ℕ)
+    × Links (node_at old) q (entry_of key r)) → KeepsNode old new key
 kept_by old new key level back = record {
   level = level;
   admits = λ range has parent rectangle link. let was = back parent rectangle link in has was.0 rectangle was.1;
 }
 
 -- a child has another rectangle
-module _ (old new : Tree) (above place : ℕ) (range : Corners) (sets : SetsRange old new above place range) (tree : HoldTree old) (inner : 0 < sets.node.level) where
+module _ (old new : Tree) (above place : ℕ) (range : Corners) (sets : SetsRange old new above place range)
+    (tree : HoldTree old) (inner : 0 < sets.node.level) where
   once : HaveOneRange sets.node.children
   once = tree.shape.once above sets.node sets.there
 
   changes : ChangesRange sets.node.children (slice_set sets.node.children place (entry_of sets.child.id range)) sets.child.id range
   changes = changes_set sets.node.children place sets.child range sets.here once
 
-  pub range_rest : ((below : Node) → node_at old sets.child.id ≡ Some below → CoverAll range below.children) → Admits (node_at old) above range → Rearranges old new
+  pub range_rest : ((below : Node) → node_at old sets.child.id ≡ Some below → CoverAll range below.children)
+      → Admits (node_at old) above range → Rearranges old new
   range_rest covers admits =
       rearranged old new (rw (sets.set.root, sets.set.late, sets.set.notes) (reshaped tree
-      (range_on tree.shape sets.there sets.set.nodes refl sets.child.id sets.child.range range inner (set_once sets.node.children place sets.child range sets.here once)
+      (range_on tree.shape sets.there sets.set.nodes refl sets.child.id sets.child.range range inner
+      (set_once sets.node.children place sets.child range sets.here once)
       (listed_at sets.node.children place sets.child sets.here) changes covers admits)
       (no_leaf (node_at old) (node_at new) old.late.items above sets.set.nodes.others (inner_no_leaf (node_at old) above sets.node sets.there inner)
-      (inner_no_leaf (node_at new) above (with_children sets.node (slice_set sets.node.children place (entry_of sets.child.id range))) sets.set.nodes.here inner)))) sets.set.late sets.set.notes
+      (inner_no_leaf (node_at new) above
+      (with_children sets.node (slice_set sets.node.children place (entry_of sets.child.id range)))
+      sets.set.nodes.here inner)))) sets.set.late sets.set.notes
 
   pub range_kept : (key : ℕ) → key ≢ sets.child.id → KeepsNode old new key
-  range_kept key other = kept_by old new key (level_on sets.there sets.set.nodes refl key) (λ parent r link. elim (link_cases sets.there sets.set.nodes refl parent (entry_of key r) link) [
-    | inl own ↦ elim ((changes (entry_of key r)).0 own.1) [
-      | inl kept ↦ (above, record { node = sets.node; there = sets.there; inner = inner; listed = kept.1 })
-      | inr is ↦ absurd (other (ap (λ (e : Entry). e.id) is))
-    ]
-    | inr elsewhere ↦ (parent, elsewhere.1)
-  ])
+  range_kept key other =
+      kept_by old new key (level_on sets.there sets.set.nodes refl key)
+      (λ parent r link. elim (link_cases sets.there sets.set.nodes refl parent (entry_of key r) link) [
+        | inl own ↦ elim ((changes (entry_of key r)).0 own.1) [
+          | inl kept ↦ (above, record { node = sets.node; there = sets.there; inner = inner; listed = kept.1 })
+          | inr is ↦ absurd (other (ap (λ (e : Entry). e.id) is))
+        ]
+        | inr elsewhere ↦ (parent, elsewhere.1)
+      ])
 
 -- the same entries, one after another
 pub same_on : (a b c : List Entry) → SameEntries a b → SameEntries b c → SameEntries a c
 same_on a b c first second e = ((λ listed. (first e).0 ((second e).0 listed)), (λ listed. (second e).1 ((first e).1 listed)))
 
 -- notes in another order
-pub reordered : {at : ℕ → Option Node} {root : ℕ} {late : List Entry} {notes : List (ℕ × Note)} (new : List (ℕ × Note)) → IsTree at root late notes → IsDistinct nat_eq (keys_of new) → ((id : ℕ) → lookup (nat_eq id) new ≡ lookup (nat_eq id) notes) → IsTree at root late new
+pub reordered : {at : ℕ → Option Node} {root : ℕ} {late : List Entry} {notes : List (ℕ × Note)} (new : List (ℕ × Note))
+    → IsTree at root late notes → IsDistinct nat_eq (keys_of new)
+    → ((id : ℕ) → lookup (nat_eq id) new ≡ lookup (nat_eq id) notes) → IsTree at root late new
 reordered {at} {root} {late} {notes} new tree unique same = record {
   shape = tree.shape;
   noted = λ e p. ((λ is. same e.id ∙ (tree.noted e p).0 is), (λ there. (tree.noted e p).1 (sym (same e.id) ∙ there)));
@@ -104,14 +128,19 @@ reordered {at} {root} {late} {notes} new tree unique same = record {
   unique = unique;
 }
 
-pub same_reordered : (notes new : List (ℕ × Note)) → IsDistinct nat_eq (keys_of notes) → IsDistinct nat_eq (keys_of new) → ((id : ℕ) → lookup (nat_eq id) new ≡ lookup (nat_eq id) notes) → SameEntries (noted_entries notes) (noted_entries new)
+pub same_reordered : (notes new : List (ℕ × Note)) → IsDistinct nat_eq (keys_of notes) → IsDistinct nat_eq (keys_of new)
+    → ((id : ℕ) → lookup (nat_eq id) new ≡ lookup (nat_eq id) notes)
+    → SameEntries (noted_entries notes) (noted_entries new)
 same_reordered notes new unique unique_new same e = (
   λ listed. let now = (listed_noted new unique_new e).0 listed in (listed_noted notes unique e).1 (now.0, sym (same e.id) ∙ now.1),
   λ listed. let was = (listed_noted notes unique e).0 listed in (listed_noted new unique_new e).1 (was.0, same e.id ∙ was.1),
 )
 
 -- the same nodes and the same list, and notes in another order
-pub reserved : (slots new_slots : List (Option Node)) (root : ℕ) (late new_late : List Entry) (notes new_notes : List (ℕ × Note)) → IsTree (λ key. slice_index_or slots key None) root late notes → new_slots ≡ slots → new_late ≡ late → IsDistinct nat_eq (keys_of new_notes) → ((id : ℕ) → lookup (nat_eq id) new_notes ≡ lookup (nat_eq id) notes) → IsTree (λ key. slice_index_or new_slots key None) root new_late new_notes
+pub reserved : (slots new_slots : List (Option Node)) (root : ℕ) (late new_late : List Entry) (notes new_notes : List (ℕ
+    × Note)) → IsTree (λ key. slice_index_or slots key None) root late notes → new_slots ≡ slots → new_late ≡ late
+    → IsDistinct nat_eq (keys_of new_notes) → ((id : ℕ) → lookup (nat_eq id) new_notes ≡ lookup (nat_eq id) notes)
+    → IsTree (λ key. slice_index_or new_slots key None) root new_late new_notes
 reserved slots new_slots root late new_late notes new_notes tree same_slots same_late unique same =
     subst (λ (l : List (Option Node)). IsTree (λ key. slice_index_or l key None) root new_late new_notes) (sym same_slots)
     (subst (λ (l : List Entry). IsTree (λ key. slice_index_or slots key None) root l new_notes) (sym same_late) (reordered new_notes tree unique same))

@@ -95,12 +95,18 @@ unfolding power
 power_step base product n next is step = let more : n + 1 ≡ suc n = omega arith in rw more (step ∙ ap (λ z. base *ℤ z) is)
 
 -- a product out of range makes every later power one
-pub out_of_range : (base : ℤ) (n exponent : ℕ) → 2 ≤ nat_abs base → n < exponent → (IsWhole (base *ℤ power base n) → ⊥) → in_range (power base exponent) ≡ Error Num
+pub out_of_range : (base : ℤ) (n exponent : ℕ) → 2 ≤ nat_abs base → n < exponent → (IsWhole (base *ℤ power base n) → ⊥)
+    → in_range (power base exponent) ≡ Error Num
 unfolding power
 out_of_range base n exponent large before out =
     let rest : exponent ≡ (exponent - suc n) + suc n = omega arith in
     let grown = power_grows base (suc n) (exponent - suc n) large in
-    in_range-out (power base exponent) (λ whole. out (whole_by_size (base *ℤ power base n) (omega (arith, rw (← rest) at grown, size_of_whole (power base exponent) whole))))
+    in_range-out (power base exponent)
+    (λ whole. out (whole_by_size (base *ℤ power base n) (omega (
+      arith,
+      rw (← rest) at grown,
+      size_of_whole (power base exponent) whole,
+    ))))
 
 -- a quotient is no larger than what was divided
 quotient_size : (m n : ℤ) → nat_abs (int_div m n) ≤ nat_abs m

@@ -13,7 +13,8 @@ use Rattle.value_core.specs.declared.operators.BinaryOp.TheVariants.{Add, Sub, M
 use Rattle.value_core.specs.declared.operators.PrefixOp.{PrefixOp}
 use Rattle.value_core.specs.declared.operators.PrefixOp.TheVariants.{Plus, Minus}
 use Rattle.value_core.specs.Conversions.{as_number, truth_number, in_range, never_empty}
-use Rattle.value_core.specs.Operators.{quotient, power_value, on_numbers, unordered_value, by_kind, beside, comparison, calculation, binary_of, negation, prefix_of}
+use Rattle.value_core.specs.Operators.{quotient, power_value, on_numbers, unordered_value, by_kind, beside, comparison}
+use Rattle.value_core.specs.Operators.{calculation, binary_of, negation, prefix_of}
 use Rattle.value_core.specs.Powers.{power}
 use Rattle.value_core.specs.Values.{IsValue}
 use Rattle.value_core.specs.Wholes.{IsWhole}

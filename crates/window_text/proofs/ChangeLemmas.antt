@@ -10,10 +10,12 @@ abbrev pub changes_rest : List (List ℕ) → List ChangeValue → ℕ → List 
 changes_rest labels changes place = changes_text labels (drop place changes)
 
 -- go on with the change at that place
-pub changes_go_on : (labels : List (List ℕ)) (changes : List ChangeValue) (place : ℕ) (change : ChangeValue) → place < length changes → change ≡ get_or changes place change
+pub changes_go_on : (labels : List (List ℕ)) (changes : List ChangeValue) (place : ℕ) (change : ChangeValue)
+    → place < length changes → change ≡ get_or changes place change
     → changes_rest labels changes place ≡ change_line labels change ++ changes_rest labels changes (place + 1)
 changes_go_on labels changes place change within here =
-    ap (changes_text labels) (drop_more changes place change within) ∙ ap (λ (c : ChangeValue). change_line labels c ++ changes_rest labels changes (place + 1)) (sym here)
+    ap (changes_text labels) (drop_more changes place change within) ∙ ap (λ (c : ChangeValue). change_line labels c
+    ++ changes_rest labels changes (place + 1)) (sym here)
 
 -- until no change is left
 pub changes_end : (labels : List (List ℕ)) (changes : List ChangeValue) (place : ℕ) → length changes ≤ place → changes_rest labels changes place ≡ []

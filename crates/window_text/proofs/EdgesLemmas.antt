@@ -21,12 +21,16 @@ abbrev pub edges_rest : List EdgeValue → ℕ → List ℕ
 edges_rest edges place = flat_map edge_line (drop place edges)
 
 -- goes on with the edge at that place
-edges_go_on : (edges : List EdgeValue) (place : ℕ) (edge : EdgeValue) → place < length edges → edge ≡ get_or edges place edge → edges_rest edges place ≡ edge_line edge ++ edges_rest edges (place + 1)
+edges_go_on : (edges : List EdgeValue) (place : ℕ) (edge : EdgeValue) → place < length edges
+    → edge ≡ get_or edges place edge → edges_rest edges place ≡ edge_line edge ++ edges_rest edges (place + 1)
 edges_go_on edges place edge within here =
     ap (flat_map edge_line) (drop_more edges place edge within) ∙ ap (λ (e : EdgeValue). edge_line e ++ edges_rest edges (place + 1)) (sym here)
 
 -- whoever hands out the lines from a place on, has handed out the text; so has who hands out the line there and the others
-pub next_edge : {F : Type 0} (taker : Taker F) (old now : F) (text : List ℕ) (edges : List EdgeValue) (place : ℕ) (edge : EdgeValue) → place < length edges → edge ≡ get_or edges place edge → Completes taker old text now (edges_rest edges place) → Completes taker old text now (edge_line edge ++ edges_rest edges (place + 1))
+pub next_edge : {F : Type 0} (taker : Taker F) (old now : F) (text : List ℕ) (edges : List EdgeValue) (place : ℕ)
+    (edge : EdgeValue) → place < length edges → edge ≡ get_or edges place edge
+    → Completes taker old text now (edges_rest edges place) → Completes taker old text now (edge_line edge
+    ++ edges_rest edges (place + 1))
 next_edge taker old now text edges place edge within here rest = subst (Completes taker old text now) (edges_go_on edges place edge within here) rest
 
 -- until no edge is left

@@ -1,16 +1,16 @@
-pub mod ChangeLemmas
-pub mod EdgesLemmas
-pub mod QuoteLemmas
-pub mod ReportLemmas
-pub mod RowLemmas
-pub mod RunsLemmas
+mod ChangeLemmas
+mod EdgesLemmas
+mod QuoteLemmas
+mod ReportLemmas
+mod RowLemmas
+mod RunsLemmas
 pub mod ToldCells
 pub mod ToldChanges
-pub mod ToldEntries
+mod ToldEntries
 pub mod ToldFormulas
 pub mod ToldNamed
-pub mod ToldReports
-pub mod ToldRows
-pub mod ToldRuns
-pub mod ToldSplit
-pub mod TranscriptLemmas
+mod ToldReports
+mod ToldRows
+mod ToldRuns
+mod ToldSplit
+mod TranscriptLemmas

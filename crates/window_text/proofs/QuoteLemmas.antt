@@ -16,7 +16,8 @@ double_quotes_clean (b ∷ bs) clean =
     rw first (ap (λ t. b ∷ t) rest)
 
 -- a text stays up to its first quote, which is doubled
-doubled_part : (text : List ℕ) (place : ℕ) → All (λ b. b ≡ 34 → ⊥) (take place text) → slice_get text place ≡ Some 34 → with_double_quotes text ≡ take place text ++ (34 ∷ 34 ∷ with_double_quotes (drop 1 (drop place text)))
+doubled_part : (text : List ℕ) (place : ℕ) → All (λ b. b ≡ 34 → ⊥) (take place text) → slice_get text place ≡ Some 34
+    → with_double_quotes text ≡ take place text ++ (34 ∷ 34 ∷ with_double_quotes (drop 1 (drop place text)))
 doubled_part [] place clean quote = cc
 doubled_part (b ∷ bs) zero clean quote =
     let is : b ≡ 34 = cc in
@@ -27,14 +28,18 @@ doubled_part (b ∷ bs) (suc k) clean quote =
     rw first (ap (λ t. b ∷ t) rest)
 
 -- the same with the quote at the end
-pub parted : (text front back left : List ℕ) (place : ℕ) → front ≡ take place text → back ≡ drop place text → left ≡ drop 1 back → All (λ b. b ≡ 34 → ⊥) (take place text) → slice_get text place ≡ Some 34 → with_double_quotes text ++ 34 ∷ [] ≡ front ++ ((34 ∷ 34 ∷ []) ++ (with_double_quotes left ++ 34 ∷ []))
+pub parted : (text front back left : List ℕ) (place : ℕ) → front ≡ take place text → back ≡ drop place text
+    → left ≡ drop 1 back → All (λ b. b ≡ 34 → ⊥) (take place text) → slice_get text place ≡ Some 34
+    → with_double_quotes text ++ 34 ∷ [] ≡ front ++ ((34 ∷ 34 ∷ []) ++ (with_double_quotes left ++ 34 ∷ []))
 parted text front back left place front_is back_is left_is clean quote =
     let left_all : left ≡ drop 1 (drop place text) = left_is ∙ ap (drop 1) back_is in
     ap (λ t. t ++ 34 ∷ []) (doubled_part text place clean quote ∙ ap₂ (λ f l. f ++ (34 ∷ 34 ∷ with_double_quotes l)) (sym front_is) (sym left_all))
     ∙ append_assoc front (34 ∷ 34 ∷ with_double_quotes left) (34 ∷ [])
 
 -- what is left of a text from a place on, once its first byte is taken off
-pub from_place : (text front back : List ℕ) (place : ℕ) → front ≡ take place text → back ≡ drop place text → place < length text → All (λ b. b ≡ 34 → ⊥) (take place text) → slice_get text place ≡ Some 34 → with_double_quotes text ++ 34 ∷ [] ≡ front ++ ((34 ∷ 34 ∷ []) ++ (with_double_quotes (drop 1 back) ++ 34 ∷ []))
+pub from_place : (text front back : List ℕ) (place : ℕ) → front ≡ take place text → back ≡ drop place text
+    → place < length text → All (λ b. b ≡ 34 → ⊥) (take place text) → slice_get text place ≡ Some 34
+    → with_double_quotes text ++ 34 ∷ [] ≡ front ++ ((34 ∷ 34 ∷ []) ++ (with_double_quotes (drop 1 back) ++ 34 ∷ []))
 from_place text front back place front_is back_is within clean quote = parted text front back (drop 1 back) place front_is back_is refl clean quote
 
 -- a list from its second item on

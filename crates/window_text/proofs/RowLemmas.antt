@@ -25,7 +25,9 @@ map_twice f g [] = refl
 map_twice f g (x ∷ xs) = ap (λ ys. g (f x) ∷ ys) (map_twice f g xs)
 
 -- a row begins with the text of its first cell
-pub row_begins : (shown : Position → List ℕ) (window : Corners) (row : ℕ) → window.head.col ≤ window.tail.col → row_text shown window row ≡ shown (record { row = row; col = window.head.col }) ++ row_rest shown window row (window.head.col + 1)
+pub row_begins : (shown : Position → List ℕ) (window : Corners) (row : ℕ) → window.head.col ≤ window.tail.col
+    → row_text shown window row ≡ shown (record { row = row; col = window.head.col })
+    ++ row_rest shown window row (window.head.col + 1)
 row_begins shown window row ordered =
     let count : width window ≡ suc (window.tail.col + 1 - (window.head.col + 1)) = omega (arith, ordered) in
     let at = λ (c : ℕ). shown (record { row = row; col = c }) in
@@ -36,7 +38,9 @@ row_begins shown window row ordered =
     ∙ append_assoc (at window.head.col) (flat_map (λ c. 44 ∷ at c) others) (10 ∷ []))
 
 -- and goes on with a comma and the text of the next one
-pub row_goes_on : (shown : Position → List ℕ) (window : Corners) (row col : ℕ) → col ≤ window.tail.col → row_rest shown window row col ≡ (44 ∷ []) ++ (shown (record { row = row; col = col }) ++ row_rest shown window row (col + 1))
+pub row_goes_on : (shown : Position → List ℕ) (window : Corners) (row col : ℕ) → col ≤ window.tail.col
+    → row_rest shown window row col ≡ (44 ∷ []) ++ (shown (record { row = row; col = col })
+    ++ row_rest shown window row (col + 1))
 row_goes_on shown window row col within =
     let count : window.tail.col + 1 - col ≡ suc (window.tail.col + 1 - (col + 1)) = omega (arith, within) in
     let at = λ (c : ℕ). 44 ∷ shown (record { row = row; col = c }) in
@@ -53,7 +57,8 @@ row_ends shown window row col past =
 abbrev pub rows_rest : (Position → List ℕ) → Corners → ℕ → List ℕ
 rows_rest shown window row = flat_map (row_text shown window) (range_with_len row (window.tail.row + 1 - row))
 
-pub rows_go_on : (shown : Position → List ℕ) (window : Corners) (row : ℕ) → row ≤ window.tail.row → rows_rest shown window row ≡ row_text shown window row ++ rows_rest shown window (row + 1)
+pub rows_go_on : (shown : Position → List ℕ) (window : Corners) (row : ℕ) → row ≤ window.tail.row
+    → rows_rest shown window row ≡ row_text shown window row ++ rows_rest shown window (row + 1)
 rows_go_on shown window row within =
     let count : window.tail.row + 1 - row ≡ suc (window.tail.row + 1 - (row + 1)) = omega (arith, within) in
     ap (λ n. flat_map (row_text shown window) (range_with_len row n)) count
@@ -64,7 +69,8 @@ rows_end shown window row past =
     ap (λ n. flat_map (row_text shown window) (range_with_len row n)) count
 
 -- a cell that was made of a row and a column
-pub cell_made : (made : Option Position) (cell : Position) (row col : ℕ) → IfSome made (λ c. (c.row ≡ row) × (c.col ≡ col)) → made ≡ Some cell → cell ≡ record { row = row; col = col }
+pub cell_made : (made : Option Position) (cell : Position) (row col : ℕ)
+    → IfSome made (λ c. (c.row ≡ row) × (c.col ≡ col)) → made ≡ Some cell → cell ≡ record { row = row; col = col }
 cell_made made cell row col position is =
     let parts = MatchOption-at_some _ _ cell is position in
     λ i. record { row = parts.0 i; col = parts.1 i }

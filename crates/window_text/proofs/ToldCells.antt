@@ -1,5 +1,6 @@
 -- What is shown of a cell, before a comma or a line's end.
-use Rattle.std.proofs.Common.{◌≡◌, ◌<◌, ◌^◌, ◌-◌, ℕ, ℤ, pos, negsuc, zero, suc, Bool, true, false, List, [], ◌∷◌, ◌++◌, length, refl, sym, ap, ◌∙◌, arith, All, get_or, decimal, append_assoc, inl, inr}
+use Rattle.std.proofs.Common.{◌≡◌, ◌<◌, ◌^◌, ◌-◌, ℕ, ℤ, pos, negsuc, zero, suc, Bool, true, false, List, [], ◌∷◌, ◌++◌}
+use Rattle.std.proofs.Common.{length, refl, sym, ap, ◌∙◌, arith, All, get_or, decimal, append_assoc, inl, inr}
 use Rattle.std.specs.Prelude.{if◌then◌else◌, ◌==◌, flat_map}
 use Rattle.std.specs.Fmt.{signed_decimal}
 use Rattle.std.proofs.lemmas.Bool.{ne_eqb, eqb-false, cases_eq}
@@ -76,7 +77,14 @@ passes byte other more = ne_eqb byte other (omega (arith, more))
 digits_read : (byte : ℕ) (rest : List ℕ) → IsDigit byte → plain_read (byte ∷ rest) ≡ Shows (Number (pos (decimal_number (byte ∷ rest))))
 unfolding plain_read
 digits_read byte rest digit =
-    simp (differs byte 126 (omega (arith, digit.1)), differs byte 94 (omega (arith, digit.1)), passes byte 35 (omega (arith, digit.0)), differs byte 84 (omega (arith, digit.1)), differs byte 70 (omega (arith, digit.1)), passes byte 45 (omega (arith, digit.0))) refl
+    simp (
+      differs byte 126 (omega (arith, digit.1)),
+      differs byte 94 (omega (arith, digit.1)),
+      passes byte 35 (omega (arith, digit.0)),
+      differs byte 84 (omega (arith, digit.1)),
+      differs byte 70 (omega (arith, digit.1)),
+      passes byte 45 (omega (arith, digit.0)),
+    ) refl
 
 whole_read : (text : List ℕ) (n : ℕ) → 0 < length text → All IsDigit text → n ≡ decimal_number text → plain_read text ≡ Shows (Number (pos n))
 whole_read [] n some digits value = absurd (omega (arith, some))
@@ -292,7 +300,9 @@ quotes_end t u a b r s one two same =
 -- what a plain cell begins with is no quote
 no_quote_there : (t : List ℕ) (y : ToldCell) (a b : ℕ) (r s : List ℕ) → IsTellable y → IsCellEnd b → in_quotes t ++ a ∷ r ≡ plain_text y ++ b ∷ s → ⊥
 no_quote_there t y a b r s fits end same =
-    let parts = split_at_stop IsMark [] (plain_text y) 34 b (doubled t ++ 34 ∷ a ∷ r) s (λ k d within. absurd (omega (arith, within))) (plain_is_clear y fits) (quote refl) (mark_of b end) (sym (quotes_open t a r) ∙ same) in
+    let parts = split_at_stop IsMark [] (plain_text y) 34 b (doubled t ++ 34 ∷ a
+    ∷ r) s (λ k d within. absurd (omega (arith, within))) (plain_is_clear y fits) (quote refl) (mark_of b end)
+    (sym (quotes_open t a r) ∙ same) in
     no_quote b end (sym (same_first 34 b (doubled t ++ 34 ∷ a ∷ r) s parts.1))
 
 -- a cell before its end
@@ -309,6 +319,7 @@ cell_told x y a b r s x_fits y_fits x_end y_end same = told x y (form_of x x_fit
     told x y (in_plain other text read) (in_text u) x_fits y_fits same =
         absurd (no_quote_there u x b a s r x_fits x_end (sym same ∙ ap (λ v. v ++ a ∷ r) text))
     told x y (in_plain one text read) (in_plain other text_too read_too) x_fits y_fits same =
-        let parts = split_at_stop IsMark (plain_text x) (plain_text y) a b r s (plain_is_clear x x_fits) (plain_is_clear y y_fits) (mark_of a x_end) (mark_of b y_end)
+        let parts = split_at_stop IsMark (plain_text x) (plain_text y) a b r s (plain_is_clear x x_fits)
+        (plain_is_clear y y_fits) (mark_of a x_end) (mark_of b y_end)
         (sym (ap (λ v. v ++ a ∷ r) text) ∙ same ∙ ap (λ v. v ++ b ∷ s) text_too) in
         (sym read ∙ ap plain_read parts.0 ∙ read_too, parts.1)

@@ -1,5 +1,6 @@
 -- What a cell is to hold, changes, edits and entries, each before what follows it.
-use Rattle.std.proofs.Common.{◌≡◌, ◌<◌, ◌^◌, ℕ, ℤ, pos, negsuc, suc, true, false, List, [], ◌∷◌, ◌++◌, length, refl, sym, ap, ◌∙◌, arith, All, codes, decimal, append_assoc, inl, inr, ◌⊎◌}
+use Rattle.std.proofs.Common.{◌≡◌, ◌<◌, ◌^◌, ℕ, ℤ, pos, negsuc, suc, true, false, List, [], ◌∷◌, ◌++◌, length, refl}
+use Rattle.std.proofs.Common.{sym, ap, ◌∙◌, arith, All, codes, decimal, append_assoc, inl, inr, ◌⊎◌}
 use Rattle.std.specs.Int.Signed.{mag}
 use Rattle.std.proofs.lemmas.List.{append_cancel_left}
 use Rattle.sheet_refs.specs.Cells.{Position, IsNamed}
@@ -101,7 +102,8 @@ content_ends : (labels others : List (List ℕ)) (x y : ContentValue) (r s : Lis
     → content_text labels x ++ 10 ∷ r ≡ content_text others y ++ 10 ∷ s → (told_content labels x ≡ told_content others y) × (r ≡ s)
 content_ends labels others (Constant v) (Constant w) r s one two same =
     let all = sym (ap (λ t. t ++ 10 ∷ r) (value_told_text labels v)) ∙ same ∙ ap (λ t. t ++ 10 ∷ s) (value_told_text others w) in
-    let parts = cell_told (Shows (told_value labels v)) (Shows (told_value others w)) 10 10 r s (value_tellable labels v one) (value_tellable others w two) (at_line refl) (at_line refl) all in
+    let parts = cell_told (Shows (told_value labels v)) (Shows (told_value others w)) 10 10 r s
+    (value_tellable labels v one) (value_tellable others w two) (at_line refl) (at_line refl) all in
     (ap Holds (shown_inside (told_value labels v) (told_value others w) parts.0), same_others 10 10 r s parts.1)
 content_ends labels others (Constant v) (Computed u) r s one two same = absurd (begins_else labels v (tree_text u ++ 10 ∷ s) r one same)
 content_ends labels others (Computed t) (Constant w) r s one two same = absurd (begins_else others w (tree_text t ++ 10 ∷ r) s two (sym same))
@@ -141,7 +143,8 @@ set_open labels cell content r =
     ∙ ap (λ t. cell_text cell ++ 32 ∷ t) (append_assoc (content_text labels content) (10 ∷ []) r))
 
 -- the first byte of the line of a change
-pub line_begins : (labels : List (List ℕ)) (change : ChangeValue) → (byte : ℕ) × (rest : List ℕ) × ((byte ≡ 99) ⊎ (byte ≡ 115)) × (change_line labels change ≡ byte ∷ rest)
+pub line_begins : (labels : List (List ℕ)) (change : ChangeValue) → (byte : ℕ) × (rest : List ℕ)
+    × ((byte ≡ 99) ⊎ (byte ≡ 115)) × (change_line labels change ≡ byte ∷ rest)
 line_begins labels change = begun (line_of_change labels change)
   where
     begun : IsLineOf labels change → (byte : ℕ) × (rest : List ℕ) × ((byte ≡ 99) ⊎ (byte ≡ 115)) × (change_line labels change ≡ byte ∷ rest)
@@ -149,9 +152,14 @@ line_begins labels change = begun (line_of_change labels change)
     begun (sets is) = (115, codes "et " ++ (cell_text change.cell ++ 32 ∷ (content_text labels change.content ++ 10 ∷ [])), inr refl, is)
 
 -- a line that empties is none that fills
-apart : (labels others : List (List ℕ)) (cell other : Position) (content : ContentValue) (r s : List ℕ) → clear_line cell ++ r ≡ set_line others other content ++ s → ⊥
+apart : (labels others : List (List ℕ)) (cell other : Position) (content : ContentValue) (r s : List ℕ)
+    → clear_line cell ++ r ≡ set_line others other content ++ s → ⊥
 apart labels others cell other content r s same =
-    absurd (omega (arith, same_first 99 115 (codes "lear " ++ (cell_text cell ++ 10 ∷ []) ++ r) (codes "et " ++ (cell_text other ++ 32 ∷ (content_text others content ++ 10 ∷ [])) ++ s) same))
+    absurd (omega (
+      arith,
+      same_first 99 115 (codes "lear " ++ (cell_text cell ++ 10 ∷ []) ++ r) (codes "et "
+          ++ (cell_text other ++ 32 ∷ (content_text others content ++ 10 ∷ [])) ++ s) same,
+    ))
 
 -- a change in its line
 pub change_ends : (labels others : List (List ℕ)) (c d : ChangeValue) (r s : List ℕ) → IsFineChange c → IsFineChange d
@@ -161,14 +169,21 @@ change_ends labels others c d r s one two same = ended (line_of_change labels c)
     ended : IsLineOf labels c → IsLineOf others d → (told_change labels c ≡ told_change others d) × (r ≡ s)
     ended (clears is told) (clears is_too told_too) =
         let all = sym (ap (λ t. t ++ r) is ∙ clear_open c.cell r) ∙ same ∙ (ap (λ t. t ++ s) is_too ∙ clear_open d.cell s) in
-        let parts = cell_ends c.cell d.cell 10 10 r s one.named two.named (line refl) (line refl) (append_cancel_left (codes "clear ") (cell_text c.cell ++ 10 ∷ r) (cell_text d.cell ++ 10 ∷ s) all) in
+        let parts = cell_ends c.cell d.cell 10 10 r s one.named two.named (line refl) (line refl)
+        (append_cancel_left (codes "clear ") (cell_text c.cell ++ 10 ∷ r) (cell_text d.cell ++ 10 ∷ s) all) in
         let contents = told ∙ sym told_too in
         (λ i. record { cell = parts.0 i; content = contents i }, same_others 10 10 r s parts.1)
     ended (clears is told) (sets is_too) = absurd (apart labels others c.cell d.cell d.content r s (sym (ap (λ t. t ++ r) is) ∙ same ∙ ap (λ t. t ++ s) is_too))
-    ended (sets is) (clears is_too told) = absurd (apart others labels d.cell c.cell c.content s r (sym (sym (ap (λ t. t ++ r) is) ∙ same ∙ ap (λ t. t ++ s) is_too)))
+    ended (sets is) (clears is_too told) =
+        absurd (apart others labels d.cell c.cell c.content s r (sym (sym (ap (λ t. t ++ r) is) ∙ same
+        ∙ ap (λ t. t ++ s) is_too)))
     ended (sets is) (sets is_too) =
         let all = sym (ap (λ t. t ++ r) is ∙ set_open labels c.cell c.content r) ∙ same ∙ (ap (λ t. t ++ s) is_too ∙ set_open others d.cell d.content s) in
-        let cells = cell_ends c.cell d.cell 32 32 (content_text labels c.content ++ 10 ∷ r) (content_text others d.content ++ 10 ∷ s) one.named two.named (space refl) (space refl)
-        (append_cancel_left (codes "set ") (cell_text c.cell ++ 32 ∷ (content_text labels c.content ++ 10 ∷ r)) (cell_text d.cell ++ 32 ∷ (content_text others d.content ++ 10 ∷ s)) all) in
-        let contents = content_ends labels others c.content d.content r s one.content two.content (same_others 32 32 (content_text labels c.content ++ 10 ∷ r) (content_text others d.content ++ 10 ∷ s) cells.1) in
+        let cells = cell_ends c.cell d.cell 32 32 (content_text labels c.content ++ 10
+        ∷ r) (content_text others d.content ++ 10 ∷ s) one.named two.named (space refl) (space refl)
+        (append_cancel_left (codes "set ") (cell_text c.cell ++ 32 ∷ (content_text labels c.content ++ 10 ∷ r))
+        (cell_text d.cell ++ 32 ∷ (content_text others d.content ++ 10 ∷ s)) all) in
+        let contents = content_ends labels others c.content d.content r s one.content two.content
+        (same_others 32 32 (content_text labels c.content ++ 10 ∷ r) (content_text others d.content ++ 10
+        ∷ s) cells.1) in
         (λ i. record { cell = cells.0 i; content = contents.0 i }, contents.1)

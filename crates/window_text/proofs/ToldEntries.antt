@@ -1,5 +1,6 @@
 -- Edits and entries of a log, each before what follows it.
-use Rattle.std.proofs.Common.{◌≡◌, ◌<◌, ◌≤◌, ◌^◌, ◌+◌, ℕ, List, [], ◌∷◌, ◌++◌, length, map, refl, sym, ap, ◌∙◌, arith, All, codes, decimal, append_assoc, inl, inr, ◌⊎◌}
+use Rattle.std.proofs.Common.{◌≡◌, ◌<◌, ◌≤◌, ◌^◌, ◌+◌, ℕ, List, [], ◌∷◌, ◌++◌, length, map, refl, sym, ap, ◌∙◌, arith}
+use Rattle.std.proofs.Common.{All, codes, decimal, append_assoc, inl, inr, ◌⊎◌}
 use Rattle.std.proofs.lemmas.List.{append_cancel_left}
 use Rattle.std.proofs.lemmas.Bool.{cases_lt}
 use Rattle.sheet_model.specs.Edits.{EditValue}
@@ -38,7 +39,8 @@ module _ (labels others : List (List ℕ)) where
   one_open : (edit : EditValue) (r : List ℕ) → length edit ≤ 1 → edit_text labels edit ++ r ≡ changes_text labels edit ++ r
   one_open edit r one = ap (λ h. (h ++ changes_text labels edit) ++ r) (head_of_one (length edit) one)
 
-  many_open : (edit : EditValue) (r : List ℕ) → 1 < length edit → edit_text labels edit ++ r ≡ codes "batch " ++ (decimal (length edit) ++ 10 ∷ (changes_text labels edit ++ r))
+  many_open : (edit : EditValue) (r : List ℕ) → 1 < length edit → edit_text labels edit ++ r ≡ codes "batch "
+      ++ (decimal (length edit) ++ 10 ∷ (changes_text labels edit ++ r))
   many_open edit r many =
       ap (λ h. (h ++ changes_text labels edit) ++ r) (head_of_many (length edit) many)
       ∙ append_assoc (codes "batch " ++ (decimal (length edit) ++ 10 ∷ [])) (changes_text labels edit) r
@@ -63,9 +65,12 @@ edit_ends labels others edit other r s one two same = elim (cases_lt 1 (length e
   | inl many ↦ elim (cases_lt 1 (length other)) [
     | inl many_too ↦
         let all = sym (many_open labels others edit r many) ∙ same ∙ many_open others labels other s many_too in
-        let counts = decimal_ends (length edit) (length other) 10 10 (changes_text labels edit ++ r) (changes_text others other ++ s) one.few two.few (at_line_end refl) (at_line_end refl)
-        (append_cancel_left (codes "batch ") (decimal (length edit) ++ 10 ∷ (changes_text labels edit ++ r)) (decimal (length other) ++ 10 ∷ (changes_text others other ++ s)) all) in
-        changes_end labels others edit other r s counts.0 one.changes two.changes (same_others 10 10 (changes_text labels edit ++ r) (changes_text others other ++ s) counts.1)
+        let counts = decimal_ends (length edit) (length other) 10 10 (changes_text labels edit
+        ++ r) (changes_text others other ++ s) one.few two.few (at_line_end refl) (at_line_end refl)
+        (append_cancel_left (codes "batch ") (decimal (length edit) ++ 10 ∷ (changes_text labels edit ++ r))
+        (decimal (length other) ++ 10 ∷ (changes_text others other ++ s)) all) in
+        changes_end labels others edit other r s counts.0 one.changes two.changes
+        (same_others 10 10 (changes_text labels edit ++ r) (changes_text others other ++ s) counts.1)
     | inr alone ↦
         let all = sym (one_open others labels other s alone) ∙ sym same ∙ many_open labels others edit r many in
         absurd (begins_alone others other s (codes "atch " ++ (decimal (length edit) ++ 10 ∷ (changes_text labels edit ++ r))) two.some all)
@@ -99,19 +104,22 @@ module _ (names titles labels others : List (List ℕ)) where
 
   -- entries of one number
   entry_ends : (number : ℕ) (entry other : Entry) (r s : List ℕ) → IsFineEntry names entry → IsFineEntry titles other
-      → entry_text names labels number entry ++ r ≡ entry_text titles others number other ++ s → (told_entry names labels entry ≡ told_entry titles others other) × (r ≡ s)
+      → entry_text names labels number entry ++ r ≡ entry_text titles others number other ++ s
+      → (told_entry names labels entry ≡ told_entry titles others other) × (r ≡ s)
   entry_ends number entry other r s one two same =
       let mine = edit_text labels entry.edit ++ r in
       let yours = edit_text others other.edit ++ s in
       let all = sym (entry_open names labels number entry r) ∙ same ∙ entry_open titles others number other s in
-      let behind = append_cancel_left (decimal number) (32 ∷ (name_at names entry.client ++ 32 ∷ mine)) (32 ∷ (name_at titles other.client ++ 32 ∷ yours)) all in
+      let behind = append_cancel_left (decimal number) (32 ∷ (name_at names entry.client ++ 32 ∷ mine)) (32
+      ∷ (name_at titles other.client ++ 32 ∷ yours)) all in
       let clients = name_ends (name_at names entry.client) (name_at titles other.client) 32 32 mine yours one.word two.word (space refl) (space refl)
       (same_others 32 32 (name_at names entry.client ++ 32 ∷ mine) (name_at titles other.client ++ 32 ∷ yours) behind) in
       let edits = edit_ends labels others entry.edit other.edit r s one.edit two.edit (same_others 32 32 mine yours clients.1) in
       (λ i. record { client = clients.0 i; changes = edits.0 i }, edits.1)
 
   -- as many entries
-  pub entries_end : (number : ℕ) (log entries : List Entry) (r s : List ℕ) → length log ≡ length entries → All (IsFineEntry names) log → All (IsFineEntry titles) entries
+  pub entries_end : (number : ℕ) (log entries : List Entry) (r s : List ℕ) → length log ≡ length entries
+      → All (IsFineEntry names) log → All (IsFineEntry titles) entries
       → entries_text names labels number log ++ r ≡ entries_text titles others number entries ++ s
       → (map (told_entry names labels) log ≡ map (told_entry titles others) entries) × (r ≡ s)
   entries_end number [] [] r s count one two same = (refl, same)
@@ -124,5 +132,6 @@ module _ (names titles labels others : List (List ℕ)) where
       sym (append_assoc (entry_text names labels number e) (entries_text names labels (number + 1) log) r) ∙ same
       ∙ append_assoc (entry_text titles others number f) (entries_text titles others (number + 1) entries) s in
       let first = entry_ends number e f mine yours (first_is (IsFineEntry names) e log one) (first_is (IsFineEntry titles) f entries two) all in
-      let rest = entries_end (number + 1) log entries r s (omega (arith, count)) (others_are (IsFineEntry names) e log one) (others_are (IsFineEntry titles) f entries two) first.1 in
+      let rest = entries_end (number + 1) log entries r s (omega (arith, count))
+      (others_are (IsFineEntry names) e log one) (others_are (IsFineEntry titles) f entries two) first.1 in
       (λ i. first.0 i ∷ rest.0 i, rest.1)

@@ -119,7 +119,9 @@ reference_is_clear r is =
     (joins_clear (anchor_text r.head) (58 ∷ anchor_text r.tail) head (behind 58 (anchor_text r.tail) (far 58 (omega arith)) tail))
 
 parentheses_are_clear : (text : List ℕ) → IsClear text → IsClear (in_parentheses text)
-parentheses_are_clear text is = behind 40 (text ++ 41 ∷ []) (λ mark. low 40 mark refl) (joins_clear text (41 ∷ []) is (alone_clear 41 (λ mark. high 41 mark refl)))
+parentheses_are_clear text is =
+    behind 40 (text ++ 41 ∷ []) (λ mark. low 40 mark refl) (joins_clear text (41
+    ∷ []) is (alone_clear 41 (λ mark. high 41 mark refl)))
   where
     low : (byte : ℕ) → IsMark byte → byte ≡ 40 → ⊥
     low byte (comma is) same = absurd (omega (arith, is, same))
@@ -141,7 +143,8 @@ mutual
   tree_is_clear (error k) fits = is_clear (error_text k) (error_is_clear k)
   tree_is_clear (reference r) fits = reference_is_clear r fits
   tree_is_clear (prefix op operand) fits =
-      joins_clear (operator_text (sign_written op)) (at_level 4 operand (tree_text operand)) (is_clear (operator_text (sign_written op)) (operator_is_clear (sign_written op)))
+      joins_clear (operator_text (sign_written op)) (at_level 4 operand (tree_text operand))
+      (is_clear (operator_text (sign_written op)) (operator_is_clear (sign_written op)))
       (at_level_is_clear 4 operand (tree_text operand) (tree_is_clear operand fits))
   tree_is_clear (binary op left right) fits =
       joins_clear (at_level (level_of op) left (tree_text left)) (operator_text op ++ at_level (suc (level_of op)) right (tree_text right))
@@ -159,7 +162,8 @@ mutual
   others_are_clear : (ts : Trees) → AreFitting ts → IsClear (others_text ts)
   others_are_clear no_trees fits = none_clear
   others_are_clear (and_trees t rest) fits =
-      behind 59 (tree_text t ++ others_text rest) (far 59 (omega arith)) (joins_clear (tree_text t) (others_text rest) (tree_is_clear t fits.0) (others_are_clear rest fits.1))
+      behind 59 (tree_text t ++ others_text rest) (far 59 (omega arith)) (joins_clear (tree_text t) (others_text rest)
+      (tree_is_clear t fits.0) (others_are_clear rest fits.1))
 
 pub plain_is_clear : (t : Tree) → IsFitting t → IsClear (plain t)
 plain_is_clear t fits = behind 61 (tree_text t) (far 61 (omega arith)) (tree_is_clear t fits)

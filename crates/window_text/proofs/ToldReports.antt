@@ -1,5 +1,6 @@
 -- Reports and clients, each before what follows it.
-use Rattle.std.proofs.Common.{◌≡◌, ℕ, zero, suc, Bool, true, false, List, [], ◌∷◌, ◌++◌, length, map, refl, sym, ap, ◌∙◌, arith, All, codes, decimal, append_assoc}
+use Rattle.std.proofs.Common.{◌≡◌, ℕ, zero, suc, Bool, true, false, List, [], ◌∷◌, ◌++◌, length, map, refl, sym, ap}
+use Rattle.std.proofs.Common.{◌∙◌, arith, All, codes, decimal, append_assoc}
 use Rattle.std.specs.Prelude.{flat_map, slice_index_or}
 use Rattle.std.proofs.lemmas.List.{append_cancel_left}
 use Rattle.sheet_refs.specs.Cells.{Position, Corners, cells_of, rows_of}
@@ -37,7 +38,9 @@ counted_at (c ∷ cells) zero all = first_is IsCounted c cells all
 counted_at (c ∷ cells) (suc place) all = counted_at cells place (others_are IsCounted c cells all)
 
 -- the rows of a window, by what is told of its cells
-pub rows_told_text : (shown : Position → List ℕ) (told : Position → ToldCell) (window : Corners) → ((cell : Position) → shown cell ≡ told_text (told cell)) → rows_text shown window ≡ flat_map (line_of told window) (rows_of window)
+pub rows_told_text : (shown : Position → List ℕ) (told : Position → ToldCell) (window : Corners)
+    → ((cell : Position) → shown cell ≡ told_text (told cell))
+    → rows_text shown window ≡ flat_map (line_of told window) (rows_of window)
 rows_told_text shown told window same =
     let all : shown ≡ (λ cell. told_text (told cell)) = λ i cell. same cell i in
     ap (λ f. rows_text f window) all
@@ -73,7 +76,9 @@ abbrev told_rows : List (List ℕ) → BoardValue → Corners → List ℕ
 told_rows labels board window = flat_map (line_of (told_at labels board) window) (rows_of window)
 
 report_open : (labels : List (List ℕ)) (report : Report) (r : List ℕ)
-    → report_text labels report ++ r ≡ report_kind report.firm ++ (decimal report.board.number ++ 32 ∷ (range_text report.board.window ++ 10 ∷ (told_rows labels report.board report.board.window ++ r)))
+    → report_text labels report ++ r ≡ report_kind report.firm
+    ++ (decimal report.board.number ++ 32 ∷ (range_text report.board.window ++ 10
+    ∷ (told_rows labels report.board report.board.window ++ r)))
 report_open labels report r =
     let board = report.board in
     let rows = rows_text (board_text labels board) board.window in
@@ -91,7 +96,8 @@ at_tellable labels report is cell =
     shown_tellable labels (slice_index_or board.cells place (shown.Stale 0)) (counted_at board.cells place is.cells)
 
 -- a text that goes on begins as its first part does
-first_of : (byte : ℕ) (rest front behind more after : List ℕ) (text : List ℕ) → front ≡ byte ∷ rest → text ≡ ((front ++ behind) ++ more) ++ after → (c : ℕ) (t : List ℕ) → text ≡ c ∷ t → c ≡ byte
+first_of : (byte : ℕ) (rest front behind more after : List ℕ) (text : List ℕ) → front ≡ byte ∷ rest
+    → text ≡ ((front ++ behind) ++ more) ++ after → (c : ℕ) (t : List ℕ) → text ≡ c ∷ t → c ≡ byte
 first_of byte rest front behind more after text is same c t whole =
     let opened : text ≡ byte ∷ (((rest ++ behind) ++ more) ++ after) = same ∙ ap (λ f. ((f ++ behind) ++ more) ++ after) is in
     same_first c byte t (((rest ++ behind) ++ more) ++ after) (sym whole ∙ opened)
@@ -107,10 +113,12 @@ module _ (labels others : List (List ℕ)) where
       let all = sym (report_open labels x r) ∙ same ∙ report_open others y s in
       let kinds = kind_ends x.firm y.firm (decimal x.board.number ++ 32 ∷ x_behind) (decimal y.board.number ++ 32 ∷ y_behind) all in
       let numbers = decimal_ends x.board.number y.board.number 32 32 x_behind y_behind one.number two.number (space refl) (space refl) kinds.1 in
-      let windows = range_ends x.board.window y.board.window 10 10 x_rows y_rows one.head one.tail two.head two.tail (line refl) (line refl) (same_others 32 32 x_behind y_behind numbers.1) in
+      let windows = range_ends x.board.window y.board.window 10 10 x_rows y_rows one.head one.tail two.head two.tail
+      (line refl) (line refl) (same_others 32 32 x_behind y_behind numbers.1) in
       let rows : x_rows ≡ told_rows others y.board x.board.window ++ s =
       same_others 10 10 x_rows y_rows windows.1 ∙ ap (λ w. told_rows others y.board w ++ s) (sym windows.0) in
-      let cells = lines_told (told_at labels x.board) (told_at others y.board) (at_tellable labels x one) (at_tellable others y two) x.board.window (rows_of x.board.window) r s rows in
+      let cells = lines_told (told_at labels x.board) (told_at others y.board) (at_tellable labels x one)
+      (at_tellable others y two) x.board.window (rows_of x.board.window) r s rows in
       let all_cells = cells.0 ∙ ap (λ w. map (told_at others y.board) (cells_of w)) windows.0 in
       (λ i. record { firm = kinds.0 i; number = numbers.0 i; window = windows.0 i; cells = all_cells i }, cells.1)
 
@@ -120,10 +128,12 @@ module _ (labels others : List (List ℕ)) where
   reports_end [] [] a b r s first second one two same = (refl, same)
   reports_end [] (y ∷ ys) a b r s first second one two same =
       let kind = kind_begins y.firm in
-      absurd (no_report_next a kind.0 first kind.2 (first_of kind.0 kind.1 (report_kind y.firm) (decimal y.board.number ++ (32 ∷ window_text others y.board)) (play_text others ys) (b ∷ s) (a ∷ r) kind.3 same a r refl))
+      absurd (no_report_next a kind.0 first kind.2 (first_of kind.0 kind.1 (report_kind y.firm) (decimal y.board.number
+      ++ (32 ∷ window_text others y.board)) (play_text others ys) (b ∷ s) (a ∷ r) kind.3 same a r refl))
   reports_end (x ∷ xs) [] a b r s first second one two same =
       let kind = kind_begins x.firm in
-      absurd (no_report_next b kind.0 second kind.2 (first_of kind.0 kind.1 (report_kind x.firm) (decimal x.board.number ++ (32 ∷ window_text labels x.board)) (play_text labels xs) (a ∷ r) (b ∷ s) kind.3 (sym same) b s refl))
+      absurd (no_report_next b kind.0 second kind.2 (first_of kind.0 kind.1 (report_kind x.firm) (decimal x.board.number
+      ++ (32 ∷ window_text labels x.board)) (play_text labels xs) (a ∷ r) (b ∷ s) kind.3 (sym same) b s refl))
   reports_end (x ∷ xs) (y ∷ ys) a b r s first second one two same =
       let mine = play_text labels xs ++ a ∷ r in
       let yours = play_text others ys ++ b ∷ s in
@@ -168,15 +178,20 @@ module _ (labels others : List (List ℕ)) where
   clients_end (name ∷ names) (title ∷ titles) (x ∷ xs) (y ∷ ys) r s count number words terms one two same =
       let mine = clients_next labels names xs r in
       let yours = clients_next others titles ys s in
-      let all = sym (append_assoc (client_text labels name x) (clients_text labels names xs) (115 ∷ r) ∙ client_open labels name x (clients_text labels names xs ++ 115 ∷ r))
-      ∙ same ∙ (append_assoc (client_text others title y) (clients_text others titles ys) (115 ∷ s) ∙ client_open others title y (clients_text others titles ys ++ 115 ∷ s)) in
+      let all = sym (append_assoc (client_text labels name x) (clients_text labels names xs) (115 ∷ r)
+      ∙ client_open labels name x (clients_text labels names xs ++ 115 ∷ r))
+      ∙ same ∙ (append_assoc (client_text others title y) (clients_text others titles ys) (115 ∷ s)
+      ∙ client_open others title y (clients_text others titles ys ++ 115 ∷ s)) in
       let mine_text = play_text labels x ++ (clients_text labels names xs ++ 115 ∷ r) in
       let yours_text = play_text others y ++ (clients_text others titles ys ++ 115 ∷ s) in
-      let words_end = name_ends name title 10 10 mine_text yours_text (first_is IsOneWord name names words) (first_is IsOneWord title titles terms) (name_line refl) (name_line refl)
+      let words_end = name_ends name title 10 10 mine_text yours_text (first_is IsOneWord name names words)
+      (first_is IsOneWord title titles terms) (name_line refl) (name_line refl)
       (append_cancel_left (codes "client ") (name ++ 10 ∷ mine_text) (title ++ 10 ∷ yours_text) all) in
       let texts : play_text labels x ++ mine.0 ∷ mine.1 ≡ play_text others y ++ yours.0 ∷ yours.1 =
       sym (ap (λ t. play_text labels x ++ t) mine.3) ∙ same_others 10 10 mine_text yours_text words_end.1 ∙ ap (λ t. play_text others y ++ t) yours.3 in
-      let here = reports_end labels others x y mine.0 yours.0 mine.1 yours.1 mine.2 yours.2 (first_is (All IsTellableReport) x xs one) (first_is (All IsTellableReport) y ys two) texts in
-      let there = clients_end names titles xs ys r s (omega (arith, count)) (omega (arith, number)) (others_are IsOneWord name names words) (others_are IsOneWord title titles terms)
+      let here = reports_end labels others x y mine.0 yours.0 mine.1 yours.1 mine.2 yours.2
+      (first_is (All IsTellableReport) x xs one) (first_is (All IsTellableReport) y ys two) texts in
+      let there = clients_end names titles xs ys r s (omega (arith, count)) (omega (arith, number))
+      (others_are IsOneWord name names words) (others_are IsOneWord title titles terms)
       (others_are (All IsTellableReport) x xs one) (others_are (All IsTellableReport) y ys two) (mine.3 ∙ here.1 ∙ sym yours.3) in
       (λ i. words_end.0 i ∷ there.0 i, λ i. here.0 i ∷ there.1 i, there.2)

@@ -44,8 +44,10 @@ module _ (f g : Position → ToldCell) (f_fits : (cell : Position) → IsTellabl
   lines_told window (row ∷ rows) r s same =
       let mine = flat_map (line_of f window) rows ++ r in
       let yours = flat_map (line_of g window) rows ++ s in
-      let opened : (h : Position → ToldCell) (t : List ℕ) → (line_of h window row ++ flat_map (line_of h window) rows) ++ t ≡ joined h (row_cells window row) ++ 10 ∷ (flat_map (line_of h window) rows ++ t) =
-      λ h t. append_assoc (line_of h window row) (flat_map (line_of h window) rows) t ∙ append_assoc (joined h (row_cells window row)) (10 ∷ []) (flat_map (line_of h window) rows ++ t) in
+      let opened : (h : Position → ToldCell) (t : List ℕ) → (line_of h window row ++ flat_map (line_of h window) rows)
+      ++ t ≡ joined h (row_cells window row) ++ 10 ∷ (flat_map (line_of h window) rows ++ t) =
+      λ h t. append_assoc (line_of h window row) (flat_map (line_of h window) rows) t
+      ∙ append_assoc (joined h (row_cells window row)) (10 ∷ []) (flat_map (line_of h window) rows ++ t) in
       let first = row_told (row_cells window row) mine yours (sym (opened f r) ∙ same ∙ opened g s) in
       let rest = lines_told window rows r s first.1 in
       let here = row_cells window row in

@@ -1,5 +1,6 @@
 -- A live run's text tells one run.
-use Rattle.std.proofs.Common.{◌≡◌, ℕ, zero, suc, Bool, true, false, List, [], ◌∷◌, ◌++◌, length, map, refl, sym, ap, ◌∙◌, arith, All, get_or, codes, decimal, append_assoc, inl, inr}
+use Rattle.std.proofs.Common.{◌≡◌, ℕ, zero, suc, Bool, true, false, List, [], ◌∷◌, ◌++◌, length, map, refl, sym, ap}
+use Rattle.std.proofs.Common.{◌∙◌, arith, All, get_or, codes, decimal, append_assoc, inl, inr}
 use Rattle.std.specs.Prelude.{flat_map, slice_index_or, nat_eq, if◌then◌else◌}
 use Rattle.std.proofs.lemmas.Bool.{cases_eq, ne_eqb}
 use Rattle.std.proofs.lemmas.List.{append_cancel_left, append-nil}
@@ -13,7 +14,8 @@ use Rattle.sheet_model.specs.Values.{value_of}
 use Rattle.sheet_model.specs.declared.entry.Entry.{Entry}
 use Rattle.sheet_model.proofs.SheetValues.{value_in_range}
 use Rattle.window_text.specs.Texts.{rows_text, sheet_window, shown_cell}
-use Rattle.window_text.specs.Told.{IsOneWord, IsTellableEntry, IsTellableRun, ToldCell, ToldValue, Nothing, Shows, Waits, Passed, told_cell, told_run, told_values}
+use Rattle.window_text.specs.Told.{IsOneWord, IsTellableEntry, IsTellableRun, ToldCell, ToldValue, Nothing, Shows}
+use Rattle.window_text.specs.Told.{Waits, Passed, told_cell, told_run, told_values}
 use Rattle.window_text.specs.Transcripts.{TranscriptValue, clients_text, closing_rows, closing_text, entries_text, live_text, whole_range}
 use Rattle.window_text.proofs.ToldCells.{IsTellable}
 use Rattle.window_text.proofs.ToldChanges.{IsFineChange, fine_of, value_told_text, value_tellable}
@@ -41,8 +43,11 @@ shows sheet cell = Shows (told_cell sheet cell)
 shows_fine : (sheet : SheetValue) → IsSheet sheet → (cell : Position) → IsTellable (shows sheet cell)
 shows_fine sheet is cell = value_tellable sheet.labels (value_of sheet cell) (value_in_range sheet cell is)
 
-window_open : (sheet : SheetValue) (window : Corners) → sheet_window sheet window ≡ range_text window ++ 10 ∷ flat_map (line_of (shows sheet) window) (rows_of window)
-window_open sheet window = ap (λ t. range_text window ++ 10 ∷ t) (rows_told_text (shown_cell sheet) (shows sheet) window (λ cell. value_told_text sheet.labels (value_of sheet cell)))
+window_open : (sheet : SheetValue) (window : Corners) → sheet_window sheet window ≡ range_text window ++ 10
+    ∷ flat_map (line_of (shows sheet) window) (rows_of window)
+window_open sheet window =
+    ap (λ t. range_text window ++ 10 ∷ t) (rows_told_text (shown_cell sheet) (shows sheet) window
+    (λ cell. value_told_text sheet.labels (value_of sheet cell)))
 
 -- the closing rows: a dash where there is no cell, and else the window of all cells
 data IsClosing (sheet : SheetValue) : Type 0 where
@@ -77,7 +82,8 @@ no_dash sheet same =
     let window = whole_range sheet.sizes in
     let rest = cell_text window.tail ++ 10 ∷ rows_text (shown_cell sheet) window in
     let all : 45 ∷ 10 ∷ [] ≡ first ++ 58 ∷ rest = same ∙ append_assoc first (58 ∷ cell_text window.tail) (10 ∷ rows_text (shown_cell sheet) window) in
-    let parts = split_at_stop IsStop (45 ∷ []) first 10 58 [] rest dash_clear (no_stop_in_cell (record { row = 1; col = 1 }) first_named) (line refl) (colon refl) all in
+    let parts = split_at_stop IsStop (45 ∷ []) first 10 58 [] rest dash_clear
+    (no_stop_in_cell (record { row = 1; col = 1 }) first_named) (line refl) (colon refl) all in
     absurd (omega (arith, same_first 10 58 [] rest parts.1))
   where
     not_stop : (byte : ℕ) → byte ≡ 45 → ¬ IsStop byte
@@ -104,8 +110,10 @@ closing_told x y one two same = told (closing_of x) (closing_of y)
         let mine = flat_map (line_of (shows x) w) (rows_of w) in
         let yours = flat_map (line_of (shows y) v) (rows_of v) in
         let all : range_text w ++ 10 ∷ mine ≡ range_text v ++ 10 ∷ yours = sym (text ∙ window_open x w) ∙ same ∙ (text_too ∙ window_open y v) in
-        let windows = range_ends w v 10 10 mine yours first_named (last_is_named x.sizes one.size other) first_named (last_is_named y.sizes two.size other_too) (line refl) (line refl) all in
-        let rows : mine ≡ flat_map (line_of (shows y) w) (rows_of w) = same_others 10 10 mine yours windows.1 ∙ ap (λ u. flat_map (line_of (shows y) u) (rows_of u)) (sym windows.0) in
+        let windows = range_ends w v 10 10 mine yours first_named (last_is_named x.sizes one.size other) first_named
+        (last_is_named y.sizes two.size other_too) (line refl) (line refl) all in
+        let rows : mine ≡ flat_map (line_of (shows y) w) (rows_of w) = same_others 10 10 mine yours windows.1
+        ∙ ap (λ u. flat_map (line_of (shows y) u) (rows_of u)) (sym windows.0) in
         let cells = lines_told (shows x) (shows y) (shows_fine x one) (shows_fine y two) w (rows_of w) [] []
         (append-nil mine ∙ rows ∙ sym (append-nil (flat_map (line_of (shows y) w) (rows_of w)))) in
         let values = sym (insides (told_cell x) (cells_of w)) ∙ ap (map inside) cells.0 ∙ insides (told_cell y) (cells_of w) in
@@ -122,7 +130,8 @@ all_named cell has =
     let bounds = inside_bounds all_names cell has in
     record { row_from = bounds.row_from; row_to = bounds.row_to; col_from = bounds.col_from; col_to = bounds.col_to }
 
-both : (changes : EditValue) → All (λ (change : ChangeValue). HasName change.cell) changes → All (λ (change : ChangeValue). IsWritten change.content) changes → All IsFineChange changes
+both : (changes : EditValue) → All (λ (change : ChangeValue). HasName change.cell) changes
+    → All (λ (change : ChangeValue). IsWritten change.content) changes → All IsFineChange changes
 both changes named written k d within =
     record { named = all_named (get_or changes k d).cell (named k d within); content = fine_of (get_or changes k d).content (written k d within) }
 
@@ -161,10 +170,14 @@ run_told t u one two same =
     let behind = same_others 32 32 (decimal (length t.log) ++ 10 ∷ t_log) (decimal (length u.log) ++ 10 ∷ u_log)
     (append_cancel_left (codes "log") (32 ∷ (decimal (length t.log) ++ 10 ∷ t_log)) (32 ∷ (decimal (length u.log) ++ 10 ∷ u_log)) all) in
     let counts = decimal_ends (length t.log) (length u.log) 10 10 t_log u_log one.few two.few (line refl) (line refl) behind in
-    let logs = entries_end t.names u.names t.sheet.labels u.sheet.labels 1 t.log u.log t_clients u_clients counts.0 (fine_entries t.names one.words t.log one.entries) (fine_entries u.names two.words u.log two.entries)
+    let logs = entries_end t.names u.names t.sheet.labels u.sheet.labels 1 t.log u.log t_clients u_clients counts.0
+    (fine_entries t.names one.words t.log one.entries) (fine_entries u.names two.words u.log two.entries)
     (same_others 10 10 t_log u_log counts.1) in
-    let clients = clients_end t.sheet.labels u.sheet.labels t.names u.names t.reports u.reports t_closing u_closing one.lists two.lists one.words two.words one.reports two.reports logs.1 in
-    let numbers = append_cancel_left (codes "heet ") (decimal (length t.log) ++ (32 ∷ closing_rows t.sheet)) (decimal (length u.log) ++ (32 ∷ closing_rows u.sheet)) clients.2 in
-    let ends = decimal_ends (length t.log) (length u.log) 32 32 (closing_rows t.sheet) (closing_rows u.sheet) one.few two.few (space refl) (space refl) numbers in
+    let clients = clients_end t.sheet.labels u.sheet.labels t.names u.names t.reports u.reports t_closing u_closing
+    one.lists two.lists one.words two.words one.reports two.reports logs.1 in
+    let numbers = append_cancel_left (codes "heet ") (decimal (length t.log) ++ (32 ∷ closing_rows t.sheet))
+    (decimal (length u.log) ++ (32 ∷ closing_rows u.sheet)) clients.2 in
+    let ends = decimal_ends (length t.log) (length u.log) 32 32 (closing_rows t.sheet) (closing_rows u.sheet) one.few
+    two.few (space refl) (space refl) numbers in
     let closing = closing_told t.sheet u.sheet one.sheet two.sheet (same_others 32 32 (closing_rows t.sheet) (closing_rows u.sheet) ends.1) in
     λ i. record { log = logs.0 i; names = clients.0 i; reports = clients.1 i; sizes = closing.0 i; values = closing.1 i }

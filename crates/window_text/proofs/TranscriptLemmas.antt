@@ -1,5 +1,6 @@
 -- The text of a live run, piece by piece.
-use Rattle.std.proofs.Common.{◌≡◌, ◌<◌, ◌≤◌, ◌+◌, ◌*◌, ℕ, zero, suc, Bool, true, false, List, [], ◌∷◌, ◌++◌, codes, map, length, drop, get_or, refl, sym, ap, subst, ◌∙◌, arith, Global, Vec}
+use Rattle.std.proofs.Common.{◌≡◌, ◌<◌, ◌≤◌, ◌+◌, ◌*◌, ℕ, zero, suc, Bool, true, false, List, [], ◌∷◌, ◌++◌, codes, map}
+use Rattle.std.proofs.Common.{length, drop, get_or, refl, sym, ap, subst, ◌∙◌, arith, Global, Vec}
 use Rattle.std.specs.Prelude.{if◌then◌else◌, nat_le, string_bytes, String}
 use Rattle.std.specs.Fmt.{decimal}
 use Rattle.std.proofs.Math.ListN.{drop_of_length-le}
@@ -31,10 +32,12 @@ pub head_of_many : (changes : ℕ) → 1 < changes → edit_head changes ≡ cod
 head_of_many changes many = refused (nat_le changes 1) [] (codes "batch " ++ (decimal changes ++ 10 ∷ [])) (le_fails changes 1 many)
 
 -- what is made of an element is at its place in the list of what is made of all
-pub made_there : {X : Type 0} (make : X → List ℕ) (xs : List X) (place : ℕ) (x : X) → place < length xs → x ≡ get_or xs place x → make x ≡ get_or (map make xs) place []
+pub made_there : {X : Type 0} (make : X → List ℕ) (xs : List X) (place : ℕ) (x : X) → place < length xs
+    → x ≡ get_or xs place x → make x ≡ get_or (map make xs) place []
 made_there make xs place x within here = ap make here ∙ sym (get_or-map make xs place x [] within)
 
-mapped_there : {X Y : Type 0} (make : X → Y) (xs : List X) (place : ℕ) (x : X) → place < length xs → x ≡ get_or xs place x → make x ≡ get_or (map make xs) place (make x)
+mapped_there : {X Y : Type 0} (make : X → Y) (xs : List X) (place : ℕ) (x : X) → place < length xs
+    → x ≡ get_or xs place x → make x ≡ get_or (map make xs) place (make x)
 mapped_there make xs place x within here = ap make here ∙ sym (get_or-map make xs place x (make x) within)
 
 -- the entries from a place on
@@ -57,7 +60,8 @@ abbrev pub clients_rest : List (List ℕ) → List (List ℕ) → List (List Rep
 clients_rest labels names reports place = clients_text labels (drop place names) (drop place reports)
 
 -- go on with the client at that place
-pub clients_go_on : (labels names : List (List ℕ)) (reports : List (List Report)) (place : ℕ) (name : List ℕ) (shown : List Report) → place < length names → place < length reports
+pub clients_go_on : (labels names : List (List ℕ)) (reports : List (List Report)) (place : ℕ) (name : List ℕ)
+    (shown : List Report) → place < length names → place < length reports
     → name ≡ get_or names place name → shown ≡ get_or reports place shown
     → clients_rest labels names reports place ≡ client_text labels name shown ++ clients_rest labels names reports (place + 1)
 clients_go_on labels names reports place name shown within inside here there =
@@ -67,7 +71,8 @@ clients_go_on labels names reports place name shown within inside here there =
     ∙ ap (λ (r : List Report). client_text labels name r ++ clients_rest labels names reports (place + 1)) (sym there)
 
 -- until no client is left
-pub clients_end : (labels names : List (List ℕ)) (reports : List (List Report)) (place : ℕ) → length names ≤ place → clients_rest labels names reports place ≡ []
+pub clients_end : (labels names : List (List ℕ)) (reports : List (List Report)) (place : ℕ) → length names ≤ place
+    → clients_rest labels names reports place ≡ []
 clients_end labels names reports place past = ap (λ (l : List (List ℕ)). clients_text labels l (drop place reports)) (drop_of_length-le names past)
 
 -- the last cell of a sheet with cells has a name
@@ -88,27 +93,38 @@ last_is_named sizes size some = record {
     wide (suc cols) some none = omega (arith)
 
 -- the same of lists of strings and of lists of reports in memory
-pub clients_at : (labels : List (List ℕ)) (names : List (String Global)) (reports : List (Vec Report Global)) (place : ℕ) (name : String Global) (shown : Vec Report Global) → place < length names → place < length reports
+pub clients_at : (labels : List (List ℕ)) (names : List (String Global)) (reports : List (Vec Report Global))
+    (place : ℕ) (name : String Global) (shown : Vec Report Global) → place < length names → place < length reports
     → name ≡ get_or names place name → shown ≡ get_or reports place shown
     → clients_rest labels (map string_bytes names) (map (λ (r : Vec Report Global). r.items) reports) place
-    ≡ client_text labels (string_bytes name) shown.items ++ clients_rest labels (map string_bytes names) (map (λ (r : Vec Report Global). r.items) reports) (place + 1)
+    ≡ client_text labels (string_bytes name) shown.items
+    ++ clients_rest labels (map string_bytes names) (map (λ (r : Vec Report Global). r.items) reports) (place + 1)
 clients_at labels names reports place name shown within inside here there =
-    clients_go_on labels (map string_bytes names) (map (λ (r : Vec Report Global). r.items) reports) place (string_bytes name) shown.items (subst (λ n. place < n) (sym (length-map names string_bytes)) within) (subst (λ n. place < n) (sym (length-map reports (λ (r : Vec Report Global). r.items))) inside)
+    clients_go_on labels (map string_bytes names) (map (λ (r : Vec Report Global). r.items) reports) place
+    (string_bytes name) shown.items (subst (λ n. place < n) (sym (length-map names string_bytes)) within)
+    (subst (λ n. place < n) (sym (length-map reports (λ (r : Vec Report Global). r.items))) inside)
     (mapped_there string_bytes names place name within here) (mapped_there (λ (r : Vec Report Global). r.items) reports place shown inside there)
 
 -- no client is left past the last name
-pub clients_ended : (labels : List (List ℕ)) (names : List (String Global)) (reports : List (List Report)) (place : ℕ) → length names ≤ place → clients_rest labels (map string_bytes names) reports place ≡ []
-clients_ended labels names reports place past = clients_end labels (map string_bytes names) reports place (subst (λ n. n ≤ place) (sym (length-map names string_bytes)) past)
+pub clients_ended : (labels : List (List ℕ)) (names : List (String Global)) (reports : List (List Report)) (place : ℕ)
+    → length names ≤ place → clients_rest labels (map string_bytes names) reports place ≡ []
+clients_ended labels names reports place past =
+    clients_end labels (map string_bytes names) reports place
+    (subst (λ n. n ≤ place) (sym (length-map names string_bytes)) past)
 
 -- the text turns on what names, labels, log and reports are
-pub entries_told : (names other : List (String Global)) (labels others : List (List ℕ)) (log entries : List Entry) → names ≡ other → labels ≡ others → log ≡ entries
+pub entries_told : (names other : List (String Global)) (labels others : List (List ℕ)) (log entries : List Entry)
+    → names ≡ other → labels ≡ others → log ≡ entries
     → entries_text (map string_bytes names) labels 1 log ≡ entries_text (map string_bytes other) others 1 entries
 entries_told names other labels others log entries a b c =
-    ap (λ (n : List (String Global)). entries_text (map string_bytes n) labels 1 log) a ∙ ap (λ (l : List (List ℕ)). entries_text (map string_bytes other) l 1 log) b
+    ap (λ (n : List (String Global)). entries_text (map string_bytes n) labels 1 log) a
+    ∙ ap (λ (l : List (List ℕ)). entries_text (map string_bytes other) l 1 log) b
     ∙ ap (entries_text (map string_bytes other) others 1) c
 
-pub clients_told : (names other : List (String Global)) (labels others : List (List ℕ)) (reports shown : List (Vec Report Global)) → names ≡ other → labels ≡ others → reports ≡ shown
-    → clients_text labels (map string_bytes names) (map (λ (r : Vec Report Global). r.items) reports) ≡ clients_text others (map string_bytes other) (map (λ (r : Vec Report Global). r.items) shown)
+pub clients_told : (names other : List (String Global)) (labels others : List (List ℕ))
+    (reports shown : List (Vec Report Global)) → names ≡ other → labels ≡ others → reports ≡ shown
+    → clients_text labels (map string_bytes names) (map (λ (r : Vec Report Global). r.items) reports) ≡ clients_text
+    others (map string_bytes other) (map (λ (r : Vec Report Global). r.items) shown)
 clients_told names other labels others reports shown a b c =
     ap (λ (n : List (String Global)). clients_text labels (map string_bytes n) (map (λ (r : Vec Report Global). r.items) reports)) a
     ∙ ap (λ (l : List (List ℕ)). clients_text l (map string_bytes other) (map (λ (r : Vec Report Global). r.items) reports)) b

@@ -44,7 +44,8 @@ pub record AreTwoSeats {S E : Type 0} {G : Ghosts S E} (marks : Marks S E) (pair
 
 -- The seat has read the place in three loads: the floor was above each mark for which it knew the place as computed,
 -- the read tells what it should, and nothing else of what the seat knew has gone.
-pub record HasReadPlace {S E : Type 0} (worth : List E → ℕ → ℕ) (touches : List E → E → ℕ → Type 0) (before : Doing S E) (place : ℕ) (clean : Clean) (word mark : ℕ) (after : Doing S E) : Type 0 where
+pub record HasReadPlace {S E : Type 0} (worth : List E → ℕ → ℕ) (touches : List E → E → ℕ → Type 0) (before : Doing S E)
+    (place : ℕ) (clean : Clean) (word mark : ℕ) (after : Doing S E) : Type 0 where
   pub half : Half
   pub same_place : half.place ≡ place
   pub same_clean : half.clean ≡ clean
@@ -76,7 +77,8 @@ pub record KnowsLast {S : Type 0} {G : Ghosts S ℕ} (marks : Marks S ℕ) (seat
   pub ends : last_or 1 (log_of seat) ≡ last
 
 -- events have led from these codes to a state with these places
-pub record AreLedTo {E : Type 0} (worth : List E → ℕ → ℕ) (touches : List E → E → ℕ → Type 0) (opening : List (Option ℕ)) (places : ℕ) (place_of : ℕ → Place) : Type 0 where
+pub record AreLedTo {E : Type 0} (worth : List E → ℕ → ℕ) (touches : List E → E → ℕ
+    → Type 0) (opening : List (Option ℕ)) (places : ℕ) (place_of : ℕ → Place) : Type 0 where
   pub events : List (Made E)
   pub core : State E
   pub run : RunsWith worth touches (opening_state opening) events core

@@ -7,7 +7,8 @@ use Rattle.csv_sheet.proofs.extent.is_text.Goals as goal
 
 pub returns-in_default : goal.returns-in_default
 returns-in_default c =
-    let within : c.loop-col.col < length (fields_of c.args.fields.now) = (let e = c.len-col-end.ensures in let t = c.loop-col-test.true in omega (arith, e, t)) in
+    let within : c.loop-col.col < length (fields_of c.args.fields.now) = (let e = c.len-col-end.ensures in
+    let t = c.loop-col-test.true in omega (arith, e, t)) in
     let why = told_err c.from_utf8.result _ _ c.in_default.not-Ok c.from_utf8.ensures.cases in
     (λ e. cc e, λ text. absurd (why.1.0 (subst IsUtf8 (sym c.field.ensures) (text_at (fields_of c.args.fields.now) text c.loop-col.col within))))
 
@@ -18,5 +19,8 @@ loop-col-preserved c = λ k less. elim (cases_eq k c.loop-col.col) [
 ]
 
 pub returns : goal.returns
-returns c =
-    (λ e. text_from (fields_of c.args.fields.now) (λ k within. c.loop-col.invariant k (let e = c.len-col-end.ensures in let t = c.loop-col-test.false in omega (arith, e, t, within))), λ text. refl)
+returns c = (
+  λ e. text_from (fields_of c.args.fields.now) (λ k within. c.loop-col.invariant k (let e = c.len-col-end.ensures in
+      let t = c.loop-col-test.false in omega (arith, e, t, within))),
+  λ text. refl,
+)

@@ -8,14 +8,16 @@ use Rattle.csv_sheet.proofs.filling.fill.Goals as goal
 pub loop-row-init : goal.loop-row-init
 loop-row-init c =
     let all = c.requires.blank in
-    way_begins (λ s. Some s.now) c.args.text.now all.0 all.1 all.2 c.args.sheet.now all.3 c.rows-row-end.ensures.sheet.size c.reader_of-reader.result c.reader_of-reader.ensures
+    way_begins (λ s. Some s.now) c.args.text.now all.0 all.1 all.2 c.args.sheet.now all.3
+    c.rows-row-end.ensures.sheet.size c.reader_of-reader.result c.reader_of-reader.ensures
 
 pub unreachable-requires : goal.unreachable-requires
 unreachable-requires c =
     let all = c.requires.blank in
     let way = c.loop-row.invariant in
     let ended = rw c.if-not-branch.true at (c.in_ok-read_next.ensures c.args.text.now way.rows way.read) in
-    let less : length way.rows < c.args.sheet.now.sizes.rows = (let t = c.loop-row-test.true in let e = c.rows-row-end.ensures.rows in let n = way.count in omega (arith, t, e, n)) in
+    let less : length way.rows < c.args.sheet.now.sizes.rows = (let t = c.loop-row-test.true in
+    let e = c.rows-row-end.ensures.rows in let n = way.count in omega (arith, t, e, n)) in
     not_ended (λ (s : Bor (List ℕ)). Some s.now) c.args.text.now all.0 all.1 all.2 c.args.sheet.now all.3 way.rows ended less
 
 pub fill_row-requires : goal.fill_row-requires
@@ -23,7 +25,8 @@ fill_row-requires c =
     let all = c.requires.blank in
     let way = c.loop-row.invariant in
     let read = rw c.if-not-branch.false at (c.in_ok-read_next.ensures c.args.text.now way.rows way.read) in
-    way_fits (λ s. Some s.now) c.args.text.now all.0 all.1 all.2 c.args.sheet.now all.3 c.loop-row.row (fields_of c.read_next.new.fields) c.loop-row.sheet c.loop-row.reader c.read_next.new.reader way read
+    way_fits (λ s. Some s.now) c.args.text.now all.0 all.1 all.2 c.args.sheet.now all.3 c.loop-row.row
+    (fields_of c.read_next.new.fields) c.loop-row.sheet c.loop-row.reader c.read_next.new.reader way read
 
 pub loop-row-preserved : goal.loop-row-preserved
 loop-row-preserved c =
@@ -31,12 +34,15 @@ loop-row-preserved c =
     let way = c.loop-row.invariant in
     let read = rw c.if-not-branch.false at (c.in_ok-read_next.ensures c.args.text.now way.rows way.read) in
     let put = c.in_ok-fill_row.ensures in
-    way_goes (λ s. Some s.now) c.args.text.now all.0 all.1 all.2 c.args.sheet.now all.3 c.loop-row.row (fields_of c.read_next.new.fields) c.loop-row.sheet c.fill_row.new.sheet c.loop-row.reader c.read_next.new.reader way read put.filled put.edition put.sizes put.few
+    way_goes (λ s. Some s.now) c.args.text.now all.0 all.1 all.2 c.args.sheet.now all.3 c.loop-row.row
+    (fields_of c.read_next.new.fields) c.loop-row.sheet c.fill_row.new.sheet c.loop-row.reader
+    c.read_next.new.reader way read put.filled put.edition put.sizes put.few
 
 pub returns-clause-filled : goal.returns-clause-filled
 returns-clause-filled c =
     let all = c.requires.blank in
-    let at_end : c.loop-row.row ≡ c.args.sheet.now.sizes.rows = (let t = c.loop-row-test.false in let e = c.rows-row-end.ensures.rows in let m = c.loop-row.auto.row-end in omega (arith, t, e, m)) in
+    let at_end : c.loop-row.row ≡ c.args.sheet.now.sizes.rows = (let t = c.loop-row-test.false in
+    let e = c.rows-row-end.ensures.rows in let m = c.loop-row.auto.row-end in omega (arith, t, e, m)) in
     let way = subst (λ row. HasFilled (λ s. Some s.now) c.args.text.now row c.args.sheet.now c.loop-row.sheet c.loop-row.reader) at_end c.loop-row.invariant in
     (all.0, all.1, way_ends (λ s. Some s.now) c.args.text.now all.0 all.1 all.2 c.args.sheet.now all.3 c.loop-row.sheet c.loop-row.reader way)
 
@@ -48,7 +54,9 @@ returns-in_err-fill_row-clause-why c =
     err_handed c.from_residual-in_err-fill_row.result _ _ (λ e same other. (
       all.0,
       all.1,
-      way_refused (λ s. Some s.now) c.args.text.now all.0 all.1 all.2 c.args.sheet.now all.3 c.loop-row.row (fields_of c.read_next.new.fields) c.loop-row.sheet c.loop-row.reader c.read_next.new.reader way read
-          e other (subst (λ k. IsRowRefusal c.loop-row.sheet.edition c.loop-row.row (fields_of c.read_next.new.fields) k) (sym same) c.in_err-fill_row.ensures.why),
+      way_refused (λ s. Some s.now) c.args.text.now all.0 all.1 all.2 c.args.sheet.now all.3 c.loop-row.row
+          (fields_of c.read_next.new.fields) c.loop-row.sheet c.loop-row.reader c.read_next.new.reader way read
+          e other (subst (λ k. IsRowRefusal c.loop-row.sheet.edition c.loop-row.row (fields_of c.read_next.new.fields)
+          k) (sym same) c.in_err-fill_row.ensures.why),
     ))
     c.from_residual-in_err-fill_row.ensures.1

@@ -10,12 +10,15 @@ loop-col-init c = part_none c.args.row (fields_of c.args.fields.now) c.args.shee
 
 pub fill_cell-requires-clause-text : goal.fill_cell-requires-clause-text
 fill_cell-requires-clause-text c =
-    let within : c.loop-col.col < length (fields_of c.args.fields.now) = (let e = c.len-col-end.ensures in let t = c.loop-col-test.true in omega (arith, e, t)) in
+    let within : c.loop-col.col < length (fields_of c.args.fields.now) = (let e = c.len-col-end.ensures in
+    let t = c.loop-col-test.true in omega (arith, e, t)) in
     subst IsUtf8 (sym c.field.ensures) (text_at (fields_of c.args.fields.now) c.requires.text c.loop-col.col within)
 
 pub loop-col-preserved : goal.loop-col-preserved
 loop-col-preserved c =
-    let within : c.loop-col.col < length (fields_of c.args.fields.now) = (let e = c.len-col-end.ensures in let t = c.loop-col-test.true in omega (arith, e, t)) in
+    let within : c.loop-col.col < length (fields_of c.args.fields.now) = (let e = c.len-col-end.ensures in
+    let t = c.loop-col-test.true in omega (arith, e, t)) in
     let cell = made_there c.new.result c.unwrap-cell.result c.args.row c.loop-col.col c.new.ensures.position c.unwrap-cell.ensures in
-    part_step c.args.row (fields_of c.args.fields.now) c.loop-col.col c.args.sheet.now c.loop-col.sheet c.fill_cell.new.sheet c.unwrap-cell.result c.field.result.now
+    part_step c.args.row (fields_of c.args.fields.now) c.loop-col.col c.args.sheet.now c.loop-col.sheet
+    c.fill_cell.new.sheet c.unwrap-cell.result c.field.result.now
     c.requires within c.loop-col.invariant cell c.field.ensures c.in_ok-fill_cell.ensures.put

@@ -23,7 +23,8 @@ overflow_cast-col c =
     let m = c.in_ok-extent.ensures in
     let extent = c.in_ok-extent.extent in
     let first = long_first m.0 extent m.2 c.in-Some-long.row c.in-Some-long.col c.in-Some-long.is in
-    let named = long_named m.0 extent m.2 c.in-Some-long.row c.in-Some-long.col first (not_large m.0 extent m.2 c.is_too_large.result c.is_too_large.ensures.1 c.if-is_too_large.false) in
+    let named = long_named m.0 extent m.2 c.in-Some-long.row c.in-Some-long.col first
+    (not_large m.0 extent m.2 c.is_too_large.result c.is_too_large.ensures.1 c.if-is_too_large.false) in
     let col_to = named.col_to in
     omega (arith, col_to)
 
@@ -32,7 +33,8 @@ overflow_add-col c =
     let m = c.in_ok-extent.ensures in
     let extent = c.in_ok-extent.extent in
     let first = long_first m.0 extent m.2 c.in-Some-long.row c.in-Some-long.col c.in-Some-long.is in
-    let named = long_named m.0 extent m.2 c.in-Some-long.row c.in-Some-long.col first (not_large m.0 extent m.2 c.is_too_large.result c.is_too_large.ensures.1 c.if-is_too_large.false) in
+    let named = long_named m.0 extent m.2 c.in-Some-long.row c.in-Some-long.col first
+    (not_large m.0 extent m.2 c.is_too_large.result c.is_too_large.ensures.1 c.if-is_too_large.false) in
     let col_to = named.col_to in
     omega (arith, col_to)
 
@@ -41,7 +43,8 @@ unwrap-requires c =
     let m = c.in_ok-extent.ensures in
     let extent = c.in_ok-extent.extent in
     let first = long_first m.0 extent m.2 c.in-Some-long.row c.in-Some-long.col c.in-Some-long.is in
-    c.new.ensures.named.1 (long_named m.0 extent m.2 c.in-Some-long.row c.in-Some-long.col first (not_large m.0 extent m.2 c.is_too_large.result c.is_too_large.ensures.1 c.if-is_too_large.false))
+    c.new.ensures.named.1 (long_named m.0 extent m.2 c.in-Some-long.row c.in-Some-long.col first
+    (not_large m.0 extent m.2 c.is_too_large.result c.is_too_large.ensures.1 c.if-is_too_large.false))
 
 pub returns-in-Some-long : goal.returns-in-Some-long
 returns-in-Some-long c = λ other.
@@ -71,4 +74,5 @@ pub returns-in-Err : goal.returns-in-Err
 returns-in-Err c = λ other.
     let r = c.in-Err.ensures.why (λ same. other (ap (λ e. Err e) same)) in
     let edition : c.in_ok-sheet.sheet.edition ≡ c.args.edition = ap (λ (s : SheetValue). s.edition) c.in_ok-sheet.ensures in
-    result_from c.args.edition c.args.records.now r.0 (Err c.in-Err.refused) r.1 (subst (λ (e : Edition). IsGivenByRecords e r.0 (Err c.in-Err.refused)) edition r.2)
+    result_from c.args.edition c.args.records.now r.0 (Err c.in-Err.refused) r.1
+    (subst (λ (e : Edition). IsGivenByRecords e r.0 (Err c.in-Err.refused)) edition r.2)

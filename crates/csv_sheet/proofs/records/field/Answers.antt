@@ -4,7 +4,9 @@ use Rattle.csv.specs.Records.{fields_of}
 use Rattle.csv_sheet.proofs.records.field.Goals as goal
 
 pub unwrap-requires : goal.unwrap-requires
-unwrap-requires c = is_some_from (λ s. s.now) c.get.result (get_or (fields_of c.args.fields.now) c.args.col []) (c.get.ensures.value ∙ field_there (fields_of c.args.fields.now) c.args.col c.requires)
+unwrap-requires c = is_some_from (λ s. s.now) c.get.result (get_or (fields_of c.args.fields.now) c.args.col [])
+    (c.get.ensures.value ∙ field_there (fields_of c.args.fields.now) c.args.col c.requires)
 
 pub returns : goal.returns
-returns c = same_found (λ s. s.now) c.get.result c.unwrap.result (get_or (fields_of c.args.fields.now) c.args.col []) c.unwrap.ensures (c.get.ensures.value ∙ field_there (fields_of c.args.fields.now) c.args.col c.requires)
+returns c = same_found (λ s. s.now) c.get.result c.unwrap.result (get_or (fields_of c.args.fields.now) c.args.col [])
+    c.unwrap.ensures (c.get.ensures.value ∙ field_there (fields_of c.args.fields.now) c.args.col c.requires)

@@ -15,7 +15,8 @@ returns-then-not-branch g c =
     let before = (c.loop-cell.invariant first whole).1 in (
       (λ no. absurd (cc)),
       (λ chain.
-          let step = chain_at pairs first c.cell-item.result c.in-Some.rest.now c.loop-cell.cell-index c.loop-cell-test.true c.cell-item.is (subst (IsChain pairs) whole chain) in
+          let step = chain_at pairs first c.cell-item.result c.in-Some.rest.now c.loop-cell.cell-index
+          c.loop-cell-test.true c.cell-item.is (subst (IsChain pairs) whole chain) in
           let is = c.in_ok-depends_directly.ensures.1 (subst (λ (on : Position). Step pairs on c.cell-item.result) before step) in
           sym c.if-not-branch.true ∙ is),
     )
@@ -26,7 +27,8 @@ loop-cell-preserved g c = λ first whole.
     let (chain, before) = c.loop-cell.invariant first whole in
     let step = c.in_ok-depends_directly.ensures.0 c.if-not-branch.false in
     let more = take_more c.in-Some.rest.now c.loop-cell.cell-index c.cell-item.result c.loop-cell-test.true c.cell-item.is in (
-      subst (λ l. IsChain pairs (first ∷ l)) (sym more) (chain_more pairs first c.cell-item.result _ chain (subst (λ (on : Position). Step pairs on c.cell-item.result) (sym before) step)),
+      subst (λ l. IsChain pairs (first ∷ l)) (sym more) (chain_more pairs first c.cell-item.result _ chain
+          (subst (λ (on : Position). Step pairs on c.cell-item.result) (sym before) step)),
       ap (last_of first) more ∙ last_more first c.cell-item.result (take c.loop-cell.cell-index c.in-Some.rest.now),
     )
 

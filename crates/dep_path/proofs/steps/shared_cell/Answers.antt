@@ -12,7 +12,10 @@ returns-in-Some c = record {
 
 pub loop-range-preserved : goal.loop-range-preserved
 loop-range-preserved c =
-    among_none_more c.args.some.now c.args.others.now c.loop-range.range-index c.range-item.result c.loop-range-test.true c.range-item.is c.loop-range.invariant c.in_default.ensures
+    among_none_more c.args.some.now c.args.others.now c.loop-range.range-index c.range-item.result
+    c.loop-range-test.true c.range-item.is c.loop-range.invariant c.in_default.ensures
 
 pub returns : goal.returns
-returns c = subst (λ l. SharesNone (IsAmong l) c.args.others.now) (take_all c.args.some.now c.loop-range.range-index c.loop-range-test.false) c.loop-range.invariant
+returns c =
+    subst (λ l. SharesNone (IsAmong l) c.args.others.now) (take_all c.args.some.now c.loop-range.range-index
+    c.loop-range-test.false) c.loop-range.invariant

@@ -9,12 +9,15 @@ returns-then-follows-clause-either_order c =
 
 pub returns-then-follows-2-clause-joined : goal.returns-then-follows-2-clause-joined
 returns-then-follows-2-clause-joined c =
-    finds_join _ _ c.union_of-then-follows-2.result (Down, inr (c.if-follows-2.ensures.0 refl)) (finds_flipped _ _ c.union_of-then-follows-2.result c.union_of-then-follows-2.ensures)
+    finds_join _ _ c.union_of-then-follows-2.result (Down, inr (c.if-follows-2.ensures.0 refl))
+    (finds_flipped _ _ c.union_of-then-follows-2.result c.union_of-then-follows-2.ensures)
 
 pub returns-then-follows-3-clause-either_order : goal.returns-then-follows-3-clause-either_order
 returns-then-follows-3-clause-either_order c =
-    finds_join _ _ c.union_of-then-follows-3.result (Right, inr (c.if-follows-3.ensures.0 refl)) (finds_flipped _ _ c.union_of-then-follows-3.result c.union_of-then-follows-3.ensures)
+    finds_join _ _ c.union_of-then-follows-3.result (Right, inr (c.if-follows-3.ensures.0 refl))
+    (finds_flipped _ _ c.union_of-then-follows-3.result c.union_of-then-follows-3.ensures)
 
 pub returns-then-follows-4-clause-joined : goal.returns-then-follows-4-clause-joined
 returns-then-follows-4-clause-joined c =
-    finds_join _ _ c.union_of-then-follows-4.result (Right, inr (c.if-follows-4.ensures.0 refl)) (finds_flipped _ _ c.union_of-then-follows-4.result c.union_of-then-follows-4.ensures)
+    finds_join _ _ c.union_of-then-follows-4.result (Right, inr (c.if-follows-4.ensures.0 refl))
+    (finds_flipped _ _ c.union_of-then-follows-4.result c.union_of-then-follows-4.ensures)

@@ -12,7 +12,9 @@ pub returns-in_default-clause-others : goal.returns-in_default-clause-others
 returns-in_default-clause-others c = λ _. no_referred _ _ c.in_default.ensures.asked
 
 pub returns-then-ne-clause-others : goal.returns-then-ne-clause-others
-returns-then-ne-clause-others c = λ _. rw c.ranges-then-ne.ensures.ranges (referred_covers c.args.e.now c.pattern.ensures.edge c.args.q c.in-Some.asked c.in-Some.ensures.asked)
+returns-then-ne-clause-others c =
+    λ _. rw c.ranges-then-ne.ensures.ranges (referred_covers c.args.e.now c.pattern.ensures.edge c.args.q
+    c.in-Some.asked c.in-Some.ensures.asked)
 
 pub returns-then-refers_back-clause-chain : goal.returns-then-refers_back-clause-chain
 returns-then-refers_back-clause-chain c = λ is.

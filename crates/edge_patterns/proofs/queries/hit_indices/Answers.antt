@@ -10,5 +10,6 @@ returns-clause-hit c =
     record {
       ordered = c.if-from-to.false;
       within = last.within;
-      meant = hit_between c.args.e.now c.prec.ensures.edge c.args.q c.head.ensures.ordered prec (record { from = c.first_ending_from-from.result; to = c.last_beginning_by-to.result }) first last;
+      meant = hit_between c.args.e.now c.prec.ensures.edge c.args.q c.head.ensures.ordered prec
+          (record { from = c.first_ending_from-from.result; to = c.last_beginning_by-to.result }) first last;
     }

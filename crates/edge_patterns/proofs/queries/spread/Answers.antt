@@ -18,7 +18,8 @@ returns-then-refers_back-clause-chain c = λ is.
     let edge = c.args.e.now in
     let chain = is_chain edge c.pattern.ensures.edge is in
     let before = goes_before edge chain (c.if-refers_back.ensures.0 refl) in
-    rw (c.cells-then-refers_back.ensures.cells, c.len.ensures.len) (reached_onward edge chain c.args.q c.in-Some.hit c.in-Some.ensures.hit before c.pattern.ensures.edge)
+    rw (c.cells-then-refers_back.ensures.cells, c.len.ensures.len) (reached_onward edge chain c.args.q c.in-Some.hit
+    c.in-Some.ensures.hit before c.pattern.ensures.edge)
 
 pub returns-else-refers_back-clause-chain : goal.returns-else-refers_back-clause-chain
 returns-else-refers_back-clause-chain c = λ is.

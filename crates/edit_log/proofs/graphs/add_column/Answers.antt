@@ -16,4 +16,5 @@ loop-row-preserved g c =
     (subst (λ col. HasPairsBefore c.args.sheet.now col (c.unwrap-cell.result.row + 1) (g.G.Graph.pairs c.add_cell.new.graph)) at.1 c.in_ok-add_cell.ensures)
 
 pub returns : goal.returns
-returns g c = column_ends c.args.sheet.now c.args.col c.loop-row.row (g.G.Graph.pairs c.loop-row.graph) (omega (arith, c.loop-row-test.false, c.rows-row-end.ensures.rows)) c.loop-row.invariant
+returns g c = column_ends c.args.sheet.now c.args.col c.loop-row.row (g.G.Graph.pairs c.loop-row.graph)
+    (omega (arith, c.loop-row-test.false, c.rows-row-end.ensures.rows)) c.loop-row.invariant

@@ -4,4 +4,11 @@ use Rattle.edit_log.proofs.TouchLemmas.{changed_touched, touched_by_one}
 use Rattle.edit_log.proofs.laws.touch_laws.Goals as goal
 
 pub returns : goal.returns
-returns c = record { untouched = untouched; both = before_after; changed = changed_touched; each = touched_by_one; inside = touches_inside; listed = one_touched_list }
+returns c = record {
+  untouched = untouched;
+  both = before_after;
+  changed = changed_touched;
+  each = touched_by_one;
+  inside = touches_inside;
+  listed = one_touched_list;
+}

@@ -12,7 +12,8 @@ returns-then-eq c =
 
 pub loop-place-preserved : goal.loop-place-preserved
 loop-place-preserved c =
-    name_not string_bytes c.args.names.now c.loop-place.place c.index-names-place.result c.args.name.now c.loop-place.invariant c.loop-place-test.true c.index-names-place.is
+    name_not string_bytes c.args.names.now c.loop-place.place c.index-names-place.result c.args.name.now
+    c.loop-place.invariant c.loop-place-test.true c.index-names-place.is
     (λ same. names_differ c.as_str.result.now c.args.name.now (sym c.if-eq.ensures) (c.as_str.ensures.value ∙ same))
 
 pub returns : goal.returns

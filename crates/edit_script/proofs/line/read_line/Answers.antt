@@ -13,7 +13,8 @@ returns-then-line-eq35 c = (skips c.args.line.now (inr c.if-line-eq35.true), tt)
 pub returns-in_default : goal.returns-in_default
 returns-in_default c value says =
     c.in_default.ensures.cases.0
-    (line_utf8 c.args.line.now value (λ none. eqb-false (length c.args.line.now) 0 (sym c.if-is_empty.ensures) (ap length none)) (λ rest is. c.if-line-eq35.false (ap (λ l. get_or l 0 0) is)) says.0)
+    (line_utf8 c.args.line.now value (λ none. eqb-false (length c.args.line.now) 0 (sym c.if-is_empty.ensures)
+    (ap length none)) (λ rest is. c.if-line-eq35.false (ap (λ l. get_or l 0 0) is)) says.0)
 
 pub read_words-requires-clause-some : goal.read_words-requires-clause-some
 read_words-requires-clause-some c = λ none. eqb-false (length c.args.line.now) 0 (sym c.if-is_empty.ensures) (ap length (sym c.in-Ok.ensures.cases.0 ∙ none))

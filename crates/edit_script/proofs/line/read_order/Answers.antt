@@ -10,19 +10,24 @@ use Rattle.edit_script.proofs.line.read_order.Goals as goal
 
 pub returns-in-client : goal.returns-in-client
 returns-in-client c = finds_same (option_map line_value c.read_client.result) _ (Orders c.args.mode c.args.word.now c.args.behind.now)
-    (λ value found. subst (Orders c.args.mode c.args.word.now c.args.behind.now) (sym found.0) (client c.args.word.now c.args.behind.now c.in-client.is found.1, tt))
+    (λ value found. subst (Orders c.args.mode c.args.word.now c.args.behind.now) (sym found.0)
+    (client c.args.word.now c.args.behind.now c.in-client.is found.1, tt))
     (λ value meant. says_client c.args.word.now c.args.behind.now value c.in-client.is meant.0)
     c.read_client.ensures
 
 pub returns-in-set : goal.returns-in-set
 returns-in-set c = finds_same (option_map line_value c.read_setting.result) _ (Orders c.args.mode c.args.word.now c.args.behind.now)
-    (λ value found. subst (Orders c.args.mode c.args.word.now c.args.behind.now) (sym found.2) (set c.args.word.now c.args.behind.now found.1 found.0 c.in-set.is found.3, tt))
+    (λ value found. subst (Orders c.args.mode c.args.word.now c.args.behind.now) (sym found.2)
+    (set c.args.word.now c.args.behind.now found.1 found.0 c.in-set.is found.3, tt))
     (λ value meant. says_set c.args.word.now c.args.behind.now value c.in-set.is meant.0)
     c.read_setting.ensures
 
 pub returns-in-work : goal.returns-in-work
 returns-in-work c = finds_same (option_map line_value c.read_turns.result) _ (Orders c.args.mode c.args.word.now c.args.behind.now)
-    (λ value found. subst (Orders c.args.mode c.args.word.now c.args.behind.now) (sym found.1) (work c.args.word.now c.args.behind.now found.0 c.in-work.is found.2, subst (FitsMode c.args.mode) found.1 found.3))
+    (λ value found. subst (Orders c.args.mode c.args.word.now c.args.behind.now) (sym found.1) (
+      work c.args.word.now c.args.behind.now found.0 c.in-work.is found.2,
+      subst (FitsMode c.args.mode) found.1 found.3,
+    ))
     (λ value meant. let says = says_work c.args.word.now c.args.behind.now value c.in-work.is meant.0 in (says.0, says.1, says.2, meant.1))
     c.read_turns.ensures
 

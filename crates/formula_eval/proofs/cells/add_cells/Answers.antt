@@ -18,7 +18,8 @@ returns-in_default-clause-ok g c =
     let sizes = g.I.Inputs.sizes c.args.inputs.now in
     let codes = g.I.Inputs.codes c.args.inputs.now in
     let outside = rw (c.sizes.ensures, c.in_default.is) at c.clip.ensures.nothing in
-    let nothing = ap (map Cell) (past_shows sizes (looked c.args.view.now (seen_values sizes codes)) c.args.range (looked_empty sizes codes c.args.view.now) (outside refl)) in
+    let nothing = ap (map Cell) (past_shows sizes (looked c.args.view.now (seen_values sizes codes)) c.args.range
+    (looked_empty sizes codes c.args.view.now) (outside refl)) in
     adds_same c.args.function c.args.tally.now c.args.tally.now [] _ nothing (adds_nothing c.args.function c.args.tally.now c.requires.bounded)
 
 pub look-value-requires-clause-view : goal.look-value-requires-clause-view
@@ -29,7 +30,13 @@ look-value-requires-clause-view g c =
 pub add_cell-requires-clause-room : goal.add_cell-requires-clause-room
 add_cell-requires-clause-room g c =
     let h = looked c.args.view.now (seen_values (g.I.Inputs.sizes c.args.inputs.now) (g.I.Inputs.codes c.args.inputs.now)) in
-    omega (arith, c.loop-place.invariant.0.count, items_length h (cells_of c.in-Some.part) c.loop-place._place, c.cells-place-end.ensures.small, c.requires.room)
+    omega (
+      arith,
+      c.loop-place.invariant.0.count,
+      items_length h (cells_of c.in-Some.part) c.loop-place._place,
+      c.cells-place-end.ensures.small,
+      c.requires.room,
+    )
 
 pub loop-place-init : goal.loop-place-init
 loop-place-init g c =
@@ -39,8 +46,10 @@ pub loop-place-preserved : goal.loop-place-preserved
 loop-place-preserved g c =
     let h = looked c.args.view.now (seen_values (g.I.Inputs.sizes c.args.inputs.now) (g.I.Inputs.codes c.args.inputs.now)) in
     let below : c.loop-place._place < length (cells_of c.in-Some.part) = omega (arith, c.loop-place-test.true, c.cells-place-end.ensures.count) in
-    let next = comes_to_next c.in-Some.part c.loop-place._place c.loop-place.cell c.cell_behind-cell.result c.loop-place.invariant.1 below c.cell_behind-cell.ensures.next c.cell_behind-cell.ensures.inside in
-    let step = items_step h (cells_of c.in-Some.part) c.loop-place._place c.loop-place.cell c.look-value.result (c.loop-place.invariant.1.listed below) c.look-value.ensures in
+    let next = comes_to_next c.in-Some.part c.loop-place._place c.loop-place.cell c.cell_behind-cell.result
+    c.loop-place.invariant.1 below c.cell_behind-cell.ensures.next c.cell_behind-cell.ensures.inside in
+    let step = items_step h (cells_of c.in-Some.part) c.loop-place._place c.loop-place.cell c.look-value.result
+    (c.loop-place.invariant.1.listed below) c.look-value.ensures in
     let adds = adds_both c.args.function c.args.tally.now c.loop-place.tally c.add_cell.new.tally _ _ c.loop-place.invariant.0 c.in_ok-add_cell.ensures.ok in
     (adds_same c.args.function c.args.tally.now c.add_cell.new.tally _ _ step adds, next)
 
@@ -55,10 +64,16 @@ returns-in_err-add_cell-clause-err g c =
     let k = c.loop-place._place in
     let corners = rw c.sizes.ensures at c.in-Some.ensures.corners in
     let inside = rw c.sizes.ensures at (c.in-Some.ensures.some.0 refl) in
-    let same : items_of_cells (map h (cells_of c.args.range)) ≡ items_of_cells (map h cells) = ap (map Cell) (part_shows sizes h c.args.range (looked_empty sizes codes c.args.view.now) inside) ∙ ap (λ (part : Corners). items_of_cells (map h (cells_of part))) (sym corners) in
-    let split = items_split h cells k c.loop-place.cell c.look-value.result (c.loop-place.invariant.1.listed (omega (arith, c.loop-place-test.true, c.cells-place-end.ensures.count))) c.look-value.ensures in
-    let here = first_err f (items_of_cells (c.look-value.result ∷ [])) (items_of_cells (map h (drop (k + 1) cells))) c.in_err-add_cell.field-0.0 c.in_err-add_cell.ensures.err in
-    let all = append_err f (items_of_cells (map h (take k cells))) _ c.loop-place.invariant.0.numbers c.in_err-add_cell.field-0.0 c.loop-place.invariant.0.given here in
+    let same : items_of_cells (map h (cells_of c.args.range)) ≡ items_of_cells (map h cells) =
+    ap (map Cell) (part_shows sizes h c.args.range (looked_empty sizes codes c.args.view.now) inside)
+    ∙ ap (λ (part : Corners). items_of_cells (map h (cells_of part))) (sym corners) in
+    let split = items_split h cells k c.loop-place.cell c.look-value.result
+    (c.loop-place.invariant.1.listed (omega (arith, c.loop-place-test.true, c.cells-place-end.ensures.count)))
+    c.look-value.ensures in
+    let here = first_err f (items_of_cells (c.look-value.result ∷ [])) (items_of_cells (map h (drop (k + 1) cells)))
+    c.in_err-add_cell.field-0.0 c.in_err-add_cell.ensures.err in
+    let all = append_err f (items_of_cells (map h (take k cells))) _ c.loop-place.invariant.0.numbers
+    c.in_err-add_cell.field-0.0 c.loop-place.invariant.0.given here in
     rw (p.1, p.2) (ap (contributions f) (same ∙ split) ∙ all)
 
 pub returns-clause-ok : goal.returns-clause-ok
@@ -69,7 +84,9 @@ returns-clause-ok g c =
     let cells = cells_of c.in-Some.part in
     let corners = rw c.sizes.ensures at c.in-Some.ensures.corners in
     let inside = rw c.sizes.ensures at (c.in-Some.ensures.some.0 refl) in
-    let same : items_of_cells (map h (cells_of c.args.range)) ≡ items_of_cells (map h cells) = ap (map Cell) (part_shows sizes h c.args.range (looked_empty sizes codes c.args.view.now) inside) ∙ ap (λ (part : Corners). items_of_cells (map h (cells_of part))) (sym corners) in
+    let same : items_of_cells (map h (cells_of c.args.range)) ≡ items_of_cells (map h cells) =
+    ap (map Cell) (part_shows sizes h c.args.range (looked_empty sizes codes c.args.view.now) inside)
+    ∙ ap (λ (part : Corners). items_of_cells (map h (cells_of part))) (sym corners) in
     let whole = take-all cells c.loop-place._place (omega (arith, c.cells-place-end.ensures.count)) in
     adds_same c.args.function c.args.tally.now c.loop-place.tally _ _ same (rw whole at c.loop-place.invariant.0)
 

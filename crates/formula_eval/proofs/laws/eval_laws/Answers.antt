@@ -1,4 +1,5 @@
-use Rattle.formula_eval.proofs.Divisions.{counts_law, mod_law, mod_zero, quotient_law, quotient_zero, remainder_rows as remainder_rows_law, quotient_rows as quotient_rows_law}
+use Rattle.formula_eval.proofs.Divisions.{counts_law, mod_law, mod_zero, quotient_law, quotient_zero}
+use Rattle.formula_eval.proofs.Divisions.{remainder_rows as remainder_rows_law, quotient_rows as quotient_rows_law}
 use Rattle.formula_eval.proofs.Named.{referenced_law, known_law}
 use Rattle.formula_eval.proofs.FormulaInRange.{formula_in_range, formula_filled}
 use Rattle.formula_eval.proofs.laws.eval_laws.Goals as goal

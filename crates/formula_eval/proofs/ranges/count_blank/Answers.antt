@@ -25,7 +25,8 @@ pub overflow_sub-cells : goal.overflow_sub-cells
 overflow_sub-cells g c =
     let h = seen_values (g.I.Inputs.sizes c.args.inputs.now) (g.I.Inputs.codes c.args.inputs.now) in
     let cells = cells_of c.range.result in
-    let count = counta_here c.new-tally.result c.add_cells.new.tally (items_of_cells (map h cells)) c.add_cells.result c.add_cells.ensures.ok c.add_cells.ensures.err c.new-tally.ensures.tallies in
+    let count = counta_here c.new-tally.result c.add_cells.new.tally (items_of_cells (map h cells)) c.add_cells.result
+    c.add_cells.ensures.ok c.add_cells.ensures.err c.new-tally.ensures.tallies in
     let same : c.range-2.result ≡ c.range.result = c.range-2.ensures ∙ sym c.range.ensures in
     let all : c.cells.result ≡ length cells = rw same at c.cells.ensures.count in
     omega (arith, count, all, items_and_empty (map h cells), mapped_length h cells)
@@ -36,7 +37,8 @@ returns g c =
     let cells = cells_of c.range.result in
     let params = c.args.parameters.now in
     let some : 0 < length params = search rules in
-    let count = counta_here c.new-tally.result c.add_cells.new.tally (items_of_cells (map h cells)) c.add_cells.result c.add_cells.ensures.ok c.add_cells.ensures.err c.new-tally.ensures.tallies in
+    let count = counta_here c.new-tally.result c.add_cells.new.tally (items_of_cells (map h cells)) c.add_cells.result
+    c.add_cells.ensures.ok c.add_cells.ensures.err c.new-tally.ensures.tallies in
     let same : c.range-2.result ≡ c.range.result = c.range-2.ensures ∙ sym c.range.ensures in
     let all : c.cells.result ≡ length cells = rw same at c.cells.ensures.count in
     let empties = length (filter is_empty (map h cells)) in

@@ -22,8 +22,11 @@ returns g c =
     let codes = g.I.Inputs.codes c.args.inputs.now in
     let h = seen_values sizes codes in
     let items = seen_items sizes codes (Where c.args.number c.args.range c.args.range) c.args.range in
-    let count = counta_here c.new-tally.result c.add_cells.new.tally items c.add_cells.result c.add_cells.ensures.ok c.add_cells.ensures.err c.new-tally.ensures.tallies in
-    let few : c.add_cells.new.tally.count ≤ c.new-tally.result.count + 17179869184 = when_ok {Q = λ kind. contributions Counta items ≡ Err kind} c.add_cells.result c.add_cells.ensures.few c.add_cells.ensures.err (λ kind is. counta_err items kind is) in
+    let count = counta_here c.new-tally.result c.add_cells.new.tally items c.add_cells.result c.add_cells.ensures.ok
+    c.add_cells.ensures.err c.new-tally.ensures.tallies in
+    let few : c.add_cells.new.tally.count ≤ c.new-tally.result.count + 17179869184 =
+    when_ok {Q = λ kind. contributions Counta items ≡ Err kind} c.add_cells.result c.add_cells.ensures.few
+    c.add_cells.ensures.err (λ kind is. counta_err items kind is) in
     let equal = equal_count c.args.number (map h (cells_of c.args.range)) in
     let number : c.add_cells.new.tally.count ≡ equal = count ∙ equal_items c.args.number h c.args.range in
     let small : equal ≤ 17179869184 = omega (arith, number, few, c.new-tally.ensures.count) in
@@ -36,5 +39,7 @@ overflow_cast-tally g c =
     let sizes = g.I.Inputs.sizes c.args.inputs.now in
     let codes = g.I.Inputs.codes c.args.inputs.now in
     let items = seen_items sizes codes (Where c.args.number c.args.range c.args.range) c.args.range in
-    let few : c.add_cells.new.tally.count ≤ c.new-tally.result.count + 17179869184 = when_ok {Q = λ kind. contributions Counta items ≡ Err kind} c.add_cells.result c.add_cells.ensures.few c.add_cells.ensures.err (λ kind is. counta_err items kind is) in
+    let few : c.add_cells.new.tally.count ≤ c.new-tally.result.count + 17179869184 =
+    when_ok {Q = λ kind. contributions Counta items ≡ Err kind} c.add_cells.result c.add_cells.ensures.few
+    c.add_cells.ensures.err (λ kind is. counta_err items kind is) in
     omega (arith, few, c.new-tally.ensures.count)

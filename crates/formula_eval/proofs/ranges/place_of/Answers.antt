@@ -26,8 +26,10 @@ loop-place-preserved g c =
     let h = seen_values (g.I.Inputs.sizes c.args.inputs.now) (g.I.Inputs.codes c.args.inputs.now) in
     let cells = cells_of c.in-Some.part in
     let below : c.loop-place.place < length cells = omega (arith, c.loop-place-test.true, c.cells-place-end.ensures.count) in
-    let next = comes_to_next c.in-Some.part c.loop-place.place c.loop-place.cell c.cell_behind-cell.result c.loop-place.invariant.1 below c.cell_behind-cell.ensures.next c.cell_behind-cell.ensures.inside in
-    let on = place_on c.args.number h cells c.loop-place.place c.loop-place.cell c.value_at.result (c.loop-place.invariant.1.listed below) c.value_at.ensures (sym c.equals.ensures ∙ c.if-equals.false) in
+    let next = comes_to_next c.in-Some.part c.loop-place.place c.loop-place.cell c.cell_behind-cell.result
+    c.loop-place.invariant.1 below c.cell_behind-cell.ensures.next c.cell_behind-cell.ensures.inside in
+    let on = place_on c.args.number h cells c.loop-place.place c.loop-place.cell c.value_at.result
+    (c.loop-place.invariant.1.listed below) c.value_at.ensures (sym c.equals.ensures ∙ c.if-equals.false) in
     (c.loop-place.invariant.0 ∙ on, next)
 
 pub returns-then-equals : goal.returns-then-equals
@@ -39,9 +41,11 @@ returns-then-equals g c =
     let k = c.loop-place.place in
     let corners = rw c.sizes.ensures at c.in-Some.ensures.corners in
     let inside = rw c.sizes.ensures at (c.in-Some.ensures.some.0 refl) in
-    let line = line_place sizes c.args.number h c.args.range (seen_empty sizes codes) inside c.requires.line ∙ ap (λ (part : Corners). place_from 1 c.args.number (map h (cells_of part))) (sym corners) in
+    let line = line_place sizes c.args.number h c.args.range (seen_empty sizes codes) inside c.requires.line
+    ∙ ap (λ (part : Corners). place_from 1 c.args.number (map h (cells_of part))) (sym corners) in
     let below : k < length cells = omega (arith, c.loop-place-test.true, c.cells-place-end.ensures.count) in
-    let found = place_found c.args.number h cells k c.loop-place.cell c.value_at.result (c.loop-place.invariant.1.listed below) c.value_at.ensures (sym c.equals.ensures ∙ c.if-equals.true) in
+    let found = place_found c.args.number h cells k c.loop-place.cell c.value_at.result
+    (c.loop-place.invariant.1.listed below) c.value_at.ensures (sym c.equals.ensures ∙ c.if-equals.true) in
     let small : k + 1 ≤ 17179869184 = omega (arith, c.loop-place-test.true, c.cells-place-end.ensures.small) in
     let whole : IsWhole (pos (k + 1)) = record { least = omega (arith, ints, small); most = omega (arith, ints, small) } in
     let fits : to_z w64 (of_z w64 (to_z w64 k +ℤ pos 1)) ≡ pos (k + 1) = omega (arith, ints, small) in
@@ -55,6 +59,7 @@ returns g c =
     let cells = cells_of c.in-Some.part in
     let corners = rw c.sizes.ensures at c.in-Some.ensures.corners in
     let inside = rw c.sizes.ensures at (c.in-Some.ensures.some.0 refl) in
-    let line = line_place sizes c.args.number h c.args.range (seen_empty sizes codes) inside c.requires.line ∙ ap (λ (part : Corners). place_from 1 c.args.number (map h (cells_of part))) (sym corners) in
+    let line = line_place sizes c.args.number h c.args.range (seen_empty sizes codes) inside c.requires.line
+    ∙ ap (λ (part : Corners). place_from 1 c.args.number (map h (cells_of part))) (sym corners) in
     let missing = place_missing c.args.number h cells c.loop-place.place (omega (arith, c.cells-place-end.ensures.count)) in
     sym (line ∙ (c.loop-place.invariant.0 ∙ missing))

@@ -6,8 +6,10 @@ returns-then-place-parameters c = range_past c.args.parameters.now c.args.place 
 
 pub returns-in_err-reference : goal.returns-in_err-reference
 returns-in_err-reference c =
-    rw c.from_residual.ensures (range_none c.args.parameters.now c.args.place c.index-parameters-place.result c.if-place-parameters.false c.index-parameters-place.is c.in_err-reference.ensures)
+    rw c.from_residual.ensures (range_none c.args.parameters.now c.args.place c.index-parameters-place.result
+    c.if-place-parameters.false c.index-parameters-place.is c.in_err-reference.ensures)
 
 pub returns : goal.returns
 returns c =
-    rw c.range.ensures (range_here c.args.parameters.now c.args.place c.index-parameters-place.result c.in_ok-reference.reference c.if-place-parameters.false c.index-parameters-place.is c.in_ok-reference.ensures)
+    rw c.range.ensures (range_here c.args.parameters.now c.args.place c.index-parameters-place.result
+    c.in_ok-reference.reference c.if-place-parameters.false c.index-parameters-place.is c.in_ok-reference.ensures)

@@ -11,17 +11,21 @@ returns-in_default g c =
 pub returns-in_default-range_at : goal.returns-in_default-range_at
 returns-in_default-range_at g c =
     let h = seen_values (g.I.Inputs.sizes c.args.inputs.now) (g.I.Inputs.codes c.args.inputs.now) in
-    c.in_range-in_default-range_at.ensures ∙ summed_alone c.args.number h c.args.parameters.now c.summed_place-summed.result c.summed_place-summed.ensures c.in_default-range_at.ensures
+    c.in_range-in_default-range_at.ensures
+    ∙ summed_alone c.args.number h c.args.parameters.now c.summed_place-summed.result c.summed_place-summed.ensures
+    c.in_default-range_at.ensures
 
 pub returns-then-not-have_same_sizes : goal.returns-then-not-have_same_sizes
 returns-then-not-have_same_sizes g c =
     let h = seen_values (g.I.Inputs.sizes c.args.inputs.now) (g.I.Inputs.codes c.args.inputs.now) in
-    sum_unlike c.args.number h c.args.parameters.now c.summed_place-summed.result c.in-Some.from c.in-Some-range_at.to c.summed_place-summed.ensures c.in-Some.ensures c.in-Some-range_at.ensures
+    sum_unlike c.args.number h c.args.parameters.now c.summed_place-summed.result c.in-Some.from c.in-Some-range_at.to
+    c.summed_place-summed.ensures c.in-Some.ensures c.in-Some-range_at.ensures
     (sym c.have_same_sizes.ensures ∙ c.if-not-have_same_sizes.true)
 
 pub returns : goal.returns
 returns g c =
     let h = seen_values (g.I.Inputs.sizes c.args.inputs.now) (g.I.Inputs.codes c.args.inputs.now) in
     c.sum_selected.ensures
-    ∙ sym (sum_like c.args.number h c.args.parameters.now c.summed_place-summed.result c.in-Some.from c.in-Some-range_at.to c.summed_place-summed.ensures c.in-Some.ensures c.in-Some-range_at.ensures
+    ∙ sym (sum_like c.args.number h c.args.parameters.now c.summed_place-summed.result c.in-Some.from
+    c.in-Some-range_at.to c.summed_place-summed.ensures c.in-Some.ensures c.in-Some-range_at.ensures
     (sym c.have_same_sizes.ensures ∙ c.if-not-have_same_sizes.false))

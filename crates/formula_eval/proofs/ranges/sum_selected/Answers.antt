@@ -14,7 +14,10 @@ finish-requires g c = omega (arith, c.in_default.ensures.few, c.new-tally.ensure
 pub returns-in-Err : goal.returns-in-Err
 returns-in-Err g c =
     let h = seen_values (g.I.Inputs.sizes c.args.inputs.now) (g.I.Inputs.codes c.args.inputs.now) in
-    sym (ap (λ r. or_error r (total_of Sum)) (ap (contributions Sum) (selected_items c.args.number h c.args.from c.args.to c.requires.sizes) ∙ c.in-Err.ensures.err))
+    sym
+    (ap (λ r. or_error r (total_of Sum))
+    (ap (contributions Sum) (selected_items c.args.number h c.args.from c.args.to c.requires.sizes)
+    ∙ c.in-Err.ensures.err))
 
 pub returns : goal.returns
 returns g c =

@@ -12,4 +12,5 @@ pub returns-clause-plain : goal.returns-clause-plain
 returns-clause-plain g c =
     let all : c.loop-place._place ≡ length (cells_of c.in-Some.part) = omega (arith, c.cells-place-end.ensures.count) in
     let same = rw c.sizes.ensures at c.in-Some.ensures.cells in
-    plain_range (g.I.Inputs.sizes c.args.inputs.now) (g.I.Inputs.codes c.args.inputs.now) c.args.range c.in-Some.part c.loop-place._place same c.cells-place-end.ensures.listed all c.loop-place.invariant.0
+    plain_range (g.I.Inputs.sizes c.args.inputs.now) (g.I.Inputs.codes c.args.inputs.now) c.args.range c.in-Some.part
+    c.loop-place._place same c.cells-place-end.ensures.listed all c.loop-place.invariant.0

@@ -10,4 +10,6 @@ pub returns : goal.returns
 returns c =
     let split : c.args.text.now ≡ c.in-Some.first.now ∷ c.in-Some.rest.now = c.in-Some.ensures.cases.0 in
     let no_word : is_word c.in-Some.first.now ≡ false = sym c.if-in_word.ensures in
-    at_first c.args.text.now c.in-Some.rest.now c.in-Some.first.now c.fixed_token.result split (fixed_found c.in-Some.first.now c.in-Some.rest.now c.fixed_token.result no_word c.if-first-eq91.false c.fixed_token.ensures)
+    at_first c.args.text.now c.in-Some.rest.now c.in-Some.first.now c.fixed_token.result split
+    (fixed_found c.in-Some.first.now c.in-Some.rest.now c.fixed_token.result no_word c.if-first-eq91.false
+    c.fixed_token.ensures)

@@ -22,18 +22,35 @@ returns-in_default-clause-not c = λ _.
 pub loop-rest-smaller : goal.loop-rest-smaller
 loop-rest-smaller c =
     let front : IsFront c.loop-rest.rest.now (c.in-Some.token, c.in-Some.length) = c.in-Some.ensures in
-    let past : c.after_blanks-rest-in-loop-rest.result.now ≡ past_blanks (drop c.in-Some.length c.loop-rest.rest.now) = c.after_blanks-rest-in-loop-rest.ensures ∙ ap past_blanks (slice_rest c.loop-rest.rest.now c.in-Some.length) in
-    omega (arith, ap length past, past_within (drop c.in-Some.length c.loop-rest.rest.now), length-drop c.in-Some.length c.loop-rest.rest.now, front.some, front.within)
+    let past : c.after_blanks-rest-in-loop-rest.result.now ≡ past_blanks (drop c.in-Some.length c.loop-rest.rest.now) =
+    c.after_blanks-rest-in-loop-rest.ensures ∙ ap past_blanks (slice_rest c.loop-rest.rest.now c.in-Some.length) in
+    omega (
+      arith,
+      ap length past,
+      past_within (drop c.in-Some.length c.loop-rest.rest.now),
+      length-drop c.in-Some.length c.loop-rest.rest.now,
+      front.some,
+      front.within,
+    )
 
 pub loop-rest-preserved : goal.loop-rest-preserved
 loop-rest-preserved c =
     let front : IsFront c.loop-rest.rest.now (c.in-Some.token, c.in-Some.length) = c.in-Some.ensures in
-    let past : c.after_blanks-rest-in-loop-rest.result.now ≡ past_blanks (drop c.in-Some.length c.loop-rest.rest.now) = c.after_blanks-rest-in-loop-rest.ensures ∙ ap past_blanks (slice_rest c.loop-rest.rest.now c.in-Some.length) in
+    let past : c.after_blanks-rest-in-loop-rest.result.now ≡ past_blanks (drop c.in-Some.length c.loop-rest.rest.now) =
+    c.after_blanks-rest-in-loop-rest.ensures ∙ ap past_blanks (slice_rest c.loop-rest.rest.now c.in-Some.length) in
     let items : c.push.new.self.items ≡ c.loop-rest.tokens.items ++ (c.in-Some.token ∷ []) = search rules in
     record {
-      place = goes_on c.args.text.now c.loop-rest.rest.now c.after_blanks-rest-in-loop-rest.result.now c.loop-rest.tokens.items c.push.new.self.items c.in-Some.token c.in-Some.length items past c.loop-rest.invariant.plain front c.loop-rest.invariant.place;
+      place = goes_on c.args.text.now c.loop-rest.rest.now c.after_blanks-rest-in-loop-rest.result.now
+          c.loop-rest.tokens.items c.push.new.self.items c.in-Some.token c.in-Some.length items past
+          c.loop-rest.invariant.plain front c.loop-rest.invariant.place;
       plain = subst (λ (l : List ℕ). HasNoBlank l) (sym past) (past_no_blank (drop c.in-Some.length c.loop-rest.rest.now));
-      within = omega (arith, ap length past, past_within (drop c.in-Some.length c.loop-rest.rest.now), length-drop c.in-Some.length c.loop-rest.rest.now, c.loop-rest.invariant.within);
+      within = omega (
+        arith,
+        ap length past,
+        past_within (drop c.in-Some.length c.loop-rest.rest.now),
+        length-drop c.in-Some.length c.loop-rest.rest.now,
+        c.loop-rest.invariant.within,
+      );
     }
 
 pub returns-clause-read : goal.returns-clause-read

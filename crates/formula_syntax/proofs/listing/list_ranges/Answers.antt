@@ -10,8 +10,11 @@ loop-nodes-init c =
 
 pub loop-nodes-smaller : goal.loop-nodes-smaller
 loop-nodes-smaller c =
-    listing_fewer c.loop-nodes.left.items c.pop.new.self.items c.visit_first.new.left.items c.in-Some.nodes c.loop-nodes.ranges.items c.visit_first.new.ranges.items c.in-Some.ensures.items c.in_ok-visit_first.ensures
+    listing_fewer c.loop-nodes.left.items c.pop.new.self.items c.visit_first.new.left.items c.in-Some.nodes
+    c.loop-nodes.ranges.items c.visit_first.new.ranges.items c.in-Some.ensures.items c.in_ok-visit_first.ensures
 
 pub loop-nodes-preserved : goal.loop-nodes-preserved
 loop-nodes-preserved c =
-    listing_step (references_of (tree_of c.args.root.now)) c.loop-nodes.left.items c.pop.new.self.items c.visit_first.new.left.items c.in-Some.nodes c.loop-nodes.ranges.items c.visit_first.new.ranges.items c.in-Some.ensures.items c.in_ok-visit_first.ensures c.loop-nodes.invariant
+    listing_step (references_of (tree_of c.args.root.now)) c.loop-nodes.left.items c.pop.new.self.items
+    c.visit_first.new.left.items c.in-Some.nodes c.loop-nodes.ranges.items c.visit_first.new.ranges.items
+    c.in-Some.ensures.items c.in_ok-visit_first.ensures c.loop-nodes.invariant

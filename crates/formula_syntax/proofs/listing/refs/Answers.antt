@@ -4,4 +4,5 @@ use Rattle.formula_syntax.proofs.listing.refs.Goals as goal
 
 pub of-requires : goal.of-requires
 of-requires c =
-    rw c.deref.ensures.value (are_refs (references_of c.args.formula.now) c.in_ok-ranges.ranges.items c.root.ensures.kept.few_references (rw c.root.ensures.tree at c.in_ok-ranges.ensures))
+    rw c.deref.ensures.value (are_refs (references_of c.args.formula.now) c.in_ok-ranges.ranges.items
+    c.root.ensures.kept.few_references (rw c.root.ensures.tree at c.in_ok-ranges.ensures))

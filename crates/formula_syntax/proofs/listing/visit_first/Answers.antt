@@ -12,4 +12,5 @@ pub returns : goal.returns
 returns c =
     let split : c.args.nodes.now ≡ c.in-Some.first.now ∷ c.in-Some.rest.now = search rules in
     let pushed : c.push.new.self.items ≡ c.args.left.now.items ++ (c.in-Some.rest ∷ []) = search rules in
-    first_listed c.args.nodes.now c.in-Some.first.now c.in-Some.rest c.args.left.now.items c.push.new.self.items c.visit.new.left.items c.args.ranges.now.items c.visit.new.ranges.items split pushed c.in_ok-visit.ensures
+    first_listed c.args.nodes.now c.in-Some.first.now c.in-Some.rest c.args.left.now.items c.push.new.self.items
+    c.visit.new.left.items c.args.ranges.now.items c.visit.new.ranges.items split pushed c.in_ok-visit.ensures

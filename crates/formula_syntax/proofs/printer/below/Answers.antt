@@ -26,4 +26,6 @@ loop-preserved c =
     ]
 
 pub returns-clause-few : goal.returns-clause-few
-returns-clause-few c = subst (λ (t : Tree). node_count t ≤ node_count (tree_of c.args.root.now)) (sym c.loop.invariant.here) (below_small c.loop.counter (tree_of c.args.root.now))
+returns-clause-few c =
+    subst (λ (t : Tree). node_count t ≤ node_count (tree_of c.args.root.now)) (sym c.loop.invariant.here)
+    (below_small c.loop.counter (tree_of c.args.root.now))

@@ -8,9 +8,11 @@ use Rattle.formula_syntax.proofs.printer.print.Goals as goal
 pub returns-then-send_formula-clause-plain : goal.returns-then-send_formula-clause-plain
 returns-then-send_formula-clause-plain c =
     let written = plain c.args.formula.now in
-    let grown = kept _ (λ f. (closure.captures f).text.items) (λ f last piece called. let step = called.called in let shows = called.shows in search (rules, of_calls)) _ _ _ c.if-send_formula.ensures.sent in
+    let grown = kept _ (λ f. (closure.captures f).text.items) (λ f last piece called. let step = called.called in
+    let shows = called.shows in search (rules, of_calls)) _ _ _ c.if-send_formula.ensures.sent in
     let all : (closure.captures c.send_formula.new.to).text.items ≡ written = grown ∙ ap (λ t. t ++ written) c.new-text.ensures.items in
-    let name = same _ (λ f. f.0.ghost_name) (λ f last piece told called. let step = called.called in let shows = called.shows in search (rules, of_calls)) _ _ _ _ c.if-send_formula.ensures.sent in
+    let name = same _ (λ f. f.0.ghost_name) (λ f last piece told called. let step = called.called in
+    let shows = called.shows in search (rules, of_calls)) _ _ _ _ c.if-send_formula.ensures.sent in
     search rules
 
 pub returns-then-send_formula-clause-reads_back : goal.returns-then-send_formula-clause-reads_back

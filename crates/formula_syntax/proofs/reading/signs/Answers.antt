@@ -11,7 +11,8 @@ loop-sign-preserved c =
     let items : c.push.new.self.items ≡ c.loop-sign.signs.items ++ (c.in-Some.sign ∷ []) = search rules in
     record {
       behind = after_step c.args.tokens.now c.loop-sign.rest.now c.in-Some.behind.now c.in-Some.sign is c.loop-sign.invariant.behind;
-      signs = signs_step c.args.tokens.now c.loop-sign.rest.now c.in-Some.behind.now c.in-Some.sign c.loop-sign.signs.items c.push.new.self.items is items c.loop-sign.invariant.signs;
+      signs = signs_step c.args.tokens.now c.loop-sign.rest.now c.in-Some.behind.now c.in-Some.sign
+          c.loop-sign.signs.items c.push.new.self.items is items c.loop-sign.invariant.signs;
       within = omega (arith, ap length is);
     }
 

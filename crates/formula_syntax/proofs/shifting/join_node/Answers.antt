@@ -9,6 +9,10 @@ use Rattle.formula_syntax.proofs.shifting.join_node.Goals as goal
 
 pub returns-in_ok-join_all-in-Call : goal.returns-in_ok-join_all-in-Call
 returns-in_ok-join_all-in-Call c =
-    let same : tree_of (node.Call c.in-Call.function c.in-Call.parameters) ≡ call c.in-Call.function (parameters_of c.in-Call.parameters) = search (rules, the_lemmas) in
-    let done : stacked c.join_all.new.done.items [] ≡ over_all (λ trees. call_or_lost c.in-Call.function (trees_from trees)) (length c.items.result.now) (stacked c.args.done.now.items []) = search rules in
-    call_done (tree_of c.args.node.now) c.in-Call.function c.in-Call.parameters c.items.result.now (stacked c.args.done.now.items []) (stacked c.join_all.new.done.items []) (rw c.in-Call.is same) c.items.ensures done
+    let same : tree_of (node.Call c.in-Call.function c.in-Call.parameters) ≡ call c.in-Call.function
+    (parameters_of c.in-Call.parameters) = search (rules, the_lemmas) in
+    let done : stacked c.join_all.new.done.items [] ≡ over_all (λ trees. call_or_lost c.in-Call.function
+    (trees_from trees)) (length c.items.result.now) (stacked c.args.done.now.items []) = search rules in
+    call_done (tree_of c.args.node.now) c.in-Call.function c.in-Call.parameters c.items.result.now
+    (stacked c.args.done.now.items []) (stacked c.join_all.new.done.items []) (rw c.in-Call.is same) c.items.ensures
+    done

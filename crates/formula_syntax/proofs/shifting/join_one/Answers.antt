@@ -7,4 +7,5 @@ pub returns : goal.returns
 returns c =
     let before : c.args.done.now.items ≡ c.pop.new.self.items ++ (c.in-Some.operand ∷ []) = search rules in
     let after : c.push.new.self.items ≡ c.pop.new.self.items ++ (c.in_ok-prefix_of.field-0 ∷ []) = search rules in
-    one_joined (prefix c.args.op) c.args.done.now.items c.pop.new.self.items c.push.new.self.items c.in-Some.operand c.in_ok-prefix_of.field-0 before after c.in_ok-prefix_of.ensures
+    one_joined (prefix c.args.op) c.args.done.now.items c.pop.new.self.items c.push.new.self.items c.in-Some.operand
+    c.in_ok-prefix_of.field-0 before after c.in_ok-prefix_of.ensures

@@ -10,5 +10,10 @@ pub returns : goal.returns
 returns c =
     let split : c.args.nodes.now ≡ c.in-Some.others.now ++ (c.in-Some.last.now ∷ []) = search rules in
     let pushed : c.push.new.self.items ≡ c.args.left.now.items ++ (Shift c.in-Some.others ∷ []) = search rules in
-    let leads : Leads c.args.by.now.down c.args.by.now.right c.push.new.self.items (shifted c.args.by.now.down c.args.by.now.right (tree_of c.in-Some.last.now) ∷ stacked c.args.done.now.items []) c.visit.new.left.items (stacked c.visit.new.done.items []) (4 * node_count (tree_of c.in-Some.last.now)) = search rules in
-    last_leads c.args.by.now.down c.args.by.now.right c.args.nodes.now c.in-Some.last.now c.in-Some.others c.args.left.now.items c.push.new.self.items c.visit.new.left.items (stacked c.args.done.now.items []) (stacked c.visit.new.done.items []) split pushed leads
+    let leads : Leads c.args.by.now.down c.args.by.now.right c.push.new.self.items
+    (shifted c.args.by.now.down c.args.by.now.right (tree_of c.in-Some.last.now) ∷ stacked c.args.done.now.items [])
+    c.visit.new.left.items (stacked c.visit.new.done.items []) (4 * node_count (tree_of c.in-Some.last.now)) =
+    search rules in
+    last_leads c.args.by.now.down c.args.by.now.right c.args.nodes.now c.in-Some.last.now c.in-Some.others
+    c.args.left.now.items c.push.new.self.items c.visit.new.left.items (stacked c.args.done.now.items [])
+    (stacked c.visit.new.done.items []) split pushed leads

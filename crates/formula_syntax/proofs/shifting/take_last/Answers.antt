@@ -9,11 +9,14 @@ loop-preserved c = elim c.match-pop.branch [
   | in-Some+in_ok-push w ↦
       let before : c.loop.done.items ≡ c.pop.new.self.items ++ (w.in-Some.node ∷ []) = search rules in
       let after : c.match-pop.nodes.items ≡ c.loop.nodes.items ++ (w.in-Some.node ∷ []) = search rules in
-      let (taken, left) = popped_one c.loop.counter (stacked c.args.done.now.items []) c.loop.done.items c.pop.new.self.items c.loop.nodes.items c.match-pop.nodes.items w.in-Some.node before after c.loop.invariant.taken c.loop.invariant.left in
+      let (taken, left) = popped_one c.loop.counter (stacked c.args.done.now.items []) c.loop.done.items
+      c.pop.new.self.items c.loop.nodes.items c.match-pop.nodes.items w.in-Some.node before after
+      c.loop.invariant.taken c.loop.invariant.left in
       record { taken = taken; left = left }
   | in_default w ↦
       let none : length c.loop.done.items ≡ 0 = search rules in
       let same : c.loop.done.items ≡ c.pop.new.self.items ++ [] = search rules in
-      let (taken, left) = popped_none c.loop.counter (stacked c.args.done.now.items []) c.loop.done.items c.pop.new.self.items c.loop.nodes.items none same c.loop.invariant.taken c.loop.invariant.left in
+      let (taken, left) = popped_none c.loop.counter (stacked c.args.done.now.items []) c.loop.done.items
+      c.pop.new.self.items c.loop.nodes.items none same c.loop.invariant.taken c.loop.invariant.left in
       rw w.nodes-is (record { taken = taken; left = left })
 ]

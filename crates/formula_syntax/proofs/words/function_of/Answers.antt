@@ -5,4 +5,6 @@ use Rattle.formula_syntax.proofs.WordLemmas.{all_apart}
 use Rattle.formula_syntax.proofs.words.function_of.Goals as goal
 
 pub returns : goal.returns
-returns c = all_apart (λ f. IsSpelt c.args.word.now (function_name f) → ⊥) (λ k d h. c.loop-function.invariant.apart k d (omega (arith, h, c.loop-function-test.false)))
+returns c =
+    all_apart (λ f. IsSpelt c.args.word.now (function_name f)
+    → ⊥) (λ k d h. c.loop-function.invariant.apart k d (omega (arith, h, c.loop-function-test.false)))

@@ -23,7 +23,9 @@ pub returns-in-Some-function_of : goal.returns-in-Some-function_of
 returns-in-Some-function_of c = function c.args.word.now c.in-Some-function_of.function c.in-Some-function_of.ensures
 
 pub returns-in_err-reference : goal.returns-in_err-reference
-returns-in_err-reference c = rw c.from_residual.ensures (no_word c.args.word.now (search rules) (search rules) (search rules) (search rules) c.in_err-reference.ensures)
+returns-in_err-reference c =
+    rw c.from_residual.ensures (no_word c.args.word.now (search rules) (search rules) (search rules) (search rules)
+    c.in_err-reference.ensures)
 
 pub returns : goal.returns
 returns c = reference c.args.word.now c.in_ok-reference.reference c.in_ok-reference.ensures

@@ -6,7 +6,8 @@ use Rattle.live_run.proofs.client.run_client.Given as goal
 abbrev pub invariant-loop-order : goal.invariant-loop-order
 invariant-loop-order g l =
     record {
-      so : IsUnderway g.N.Naming.opening l.fn.task.client (task_commands l.fn.task) l.pass l.orders.items l.reports.items l.number (vec_capacity l.fn.task.reports);
+      so : IsUnderway g.N.Naming.opening l.fn.task.client (task_commands l.fn.task) l.pass l.orders.items
+          l.reports.items l.number (vec_capacity l.fn.task.reports);
       room : vec_capacity l.reports ≡ vec_capacity l.fn.task.reports;
       going : l.failed ≡ false;
     }

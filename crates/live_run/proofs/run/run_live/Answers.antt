@@ -10,7 +10,14 @@ use Rattle.live_run.proofs.TranscriptLemmas.{is_legal, is_whole}
 use Rattle.live_run.proofs.run.run_live.Goals as goal
 
 pub session-requires-clause-named : goal.session-requires-clause-named
-session-requires-clause-named g c κs within = record { ledger_is = refl; parts_are = refl; words_are = refl; queue_is = refl; opening_is = refl; clients_are = refl }
+session-requires-clause-named g c κs within = record {
+  ledger_is = refl;
+  parts_are = refl;
+  words_are = refl;
+  queue_is = refl;
+  opening_is = refl;
+  clients_are = refl;
+}
 
 pub session-requires-clause-count : goal.session-requires-clause-count
 session-requires-clause-count g c κs within = c.in_ok-parts.ensures.count ∙ sym c.in_ok-setup.ensures.clients_are
@@ -37,7 +44,13 @@ returns-clause-legal g c =
     (subst (λ (steps : List Step). ArePartsOf c.len-clients.result steps c.in_ok-parts.parts.items) c.steps.ensures.steps c.in_ok-parts.ensures) in
     let run = subst (λ s. IsRunOf s c.in_ok-parts.parts.items c.in_ok-closed.field-0) c.in_ok-setup.ensures.opening c.in_ok-closed.ensures in
     is_legal c.args.sheet c.args.script.now c.in_ok-parts.parts.items
-    (record { names = c.in_ok-names.names; log = c.in_ok-closed.field-0.closed.log; sheet = c.in_ok-closed.field-0.closed.sheet; values = c.in_ok-closed.field-0.closed.values; reports = c.in_ok-closed.field-0.reports })
+    (record {
+      names = c.in_ok-names.names;
+      log = c.in_ok-closed.field-0.closed.log;
+      sheet = c.in_ok-closed.field-0.closed.sheet;
+      values = c.in_ok-closed.field-0.closed.values;
+      reports = c.in_ok-closed.field-0.reports;
+    })
     c.in_ok-closed.field-0 names are run
 
 pub returns-clause-whole : goal.returns-clause-whole
@@ -49,5 +62,11 @@ returns-clause-whole g c =
     (subst (λ (steps : List Step). ArePartsOf c.len-clients.result steps c.in_ok-parts.parts.items) c.steps.ensures.steps c.in_ok-parts.ensures) in
     let run = subst (λ s. IsRunOf s c.in_ok-parts.parts.items c.in_ok-closed.field-0) c.in_ok-setup.ensures.opening c.in_ok-closed.ensures in
     is_whole c.args.sheet c.args.script.now c.in_ok-parts.parts.items
-    (record { names = c.in_ok-names.names; log = c.in_ok-closed.field-0.closed.log; sheet = c.in_ok-closed.field-0.closed.sheet; values = c.in_ok-closed.field-0.closed.values; reports = c.in_ok-closed.field-0.reports })
+    (record {
+      names = c.in_ok-names.names;
+      log = c.in_ok-closed.field-0.closed.log;
+      sheet = c.in_ok-closed.field-0.closed.sheet;
+      values = c.in_ok-closed.field-0.closed.values;
+      reports = c.in_ok-closed.field-0.reports;
+    })
     c.in_ok-closed.field-0 names are run

@@ -17,5 +17,7 @@ returns-in-Ok g c =
     let opening = g.N.Naming.opening in
     let tasks = c.run_all-desks.result.1.items in
     let ended = all_ended opening c.args.parts.items c.in_ok-tasks.tasks.items tasks c.in_ok-tasks.ensures c.run_all-desks.ensures in
-    is_run opening c.args.parts.items tasks c.in_ok-passes.field-0.passes.items (codes_of c.in_ok-live.field-0.live) (record { closed = c.in-Ok.closed; reports = c.in_ok-passes.field-0.reports })
-    ended c.in_ok-passes.ensures.had c.in_ok-passes.ensures.passes c.in_ok-passes.ensures.reports c.in-Ok.ensures.closed c.in_ok-live.ensures.words c.requires.sheet c.requires.edits
+    is_run opening c.args.parts.items tasks c.in_ok-passes.field-0.passes.items (codes_of c.in_ok-live.field-0.live)
+    (record { closed = c.in-Ok.closed; reports = c.in_ok-passes.field-0.reports })
+    ended c.in_ok-passes.ensures.had c.in_ok-passes.ensures.passes c.in_ok-passes.ensures.reports c.in-Ok.ensures.closed
+    c.in_ok-live.ensures.words c.requires.sheet c.requires.edits

@@ -20,5 +20,10 @@ pub returns-clause-legal : goal.returns-clause-legal
 returns-clause-legal c = λ k d below read word among is.
     let seat = slice_index_or c.args.others.items k d in
     let has = Contains-get_or c.args.others.items k d below in
-    legal_over (subject_of c.args.marks) (subject_of c.args.marks) (topic_of c.args.marks).opening.value (edits_of c.args.editor) (log_of c.args.editor) read word refl
-    c.close_words.ensures.edits c.requires.free.idle (c.close_words.ensures.legal seat read word (suc has.0, (let lt = has.1 in omega (arith, lt)), has.2) among is)
+    legal_over (subject_of c.args.marks) (subject_of c.args.marks) (topic_of c.args.marks).opening.value
+    (edits_of c.args.editor) (log_of c.args.editor) read word refl
+    c.close_words.ensures.edits c.requires.free.idle (c.close_words.ensures.legal seat read word (
+      suc has.0,
+      (let lt = has.1 in omega (arith, lt)),
+      has.2,
+    ) among is)

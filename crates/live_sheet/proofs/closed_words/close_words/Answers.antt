@@ -9,7 +9,8 @@ use Rattle.live_sheet.proofs.closed_words.close_words.Goals as goal
 pub returns-clause-each : goal.returns-clause-each
 returns-clause-each g c = λ place below.
     c.list_values.ensures.each place below
-    ∙ ap Some (closed_worth g.S.Subject.places g.S.Subject.worth g.S.Subject.touches c.args.marks c.args.editor c.args.others.items c.in-Ok.words place c.in-Ok.ensures.closed c.requires.free.idle
+    ∙ ap Some (closed_worth g.S.Subject.places g.S.Subject.worth g.S.Subject.touches c.args.marks c.args.editor
+    c.args.others.items c.in-Ok.words place c.in-Ok.ensures.closed c.requires.free.idle
     (c.requires.known place below) c.requires.table.same_places (subst (λ n. place < n) c.requires.places below))
 
 pub returns-clause-prefixes : goal.returns-clause-prefixes

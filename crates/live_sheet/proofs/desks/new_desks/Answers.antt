@@ -9,5 +9,7 @@ loop-preserved g c =
     record {
       start = c.in_ok-desk.ensures.start;
       count = omega (arith, ap length c.in_ok-push.ensures.items, length-append c.loop.desks.items (c.worker_desk.result ∷ []), c.loop.invariant.count);
-      new = subst (λ desks. All IsNewDesk desks) (sym c.in_ok-push.ensures.items) (All-push IsNewDesk c.loop.desks.items c.worker_desk.result c.loop.invariant.new c.worker_desk.ensures);
+      new =
+          subst (λ desks. All IsNewDesk desks) (sym c.in_ok-push.ensures.items)
+          (All-push IsNewDesk c.loop.desks.items c.worker_desk.result c.loop.invariant.new c.worker_desk.ensures);
     }

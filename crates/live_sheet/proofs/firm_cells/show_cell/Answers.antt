@@ -15,7 +15,8 @@ returns-clause-value g c =
     let log = log_of c.args.editor.now in
     let current = c.show.ensures.current loads.clean (subst (λ (n : ℕ). c.read_known.result.mark ≤ n) (sym c.requires.number) loads.within) in
     let at : g.S.Subject.worth (subject_of c.args.marks.now) log (place_of c.args.sizes c.args.cell) ≡ code_of (value_of (after opening log) c.args.cell) =
-    subst (λ (s : Sizes). g.S.Subject.worth (subject_of c.args.marks.now) log (place_of s c.args.cell) ≡ code_of (value_of (after opening log) c.args.cell)) c.requires.opening
+    subst (λ (s : Sizes). g.S.Subject.worth (subject_of c.args.marks.now) log (place_of s c.args.cell) ≡ code_of
+    (value_of (after opening log) c.args.cell)) c.requires.opening
     (c.is_of_sheet.ensures.values log c.args.cell (subst (λ (s : Sizes). IsTrue (is_inside s c.args.cell)) (sym c.requires.opening) c.requires.inside)) in
     current.1 ∙ ap Value (current.2 (value_of (after opening log) c.args.cell) (c.value_laws.ensures.in_range (after opening log) c.args.cell c.requires.sheet)
     (sym loads.worth_is ∙ ap (g.S.Subject.worth (subject_of c.args.marks.now) log) c.place-place.ensures.place ∙ at))

@@ -15,18 +15,24 @@ loop-place-init g c =
 
 pub show_cell-requires-clause-known : goal.show_cell-requires-clause-known
 show_cell-requires-clause-known g c κs within =
-    cell_still (g.S.Subject.touches (subject_of c.args.marks.now)) c.args.sizes c.args.editor.now c.loop-place.editor c.loop-place.invariant.kept c.loop-place.cell
+    cell_still (g.S.Subject.touches (subject_of c.args.marks.now)) c.args.sizes c.args.editor.now c.loop-place.editor
+    c.loop-place.invariant.kept c.loop-place.cell
     (c.requires.known c.loop-place.cell c.loop-place.invariant.at.inside)
 
 pub loop-place-preserved : goal.loop-place-preserved
 loop-place-preserved g c =
     let below : c.loop-place._place < length (cells_of c.args.window) = omega (arith, c.loop-place-test.true, c.cells-place-end.ensures.count) in
-    window_goes_on _ _ _ _ _ _ c.loop-place.editor c.show_cell.new.editor c.loop-place.board c.push.new.self c.show_cell.result c.loop-place._place c.loop-place.cell c.cell_behind-cell.result
+    window_goes_on _ _ _ _ _ _ c.loop-place.editor c.show_cell.new.editor c.loop-place.board c.push.new.self
+    c.show_cell.result c.loop-place._place c.loop-place.cell c.cell_behind-cell.result
     c.loop-place.invariant (c.loop-place.invariant.at.listed below) c.show_cell.ensures.table c.show_cell.ensures.editor
-    (c.show_cell.ensures.value ∙ ap (λ (l : List _). value_shown (after (g.S.SheetSubject.opening (subject_of c.args.marks.now)) l) c.loop-place.cell) c.loop-place.invariant.kept.log)
+    (c.show_cell.ensures.value
+    ∙ ap (λ (l : List _). value_shown (after (g.S.SheetSubject.opening (subject_of c.args.marks.now)) l)
+    c.loop-place.cell) c.loop-place.invariant.kept.log)
     c.push.ensures
-    (comes_to_next c.args.window c.loop-place._place c.loop-place.cell c.cell_behind-cell.result c.loop-place.invariant.at below c.cell_behind-cell.ensures.next c.cell_behind-cell.ensures.inside)
+    (comes_to_next c.args.window c.loop-place._place c.loop-place.cell c.cell_behind-cell.result
+    c.loop-place.invariant.at below c.cell_behind-cell.ensures.next c.cell_behind-cell.ensures.inside)
 
 pub returns-clause-shows : goal.returns-clause-shows
 returns-clause-shows g c =
-    window_ends _ _ _ _ _ _ c.loop-place.editor c.loop-place.board _ c.loop-place._place c.loop-place.cell c.loop-place.invariant c.cells-place-end.ensures.count c.loop-place-test.false
+    window_ends _ _ _ _ _ _ c.loop-place.editor c.loop-place.board _ c.loop-place._place c.loop-place.cell
+    c.loop-place.invariant c.cells-place-end.ensures.count c.loop-place-test.false

@@ -5,4 +5,5 @@ use Rattle.live_sheet.proofs.firm_cells.show_window.Given as goal
 
 abbrev pub invariant-loop-place : goal.invariant-loop-place
 invariant-loop-place g l =
-    WindowSoFar l.marks (after (g.S.SheetSubject.opening (subject_of l.marks)) (log_of l.fn.editor)) l.number l.window l.fn.board.room l.fn.editor l.editor l.board l._place l.cell
+    WindowSoFar l.marks (after (g.S.SheetSubject.opening (subject_of l.marks)) (log_of l.fn.editor)) l.number l.window
+    l.fn.board.room l.fn.editor l.editor l.board l._place l.cell

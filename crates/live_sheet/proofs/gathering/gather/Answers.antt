@@ -19,8 +19,10 @@ loop-pass-preserved g c =
     let pass = c.in-Some.pass in
     record {
       so = gather_goes_on (λ pass. pass.seat) (IsPassIn g.N.Naming.words g.N.Naming.opening) (IsFreeSeat g.N.Naming.words g.N.Naming.opening)
-          c.args.passes.items c.loop-pass.passes.items c.pop.new.self.items c.args.share.now.parts c.args.share.now.amount c.loop-pass.share.parts c.loop-pass.share.amount
-          c.merge.new.self.parts c.merge.new.self.amount c.loop-pass.seats.items c.push_reserved.new.self.items pass c.loop-pass.invariant.so c.in-Some.ensures.items
+          c.args.passes.items c.loop-pass.passes.items c.pop.new.self.items c.args.share.now.parts
+          c.args.share.now.amount c.loop-pass.share.parts c.loop-pass.share.amount
+          c.merge.new.self.parts c.merge.new.self.amount c.loop-pass.seats.items c.push_reserved.new.self.items pass
+          c.loop-pass.invariant.so c.in-Some.ensures.items
           (c.merge.ensures.parts ∙ ap (λ n. c.loop-pass.share.parts + n) pass.part)
           (c.merge.ensures.amount ∙ ap (λ n. c.loop-pass.share.amount + n) (pass.amount ∙ pass.numbers.ok.0))
           c.push_reserved.ensures.items (record { seat = pass.belongs; accepted = pass.accepted }) pass.belongs;
@@ -30,5 +32,6 @@ loop-pass-preserved g c =
 pub returns-clause-handed : goal.returns-clause-handed
 returns-clause-handed g c =
     (all_gone (λ pass. pass.seat) (IsPassIn g.N.Naming.words g.N.Naming.opening) (IsFreeSeat g.N.Naming.words g.N.Naming.opening)
-    c.args.passes.items c.loop-pass.passes.items c.args.share.now.parts c.args.share.now.amount c.loop-pass.share.parts c.loop-pass.share.amount c.loop-pass.seats.items c.loop-pass.invariant.so
+    c.args.passes.items c.loop-pass.passes.items c.args.share.now.parts c.args.share.now.amount c.loop-pass.share.parts
+    c.loop-pass.share.amount c.loop-pass.seats.items c.loop-pass.invariant.so
     (no_items c.loop-pass.passes.items (omega (arith, c.in_default.ensures.cases.0)))).3

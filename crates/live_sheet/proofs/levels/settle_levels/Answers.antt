@@ -19,4 +19,5 @@ loop-level-preserved g c =
     c.settle_level.ensures.table c.settle_level.ensures.editor c.settle_level.ensures.desks (rw c.deref.ensures.value at c.in_ok-settle_level.ensures.clean)
 
 pub returns-clause-clean : goal.returns-clause-clean
-returns-clause-clean g c = levels_end _ _ _ _ _ _ _ _ c.loop-level.editor c.loop-level.desks c.loop-level.level-index c.loop-level-test.false c.loop-level.invariant
+returns-clause-clean g c = levels_end _ _ _ _ _ _ _ _ c.loop-level.editor c.loop-level.desks c.loop-level.level-index
+    c.loop-level-test.false c.loop-level.invariant

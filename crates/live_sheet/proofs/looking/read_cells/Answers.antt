@@ -24,8 +24,10 @@ loop-place-preserved c =
     let at = c.place.ensures.place in
     record {
       same = c.read_place-loads.ensures.same;
-      come = comes_to_next c.args.window l.place l.cell c.cell_behind-cell.result l.invariant.come below c.cell_behind-cell.ensures.next c.cell_behind-cell.ensures.inside;
-      read = read_one_more c.args.sizes c.args.number (take l.place xs) (take (l.place + 1) xs) l.cell loads c.show.result c.args.seat.now now next l.board.cells c.push.new.self.cells
+      come = comes_to_next c.args.window l.place l.cell c.cell_behind-cell.result l.invariant.come below
+          c.cell_behind-cell.ensures.next c.cell_behind-cell.ensures.inside;
+      read = read_one_more c.args.sizes c.args.number (take l.place xs) (take (l.place + 1) xs) l.cell loads
+          c.show.result c.args.seat.now now next l.board.cells c.push.new.self.cells
           (taken_more xs l.place l.cell below (sym (get_or_from_slice_get xs l.place l.cell l.cell listed)))
           pushed
           l.invariant.read

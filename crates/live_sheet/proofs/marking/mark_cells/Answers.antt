@@ -15,6 +15,10 @@ loop-cell-preserved c =
     let more = taken_more c.args.cells.now l.cell-index c.cell-item.result c.loop-cell-test.true c.cell-item.is in
     record {
       same = c.mark_cell.ensures.same;
-      marked = one_marked c.args.sizes c.args.entry.now c.args.number (take l.cell-index c.args.cells.now) (take (l.cell-index + 1) c.args.cells.now) c.cell-item.result (doing_of c.args.editor.now) (doing_of l.editor) (doing_of c.mark_cell.new.editor) more l.invariant.marked c.mark_cell.ensures.doing;
-      steps = one_mark_more c.args.sizes c.args.entry.now c.args.number (take l.cell-index c.args.cells.now) (take (l.cell-index + 1) c.args.cells.now) c.cell-item.result (own_steps c.args.editor.now) (own_steps l.editor) (own_steps c.mark_cell.new.editor) more l.invariant.steps c.mark_cell.ensures.step;
+      marked = one_marked c.args.sizes c.args.entry.now c.args.number (take l.cell-index c.args.cells.now)
+          (take (l.cell-index + 1) c.args.cells.now) c.cell-item.result (doing_of c.args.editor.now) (doing_of l.editor)
+          (doing_of c.mark_cell.new.editor) more l.invariant.marked c.mark_cell.ensures.doing;
+      steps = one_mark_more c.args.sizes c.args.entry.now c.args.number (take l.cell-index c.args.cells.now)
+          (take (l.cell-index + 1) c.args.cells.now) c.cell-item.result (own_steps c.args.editor.now)
+          (own_steps l.editor) (own_steps c.mark_cell.new.editor) more l.invariant.steps c.mark_cell.ensures.step;
     }

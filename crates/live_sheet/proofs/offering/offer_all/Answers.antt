@@ -14,7 +14,9 @@ loop-cell-preserved g c =
     record {
       hand = c.offer.ensures.hand.0;
       offered =
-          subst (λ cells. AreOffered sizes c.args.hand.now cells c.offer.new.hand) (sym (taken_more c.args.cells.now l.cell-index cell c.loop-cell-test.true c.cell-item.is))
+          subst (λ cells. AreOffered sizes c.args.hand.now cells c.offer.new.hand)
+          (sym (taken_more c.args.cells.now l.cell-index cell c.loop-cell-test.true c.cell-item.is))
           (offered_more sizes c.args.hand.now l.hand c.offer.new.hand (take l.cell-index c.args.cells.now) cell l.invariant.offered
-          (one_offer (HasPut l.hand c.offer.new.hand (job_for cell)) (HasRefused sizes l.hand c.offer.new.hand (job_for cell)) (job_for cell) c.offer.result c.offer.ensures.put c.offer.ensures.refused));
+          (one_offer (HasPut l.hand c.offer.new.hand (job_for cell)) (HasRefused sizes l.hand c.offer.new.hand
+          (job_for cell)) (job_for cell) c.offer.result c.offer.ensures.put c.offer.ensures.refused));
     }

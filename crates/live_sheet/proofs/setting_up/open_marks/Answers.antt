@@ -10,5 +10,7 @@ use Rattle.live_sheet.proofs.setting_up.open_marks.Goals as goal
 
 pub open-requires-clause-right : goal.open-requires-clause-right
 open-requires-clause-right c κs =
-    subst (λ (codes : List (Option ℕ)). IsOpening (cell_count c.of-subject.result.sizes) (place_worth c.of-subject.result) codes) (sym (c.deref.ensures.value ∙ c.in_ok-codes.ensures))
-    (subst (λ (s : SheetValue). IsOpening (cell_count s.sizes) (place_worth s) (opening_codes c.args.sheet.now)) (sym c.of-subject.ensures) (opens c.args.sheet.now c.sizes-sizes.ensures.sheet))
+    subst (λ (codes : List (Option ℕ)). IsOpening (cell_count c.of-subject.result.sizes)
+    (place_worth c.of-subject.result) codes) (sym (c.deref.ensures.value ∙ c.in_ok-codes.ensures))
+    (subst (λ (s : SheetValue). IsOpening (cell_count s.sizes) (place_worth s) (opening_codes c.args.sheet.now))
+    (sym c.of-subject.ensures) (opens c.args.sheet.now c.sizes-sizes.ensures.sheet))

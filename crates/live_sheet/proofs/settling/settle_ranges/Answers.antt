@@ -7,7 +7,8 @@ use Rattle.live_sheet.proofs.settling.settle_ranges.Goals as goal
 pub settle_over-requires-clause-places : goal.settle_over-requires-clause-places
 settle_over-requires-clause-places g c κs within =
     let kept : c.sheet-sheet.result.now.sizes ≡ c.args.book.now.opening.sizes =
-    ap (λ (s : SheetValue). s.sizes) (c.sheet-sheet.ensures.sheet ∙ c.sheet-sheet.ensures.kept.replayed) ∙ after-sizes c.args.book.now.opening c.args.book.now.log in
+    ap (λ (s : SheetValue). s.sizes) (c.sheet-sheet.ensures.sheet ∙ c.sheet-sheet.ensures.kept.replayed)
+    ∙ after-sizes c.args.book.now.opening c.args.book.now.log in
     c.requires.table.same_places ∙ ap (λ (s : SheetValue). cell_count s.sizes) c.requires.subject ∙ ap cell_count (sym kept)
 
 pub settle_over-requires-clause-pairs : goal.settle_over-requires-clause-pairs

@@ -8,5 +8,7 @@ returns-in_err-list_stale_in-clause-editor g c =
 
 pub loop-range-preserved : goal.loop-range-preserved
 loop-range-preserved g c =
-    ranges_go_on _ _ _ _ _ c.loop-range.editor c.list_stale_in.new.editor c.loop-range.stale.items c.list_stale_in.new.stale.items c.loop-range.range-index c.range-item.result
-    c.loop-range.invariant c.requires.disjoint c.loop-range-test.true c.range-item.is c.list_stale_in.ensures.table c.list_stale_in.ensures.editor c.in_ok-list_stale_in.ensures.stale
+    ranges_go_on _ _ _ _ _ c.loop-range.editor c.list_stale_in.new.editor c.loop-range.stale.items
+    c.list_stale_in.new.stale.items c.loop-range.range-index c.range-item.result
+    c.loop-range.invariant c.requires.disjoint c.loop-range-test.true c.range-item.is c.list_stale_in.ensures.table
+    c.list_stale_in.ensures.editor c.in_ok-list_stale_in.ensures.stale

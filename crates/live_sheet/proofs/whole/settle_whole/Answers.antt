@@ -9,5 +9,7 @@ settle_ranges-requires-clause-closed g c κs within = λ cell input among is.
     record {
       range = c.in-Some.range;
       listed = (0, omega arith, refl);
-      inside = (c.in-Some.ensures input).1 (subst (λ (s : Sizes). IsTrue (is_inside s input)) (sym (c.sizes.ensures.sizes ∙ ap (λ (s : SheetValue). s.sizes) c.sheet.ensures.sheet)) is.inside);
+      inside =
+          (c.in-Some.ensures input).1 (subst (λ (s : Sizes). IsTrue (is_inside s input)) (sym (c.sizes.ensures.sizes
+          ∙ ap (λ (s : SheetValue). s.sizes) c.sheet.ensures.sheet)) is.inside);
     }

@@ -12,6 +12,7 @@ returns-then-branch g c =
 pub returns : goal.returns
 returns g c =
     IfOk-weaker c.belongs-2.result _ _
-    (λ b iff. marked_of_all (g.S.Subject.worth c.args.subject.now) (g.S.Subject.touches c.args.subject.now) c.args.log.now c.args.place c.args.word c.args.mark b
+    (λ b iff. marked_of_all (g.S.Subject.worth c.args.subject.now) (g.S.Subject.touches c.args.subject.now)
+    c.args.log.now c.args.place c.args.word c.args.mark b
     iff (λ count lt. c.loop-count.invariant count (omega arith)))
     c.belongs-2.ensures

@@ -13,13 +13,15 @@ returns-clause-last g c t t' kept kept' seat before after event word one there o
 pub returns-clause-words : goal.returns-clause-words
 returns-clause-words g c t t' kept kept' seat before after event word one there others none none_after =
     one_event (g.S.Subject.worth c.args._marks.now.table.shared.key.subject.value) (g.S.Subject.touches c.args._marks.now.table.shared.key.subject.value)
-    kept.events kept'.events (opening_state c.args._marks.now.table.shared.key.opening.value) kept.core kept'.core (made_of (event one.view) word) t.words t'.words
+    kept.events kept'.events (opening_state c.args._marks.now.table.shared.key.opening.value) kept.core kept'.core
+    (made_of (event one.view) word) t.words t'.words
     kept.run kept'.run (returns-clause-last g c t t' kept kept' seat before after event word one there others none none_after) kept.words kept'.words
 
 pub returns-clause-word : goal.returns-clause-word
 returns-clause-word g c t t' kept kept' seat before after event word one there others none none_after =
     has_word (g.S.Subject.worth c.args._marks.now.table.shared.key.subject.value) (g.S.Subject.touches c.args._marks.now.table.shared.key.subject.value)
-    kept.events kept'.events (opening_state c.args._marks.now.table.shared.key.opening.value) kept.core kept'.core (made_of (event one.view) word) t.words t'.words
+    kept.events kept'.events (opening_state c.args._marks.now.table.shared.key.opening.value) kept.core kept'.core
+    (made_of (event one.view) word) t.words t'.words
     kept.run kept'.run (returns-clause-last g c t t' kept kept' seat before after event word one there others none none_after) kept.words kept'.words
 
 pub returns-clause-sees : goal.returns-clause-sees

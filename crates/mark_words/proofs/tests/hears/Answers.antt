@@ -12,4 +12,11 @@ returns-clause-viewer c =
 
 pub returns-clause-relay : goal.returns-clause-relay
 returns-clause-relay c =
-    record { table = c.meet.ensures.other_same; many = omega (arith, c.requires.relay.many, ap (λ (d : Doing _ _). length d.view.log) c.meet.ensures.other_kept) }
+    record {
+      table = c.meet.ensures.other_same;
+      many = omega (
+        arith,
+        c.requires.relay.many,
+        ap (λ (d : Doing _ _). length d.view.log) c.meet.ensures.other_kept,
+      );
+    }

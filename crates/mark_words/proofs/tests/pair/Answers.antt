@@ -11,5 +11,9 @@ pub returns-clause-pair : goal.returns-clause-pair
 returns-clause-pair c =
     record {
       viewer = c.requires.table;
-      relay = record { table = c.split.ensures.new; many = omega (arith, ap (λ (d : Doing _ _). length d.view.log) c.split.ensures.copy, c.requires.ready.entries) };
+      relay =
+          record {
+            table = c.split.ensures.new;
+            many = omega (arith, ap (λ (d : Doing _ _). length d.view.log) c.split.ensures.copy, c.requires.ready.entries);
+          };
     }

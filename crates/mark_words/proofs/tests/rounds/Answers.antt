@@ -13,5 +13,8 @@ loop-count-preserved g c =
       omega (arith, c.loop-count.invariant.1),
       c.round-next.ensures.ready,
       subst (λ (n : ℕ). All (λ (seat : Seat _ _ _). KnowsMany c.args.marks.now seat n) c.in-Ok.heard.items) same
-          (subst (λ (r : Result _ _). IfOk r (λ all. All (λ (seat : Seat _ _ _). KnowsMany c.args.marks.now seat c.loop-count.count) all.items)) c.in-Ok.is c.round-next.ensures.heard),
+          (subst
+          (λ (r : Result _ _). IfOk r
+          (λ all. All (λ (seat : Seat _ _ _). KnowsMany c.args.marks.now seat c.loop-count.count) all.items))
+          c.in-Ok.is c.round-next.ensures.heard),
     )

@@ -13,5 +13,7 @@ loop-place-preserved-then-is_of c =
     } in (
       search rules,
       search rules,
-      dropped_more c.args.cell c.args.pairs.now.items c.loop-place.pairs.items c.swap_remove.new.self.items c.loop-place.place c.index.result.now inside c.index.ensures (c.is_of.ensures.0 c.if-is_of.true) taken c.loop-place.invariant.2,
+      dropped_more c.args.cell c.args.pairs.now.items c.loop-place.pairs.items c.swap_remove.new.self.items
+          c.loop-place.place c.index.result.now inside c.index.ensures (c.is_of.ensures.0 c.if-is_of.true) taken
+          c.loop-place.invariant.2,
     )

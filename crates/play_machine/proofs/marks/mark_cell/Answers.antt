@@ -6,12 +6,14 @@ use Rattle.play_machine.proofs.marks.mark_cell.Goals as goal
 
 pub returns-then-old-eq0-clause-marks : goal.returns-then-old-eq0-clause-marks
 returns-then-old-eq0-clause-marks c =
-    subst (λ p. SetsMarks c.args.sizes (c.args.cell ∷ []) c.args.number c.args.marks.now.items (set c.args.marks.now.items p c.args.number)) (sym c.place-place.ensures.place)
+    subst (λ p. SetsMarks c.args.sizes (c.args.cell ∷ []) c.args.number c.args.marks.now.items
+    (set c.args.marks.now.items p c.args.number)) (sym c.place-place.ensures.place)
     (marks_one c.args.sizes c.args.cell c.args.number c.args.marks.now.items c.requires.count (sym c.if-not-holds.ensures))
 
 pub returns-else-old-eq0-clause-marks : goal.returns-else-old-eq0-clause-marks
 returns-else-old-eq0-clause-marks c =
-    subst (λ p. SetsMarks c.args.sizes (c.args.cell ∷ []) c.args.number c.args.marks.now.items (set c.args.marks.now.items p c.args.number)) (sym c.place-place.ensures.place)
+    subst (λ p. SetsMarks c.args.sizes (c.args.cell ∷ []) c.args.number c.args.marks.now.items
+    (set c.args.marks.now.items p c.args.number)) (sym c.place-place.ensures.place)
     (marks_one c.args.sizes c.args.cell c.args.number c.args.marks.now.items c.requires.count (sym c.if-not-holds.ensures))
 
 pub returns-then-old-eq0-clause-counted : goal.returns-then-old-eq0-clause-counted

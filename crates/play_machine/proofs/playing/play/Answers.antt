@@ -15,7 +15,8 @@ loop-step-init g c =
 pub follow-requires-clause-fit : goal.follow-requires-clause-fit
 follow-requires-clause-fit g c =
     fit_moves c.args.book.sheet c.loop-step.player.book.sheet c.step-item.result.command c.loop-step.invariant.3 c.loop-step.invariant.4
-    (subst (λ (s : Step). IsCommandOfSheet c.args.book.sheet s.command) (sym c.step-item.is) (c.requires.fit.each c.loop-step.step-index c.step-item.result c.loop-step-test.true))
+    (subst (λ (s : Step). IsCommandOfSheet c.args.book.sheet s.command) (sym c.step-item.is)
+    (c.requires.fit.each c.loop-step.step-index c.step-item.result c.loop-step-test.true))
 
 pub follow-requires-clause-few : goal.follow-requires-clause-few
 follow-requires-clause-few g c = λ is.
@@ -31,7 +32,8 @@ loop-step-preserved g c =
     let told = c.in_ok-follow.ensures in
     let keeps = follows_keeps _ _ _ _ _ told.follows.follows in
     let more = count_more (λ (s : Step). is_put s.command) c.args.steps.now c.loop-step.step-index c.step-item.result c.loop-step-test.true c.step-item.is in (
-      plays_more (opening c.args.book.sheet) _ _ c.args.steps.now c.loop-step.step-index c.step-item.result _ _ c.loop-step.invariant.0 told.follows c.loop-step-test.true c.step-item.is,
+      plays_more (opening c.args.book.sheet) _ _ c.args.steps.now c.loop-step.step-index c.step-item.result _ _
+          c.loop-step.invariant.0 told.follows c.loop-step-test.true c.step-item.is,
       told.kept,
       told.values,
       keeps.sizes ∙ c.loop-step.invariant.3,
@@ -42,7 +44,9 @@ loop-step-preserved g c =
 pub returns-clause-reports : goal.returns-clause-reports
 returns-clause-reports g c = (
   machine_of c.loop-step.player.book c.loop-step.player.cells.marks.items,
-  subst (λ s. Plays (opening c.args.book.sheet) s (machine_of c.loop-step.player.book c.loop-step.player.cells.marks.items) c.loop-step.reports.items) (take_all c.loop-step.step-index c.args.steps.now c.loop-step-test.false) c.loop-step.invariant.0,
+  subst (λ s. Plays (opening c.args.book.sheet) s
+      (machine_of c.loop-step.player.book c.loop-step.player.cells.marks.items) c.loop-step.reports.items)
+      (take_all c.loop-step.step-index c.args.steps.now c.loop-step-test.false) c.loop-step.invariant.0,
 )
 
 pub returns-clause-full : goal.returns-clause-full

@@ -6,7 +6,8 @@ use Rattle.range_index.proofs.tests.fill.Goals as goal
 
 pub loop-place-init : goal.loop-place-init
 loop-place-init g c = record {
-  listed = none_listed (g.I.RangeIndex.entries c.args.index.now) (g.I.RangeIndex.entries c.reserve.new.self) c.args.ranges.now c.requires.none c.reserve.ensures.same;
+  listed = none_listed (g.I.RangeIndex.entries c.args.index.now) (g.I.RangeIndex.entries c.reserve.new.self)
+      c.args.ranges.now c.requires.none c.reserve.ensures.same;
   room = omega (arith, c.in_ok-reserve.ensures.room);
 }
 
@@ -16,8 +17,10 @@ insert-requires-clause-absent g c = absent_listed (g.I.RangeIndex.entries c.loop
 pub loop-place-preserved : goal.loop-place-preserved
 loop-place-preserved g c = record {
   listed =
-      one_listed (g.I.RangeIndex.entries c.loop-place.index) (g.I.RangeIndex.entries c.insert.new.self) c.args.ranges.now c.loop-place.place c.index-ranges-place.result c.loop-place.invariant.listed
-      (slice_get_read c.args.ranges.now (length c.args.ranges.now) c.loop-place.place c.index-ranges-place.result refl c.loop-place-test.true c.index-ranges-place.is) c.insert.ensures.inserted;
+      one_listed (g.I.RangeIndex.entries c.loop-place.index) (g.I.RangeIndex.entries c.insert.new.self)
+      c.args.ranges.now c.loop-place.place c.index-ranges-place.result c.loop-place.invariant.listed
+      (slice_get_read c.args.ranges.now (length c.args.ranges.now) c.loop-place.place c.index-ranges-place.result refl
+      c.loop-place-test.true c.index-ranges-place.is) c.insert.ensures.inserted;
   room = omega (arith, c.insert.ensures.room, c.loop-place.invariant.room);
 }
 

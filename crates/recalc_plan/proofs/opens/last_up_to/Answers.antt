@@ -14,4 +14,8 @@ returns c =
     let known = c.range.ensures.in_range tt in
     let entry : ℕ × Open = (c.in_ok-last.field-0-0.now, c.in_ok-last.last.now) in
     let last = known.3 entry _ c.in_ok-last.ensures.steps in
-    last_open c.args.opens.now c.requires entry.0 entry.1 c.args.place last.1 (le_from_not_gt _ _ last.0.1) (λ q below kept. ge_from_not_lt _ _ (known.4 entry _ c.in_ok-last.ensures.steps q (tt, not_gt_from_le q c.args.place below) kept))
+    last_open c.args.opens.now c.requires entry.0 entry.1 c.args.place last.1 (le_from_not_gt _ _ last.0.1)
+    (λ q below kept. ge_from_not_lt _ _ (known.4 entry _ c.in_ok-last.ensures.steps q (
+      tt,
+      not_gt_from_le q c.args.place below,
+    ) kept))

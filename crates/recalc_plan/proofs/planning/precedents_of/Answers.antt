@@ -8,4 +8,5 @@ pub returns : goal.returns
 returns g c =
     let pairs = g.G.Graph.pairs c.args.graph.now in
     exact_precedents pairs c.of.result c.args.cell c.direct_precedents.new.out.items c.of.ensures.both.0 c.of.ensures.smallest
-    (subst (λ (l : List Corners). AddsDirectPrecedents pairs c.of.result l c.direct_precedents.new.out.items) c.new-ranges.ensures.items c.in_ok-direct_precedents.ensures.found)
+    (subst (λ (l : List Corners). AddsDirectPrecedents pairs c.of.result l c.direct_precedents.new.out.items)
+    c.new-ranges.ensures.items c.in_ok-direct_precedents.ensures.found)

@@ -11,5 +11,6 @@ loop-place-preserved c =
     let cell = c.cell_at.result in
     subst (AreOpeningCodes sheet (c.loop-place.place + 1)) (sym c.in_ok-push.ensures.items)
     (one_code_more sheet cell c.loop-place.place c.loop-place.codes.items c.opening_code.result c.sizes-sizes.ensures.sheet
-    (subst (λ s. IsTrue (is_inside s cell)) c.sizes-sizes.ensures.sizes c.cell_at.ensures.inside) (ap (λ s. place_of s cell) (sym c.sizes-sizes.ensures.sizes) ∙ c.cell_at.ensures.place)
+    (subst (λ s. IsTrue (is_inside s cell)) c.sizes-sizes.ensures.sizes c.cell_at.ensures.inside)
+    (ap (λ s. place_of s cell) (sym c.sizes-sizes.ensures.sizes) ∙ c.cell_at.ensures.place)
     c.loop-place.invariant (subst (λ k. IfSome c.opening_code.result (IsCodeOfConstant k)) c.content.ensures.content c.opening_code.ensures))

@@ -10,7 +10,8 @@ use Rattle.recalc_workers.proofs.evaluating.evaluate.Goals as goal
 
 pub returns-in-Formula : goal.returns-in-Formula
 returns-in-Formula c values =
-    subst (λ (content : Content). AgreeWith c.args.sizes (content_references (content_value content)) c.args.list.now.parts.items c.args.list.now.words.items values
+    subst (λ (content : Content). AgreeWith c.args.sizes (content_references (content_value content))
+    c.args.list.now.parts.items c.args.list.now.words.items values
     → c.code-in-Formula.result ≡ code_of (step_content c.args.sizes values (content_value content))) (sym c.in-Formula.is)
     (subst (λ (tree : Tree). AgreeWith c.args.sizes (references_of tree) c.args.list.now.parts.items c.args.list.now.words.items values
     → c.code-in-Formula.result ≡ code_of (formula_value c.args.sizes tree values)) c.deref.ensures

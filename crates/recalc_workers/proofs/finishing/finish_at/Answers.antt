@@ -13,5 +13,6 @@ finish-requires-clause-computed g c κs within =
 
 pub returns-clause-finished : goal.returns-clause-finished
 returns-clause-finished g c =
-    has_finished c.args.seat.now c.claim.new.seat c.args.place c.requires.free c.in_ok-claim.ensures.taken c.put.new.seat c.args.word c.put.ensures.doing c.finish.new.seat c.args.read.mark c.finish.ensures.doing
+    has_finished c.args.seat.now c.claim.new.seat c.args.place c.requires.free c.in_ok-claim.ensures.taken
+    c.put.new.seat c.args.word c.put.ensures.doing c.finish.new.seat c.args.read.mark c.finish.ensures.doing
     c.args.read.clean (c.finish.ensures.same.same_table ∙ sym c.requires.table.same_table) c.in_ok-claim.ensures.step c.put.ensures.step c.finish.ensures.step

@@ -14,6 +14,7 @@ returns-clause-stops g c =
     let gains : AddsParts c.args.sizes references [] c.deref.result.now = search rules in
     if_err (StopsReading c.args.sizes (IsInParts c.deref.result.now) c.args.seat.now c.read_parts.new.seat c.args.met)
     (StopsReading c.args.sizes (λ cell. IsNamedBy references cell) c.args.seat.now c.read_parts.new.seat c.args.met) c.read_parts.result
-    (λ unread. stops_there c.args.sizes (IsInParts c.deref.result.now) (λ cell. IsNamedBy references cell) (named_in_parts c.args.sizes references c.deref.result.now gains)
+    (λ unread. stops_there c.args.sizes (IsInParts c.deref.result.now) (λ cell. IsNamedBy references cell)
+    (named_in_parts c.args.sizes references c.deref.result.now gains)
     c.args.seat.now c.args.seat.now c.read_parts.new.seat c.args.met unread (keeps_itself c.args.seat.now))
     c.read_parts.ensures.stops

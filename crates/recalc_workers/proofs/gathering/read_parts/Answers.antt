@@ -24,16 +24,22 @@ pub loop-part-preserved : goal.loop-part-preserved
 loop-part-preserved g c = (
   c.read_range.ensures.same,
   read_on c.args.seat.now c.loop-part.seat c.read_range.new.seat c.loop-part.invariant.1 c.read_range.ensures.only,
-  part_more (λ cell. g.S.Subject.worth (subject_of c.args.marks.now) (log_of c.args.seat.now) (place_of c.args.sizes cell)) (take c.loop-part.part-index c.args.parts.now) (take (c.loop-part.part-index + 1) c.args.parts.now) c.part-item.result
+  part_more (λ cell. g.S.Subject.worth (subject_of c.args.marks.now) (log_of c.args.seat.now)
+      (place_of c.args.sizes cell)) (take c.loop-part.part-index c.args.parts.now)
+      (take (c.loop-part.part-index + 1) c.args.parts.now) c.part-item.result
       c.args.words.now.items c.loop-part.words.items c.read_range.new.words.items
       (taken_more c.args.parts.now c.loop-part.part-index c.part-item.result c.loop-part-test.true c.part-item.is)
       c.loop-part.invariant.2
       (c.in_default.ensures.words
-      ∙ ap (λ l. c.loop-part.words.items ++ map (λ cell. g.S.Subject.worth (subject_of c.args.marks.now) l (place_of c.args.sizes cell)) (cells_of c.part-item.result.range)) c.loop-part.invariant.1.log),
+      ∙ ap (λ l. c.loop-part.words.items
+      ++ map (λ cell. g.S.Subject.worth (subject_of c.args.marks.now) l (place_of c.args.sizes cell))
+      (cells_of c.part-item.result.range)) c.loop-part.invariant.1.log),
 )
 
 pub returns-clause-words : goal.returns-clause-words
 returns-clause-words g c =
     c.loop-part.invariant.2
-    ∙ ap (λ parts. c.args.words.now.items ++ map (λ cell. g.S.Subject.worth (subject_of c.args.marks.now) (log_of c.args.seat.now) (place_of c.args.sizes cell)) (all_cells parts))
+    ∙ ap (λ parts. c.args.words.now.items
+    ++ map (λ cell. g.S.Subject.worth (subject_of c.args.marks.now) (log_of c.args.seat.now)
+    (place_of c.args.sizes cell)) (all_cells parts))
     (take_all c.loop-part.part-index c.args.parts.now (omega (arith, c.loop-part-test.false)))

@@ -8,8 +8,13 @@ use Rattle.recalc_workers.proofs.ReadingLemmas.{read_nothing, read_on, outdated_
 use Rattle.recalc_workers.proofs.gathering.read_range.Goals as goal
 
 pub loop-place-init : goal.loop-place-init
-loop-place-init g c =
-    (c.requires.table, read_nothing c.args.seat.now, sym (append-nil c.args.words.now.items), subst (λ cell. HasComeTo c.args.range 0 cell) (sym c.head-cell.ensures.head) (comes_to_head c.args.range c.head-cell.ensures.ordered))
+loop-place-init g c = (
+  c.requires.table,
+  read_nothing c.args.seat.now,
+  sym (append-nil c.args.words.now.items),
+  subst (λ cell. HasComeTo c.args.range 0 cell) (sym c.head-cell.ensures.head)
+      (comes_to_head c.args.range c.head-cell.ensures.ordered),
+)
 
 pub returns-in_default-clause-only : goal.returns-in_default-clause-only
 returns-in_default-clause-only g c = read_on c.args.seat.now c.loop-place.seat c.read_input.new.seat c.loop-place.invariant.1 c.read_input.ensures.only
@@ -29,9 +34,13 @@ loop-place-preserved g c =
     let below : c.loop-place._place < length (cells_of c.args.range) = omega (arith, c.loop-place-test.true, c.cells-place-end.ensures.count) in (
       c.read_input.ensures.same,
       read_on c.args.seat.now c.loop-place.seat c.read_input.new.seat c.loop-place.invariant.1 c.read_input.ensures.only,
-      one_more (λ cell. g.S.Subject.worth (subject_of c.args.marks.now) (log_of c.args.seat.now) (place_of c.args.sizes cell)) (cells_of c.args.range) c.loop-place._place c.loop-place.cell c.in-Some.word
+      one_more (λ cell. g.S.Subject.worth (subject_of c.args.marks.now) (log_of c.args.seat.now)
+          (place_of c.args.sizes cell)) (cells_of c.args.range) c.loop-place._place c.loop-place.cell c.in-Some.word
           c.args.words.now.items c.loop-place.words.items c.push.new.self.items (c.loop-place.invariant.3.listed below)
-          (c.in-Some.ensures.word ∙ ap (λ l. g.S.Subject.worth (subject_of c.args.marks.now) l (place_of c.args.sizes c.loop-place.cell)) c.loop-place.invariant.1.log)
+          (c.in-Some.ensures.word
+          ∙ ap (λ l. g.S.Subject.worth (subject_of c.args.marks.now) l (place_of c.args.sizes c.loop-place.cell))
+          c.loop-place.invariant.1.log)
           c.loop-place.invariant.2 (search rules),
-      comes_to_next c.args.range c.loop-place._place c.loop-place.cell c.cell_behind-cell.result c.loop-place.invariant.3 below c.cell_behind-cell.ensures.next c.cell_behind-cell.ensures.inside,
+      comes_to_next c.args.range c.loop-place._place c.loop-place.cell c.cell_behind-cell.result
+          c.loop-place.invariant.3 below c.cell_behind-cell.ensures.next c.cell_behind-cell.ensures.inside,
     )

@@ -14,20 +14,26 @@ returns-in_err-read_all-clause-works g c = record { seat = reads_worked _ _ c.ar
 pub evaluate-requires-clause-codes : goal.evaluate-requires-clause-codes
 evaluate-requires-clause-codes g c =
     let subject = subject_of c.args.marks.now in
-    listed_codes (g.S.SheetSubject.opening subject) (g.S.Subject.places subject) (g.S.Subject.worth subject) c.is_of_sheet.ensures (log_of (seat_of c.args.desk.now)) c.args.cell
+    listed_codes (g.S.SheetSubject.opening subject) (g.S.Subject.places subject) (g.S.Subject.worth subject)
+    c.is_of_sheet.ensures (log_of (seat_of c.args.desk.now)) c.args.cell
     (place_of c.args.level.sizes c.args.cell) (ap (λ (s : Sizes). place_of s c.args.cell) c.requires.sizes)
-    (subst (λ (s : Sizes). IsTrue (is_inside s c.args.cell)) c.requires.sizes c.requires.inside) (subst IsSheet c.requires.covered.sheet_is c.requires.covered.is_sheet)
+    (subst (λ (s : Sizes). IsTrue (is_inside s c.args.cell)) c.requires.sizes c.requires.inside)
+    (subst IsSheet c.requires.covered.sheet_is c.requires.covered.is_sheet)
     c.args.level.sizes c.requires.sizes (content_value c.in-Some.content.now)
-    (c.in-Some.ensures.content ∙ ap (λ (s : SheetValue). content_of s c.args.cell) c.requires.covered.sheet_is) c.read_all.new.list c.in_ok-read_all.ensures.listed
+    (c.in-Some.ensures.content ∙ ap (λ (s : SheetValue). content_of s c.args.cell) c.requires.covered.sheet_is)
+    c.read_all.new.list c.in_ok-read_all.ensures.listed
 
 pub evaluate-requires-clause-known : goal.evaluate-requires-clause-known
 evaluate-requires-clause-known g c =
     let subject = subject_of c.args.marks.now in
-    listed_words (g.S.SheetSubject.opening subject) (g.S.Subject.places subject) (g.S.Subject.worth subject) c.is_of_sheet.ensures (log_of (seat_of c.args.desk.now)) c.args.cell
+    listed_words (g.S.SheetSubject.opening subject) (g.S.Subject.places subject) (g.S.Subject.worth subject)
+    c.is_of_sheet.ensures (log_of (seat_of c.args.desk.now)) c.args.cell
     (place_of c.args.level.sizes c.args.cell) (ap (λ (s : Sizes). place_of s c.args.cell) c.requires.sizes)
-    (subst (λ (s : Sizes). IsTrue (is_inside s c.args.cell)) c.requires.sizes c.requires.inside) (subst IsSheet c.requires.covered.sheet_is c.requires.covered.is_sheet)
+    (subst (λ (s : Sizes). IsTrue (is_inside s c.args.cell)) c.requires.sizes c.requires.inside)
+    (subst IsSheet c.requires.covered.sheet_is c.requires.covered.is_sheet)
     c.args.level.sizes c.requires.sizes (content_value c.in-Some.content.now)
-    (c.in-Some.ensures.content ∙ ap (λ (s : SheetValue). content_of s c.args.cell) c.requires.covered.sheet_is) c.read_all.new.list c.in_ok-read_all.ensures.listed
+    (c.in-Some.ensures.content ∙ ap (λ (s : SheetValue). content_of s c.args.cell) c.requires.covered.sheet_is)
+    c.read_all.new.list c.in_ok-read_all.ensures.listed
 
 pub returns-clause-works : goal.returns-clause-works
 returns-clause-works g c = record { seat = reads_worked _ _ c.args.desk.now.free c.read_all.ensures.only; hand = refl }
@@ -35,9 +41,12 @@ returns-clause-works g c = record { seat = reads_worked _ _ c.args.desk.now.free
 pub returns-clause-word : goal.returns-clause-word
 returns-clause-word g c =
     let subject = subject_of c.args.marks.now in
-    listed_worth (g.S.SheetSubject.opening subject) (g.S.Subject.places subject) (g.S.Subject.worth subject) c.is_of_sheet.ensures (log_of (seat_of c.args.desk.now)) c.args.cell
+    listed_worth (g.S.SheetSubject.opening subject) (g.S.Subject.places subject) (g.S.Subject.worth subject)
+    c.is_of_sheet.ensures (log_of (seat_of c.args.desk.now)) c.args.cell
     (place_of c.args.level.sizes c.args.cell) (ap (λ (s : Sizes). place_of s c.args.cell) c.requires.sizes)
-    (subst (λ (s : Sizes). IsTrue (is_inside s c.args.cell)) c.requires.sizes c.requires.inside) (subst IsSheet c.requires.covered.sheet_is c.requires.covered.is_sheet)
+    (subst (λ (s : Sizes). IsTrue (is_inside s c.args.cell)) c.requires.sizes c.requires.inside)
+    (subst IsSheet c.requires.covered.sheet_is c.requires.covered.is_sheet)
     c.args.level.sizes c.requires.sizes (content_value c.in-Some.content.now)
-    (c.in-Some.ensures.content ∙ ap (λ (s : SheetValue). content_of s c.args.cell) c.requires.covered.sheet_is) c.read_all.new.list c.in_ok-read_all.ensures.listed
+    (c.in-Some.ensures.content ∙ ap (λ (s : SheetValue). content_of s c.args.cell) c.requires.covered.sheet_is)
+    c.read_all.new.list c.in_ok-read_all.ensures.listed
     c.evaluate.result c.evaluate.ensures

@@ -7,4 +7,5 @@ use Rattle.recalc_workers.proofs.settling.settle_level.Goals as goal
 
 pub returns-clause-clean : goal.returns-clause-clean
 returns-clause-clean g c =
-    subst (λ (s : Sizes). OnOk c.settle.result (KnowsCells (g.S.Subject.touches (subject_of c.args.marks.now)) s (view_of c.settle.new.editor) c.args.level.now)) c.sizes-sizes.ensures.sizes c.settle.ensures.clean
+    subst (λ (s : Sizes). OnOk c.settle.result (KnowsCells (g.S.Subject.touches (subject_of c.args.marks.now)) s
+    (view_of c.settle.new.editor) c.args.level.now)) c.sizes-sizes.ensures.sizes c.settle.ensures.clean

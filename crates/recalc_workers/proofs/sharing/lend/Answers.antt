@@ -8,4 +8,5 @@ use Rattle.recalc_workers.proofs.sharing.lend.Goals as goal
 pub returns-clause-knows : goal.returns-clause-knows
 returns-clause-knows g c =
     lends (doing_of c.args.editor.now) _ _ (doing_of c.meet-2.new.seat) c.meet.ensures.met
-    (subst (λ (d : Doing _ _). HasMet d (doing_of c.meet.new.seat) (doing_of c.meet-2.new.seat)) c.meet.ensures.other_kept c.meet-2.ensures.met) c.requires.editor
+    (subst (λ (d : Doing _ _). HasMet d (doing_of c.meet.new.seat) (doing_of c.meet-2.new.seat))
+    c.meet.ensures.other_kept c.meet-2.ensures.met) c.requires.editor

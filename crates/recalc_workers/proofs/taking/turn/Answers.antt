@@ -13,9 +13,14 @@ returns-clause-jobs g c =
       mid = c.take.new.hand;
       taken = c.in-Some.ensures.taken;
       about = c.work-turn.ensures.comes.about;
-      offered = subst (λ hand. IsOfferedAgain (sizes_of c.args.jobs.now) hand c.offer_again.new.hand c.in-Some.job c.work-turn.result) c.work-turn.ensures.hand c.offer_again.ensures.offered;
+      offered =
+          subst (λ hand. IsOfferedAgain (sizes_of c.args.jobs.now) hand c.offer_again.new.hand c.in-Some.job
+          c.work-turn.result) c.work-turn.ensures.hand c.offer_again.ensures.offered;
     })
 
 pub returns-clause-cause : goal.returns-clause-cause
 returns-clause-cause g c =
-    c.work-turn.ensures.comes.cause c.args.desk.now.seat (record { keeps = keeps_itself c.args.desk.now.seat; idle = record { holds = refl; done = refl; lost = refl } }) tt
+    c.work-turn.ensures.comes.cause c.args.desk.now.seat (record {
+      keeps = keeps_itself c.args.desk.now.seat;
+      idle = record { holds = refl; done = refl; lost = refl };
+    }) tt

@@ -10,7 +10,12 @@ pub returns : goal.returns
 returns c =
     let are = MatchOption-at_some _ _ _ c.in-Some.is c.in_ok-sheet.ensures in
     subst (λ name. Asks (codes "check" ∷ bytes_of c.args.words.now) (of_check name)) (sym c.in_ok-sheet-2.ensures.ok)
-    (record { command = check_word; rest = bytes_of c.args.words.now; words_are = refl; behind = record { sheet = c.in-Some.sheet.now; position = are; request_is = refl } })
+    (record {
+      command = check_word;
+      rest = bytes_of c.args.words.now;
+      words_are = refl;
+      behind = record { sheet = c.in-Some.sheet.now; position = are; request_is = refl };
+    })
 
 pub returns-in_default : goal.returns-in_default
 returns-in_default c = λ request asked.

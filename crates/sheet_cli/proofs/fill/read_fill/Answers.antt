@@ -39,7 +39,8 @@ pub returns-in_default-cell_of : goal.returns-in_default-cell_of
 returns-in_default-cell_of c = λ request asked.
     let asks = behind fill_word (bytes_of c.args.words.now) request asked in
     let are = MatchOption-at_some _ _ _ c.in-Some.is c.in_ok-sheet.ensures in
-    let three : asks.sheet ∷ asks.first ∷ asks.second ∷ [] ≡ c.in-Some.sheet.now ∷ c.in-Some.first.now ∷ c.in-Some.second.now ∷ [] = sym asks.positions.words_are ∙ are.words_are in
+    let three : asks.sheet ∷ asks.first ∷ asks.second ∷ [] ≡ c.in-Some.sheet.now ∷ c.in-Some.first.now
+    ∷ c.in-Some.second.now ∷ [] = sym asks.positions.words_are ∙ are.words_are in
     let firsts : asks.first ≡ c.in-Some.first.now = cc three in
     c.in_default-cell_of.ensures asks.from (subst (λ name. IsCellName name asks.from) (firsts ∙ sym c.as_bytes.ensures.value) asks.cell_named)
 
@@ -47,6 +48,7 @@ pub returns-in_default-range_of : goal.returns-in_default-range_of
 returns-in_default-range_of c = λ request asked.
     let asks = behind fill_word (bytes_of c.args.words.now) request asked in
     let are = MatchOption-at_some _ _ _ c.in-Some.is c.in_ok-sheet.ensures in
-    let three : asks.sheet ∷ asks.first ∷ asks.second ∷ [] ≡ c.in-Some.sheet.now ∷ c.in-Some.first.now ∷ c.in-Some.second.now ∷ [] = sym asks.positions.words_are ∙ are.words_are in
+    let three : asks.sheet ∷ asks.first ∷ asks.second ∷ [] ≡ c.in-Some.sheet.now ∷ c.in-Some.first.now
+    ∷ c.in-Some.second.now ∷ [] = sym asks.positions.words_are ∙ are.words_are in
     let seconds : asks.second ≡ c.in-Some.second.now = cc three in
     c.in_default-range_of.ensures asks.to (subst (λ name. IsRangeName name asks.to) (seconds ∙ sym c.as_bytes-2.ensures.value) asks.range_named)

@@ -3,4 +3,13 @@ use Rattle.sheet_cli.proofs.RowShow.{accepted_row, outside_row, show_row, usage_
 use Rattle.sheet_cli.proofs.laws.row_laws.Goals as goal
 
 pub returns : goal.returns
-returns c = record { show = show_row; accepted = accepted_row; outside = outside_row; usage = usage_row; deps = deps_row; precs = precs_row; check = check_row; listed = listed_row }
+returns c = record {
+  show = show_row;
+  accepted = accepted_row;
+  outside = outside_row;
+  usage = usage_row;
+  deps = deps_row;
+  precs = precs_row;
+  check = check_row;
+  listed = listed_row;
+}

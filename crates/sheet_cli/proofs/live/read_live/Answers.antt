@@ -27,7 +27,8 @@ returns c =
     let takes = MatchOption-at_some _ _ _ c.in-Some.is c.in_ok-taken.ensures in
     let are = MatchOption-at_some _ _ _ c.in-Some-2.is c.in_ok-sheet.ensures in
     let two = subst (λ ws. AreTwoPositions ws c.in-Some-2.sheet.now c.in-Some-2.script.now) (ap bytes_of c.deref.ensures.value) are in
-    let asked : Asks (codes "live" ∷ bytes_of c.args.words.now) (of_script (Live c.in-Some.taken.workers) c.in-Some-2.sheet.now c.in-Some-2.script.now) = record {
+    let asked : Asks (codes "live" ∷ bytes_of c.args.words.now) (of_script (Live c.in-Some.taken.workers)
+    c.in-Some-2.sheet.now c.in-Some-2.script.now) = record {
       command = live_word;
       rest = bytes_of c.args.words.now;
       words_are = refl;
@@ -41,5 +42,7 @@ returns c =
         request_is = refl;
       };
     } in
-    subst (λ name. Asks (codes "live" ∷ bytes_of c.args.words.now) (of_script (Live c.in-Some.taken.workers) name (string_bytes c.in_ok-script.script))) (sym c.in_ok-sheet-2.ensures.ok)
-    (subst (λ name. Asks (codes "live" ∷ bytes_of c.args.words.now) (of_script (Live c.in-Some.taken.workers) c.in-Some-2.sheet.now name)) (sym c.in_ok-script.ensures.ok) asked)
+    subst (λ name. Asks (codes "live" ∷ bytes_of c.args.words.now) (of_script (Live c.in-Some.taken.workers) name
+    (string_bytes c.in_ok-script.script))) (sym c.in_ok-sheet-2.ensures.ok)
+    (subst (λ name. Asks (codes "live" ∷ bytes_of c.args.words.now) (of_script (Live c.in-Some.taken.workers)
+    c.in-Some-2.sheet.now name)) (sym c.in_ok-script.ensures.ok) asked)

@@ -6,5 +6,6 @@ use Rattle.sheet_cli.proofs.options.digits_in.Goals as goal
 
 pub returns : goal.returns
 returns c =
-    subst (λ text. MatchOption c.strip_prefix.result ((digits : List ℕ) → text ≢ codes "--workers=" ++ digits) (λ digits. text ≡ codes "--workers=" ++ digits.now)) c.as_bytes.ensures.value
+    subst (λ text. MatchOption c.strip_prefix.result ((digits : List ℕ) → text ≢ codes "--workers="
+    ++ digits) (λ digits. text ≡ codes "--workers=" ++ digits.now)) c.as_bytes.ensures.value
     (strip_prefix_is Decides-eqb c.as_bytes.result.now (codes "--workers=") c.strip_prefix.result c.strip_prefix.ensures.cases)

@@ -19,5 +19,6 @@ returns-in-Some c =
 pub returns-in-None : goal.returns-in-None
 returns-in-None c =
     let before = bytes_of c.args.before.now in
-    subst (λ ws. (left : List (List ℕ)) (workers : ℕ) → ¬ TakesWorkers (before ++ codes "--workers" ∷ bytes_of ws) left workers) (sym (nil_from_length c.args.after.now c.in-None.ensures.cases))
+    subst (λ ws. (left : List (List ℕ)) (workers : ℕ) → ¬ TakesWorkers (before ++ codes "--workers" ∷ bytes_of ws) left
+    workers) (sym (nil_from_length c.args.after.now c.in-None.ensures.cases))
     (no_digits before (codes "--workers") (as_bytes c.args.before.now c.requires) refl)

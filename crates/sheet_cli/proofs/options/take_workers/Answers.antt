@@ -11,5 +11,6 @@ returns-in_ok-join_words-in-None c =
     let before = c.split_plain.result.0.now in
     let none = nil_from_length c.split_plain.result.1.now c.in-None.ensures.cases in
     let all : c.args.words.now ≡ before = c.split_plain.ensures.parts ∙ ap (λ behind. before ++ behind) none ∙ append-nil before in
-    let left = c.in_ok-join_words-in-None.ensures ∙ ap (λ behind. bytes_of before ++ bytes_of behind) none ∙ append-nil (bytes_of before) ∙ ap bytes_of (sym all) in
+    let left = c.in_ok-join_words-in-None.ensures ∙ ap (λ behind. bytes_of before ++ bytes_of behind) none
+    ∙ append-nil (bytes_of before) ∙ ap bytes_of (sym all) in
     without (as_bytes c.args.words.now (subst (All (λ word. ¬ IsOption (string_bytes word))) (sym all) c.split_plain.ensures.plain)) left refl

@@ -10,4 +10,5 @@ match_one-requires c = record { plain = as_bytes c.args.words.now (c.are_positio
 
 pub returns : goal.returns
 returns c =
-    one_found (λ s. s.now) (bytes_of c.args.words.now) c.match_one.result (as_bytes c.args.words.now (c.are_positions.ensures.0 c.if-not-are_positions.false)) c.match_one.ensures
+    one_found (λ s. s.now) (bytes_of c.args.words.now) c.match_one.result
+    (as_bytes c.args.words.now (c.are_positions.ensures.0 c.if-not-are_positions.false)) c.match_one.ensures

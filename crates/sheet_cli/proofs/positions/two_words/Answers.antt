@@ -10,4 +10,5 @@ match_two-requires c = record { plain = as_bytes c.args.words.now (c.are_positio
 
 pub returns : goal.returns
 returns c =
-    two_found (λ pair. pair.0.now) (λ pair. pair.1.now) (bytes_of c.args.words.now) c.match_two.result (as_bytes c.args.words.now (c.are_positions.ensures.0 c.if-not-are_positions.false)) c.match_two.ensures
+    two_found (λ pair. pair.0.now) (λ pair. pair.1.now) (bytes_of c.args.words.now) c.match_two.result
+    (as_bytes c.args.words.now (c.are_positions.ensures.0 c.if-not-are_positions.false)) c.match_two.ensures

@@ -19,7 +19,8 @@ returns-in-OfWindow-clause-nothing_fetched g c =
 pub returns-in-OfCheck-clause-owed : goal.returns-in-OfCheck-clause-owed
 returns-in-OfCheck-clause-owed g c =
     let asked = subst (IsAskedBy (bytes_of c.args.words.now)) c.in-OfCheck.is c.in_ok-command.ensures in
-    if_reply c.reply_of_check.result _ _ c.reply_of_check.ensures.reply (λ reply is. to_words _ _ _ _ _ reply asked (rw c.as_str-in-OfCheck.ensures.value at is))
+    if_reply c.reply_of_check.result _ _ c.reply_of_check.ensures.reply (λ reply is. to_words _ _ _ _ _ reply asked
+    (rw c.as_str-in-OfCheck.ensures.value at is))
 
 pub returns-in-OfCheck-clause-nothing_fetched : goal.returns-in-OfCheck-clause-nothing_fetched
 returns-in-OfCheck-clause-nothing_fetched g c =
@@ -46,7 +47,8 @@ returns-in-OfFill-clause-nothing_fetched g c =
 pub returns-in-OfScript-clause-owed : goal.returns-in-OfScript-clause-owed
 returns-in-OfScript-clause-owed g c =
     let asked = subst (IsAskedBy (bytes_of c.args.words.now)) c.in-OfScript.is c.in_ok-command.ensures in
-    if_reply c.reply_of_script.result _ _ c.reply_of_script.ensures.reply (λ reply is. to_words _ _ _ _ _ reply asked (rw (c.as_str-in-OfScript.ensures.value, c.as_str-in-OfScript-2.ensures.value) at is))
+    if_reply c.reply_of_script.result _ _ c.reply_of_script.ensures.reply (λ reply is. to_words _ _ _ _ _ reply asked
+    (rw (c.as_str-in-OfScript.ensures.value, c.as_str-in-OfScript-2.ensures.value) at is))
 
 pub reply_of_script-requires : goal.reply_of_script-requires
 reply_of_script-requires g c =

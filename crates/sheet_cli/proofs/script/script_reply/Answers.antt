@@ -19,4 +19,6 @@ returns-in_ok-text-in-Live g c =
 
 pub returns-in-Undo : goal.returns-in-Undo
 returns-in-Undo g c =
-    if_reply c.undo_reply.result _ _ c.undo_reply.ensures (λ reply is. subst (λ m. AnswersScript m c.args.sheet c.args.script.now (answer_of reply)) (sym c.in-Undo.is) is)
+    if_reply c.undo_reply.result _ _ c.undo_reply.ensures
+    (λ reply is. subst (λ m. AnswersScript m c.args.sheet c.args.script.now (answer_of reply)) (sym c.in-Undo.is)
+    is)

@@ -12,8 +12,10 @@ pub returns : goal.returns
 returns c =
     let are = MatchOption-at_some _ _ _ c.in-Some.is c.in_ok-sheet.ensures in
     let numbered : IsNumber c.in-Some.digits.now c.in-Some-number_of.number = rw c.as_bytes.ensures.value at c.in-Some-number_of.ensures in
-    subst (λ name. Asks (codes "undo" ∷ bytes_of c.args.words.now) (of_script (Undo c.in-Some-number_of.number) name (string_bytes c.in_ok-script.script))) (sym c.in_ok-sheet-2.ensures.ok)
-    (subst (λ name. Asks (codes "undo" ∷ bytes_of c.args.words.now) (of_script (Undo c.in-Some-number_of.number) c.in-Some.sheet.now name)) (sym c.in_ok-script.ensures.ok)
+    subst (λ name. Asks (codes "undo" ∷ bytes_of c.args.words.now) (of_script (Undo c.in-Some-number_of.number) name
+    (string_bytes c.in_ok-script.script))) (sym c.in_ok-sheet-2.ensures.ok)
+    (subst (λ name. Asks (codes "undo" ∷ bytes_of c.args.words.now) (of_script (Undo c.in-Some-number_of.number)
+    c.in-Some.sheet.now name)) (sym c.in_ok-script.ensures.ok)
     (record {
       command = undo_word;
       rest = bytes_of c.args.words.now;
@@ -38,6 +40,7 @@ pub returns-in_default-number_of : goal.returns-in_default-number_of
 returns-in_default-number_of c = λ request asked.
     let asks = behind undo_word (bytes_of c.args.words.now) request asked in
     let are = MatchOption-at_some _ _ _ c.in-Some.is c.in_ok-sheet.ensures in
-    let three : asks.sheet ∷ asks.script ∷ asks.digits ∷ [] ≡ c.in-Some.sheet.now ∷ c.in-Some.script.now ∷ c.in-Some.digits.now ∷ [] = sym asks.positions.words_are ∙ are.words_are in
+    let three : asks.sheet ∷ asks.script ∷ asks.digits ∷ [] ≡ c.in-Some.sheet.now ∷ c.in-Some.script.now
+    ∷ c.in-Some.digits.now ∷ [] = sym asks.positions.words_are ∙ are.words_are in
     let digits : asks.digits ≡ c.in-Some.digits.now = cc three in
     c.in_default-number_of.ensures asks.number (subst (λ word. IsNumber word asks.number) (digits ∙ sym c.as_bytes.ensures.value) asks.numbered)

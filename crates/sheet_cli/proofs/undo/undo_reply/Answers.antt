@@ -22,7 +22,8 @@ returns-in_ok-of_edit-in-Ok c =
     (undone edit (record {
       undoes = subst (λ entries. Undoes c.args.sheet entries c.args.number edit) log c.in-Ok.ensures.undoes;
       latest = λ by cell late. edit_or_none edit (refused.Overtaken by cell)
-          ((c.in-Ok.ensures.overtaken by cell (edit_or_none edit refused.Memory)).1 (subst (λ entries. IsOvertaken entries c.args.number by cell) (sym log) late));
+          ((c.in-Ok.ensures.overtaken by cell (edit_or_none edit refused.Memory)).1
+          (subst (λ entries. IsOvertaken entries c.args.number by cell) (sym log) late));
     }))
 
 pub returns-in_ok-not_undone-in-Err : goal.returns-in_ok-not_undone-in-Err

@@ -11,7 +11,8 @@ pub returns : goal.returns
 returns c =
     let are = MatchOption-at_some _ _ _ c.in-Some.is c.in_ok-sheet.ensures in
     let named : IsRangeName c.in-Some.range.now c.in-Some-range_of.range = rw c.as_bytes.ensures.value at c.in-Some-range_of.ensures in
-    subst (λ name. Asks (command_word c.args.command ∷ bytes_of c.args.words.now) (of_window c.args.command name c.in-Some-range_of.range)) (sym c.in_ok-sheet-2.ensures.ok)
+    subst (λ name. Asks (command_word c.args.command ∷ bytes_of c.args.words.now)
+    (of_window c.args.command name c.in-Some-range_of.range)) (sym c.in_ok-sheet-2.ensures.ok)
     (record {
       command = window_word c.args.command;
       rest = bytes_of c.args.words.now;

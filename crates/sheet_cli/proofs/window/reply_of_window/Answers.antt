@@ -6,9 +6,12 @@ use Rattle.sheet_cli.proofs.window.reply_of_window.Goals as goal
 
 pub returns-in-Ok-clause-reply : goal.returns-in-Ok-clause-reply
 returns-in-Ok-clause-reply g c =
-    let gives = subst (HasFetched (g.F.Shelf.holds c.args.shelf.now) c.args.name.now (g.F.Shelf.faults c.args.shelf.now) (g.F.Shelf.faults c.fetch_sheet.new.shelf)) c.in-Ok.is c.in_ok-sheet.ensures.found in
+    let gives = subst (HasFetched (g.F.Shelf.holds c.args.shelf.now) c.args.name.now (g.F.Shelf.faults c.args.shelf.now)
+    (g.F.Shelf.faults c.fetch_sheet.new.shelf)) c.in-Ok.is c.in_ok-sheet.ensures.found in
     if_reply c.window_reply.result _ _ c.window_reply.ensures (λ reply is. inr (over_sheet c.in-Ok.sheet (answer_of reply) gives is))
 
 pub returns-in-Err-clause-reply : goal.returns-in-Err-clause-reply
 returns-in-Err-clause-reply g c =
-    no_window _ c.args.name.now _ _ c.args.command c.args.range c.in-Err.reply (subst (HasFetched (g.F.Shelf.holds c.args.shelf.now) c.args.name.now (g.F.Shelf.faults c.args.shelf.now) (g.F.Shelf.faults c.fetch_sheet.new.shelf)) c.in-Err.is c.in_ok-sheet.ensures.found)
+    no_window _ c.args.name.now _ _ c.args.command c.args.range c.in-Err.reply
+    (subst (HasFetched (g.F.Shelf.holds c.args.shelf.now) c.args.name.now (g.F.Shelf.faults c.args.shelf.now)
+    (g.F.Shelf.faults c.fetch_sheet.new.shelf)) c.in-Err.is c.in_ok-sheet.ensures.found)

@@ -6,8 +6,11 @@ use Rattle.sheet_cli.proofs.words.read_words.Goals as goal
 
 pub returns-in-Some-window_command : goal.returns-in-Some-window_command
 returns-in-Some-window_command c =
-    let named : string_bytes c.in-Some.command.now ≡ command_word c.in-Some-window_command.window = sym c.as_str.ensures.value ∙ MatchOption-at_some _ _ _ c.in-Some-window_command.is c.window_command.ensures in
-    let words_are : bytes_of c.args.words.now ≡ command_word c.in-Some-window_command.window ∷ bytes_of c.in-Some.rest.now = ap bytes_of c.in-Some.ensures.cases.0 ∙ ap (λ w. w ∷ bytes_of c.in-Some.rest.now) named in
+    let named : string_bytes c.in-Some.command.now ≡ command_word c.in-Some-window_command.window =
+    sym c.as_str.ensures.value ∙ MatchOption-at_some _ _ _ c.in-Some-window_command.is c.window_command.ensures in
+    let words_are : bytes_of c.args.words.now ≡ command_word c.in-Some-window_command.window
+    ∷ bytes_of c.in-Some.rest.now = ap bytes_of c.in-Some.ensures.cases.0
+    ∙ ap (λ w. w ∷ bytes_of c.in-Some.rest.now) named in
     subst (λ words. IfOk c.read_window.result (IsAskedBy words)) (sym words_are) c.read_window.ensures
 
 pub returns-in-None : goal.returns-in-None

@@ -12,6 +12,7 @@ rises-requires c = IsNonDecreasingBy-from_sort (λ n. n) c.sort_unstable.new.sel
 pub returns-clause-distinct : goal.returns-clause-distinct
 returns-clause-distinct c =
     let same : IsPermutation (map (λ (x : ChangeValue). named_place x.cell) c.args.changes.now) c.sort_unstable.new.self =
-    subst (λ (ps : List ℕ). IsPermutation ps c.sort_unstable.new.self) (c.as_mut_slice-sorted.ensures.value ∙ c.changed_places-places.ensures.places) c.sort_unstable.ensures.permutation in
+    subst (λ (ps : List ℕ). IsPermutation ps c.sort_unstable.new.self) (c.as_mut_slice-sorted.ensures.value
+    ∙ c.changed_places-places.ensures.places) c.sort_unstable.ensures.permutation in
     let up : IsNonDecreasing c.sort_unstable.new.self = IsNonDecreasingBy-from_sort (λ n. n) c.sort_unstable.new.self c.sort_unstable.ensures.sorted in
     told_distinct c.rises.result c.args.changes.now c.sort_unstable.new.self c.changed_places-places.ensures.named same up c.rises.ensures

@@ -10,7 +10,9 @@ use Rattle.sheet_model.proofs.eval.first_words.Goals as goal
 pub loop-content-preserved : goal.loop-content-preserved
 loop-content-preserved c =
     rw c.in_ok-push.ensures.items (record {
-      states = states_more c.args.contents.now c.loop-content.words.items c.loop-content.content-index c.content-item.result c.first_word.result c.loop-content.invariant.states c.loop-content-test.true c.content-item.is c.first_word.ensures.state;
+      states = states_more c.args.contents.now c.loop-content.words.items c.loop-content.content-index
+          c.content-item.result c.first_word.result c.loop-content.invariant.states c.loop-content-test.true
+          c.content-item.is c.first_word.ensures.state;
       words = words_push c.loop-content.words.items c.first_word.result c.loop-content.invariant.words c.first_word.ensures.word;
     })
 

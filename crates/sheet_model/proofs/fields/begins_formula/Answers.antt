@@ -7,6 +7,8 @@ returns-then-starts_with c = (begins_equals c.args.field.now c.starts_with.resul
 
 pub returns-else-starts_with : goal.returns-else-starts_with
 returns-else-starts_with c = (
-  begins_prefix c.args.field.now c.starts_with.result c.starts_with-else-starts_with.result c.starts_with.ensures.value c.starts_with-else-starts_with.ensures.value,
-  prefix_begins c.args.field.now c.starts_with.result c.starts_with-else-starts_with.result c.starts_with.ensures.value c.starts_with-else-starts_with.ensures.value c.if-starts_with.false,
+  begins_prefix c.args.field.now c.starts_with.result c.starts_with-else-starts_with.result c.starts_with.ensures.value
+      c.starts_with-else-starts_with.ensures.value,
+  prefix_begins c.args.field.now c.starts_with.result c.starts_with-else-starts_with.result c.starts_with.ensures.value
+      c.starts_with-else-starts_with.ensures.value c.if-starts_with.false,
 )

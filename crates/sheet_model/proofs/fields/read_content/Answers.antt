@@ -13,13 +13,21 @@ pub returns-in-Some-clause-table : goal.returns-in-Some-clause-table
 returns-in-Some-clause-table c = other _ _ _ (λ field. field.no_number c.in-Some.number (rw c.as_bytes-field.ensures.value at c.in-Some.ensures)) refl
 
 pub returns-in-Some-truth_of-clause-table : goal.returns-in-Some-truth_of-clause-table
-returns-in-Some-truth_of-clause-table c = other _ _ _ (λ field. field.no_truth c.in-Some-truth_of.truth (rw c.as_bytes-field.ensures.value at c.in-Some-truth_of.ensures)) refl
+returns-in-Some-truth_of-clause-table c =
+    other _ _ _ (λ field. field.no_truth c.in-Some-truth_of.truth
+    (rw c.as_bytes-field.ensures.value at c.in-Some-truth_of.ensures)) refl
 
 pub returns-in-Some-error_of-clause-table : goal.returns-in-Some-error_of-clause-table
-returns-in-Some-error_of-clause-table c = other _ _ _ (λ field. field.no_error c.in-Some-error_of.kind (rw c.as_bytes-field.ensures.value at c.in-Some-error_of.ensures)) refl
+returns-in-Some-error_of-clause-table c =
+    other _ _ _ (λ field. field.no_error c.in-Some-error_of.kind
+    (rw c.as_bytes-field.ensures.value at c.in-Some-error_of.ensures)) refl
 
 pub returns-then-begins_formula-clause-table : goal.returns-then-begins_formula-clause-table
-returns-then-begins_formula-clause-table c = on_ok c.formula_content.result _ (other _ _ _ (λ field. field.no_formula (rw c.as_bytes-field.ensures.value at (c.begins_formula.ensures.0 c.if-begins_formula.true))) refl)
+returns-then-begins_formula-clause-table c =
+    on_ok c.formula_content.result _
+    (other _ _ _
+    (λ field. field.no_formula
+    (rw c.as_bytes-field.ensures.value at (c.begins_formula.ensures.0 c.if-begins_formula.true))) refl)
 
 pub returns-clause-table : goal.returns-clause-table
 returns-clause-table c =

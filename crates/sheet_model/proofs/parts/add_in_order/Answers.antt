@@ -7,5 +7,6 @@ use Rattle.sheet_model.proofs.parts.add_in_order.Goals as goal
 pub returns : goal.returns
 returns c =
     rw c.reverse_from.ensures
-    (adds_reversed c.args.sizes (λ cell. IsNamedBy (references_of (tree_of c.args.root.now)) cell) c.args.parts.now.items c.add_parts.new.parts.items c.len-first.result
+    (adds_reversed c.args.sizes (λ cell. IsNamedBy (references_of (tree_of c.args.root.now)) cell)
+    c.args.parts.now.items c.add_parts.new.parts.items c.len-first.result
     (c.len-first.ensures ∙ c.args.parts.now.ok.0) c.in_ok-add_parts.ensures)

@@ -15,13 +15,18 @@ loop-place-init c = (c.requires.part, record { inside = c.cell_at-cell.ensures.i
 pub returns-then-not-is_plain-clause-stop : goal.returns-then-not-is_plain-clause-stop
 returns-then-not-is_plain-clause-stop c =
     let below : c.loop-place.place < length (cells_of c.args.part.range) = omega (arith, c.loop-place-test.true, c.cells-cells.ensures.count) in
-    stop_here c.args.sizes (states_of c.args.words.now) c.args.part c.loop-place.place c.loop-place.cell c.is_plain.result (c.loop-place.invariant.1.listed below) c.is_plain.ensures (search rules)
+    stop_here c.args.sizes (states_of c.args.words.now) c.args.part c.loop-place.place c.loop-place.cell
+    c.is_plain.result (c.loop-place.invariant.1.listed below) c.is_plain.ensures (search rules)
 
 pub loop-place-preserved : goal.loop-place-preserved
 loop-place-preserved c =
     let below : c.loop-place.place < length (cells_of c.args.part.range) = omega (arith, c.loop-place-test.true, c.cells-cells.ensures.count) in
-    let more = part_more c.args.sizes (states_of c.args.words.now) c.args.part c.loop-place.place c.loop-place.cell c.loop-place.invariant.0 (c.loop-place.invariant.1.listed below) (sym c.is_plain.ensures ∙ search rules) in
-    (more, comes_to_next c.args.part.range c.loop-place.place c.loop-place.cell c.cell_behind-cell.result c.loop-place.invariant.1 below c.cell_behind-cell.ensures.next c.cell_behind-cell.ensures.inside)
+    let more = part_more c.args.sizes (states_of c.args.words.now) c.args.part c.loop-place.place c.loop-place.cell
+    c.loop-place.invariant.0 (c.loop-place.invariant.1.listed below) (sym c.is_plain.ensures ∙ search rules) in (
+      more,
+      comes_to_next c.args.part.range c.loop-place.place c.loop-place.cell c.cell_behind-cell.result
+          c.loop-place.invariant.1 below c.cell_behind-cell.ensures.next c.cell_behind-cell.ensures.inside,
+    )
 
 pub returns-clause-stop : goal.returns-clause-stop
 returns-clause-stop c =

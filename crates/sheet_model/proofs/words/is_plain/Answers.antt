@@ -6,4 +6,5 @@ pub is_plain_word-requires : goal.is_plain_word-requires
 is_plain_word-requires c = word_at c.args.words.now c.place.result 0 c.requires.words (omega (arith, c.place.ensures.within, c.requires.count))
 
 pub returns : goal.returns
-returns c = c.is_plain_word.ensures ∙ plain_at c.args.sizes c.args.words.now c.args.cell c.place.result 0 c.place.ensures.place (omega (arith, c.place.ensures.within, c.requires.count))
+returns c = c.is_plain_word.ensures ∙ plain_at c.args.sizes c.args.words.now c.args.cell c.place.result 0
+    c.place.ensures.place (omega (arith, c.place.ensures.within, c.requires.count))

@@ -19,10 +19,16 @@ alone c =
 
 pub returns-in_default-clause-spaced : goal.returns-in_default-clause-spaced
 returns-in_default-clause-spaced c =
-    record { ordered = c.in_ok-insert.ensures.ordered; spaced = filled_spaced _ _ _ _ _ _ c.requires.spaced.spaced c.requires.rows.1 c.span_of-start.ensures.begins c.span_of-start.ensures.ends (alone c) }
+    record {
+      ordered = c.in_ok-insert.ensures.ordered;
+      spaced = filled_spaced _ _ _ _ _ _ c.requires.spaced.spaced
+          c.requires.rows.1 c.span_of-start.ensures.begins c.span_of-start.ensures.ends (alone c);
+    }
 
 pub returns-in_default-clause-joined : goal.returns-in_default-clause-joined
-returns-in_default-clause-joined c = filled_joined _ _ _ _ _ _ c.requires.spaced.spaced c.requires.rows.1 c.span_of-start.ensures.begins c.span_of-start.ensures.ends (alone c)
+returns-in_default-clause-joined c =
+    filled_joined _ _ _ _ _ _ c.requires.spaced.spaced c.requires.rows.1 c.span_of-start.ensures.begins
+    c.span_of-start.ensures.ends (alone c)
 
 covering : (c : After-clear_to) → Filled (get nat_cmp c.args.runs.now) (get nat_cmp c.clear_to.new.runs) c.span_of-start.result.0 c.span_of-start.result.1
 covering c =
@@ -33,7 +39,13 @@ covering c =
 
 pub returns-clause-spaced : goal.returns-clause-spaced
 returns-clause-spaced c =
-    record { ordered = c.clear_to.ensures.ordered; spaced = filled_spaced _ _ _ _ _ _ c.requires.spaced.spaced c.requires.rows.1 c.span_of-start.ensures.begins c.span_of-start.ensures.ends (covering c) }
+    record {
+      ordered = c.clear_to.ensures.ordered;
+      spaced = filled_spaced _ _ _ _ _ _ c.requires.spaced.spaced
+          c.requires.rows.1 c.span_of-start.ensures.begins c.span_of-start.ensures.ends (covering c);
+    }
 
 pub returns-clause-joined : goal.returns-clause-joined
-returns-clause-joined c = filled_joined _ _ _ _ _ _ c.requires.spaced.spaced c.requires.rows.1 c.span_of-start.ensures.begins c.span_of-start.ensures.ends (covering c)
+returns-clause-joined c =
+    filled_joined _ _ _ _ _ _ c.requires.spaced.spaced c.requires.rows.1 c.span_of-start.ensures.begins
+    c.span_of-start.ensures.ends (covering c)

@@ -11,5 +11,11 @@ pub returns : goal.returns
 returns c =
     let known = c.range.ensures.in_range tt in
     let entry : ℕ × ℕ = (c.in_ok-first.first.now, c.in_ok-first.last.now) in
-    let last = known.3 entry _ c.in_ok-first.ensures.steps in
-    (last.1, le_from_not_gt _ _ last.0.1, λ q below kept. ge_from_not_lt _ _ (known.4 entry _ c.in_ok-first.ensures.steps q (tt, not_gt_from_le q c.args.row below) kept))
+    let last = known.3 entry _ c.in_ok-first.ensures.steps in (
+      last.1,
+      le_from_not_gt _ _ last.0.1,
+      λ q below kept. ge_from_not_lt _ _ (known.4 entry _ c.in_ok-first.ensures.steps q (
+        tt,
+        not_gt_from_le q c.args.row below,
+      ) kept),
+    )

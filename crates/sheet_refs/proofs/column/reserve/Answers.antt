@@ -9,7 +9,11 @@ pub returns-in_ok-insert-clause-spaced : goal.returns-in_ok-insert-clause-spaced
 returns-in_ok-insert-clause-spaced c =
     let absent : get nat_cmp c.args.runs.now c.start_of-start.result ≡ None = search rules in
     let sets = sets_from_updates c.args.runs.now c.insert.new.self _ _ c.in_ok-insert.ensures.updates in
-    record { ordered = c.in_ok-insert.ensures.ordered; spaced = room_spaced _ _ _ _ c.start_of-start.ensures absent sets c.requires.spaced.spaced c.requires.row.1 }
+    record {
+      ordered = c.in_ok-insert.ensures.ordered;
+      spaced = room_spaced _ _ _ _ c.start_of-start.ensures absent sets
+          c.requires.spaced.spaced c.requires.row.1;
+    }
 
 pub returns-in_ok-insert-clause-room : goal.returns-in_ok-insert-clause-room
 returns-in_ok-insert-clause-room c =

@@ -11,10 +11,18 @@ pub returns-in_ok-end-in-None : goal.returns-in_ok-end-in-None
 returns-in_ok-end-in-None c = rw c.one.ensures (alone c.args.dotted c.args.text.now _ c.in_ok-end-in-None.ensures)
 
 pub returns-in_err-first-in-Some : goal.returns-in_err-first-in-Some
-returns-in_err-first-in-Some c = rw c.from_residual-in_err-first-in-Some.ensures (no_first_end c.args.dotted c.args.text.now c.in-Some.colon (sym c.in-Some.ensures) c.in_err-first-in-Some.ensures)
+returns-in_err-first-in-Some c =
+    rw c.from_residual-in_err-first-in-Some.ensures (no_first_end c.args.dotted c.args.text.now c.in-Some.colon
+    (sym c.in-Some.ensures) c.in_err-first-in-Some.ensures)
 
 pub returns-in_err-second-in-Some : goal.returns-in_err-second-in-Some
-returns-in_err-second-in-Some c = rw c.from_residual-in_err-second-in-Some.ensures (no_second_end c.args.dotted c.args.text.now c.in-Some.colon (sym c.in-Some.ensures) (λ end. rw (slice_rest c.args.text.now (c.in-Some.colon + 1)) at (c.in_err-second-in-Some.ensures end)))
+returns-in_err-second-in-Some c =
+    rw c.from_residual-in_err-second-in-Some.ensures (no_second_end c.args.dotted c.args.text.now c.in-Some.colon
+    (sym c.in-Some.ensures) (λ end. rw (slice_rest c.args.text.now (c.in-Some.colon + 1)) at
+    (c.in_err-second-in-Some.ensures end)))
 
 pub returns-in_ok-second-in-Some : goal.returns-in_ok-second-in-Some
-returns-in_ok-second-in-Some c = rw c.two.ensures (joined c.args.dotted c.args.text.now _ _ _ _ (around_colon c.args.text.now c.in-Some.colon (sym c.in-Some.ensures)) c.in_ok-first-in-Some.ensures (rw (slice_rest c.args.text.now (c.in-Some.colon + 1)) at c.in_ok-second-in-Some.ensures))
+returns-in_ok-second-in-Some c =
+    rw c.two.ensures (joined c.args.dotted c.args.text.now _ _ _ _ (around_colon c.args.text.now c.in-Some.colon
+    (sym c.in-Some.ensures)) c.in_ok-first-in-Some.ensures (rw (slice_rest c.args.text.now (c.in-Some.colon + 1)) at
+    c.in_ok-second-in-Some.ensures))

@@ -15,5 +15,7 @@ returns-in_err-row c =
 
 pub returns : goal.returns
 returns c =
-    let split : c.split_at.result.0.now ++ c.split_at.result.1.now ≡ c.args.text.now = rw (c.split_at.ensures.front, c.split_at.ensures.back) (take-append-drop c.letters_in_front.result c.args.text.now) in
+    let split : c.split_at.result.0.now ++ c.split_at.result.1.now ≡ c.args.text.now =
+    rw (c.split_at.ensures.front, c.split_at.ensures.back) (take-append-drop c.letters_in_front.result
+    c.args.text.now) in
     name_joined _ _ _ _ _ _ split c.in_ok-col.ensures c.in_ok-row.ensures c.new.ensures.named c.new.ensures.position

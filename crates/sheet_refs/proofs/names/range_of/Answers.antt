@@ -13,7 +13,12 @@ pub returns-in_err-head-in-Some : goal.returns-in_err-head-in-Some
 returns-in_err-head-in-Some c = rw c.from_residual-in_err-head-in-Some.ensures (no_head _ c.in-Some.colon (sym c.in-Some.ensures) c.in_err-head-in-Some.ensures)
 
 pub returns-in_err-tail-in-Some : goal.returns-in_err-tail-in-Some
-returns-in_err-tail-in-Some c = rw c.from_residual-in_err-tail-in-Some.ensures (no_tail c.args.text.now c.in-Some.colon (sym c.in-Some.ensures) (λ cell. rw (slice_rest c.args.text.now (c.in-Some.colon + 1)) at (c.in_err-tail-in-Some.ensures cell)))
+returns-in_err-tail-in-Some c =
+    rw c.from_residual-in_err-tail-in-Some.ensures (no_tail c.args.text.now c.in-Some.colon (sym c.in-Some.ensures)
+    (λ cell. rw (slice_rest c.args.text.now (c.in-Some.colon + 1)) at (c.in_err-tail-in-Some.ensures cell)))
 
 pub returns-in_ok-tail-in-Some : goal.returns-in_ok-tail-in-Some
-returns-in_ok-tail-in-Some c = rw c.of-in-Some.ensures.corners (two _ _ _ _ _ (around_colon c.args.text.now c.in-Some.colon (sym c.in-Some.ensures)) c.in_ok-head-in-Some.ensures (rw (slice_rest c.args.text.now (c.in-Some.colon + 1)) at c.in_ok-tail-in-Some.ensures))
+returns-in_ok-tail-in-Some c =
+    rw c.of-in-Some.ensures.corners
+    (two _ _ _ _ _ (around_colon c.args.text.now c.in-Some.colon (sym c.in-Some.ensures)) c.in_ok-head-in-Some.ensures
+    (rw (slice_rest c.args.text.now (c.in-Some.colon + 1)) at c.in_ok-tail-in-Some.ensures))

@@ -15,7 +15,8 @@ loop-col-preserved c = λ col low high.
       | inr not_before ↦
           let here : c.loop-col.col ≡ col = omega arith in
           subst (λ (gaps : List (ℕ × ℕ)). AreGaps (HasRow (column_at c.args.columns.now col)) c.args.first (c.args.last + 1) gaps) same
-          (subst (λ (k : ℕ). AreGaps (HasRow (column_at c.args.columns.now k)) c.args.first (c.args.last + 1) c.in_ok-others.others.items) here c.in_ok-others.ensures)
+          (subst (λ (k : ℕ). AreGaps (HasRow (column_at c.args.columns.now k)) c.args.first (c.args.last + 1)
+          c.in_ok-others.others.items) here c.in_ok-others.ensures)
     ]
 
 pub returns-clause-alike : goal.returns-clause-alike

@@ -23,7 +23,8 @@ returns-in_default-find_beyond-clause-round g c =
 
 pub returns-clause-names : goal.returns-clause-names
 returns-clause-names g c =
-    named_on c.args.store.now.slots c.grow_across.new.store.slots c.args.edge c.args.cell c.find_beyond.new.self c.grow_across.ensures.joined c.find_beyond.ensures.names
+    named_on c.args.store.now.slots c.grow_across.new.store.slots c.args.edge c.args.cell c.find_beyond.new.self
+    c.grow_across.ensures.joined c.find_beyond.ensures.names
 
 pub returns-clause-round : goal.returns-clause-round
 returns-clause-round g c =

@@ -7,13 +7,17 @@ use Rattle.taco_graph.proofs.JoinableLemmas.{others_still}
 use Rattle.taco_graph.proofs.changes.add_part.Goals as goal
 
 pub returns-in_default-clause-pairs : goal.returns-in_default-clause-pairs
-returns-in_default-clause-pairs g c = subst (λ (o : Option EdgeValue). GainsPartPairs c.args.store.now.slots c.args.store.now.slots o) (sym c.in_default.is) (gains_none c.args.store.now.slots)
+returns-in_default-clause-pairs g c =
+    subst (λ (o : Option EdgeValue). GainsPartPairs c.args.store.now.slots c.args.store.now.slots o)
+    (sym c.in_default.is) (gains_none c.args.store.now.slots)
 
 pub returns-clause-pairs : goal.returns-clause-pairs
 returns-clause-pairs g c = gains_some c.args.store.now.slots c.add.new.store.slots c.args.part c.in-Some.edge c.in-Some.is c.add.ensures.pairs
 
 pub returns-clause-holders : goal.returns-clause-holders
-returns-clause-holders g c lacks = c.add.ensures.holders (λ range pair. lacks range (subst (λ (o : Option EdgeValue). HasPair o range c.args.cell) (sym c.in-Some.is) pair))
+returns-clause-holders g c lacks =
+    c.add.ensures.holders (λ range pair. lacks range (subst (λ (o : Option EdgeValue). HasPair o range c.args.cell)
+    (sym c.in-Some.is) pair))
 
 pub add-requires-clause-apart : goal.add-requires-clause-apart
 add-requires-clause-apart g c range at pair kept = c.requires.apart range at (subst (λ (o : Option EdgeValue). HasPair o range at) (sym c.in-Some.is) pair) kept

@@ -14,11 +14,13 @@ returns-clause-pairs g c = subst (λ (e : EdgeValue). GainsPairs c.args.store.no
 
 pub returns-clause-joined : goal.returns-clause-joined
 returns-clause-joined g c =
-    let one : IsPair (single_edge c.args.cell c.args.range) c.args.range c.args.cell = (single_pair c.args.cell c.args.cell c.args.range c.args.range).1 (refl, refl) in
+    let one : IsPair (single_edge c.args.cell c.args.range) c.args.range c.args.cell =
+    (single_pair c.args.cell c.args.cell c.args.range c.args.range).1 (refl, refl) in
     all_still c.args.store.now.slots c.add.new.store.slots c.single-edge.result c.args.cell c.args.range c.check_edges.ensures
     (subst (λ (e : EdgeValue). IsPair e c.args.range c.args.cell) (sym c.single-edge.ensures) one) c.requires.joined c.add.ensures.joined
 
 pub returns-clause-names : goal.returns-clause-names
 returns-clause-names g c =
-    let one : IsPair (single_edge c.args.cell c.args.range) c.args.range c.args.cell = (single_pair c.args.cell c.args.cell c.args.range c.args.range).1 (refl, refl) in
+    let one : IsPair (single_edge c.args.cell c.args.range) c.args.range c.args.cell =
+    (single_pair c.args.cell c.args.cell c.args.range c.args.range).1 (refl, refl) in
     c.add.ensures.names (c.args.range, subst (λ (e : EdgeValue). IsPair e c.args.range c.args.cell) (sym c.single-edge.ensures) one)

@@ -15,7 +15,9 @@ loop-key-init g c = (
 pub loop-key-preserved : goal.loop-key-preserved
 loop-key-preserved g c =
     let place = c.loop-key.key-index in (
-      swept_more c.args.store.now.slots c.loop-key.store.slots c.take_out_at.new.store.slots c.args.cell (λ key. Contains (take place c.args.held.now) key) (λ key. Contains (take (place + 1) c.args.held.now) key) (get_or c.args.held.now place 0)
+      swept_more c.args.store.now.slots c.loop-key.store.slots c.take_out_at.new.store.slots c.args.cell
+          (λ key. Contains (take place c.args.held.now) key) (λ key. Contains (take (place + 1) c.args.held.now) key)
+          (get_or c.args.held.now place 0)
           (next_key c.args.held.now place (get_or c.args.held.now place 0) c.loop-key-test.true refl) c.take_out_at.ensures.holders c.loop-key.invariant.0,
       others_on c.args.store.now.slots c.loop-key.store.slots c.take_out_at.new.store.slots c.args.cell c.loop-key.invariant.1 c.take_out_at.ensures.others,
       λ beside room. c.take_out_at.ensures.room beside (c.loop-key.invariant.2 beside room),
@@ -25,7 +27,8 @@ loop-key-preserved g c =
 pub returns-clause-gone : goal.returns-clause-gone
 returns-clause-gone g c =
     swept_all c.args.store.now.slots c.loop-key.store.slots c.args.cell (λ key. Contains (take c.loop-key.key-index c.args.held.now) key)
-    (λ key edge range here pair. all_passed c.args.held.now c.loop-key.key-index key c.loop-key-test.false (c.requires.all key edge range here pair)) c.loop-key.invariant.0
+    (λ key edge range here pair. all_passed c.args.held.now c.loop-key.key-index key c.loop-key-test.false
+    (c.requires.all key edge range here pair)) c.loop-key.invariant.0
 
 pub take_out_at-requires-clause-joined : goal.take_out_at-requires-clause-joined
 take_out_at-requires-clause-joined g c = c.loop-key.invariant.3

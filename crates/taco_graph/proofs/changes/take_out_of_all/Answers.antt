@@ -24,7 +24,12 @@ loop-key-preserved g c =
 pub returns-clause-gone : goal.returns-clause-gone
 returns-clause-gone g c =
     swept_all c.args.store.now.slots c.loop-key.store.slots c.args.cell (λ key. key < c.loop-key.key)
-    (λ key edge range here pair. omega (arith, key_below c.args.store.now.slots key edge here, c.loop-key-test.false, c.end-key-end.ensures)) c.loop-key.invariant.0
+    (λ key edge range here pair. omega (
+      arith,
+      key_below c.args.store.now.slots key edge here,
+      c.loop-key-test.false,
+      c.end-key-end.ensures,
+    )) c.loop-key.invariant.0
 
 pub take_out_at-requires-clause-joined : goal.take_out_at-requires-clause-joined
 take_out_at-requires-clause-joined g c = c.loop-key.invariant.3

@@ -11,5 +11,7 @@ returns-then-not-send-clause-sent g c =
 
 pub returns-clause-sent : goal.returns-clause-sent
 returns-clause-sent g c =
-    subst (λ h. HandsOut g.F.FnMut c.args.to.now h c.send_cell-2.result c.send_cell-2.new.to) (ap₂ (λ h t. cell_text h ++ 58 ∷ cell_text t) c.head.ensures.head c.tail.ensures.tail)
-    (and_then g.F.FnMut _ _ _ _ _ _ c.if-not-send_cell.ensures.sent (and_then g.F.FnMut _ _ _ (58 ∷ []) _ _ c.if-not-send.ensures.sent c.send_cell-2.ensures.sent))
+    subst (λ h. HandsOut g.F.FnMut c.args.to.now h c.send_cell-2.result c.send_cell-2.new.to) (ap₂ (λ h t. cell_text h
+    ++ 58 ∷ cell_text t) c.head.ensures.head c.tail.ensures.tail)
+    (and_then g.F.FnMut _ _ _ _ _ _ c.if-not-send_cell.ensures.sent (and_then g.F.FnMut _ _ _ (58
+    ∷ []) _ _ c.if-not-send.ensures.sent c.send_cell-2.ensures.sent))

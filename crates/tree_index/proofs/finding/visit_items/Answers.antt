@@ -14,7 +14,8 @@ loop-item-preserved c =
     let entry : Entry = c.item-item.result in
     let q : Corners = c.args.q in
     let before : List Entry = take place entries in
-    let next : take (place + 1) entries ≡ before ++ entry ∷ [] = take_more entries place entry c.loop-item-test.true ∙ ap (λ (e : Entry). before ++ e ∷ []) (sym c.item-item.is) in
+    let next : take (place + 1) entries ≡ before ++ entry ∷ [] = take_more entries place entry c.loop-item-test.true
+    ∙ ap (λ (e : Entry). before ++ e ∷ []) (sym c.item-item.is) in
     let range : c.item.inside.range ≡ entry.range = ap (λ (e : Entry). e.range) c.item.view_is in
     let id : c.item.inside.id ≡ entry.id = ap (λ (e : Entry). e.id) c.item.view_is in
     let absent : HasNoId before entry.id = absent_before entries place entry c.requires c.loop-item-test.true c.item-item.is in
@@ -27,6 +28,9 @@ loop-item-preserved c =
           one_found before entry q c.args.out.now.items c.loop-item.out.items c.if-overlaps.out.items absent overlap pushed c.loop-item.invariant
       | else-overlaps w ↦
           let test : c.overlaps.result ≡ false = search rules in
-          let apart : Overlap entry.range q → ⊥ = λ overlap. absurd (let yes : c.overlaps.result ≡ true = c.overlaps.ensures.1 (subst (λ (r : Corners). Overlap r q) (sym range) overlap) in cc) in
+          let apart : Overlap entry.range q
+          → ⊥ =
+          λ overlap. absurd (let yes : c.overlaps.result ≡ true = c.overlaps.ensures.1
+          (subst (λ (r : Corners). Overlap r q) (sym range) overlap) in cc) in
           rw w.out-is (not_found before entry q c.args.out.now.items c.loop-item.out.items apart c.loop-item.invariant)
     ])

@@ -15,11 +15,17 @@ loop-item-preserved c =
     let place : ℕ = c.loop-item.item-index in
     let entry : Entry = c.item-item.result in
     let before : List Entry = take place items in
-    let next : take (place + 1) items ≡ before ++ entry ∷ [] = take_more items place entry c.loop-item-test.true ∙ ap (λ (e : Entry). before ++ e ∷ []) (sym c.item-item.is) in
+    let next : take (place + 1) items ≡ before ++ entry ∷ [] = take_more items place entry c.loop-item-test.true
+    ∙ ap (λ (e : Entry). before ++ e ∷ []) (sym c.item-item.is) in
     let range : c.item.inside.range ≡ entry.range = ap (λ (e : Entry). e.range) c.item.view_is in
-    let listed : Contains items entry = subst (λ (e : Entry). Contains items e) (sym c.item-item.is) (Contains-get_or items place entry c.loop-item-test.true) in (
-      subst (λ (l : List Entry). CoverAll c.span-whole.result l) (sym next) (covers_pushed before entry c.loop-item.whole c.span-whole.result c.span-whole.ensures.first (subst (λ (r : Corners). Covers c.span-whole.result r) range c.span-whole.ensures.second) c.loop-item.invariant.0),
-      λ outer covers. c.span-whole.ensures.least outer (c.loop-item.invariant.1 outer covers) (subst (λ (r : Corners). Covers outer r) (sym range) (covers entry listed)),
+    let listed : Contains items entry = subst (λ (e : Entry). Contains items e) (sym c.item-item.is)
+    (Contains-get_or items place entry c.loop-item-test.true) in (
+      subst (λ (l : List Entry). CoverAll c.span-whole.result l) (sym next)
+          (covers_pushed before entry c.loop-item.whole c.span-whole.result c.span-whole.ensures.first
+          (subst (λ (r : Corners). Covers c.span-whole.result r) range c.span-whole.ensures.second)
+          c.loop-item.invariant.0),
+      λ outer covers. c.span-whole.ensures.least outer (c.loop-item.invariant.1 outer covers)
+          (subst (λ (r : Corners). Covers outer r) (sym range) (covers entry listed)),
     )
 
 pub loop-item-init : goal.loop-item-init

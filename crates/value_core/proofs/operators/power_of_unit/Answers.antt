@@ -15,4 +15,7 @@ returns-then-exponent-eq1 c =
     c.in_range-then-exponent-eq1.ensures ∙ ap in_range (same ∙ sym (odd_power c.args.base c.args.exponent c.requires c.if-exponent-eq1.true))
 
 pub returns-else-exponent-eq1 : goal.returns-else-exponent-eq1
-returns-else-exponent-eq1 c = c.product.ensures ∙ ap in_range (sym (even_square c.args.base c.args.exponent c.requires c.if-exponent-eq0.false c.if-exponent-eq1.false))
+returns-else-exponent-eq1 c =
+    c.product.ensures
+    ∙ ap in_range (sym (even_square c.args.base c.args.exponent c.requires c.if-exponent-eq0.false
+    c.if-exponent-eq1.false))

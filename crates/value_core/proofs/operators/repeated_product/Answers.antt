@@ -10,7 +10,9 @@ unfolding power
 loop-done-init c = refl
 
 pub returns-in-None : goal.returns-in-None
-returns-in-None c = sym (out_of_range c.args.base c.loop-done._done c.args.exponent c.requires c.loop-done-test.true (rw c.loop-done.invariant at (c.in-None.ensures)))
+returns-in-None c =
+    sym (out_of_range c.args.base c.loop-done._done c.args.exponent c.requires c.loop-done-test.true
+    (rw c.loop-done.invariant at (c.in-None.ensures)))
 
 pub loop-done-preserved : goal.loop-done-preserved
 loop-done-preserved c = power_step c.args.base c.loop-done.product c.loop-done._done _ c.loop-done.invariant c.in-Some.ensures.1

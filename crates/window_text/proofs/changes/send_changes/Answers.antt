@@ -8,7 +8,9 @@ use Rattle.window_text.proofs.changes.send_changes.Goals as goal
 pub returns-then-not-send_change-clause-sent : goal.returns-then-not-send_change-clause-sent
 returns-then-not-send_change-clause-sent g c =
     let goes = changes_go_on c.args.labels.now c.args.changes.now c.loop-change.change-index c.change-item.result c.loop-change-test.true c.change-item.is in
-    ended g.F.FnMut _ _ _ _ _ _ (subst (Completes g.F.FnMut c.args.to.now (changes_text c.args.labels.now c.args.changes.now) c.loop-change.to) goes c.loop-change.invariant.completes) c.if-not-send_change.ensures.sent
+    ended g.F.FnMut _ _ _ _ _ _
+    (subst (Completes g.F.FnMut c.args.to.now (changes_text c.args.labels.now c.args.changes.now) c.loop-change.to)
+    goes c.loop-change.invariant.completes) c.if-not-send_change.ensures.sent
 
 pub loop-change-preserved : goal.loop-change-preserved
 loop-change-preserved g c =
@@ -16,10 +18,14 @@ loop-change-preserved g c =
     record {
       callable = c.if-not-send_change.ensures.callable;
       completes =
-          next g.F.FnMut _ _ _ _ _ _ (subst (Completes g.F.FnMut c.args.to.now (changes_text c.args.labels.now c.args.changes.now) c.loop-change.to) goes c.loop-change.invariant.completes) c.if-not-send_change.ensures.sent;
+          next g.F.FnMut _ _ _ _ _ _
+          (subst (Completes g.F.FnMut c.args.to.now (changes_text c.args.labels.now c.args.changes.now)
+          c.loop-change.to) goes c.loop-change.invariant.completes) c.if-not-send_change.ensures.sent;
     }
 
 pub returns-clause-sent : goal.returns-clause-sent
 returns-clause-sent g c =
     c.loop-change.invariant.completes _ true
-    (subst (λ t. HandsOut g.F.FnMut c.loop-change.to t true c.loop-change.to) (sym (changes_end c.args.labels.now c.args.changes.now c.loop-change.change-index c.loop-change-test.false)) (none g.F.FnMut c.loop-change.to))
+    (subst (λ t. HandsOut g.F.FnMut c.loop-change.to t true c.loop-change.to)
+    (sym (changes_end c.args.labels.now c.args.changes.now c.loop-change.change-index c.loop-change-test.false))
+    (none g.F.FnMut c.loop-change.to))

@@ -8,4 +8,6 @@ use Rattle.window_text.proofs.changes.send_content.Goals as goal
 
 pub returns-in-Empty-clause-sent : goal.returns-in-Empty-clause-sent
 returns-in-Empty-clause-sent g c =
-    subst (λ (content : Content). HandsOut g.F.FnMut c.args.to.now (content_text c.args.labels.now (content_value content)) true c.args.to.now) (sym c.in-Empty.is) (none g.F.FnMut c.args.to.now)
+    subst (λ (content : Content). HandsOut g.F.FnMut c.args.to.now
+    (content_text c.args.labels.now (content_value content)) true c.args.to.now) (sym c.in-Empty.is)
+    (none g.F.FnMut c.args.to.now)

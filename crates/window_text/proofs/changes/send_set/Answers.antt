@@ -14,13 +14,15 @@ returns-then-not-send-clause-sent g c =
 pub returns-then-not-send_cell-clause-sent : goal.returns-then-not-send_cell-clause-sent
 returns-then-not-send_cell-clause-sent g c =
     let content = content_text c.args.labels.now (content_value c.args.content.now) in
-    and_then g.F.FnMut _ _ _ (codes "set ") _ _ c.if-not-send.ensures.sent (cut g.F.FnMut _ _ (cell_text c.args.cell) (32 ∷ (content ++ 10 ∷ [])) c.if-not-send_cell.ensures.sent)
+    and_then g.F.FnMut _ _ _ (codes "set ") _ _ c.if-not-send.ensures.sent (cut g.F.FnMut _ _ (cell_text c.args.cell)
+    (32 ∷ (content ++ 10 ∷ [])) c.if-not-send_cell.ensures.sent)
 
 pub returns-then-not-send-2-clause-sent : goal.returns-then-not-send-2-clause-sent
 returns-then-not-send-2-clause-sent g c =
     let content = content_text c.args.labels.now (content_value c.args.content.now) in
     and_then g.F.FnMut _ _ _ (codes "set ") _ _ c.if-not-send.ensures.sent
-    (and_then g.F.FnMut _ _ _ (cell_text c.args.cell) _ _ c.if-not-send_cell.ensures.sent (cut g.F.FnMut _ _ (32 ∷ []) (content ++ 10 ∷ []) c.if-not-send-2.ensures.sent))
+    (and_then g.F.FnMut _ _ _ (cell_text c.args.cell) _ _ c.if-not-send_cell.ensures.sent (cut g.F.FnMut _ _ (32
+    ∷ []) (content ++ 10 ∷ []) c.if-not-send-2.ensures.sent))
 
 pub returns-then-not-send_content-clause-sent : goal.returns-then-not-send_content-clause-sent
 returns-then-not-send_content-clause-sent g c =
@@ -34,4 +36,5 @@ returns-clause-sent g c =
     let content = content_text c.args.labels.now (content_value c.args.content.now) in
     and_then g.F.FnMut _ _ _ (codes "set ") _ _ c.if-not-send.ensures.sent
     (and_then g.F.FnMut _ _ _ (cell_text c.args.cell) _ _ c.if-not-send_cell.ensures.sent
-    (and_then g.F.FnMut _ _ _ (32 ∷ []) _ _ c.if-not-send-2.ensures.sent (and_then g.F.FnMut _ _ _ content _ _ c.if-not-send_content.ensures.sent c.send-3.ensures.sent)))
+    (and_then g.F.FnMut _ _ _ (32 ∷ []) _ _ c.if-not-send-2.ensures.sent
+    (and_then g.F.FnMut _ _ _ content _ _ c.if-not-send_content.ensures.sent c.send-3.ensures.sent)))

@@ -9,13 +9,17 @@ use Rattle.window_text.proofs.edges.send_edge.Goals as goal
 pub returns-then-not-send_range-clause-sent : goal.returns-then-not-send_range-clause-sent
 returns-then-not-send_range-clause-sent g c =
     let e = c.args.edge.now in
-    cut g.F.FnMut _ _ (range_text e.dep) (after_run e) (subst (λ r. HandsOut g.F.FnMut c.args.to.now (range_text r) false c.send_range.new.to) c.dep.ensures.dep c.if-not-send_range.ensures.sent)
+    cut g.F.FnMut _ _ (range_text e.dep) (after_run e)
+    (subst (λ r. HandsOut g.F.FnMut c.args.to.now (range_text r) false c.send_range.new.to) c.dep.ensures.dep
+    c.if-not-send_range.ensures.sent)
 
 pub returns-then-not-send-clause-sent : goal.returns-then-not-send-clause-sent
 returns-then-not-send-clause-sent g c =
     let e = c.args.edge.now in
     ended g.F.FnMut _ _ _ (edge_line e) (32 ∷ []) (range_text e.prec ++ after_rectangle e)
-    (begun g.F.FnMut _ _ (range_text e.dep) (after_run e) (subst (λ r. HandsOut g.F.FnMut c.args.to.now (range_text r) true c.send_range.new.to) c.dep.ensures.dep c.if-not-send_range.ensures.sent))
+    (begun g.F.FnMut _ _ (range_text e.dep) (after_run e)
+    (subst (λ r. HandsOut g.F.FnMut c.args.to.now (range_text r) true c.send_range.new.to) c.dep.ensures.dep
+    c.if-not-send_range.ensures.sent))
     c.if-not-send.ensures.sent
 
 pub returns-then-not-send_range-2-clause-sent : goal.returns-then-not-send_range-2-clause-sent
@@ -23,7 +27,9 @@ returns-then-not-send_range-2-clause-sent g c =
     let e = c.args.edge.now in
     ended g.F.FnMut _ _ _ (edge_line e) (range_text e.prec) (after_rectangle e)
     (next g.F.FnMut _ _ _ (edge_line e) (32 ∷ []) (range_text e.prec ++ after_rectangle e)
-    (begun g.F.FnMut _ _ (range_text e.dep) (after_run e) (subst (λ r. HandsOut g.F.FnMut c.args.to.now (range_text r) true c.send_range.new.to) c.dep.ensures.dep c.if-not-send_range.ensures.sent))
+    (begun g.F.FnMut _ _ (range_text e.dep) (after_run e)
+    (subst (λ r. HandsOut g.F.FnMut c.args.to.now (range_text r) true c.send_range.new.to) c.dep.ensures.dep
+    c.if-not-send_range.ensures.sent))
     c.if-not-send.ensures.sent)
     (subst (λ r. HandsOut g.F.FnMut c.send.new.to (range_text r) false c.send_range-2.new.to) c.prec.ensures.prec c.if-not-send_range-2.ensures.sent)
 
@@ -33,7 +39,9 @@ returns-then-not-send-2-clause-sent g c =
     ended g.F.FnMut _ _ _ (edge_line e) (32 ∷ []) (pattern_text e.pattern ++ 10 ∷ [])
     (next g.F.FnMut _ _ _ (edge_line e) (range_text e.prec) (after_rectangle e)
     (next g.F.FnMut _ _ _ (edge_line e) (32 ∷ []) (range_text e.prec ++ after_rectangle e)
-    (begun g.F.FnMut _ _ (range_text e.dep) (after_run e) (subst (λ r. HandsOut g.F.FnMut c.args.to.now (range_text r) true c.send_range.new.to) c.dep.ensures.dep c.if-not-send_range.ensures.sent))
+    (begun g.F.FnMut _ _ (range_text e.dep) (after_run e)
+    (subst (λ r. HandsOut g.F.FnMut c.args.to.now (range_text r) true c.send_range.new.to) c.dep.ensures.dep
+    c.if-not-send_range.ensures.sent))
     c.if-not-send.ensures.sent)
     (subst (λ r. HandsOut g.F.FnMut c.send.new.to (range_text r) true c.send_range-2.new.to) c.prec.ensures.prec c.if-not-send_range-2.ensures.sent))
     c.if-not-send-2.ensures.sent
@@ -41,12 +49,15 @@ returns-then-not-send-2-clause-sent g c =
 pub returns-then-not-send-3-clause-sent : goal.returns-then-not-send-3-clause-sent
 returns-then-not-send-3-clause-sent g c =
     let e = c.args.edge.now in
-    let said : c.as_bytes.result.now ≡ pattern_text e.pattern = c.as_bytes.ensures.value ∙ (c.pattern_name.ensures ∙ ap pattern_text c.pattern.ensures.pattern) in
+    let said : c.as_bytes.result.now ≡ pattern_text e.pattern = c.as_bytes.ensures.value
+    ∙ (c.pattern_name.ensures ∙ ap pattern_text c.pattern.ensures.pattern) in
     ended g.F.FnMut _ _ _ (edge_line e) (pattern_text e.pattern) (10 ∷ [])
     (next g.F.FnMut _ _ _ (edge_line e) (32 ∷ []) (pattern_text e.pattern ++ 10 ∷ [])
     (next g.F.FnMut _ _ _ (edge_line e) (range_text e.prec) (after_rectangle e)
     (next g.F.FnMut _ _ _ (edge_line e) (32 ∷ []) (range_text e.prec ++ after_rectangle e)
-    (begun g.F.FnMut _ _ (range_text e.dep) (after_run e) (subst (λ r. HandsOut g.F.FnMut c.args.to.now (range_text r) true c.send_range.new.to) c.dep.ensures.dep c.if-not-send_range.ensures.sent))
+    (begun g.F.FnMut _ _ (range_text e.dep) (after_run e)
+    (subst (λ r. HandsOut g.F.FnMut c.args.to.now (range_text r) true c.send_range.new.to) c.dep.ensures.dep
+    c.if-not-send_range.ensures.sent))
     c.if-not-send.ensures.sent)
     (subst (λ r. HandsOut g.F.FnMut c.send.new.to (range_text r) true c.send_range-2.new.to) c.prec.ensures.prec c.if-not-send_range-2.ensures.sent))
     c.if-not-send-2.ensures.sent)
@@ -55,12 +66,15 @@ returns-then-not-send-3-clause-sent g c =
 pub returns-clause-sent : goal.returns-clause-sent
 returns-clause-sent g c =
     let e = c.args.edge.now in
-    let said : c.as_bytes.result.now ≡ pattern_text e.pattern = c.as_bytes.ensures.value ∙ (c.pattern_name.ensures ∙ ap pattern_text c.pattern.ensures.pattern) in
+    let said : c.as_bytes.result.now ≡ pattern_text e.pattern = c.as_bytes.ensures.value
+    ∙ (c.pattern_name.ensures ∙ ap pattern_text c.pattern.ensures.pattern) in
     (next g.F.FnMut _ _ _ (edge_line e) (pattern_text e.pattern) (10 ∷ [])
     (next g.F.FnMut _ _ _ (edge_line e) (32 ∷ []) (pattern_text e.pattern ++ 10 ∷ [])
     (next g.F.FnMut _ _ _ (edge_line e) (range_text e.prec) (after_rectangle e)
     (next g.F.FnMut _ _ _ (edge_line e) (32 ∷ []) (range_text e.prec ++ after_rectangle e)
-    (begun g.F.FnMut _ _ (range_text e.dep) (after_run e) (subst (λ r. HandsOut g.F.FnMut c.args.to.now (range_text r) true c.send_range.new.to) c.dep.ensures.dep c.if-not-send_range.ensures.sent))
+    (begun g.F.FnMut _ _ (range_text e.dep) (after_run e)
+    (subst (λ r. HandsOut g.F.FnMut c.args.to.now (range_text r) true c.send_range.new.to) c.dep.ensures.dep
+    c.if-not-send_range.ensures.sent))
     c.if-not-send.ensures.sent)
     (subst (λ r. HandsOut g.F.FnMut c.send.new.to (range_text r) true c.send_range-2.new.to) c.prec.ensures.prec c.if-not-send_range-2.ensures.sent))
     c.if-not-send-2.ensures.sent)

@@ -15,9 +15,11 @@ returns-then-not-send_name-clause-sent g c =
 pub returns-then-not-send-2-clause-sent : goal.returns-then-not-send-2-clause-sent
 returns-then-not-send-2-clause-sent g c =
     and_then g.F.FnMut _ _ _ (codes "client ") _ _ c.if-not-send.ensures.sent
-    (and_then g.F.FnMut _ _ _ c.args.name.now _ _ c.if-not-send_name.ensures.sent (cut g.F.FnMut _ _ (10 ∷ []) (play_text c.args.labels.now c.args.reports.now) c.if-not-send-2.ensures.sent))
+    (and_then g.F.FnMut _ _ _ c.args.name.now _ _ c.if-not-send_name.ensures.sent (cut g.F.FnMut _ _ (10
+    ∷ []) (play_text c.args.labels.now c.args.reports.now) c.if-not-send-2.ensures.sent))
 
 pub returns-clause-sent : goal.returns-clause-sent
 returns-clause-sent g c =
     and_then g.F.FnMut _ _ _ (codes "client ") _ _ c.if-not-send.ensures.sent
-    (and_then g.F.FnMut _ _ _ c.args.name.now _ _ c.if-not-send_name.ensures.sent (and_then g.F.FnMut _ _ _ (10 ∷ []) _ _ c.if-not-send-2.ensures.sent c.send_reports.ensures.sent))
+    (and_then g.F.FnMut _ _ _ c.args.name.now _ _ c.if-not-send_name.ensures.sent (and_then g.F.FnMut _ _ _ (10
+    ∷ []) _ _ c.if-not-send-2.ensures.sent c.send_reports.ensures.sent))

@@ -7,5 +7,7 @@ use Rattle.window_text.proofs.live.send_clients.Given as goal
 abbrev pub invariant-loop-place : goal.invariant-loop-place
 invariant-loop-place g l = record {
   callable : goal.F-IsAlwaysCallable g l.to;
-  completes : Completes g.F.FnMut l.fn.to (clients_text l.labels (map string_bytes l.names) (map (λ shown. shown.items) l.reports)) l.to (clients_rest l.labels (map string_bytes l.names) (map (λ shown. shown.items) l.reports) l.place);
+  completes : Completes g.F.FnMut l.fn.to (clients_text l.labels (map string_bytes l.names)
+      (map (λ shown. shown.items) l.reports)) l.to (clients_rest l.labels (map string_bytes l.names)
+      (map (λ shown. shown.items) l.reports) l.place);
 }

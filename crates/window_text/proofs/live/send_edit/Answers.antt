@@ -7,12 +7,15 @@ use Rattle.window_text.proofs.live.send_edit.Goals as goal
 
 pub returns-then-not-send_edit_head-clause-sent : goal.returns-then-not-send_edit_head-clause-sent
 returns-then-not-send_edit_head-clause-sent g c =
-    let said : edit_text c.args.labels.now c.changes-changes.result.now ≡ edit_text c.args.labels.now c.args.edit.now = ap (edit_text c.args.labels.now) c.changes-changes.ensures.changes in
+    let said : edit_text c.args.labels.now c.changes-changes.result.now ≡ edit_text c.args.labels.now c.args.edit.now =
+    ap (edit_text c.args.labels.now) c.changes-changes.ensures.changes in
     subst (λ t. HandsOut g.F.FnMut c.args.to.now t false c.send_edit_head.new.to) said
-    (cut g.F.FnMut _ _ (edit_head (length c.changes-changes.result.now)) (changes_text c.args.labels.now c.changes-changes.result.now) c.if-not-send_edit_head.ensures.sent)
+    (cut g.F.FnMut _ _ (edit_head (length c.changes-changes.result.now))
+    (changes_text c.args.labels.now c.changes-changes.result.now) c.if-not-send_edit_head.ensures.sent)
 
 pub returns-clause-sent : goal.returns-clause-sent
 returns-clause-sent g c =
-    let said : edit_text c.args.labels.now c.changes-changes.result.now ≡ edit_text c.args.labels.now c.args.edit.now = ap (edit_text c.args.labels.now) c.changes-changes.ensures.changes in
+    let said : edit_text c.args.labels.now c.changes-changes.result.now ≡ edit_text c.args.labels.now c.args.edit.now =
+    ap (edit_text c.args.labels.now) c.changes-changes.ensures.changes in
     subst (λ t. HandsOut g.F.FnMut c.args.to.now t c.send_changes.result c.send_changes.new.to) said
     (and_then g.F.FnMut _ _ _ (edit_head (length c.changes-changes.result.now)) _ _ c.if-not-send_edit_head.ensures.sent c.send_changes.ensures.sent)

@@ -17,9 +17,12 @@ returns-then-not-send-clause-sent g c =
 pub returns-then-not-send_decimal-clause-sent : goal.returns-then-not-send_decimal-clause-sent
 returns-then-not-send_decimal-clause-sent g c =
     subst (λ t. HandsOut g.F.FnMut c.args.to.now t false c.send_decimal.new.to) (sym (head_of_many c.args.changes c.if-changes-le1.false))
-    (and_then g.F.FnMut _ _ _ (codes "batch ") _ _ c.if-not-send.ensures.sent (cut g.F.FnMut _ _ (decimal c.args.changes) (10 ∷ []) c.if-not-send_decimal.ensures.sent))
+    (and_then g.F.FnMut _ _ _ (codes "batch ") _ _ c.if-not-send.ensures.sent
+    (cut g.F.FnMut _ _ (decimal c.args.changes) (10 ∷ []) c.if-not-send_decimal.ensures.sent))
 
 pub returns-clause-sent : goal.returns-clause-sent
 returns-clause-sent g c =
     subst (λ t. HandsOut g.F.FnMut c.args.to.now t c.send-2.result c.send-2.new.to) (sym (head_of_many c.args.changes c.if-changes-le1.false))
-    (and_then g.F.FnMut _ _ _ (codes "batch ") _ _ c.if-not-send.ensures.sent (and_then g.F.FnMut _ _ _ (decimal c.args.changes) _ _ c.if-not-send_decimal.ensures.sent c.send-2.ensures.sent))
+    (and_then g.F.FnMut _ _ _ (codes "batch ") _ _ c.if-not-send.ensures.sent
+    (and_then g.F.FnMut _ _ _ (decimal c.args.changes) _ _ c.if-not-send_decimal.ensures.sent
+    c.send-2.ensures.sent))

@@ -12,24 +12,39 @@ returns-then-not-send_entry-clause-sent g c =
     let names = map string_bytes c.args.names.now in
     let entry = c.index-log-place.result in
     let goes = entries_go_on names c.args.labels.now c.args.log.now c.loop-place.place entry (search rules) (search rules) in
-    let named : c.deref.result.now ≡ name_at names entry.client = search rules ∙ made_there string_bytes c.args.names.now entry.client c.index-names-entry.result (search rules) (search rules) in
-    let sent = subst (λ n. HandsOut g.F.FnMut c.loop-place.to (decimal (c.loop-place.place + 1) ++ (32 ∷ (n ++ (32 ∷ edit_text c.args.labels.now entry.edit)))) false c.send_entry.new.to) named c.if-not-send_entry.ensures.sent in
-    ended g.F.FnMut _ _ _ _ _ _ (subst (Completes g.F.FnMut c.args.to.now (entries_text names c.args.labels.now 1 c.args.log.now) c.loop-place.to) goes c.loop-place.invariant.completes) sent
+    let named : c.deref.result.now ≡ name_at names entry.client = search rules
+    ∙ made_there string_bytes c.args.names.now entry.client c.index-names-entry.result (search rules) (search rules)
+    in
+    let sent = subst (λ n. HandsOut g.F.FnMut c.loop-place.to (decimal (c.loop-place.place + 1)
+    ++ (32 ∷ (n ++ (32 ∷ edit_text c.args.labels.now entry.edit)))) false c.send_entry.new.to) named
+    c.if-not-send_entry.ensures.sent in
+    ended g.F.FnMut _ _ _ _ _ _
+    (subst (Completes g.F.FnMut c.args.to.now (entries_text names c.args.labels.now 1 c.args.log.now)
+    c.loop-place.to) goes c.loop-place.invariant.completes) sent
 
 pub loop-place-preserved : goal.loop-place-preserved
 loop-place-preserved g c =
     let names = map string_bytes c.args.names.now in
     let entry = c.index-log-place.result in
     let goes = entries_go_on names c.args.labels.now c.args.log.now c.loop-place.place entry (search rules) (search rules) in
-    let named : c.deref.result.now ≡ name_at names entry.client = search rules ∙ made_there string_bytes c.args.names.now entry.client c.index-names-entry.result (search rules) (search rules) in
-    let sent = subst (λ n. HandsOut g.F.FnMut c.loop-place.to (decimal (c.loop-place.place + 1) ++ (32 ∷ (n ++ (32 ∷ edit_text c.args.labels.now entry.edit)))) true c.send_entry.new.to) named c.if-not-send_entry.ensures.sent in
+    let named : c.deref.result.now ≡ name_at names entry.client = search rules
+    ∙ made_there string_bytes c.args.names.now entry.client c.index-names-entry.result (search rules) (search rules)
+    in
+    let sent = subst (λ n. HandsOut g.F.FnMut c.loop-place.to (decimal (c.loop-place.place + 1)
+    ++ (32 ∷ (n ++ (32 ∷ edit_text c.args.labels.now entry.edit)))) true c.send_entry.new.to) named
+    c.if-not-send_entry.ensures.sent in
     record {
       callable = c.if-not-send_entry.ensures.callable;
-      completes = next g.F.FnMut _ _ _ _ _ _ (subst (Completes g.F.FnMut c.args.to.now (entries_text names c.args.labels.now 1 c.args.log.now) c.loop-place.to) goes c.loop-place.invariant.completes) sent;
+      completes =
+          next g.F.FnMut _ _ _ _ _ _
+          (subst (Completes g.F.FnMut c.args.to.now (entries_text names c.args.labels.now 1 c.args.log.now)
+          c.loop-place.to) goes c.loop-place.invariant.completes) sent;
     }
 
 pub returns-clause-sent : goal.returns-clause-sent
 returns-clause-sent g c =
     let names = map string_bytes c.args.names.now in
     c.loop-place.invariant.completes _ true
-    (subst (λ t. HandsOut g.F.FnMut c.loop-place.to t true c.loop-place.to) (sym (entries_end names c.args.labels.now c.args.log.now c.loop-place.place (search rules))) (none g.F.FnMut c.loop-place.to))
+    (subst (λ t. HandsOut g.F.FnMut c.loop-place.to t true c.loop-place.to)
+    (sym (entries_end names c.args.labels.now c.args.log.now c.loop-place.place (search rules)))
+    (none g.F.FnMut c.loop-place.to))

@@ -7,5 +7,6 @@ use Rattle.window_text.proofs.live.send_entries.Given as goal
 abbrev pub invariant-loop-place : goal.invariant-loop-place
 invariant-loop-place g l = record {
   callable : goal.F-IsAlwaysCallable g l.to;
-  completes : Completes g.F.FnMut l.fn.to (entries_text (map string_bytes l.names) l.labels 1 l.log) l.to (entries_rest (map string_bytes l.names) l.labels l.log l.place);
+  completes : Completes g.F.FnMut l.fn.to (entries_text (map string_bytes l.names) l.labels 1 l.log) l.to
+      (entries_rest (map string_bytes l.names) l.labels l.log l.place);
 }

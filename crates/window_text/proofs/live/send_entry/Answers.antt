@@ -23,10 +23,12 @@ pub returns-then-not-send-2-clause-sent : goal.returns-then-not-send-2-clause-se
 returns-then-not-send-2-clause-sent g c =
     and_then g.F.FnMut _ _ _ (decimal c.args.number) _ _ c.if-not-send_decimal.ensures.sent
     (and_then g.F.FnMut _ _ _ (32 ∷ []) _ _ c.if-not-send.ensures.sent
-    (and_then g.F.FnMut _ _ _ c.args.name.now _ _ c.if-not-send_name.ensures.sent (cut g.F.FnMut _ _ (32 ∷ []) (edit_text c.args.labels.now c.args.edit.now) c.if-not-send-2.ensures.sent)))
+    (and_then g.F.FnMut _ _ _ c.args.name.now _ _ c.if-not-send_name.ensures.sent (cut g.F.FnMut _ _ (32
+    ∷ []) (edit_text c.args.labels.now c.args.edit.now) c.if-not-send-2.ensures.sent)))
 
 pub returns-clause-sent : goal.returns-clause-sent
 returns-clause-sent g c =
     and_then g.F.FnMut _ _ _ (decimal c.args.number) _ _ c.if-not-send_decimal.ensures.sent
     (and_then g.F.FnMut _ _ _ (32 ∷ []) _ _ c.if-not-send.ensures.sent
-    (and_then g.F.FnMut _ _ _ c.args.name.now _ _ c.if-not-send_name.ensures.sent (and_then g.F.FnMut _ _ _ (32 ∷ []) _ _ c.if-not-send-2.ensures.sent c.send_edit.ensures.sent)))
+    (and_then g.F.FnMut _ _ _ c.args.name.now _ _ c.if-not-send_name.ensures.sent (and_then g.F.FnMut _ _ _ (32
+    ∷ []) _ _ c.if-not-send-2.ensures.sent c.send_edit.ensures.sent)))

@@ -17,28 +17,47 @@ loop-place-init g c = (
 pub returns-then-not-send-2-clause-sent : goal.returns-then-not-send-2-clause-sent
 returns-then-not-send-2-clause-sent g c =
     let place = c.in-Some.ensures in
-    let parts = from_place c.loop-place.rest.now c.split_at.result.0.now c.split_at.result.1.now c.in-Some.place c.split_at.ensures.front c.split_at.ensures.back place.0 place.1.0 place.1.1 in
-    ended g.F.FnMut _ _ _ _ _ _ (subst (Completes g.F.FnMut c.args.to.now (in_quotes c.args.text.now) c.loop-place.to) parts c.loop-place.invariant.1) c.if-not-send-2.ensures.sent
+    let parts = from_place c.loop-place.rest.now c.split_at.result.0.now c.split_at.result.1.now c.in-Some.place
+    c.split_at.ensures.front c.split_at.ensures.back place.0 place.1.0 place.1.1 in
+    ended g.F.FnMut _ _ _ _ _ _ (subst (Completes g.F.FnMut c.args.to.now (in_quotes c.args.text.now) c.loop-place.to)
+    parts c.loop-place.invariant.1) c.if-not-send-2.ensures.sent
 
 pub returns-then-not-send-3-clause-sent : goal.returns-then-not-send-3-clause-sent
 returns-then-not-send-3-clause-sent g c =
     let place = c.in-Some.ensures in
-    let parts = from_place c.loop-place.rest.now c.split_at.result.0.now c.split_at.result.1.now c.in-Some.place c.split_at.ensures.front c.split_at.ensures.back place.0 place.1.0 place.1.1 in
-    ended g.F.FnMut _ _ _ _ (34 ∷ 34 ∷ []) _ (next g.F.FnMut _ _ _ _ _ _ (subst (Completes g.F.FnMut c.args.to.now (in_quotes c.args.text.now) c.loop-place.to) parts c.loop-place.invariant.1) c.if-not-send-2.ensures.sent) c.if-not-send-3.ensures.sent
+    let parts = from_place c.loop-place.rest.now c.split_at.result.0.now c.split_at.result.1.now c.in-Some.place
+    c.split_at.ensures.front c.split_at.ensures.back place.0 place.1.0 place.1.1 in
+    ended g.F.FnMut _ _ _ _ (34 ∷ 34
+    ∷ []) _
+    (next g.F.FnMut _ _ _ _ _ _
+    (subst (Completes g.F.FnMut c.args.to.now (in_quotes c.args.text.now) c.loop-place.to) parts
+    c.loop-place.invariant.1) c.if-not-send-2.ensures.sent) c.if-not-send-3.ensures.sent
 
 pub loop-place-preserved : goal.loop-place-preserved
 loop-place-preserved g c =
     let place = c.in-Some.ensures in
-    let parts = from_place c.loop-place.rest.now c.split_at.result.0.now c.split_at.result.1.now c.in-Some.place c.split_at.ensures.front c.split_at.ensures.back place.0 place.1.0 place.1.1 in
-    let completes = next g.F.FnMut _ _ _ _ (34 ∷ 34 ∷ []) _ (next g.F.FnMut _ _ _ _ _ _ (subst (Completes g.F.FnMut c.args.to.now (in_quotes c.args.text.now) c.loop-place.to) parts c.loop-place.invariant.1) c.if-not-send-2.ensures.sent) c.if-not-send-3.ensures.sent in
-    (c.if-not-send-3.ensures.callable, subst (λ t. Completes g.F.FnMut c.args.to.now (in_quotes c.args.text.now) c.send-in-Some-2.new.to (with_double_quotes t ++ 34 ∷ [])) (sym (from_second c.split_at.result.1.now)) completes)
+    let parts = from_place c.loop-place.rest.now c.split_at.result.0.now c.split_at.result.1.now c.in-Some.place
+    c.split_at.ensures.front c.split_at.ensures.back place.0 place.1.0 place.1.1 in
+    let completes =
+    next g.F.FnMut _ _ _ _ (34 ∷ 34
+    ∷ []) _
+    (next g.F.FnMut _ _ _ _ _ _
+    (subst (Completes g.F.FnMut c.args.to.now (in_quotes c.args.text.now) c.loop-place.to) parts
+    c.loop-place.invariant.1) c.if-not-send-2.ensures.sent) c.if-not-send-3.ensures.sent in (
+      c.if-not-send-3.ensures.callable,
+      subst (λ t. Completes g.F.FnMut c.args.to.now (in_quotes c.args.text.now) c.send-in-Some-2.new.to
+          (with_double_quotes t ++ 34 ∷ [])) (sym (from_second c.split_at.result.1.now)) completes,
+    )
 
 pub returns-then-not-send-4-clause-sent : goal.returns-then-not-send-4-clause-sent
 returns-then-not-send-4-clause-sent g c =
     ended g.F.FnMut _ _ _ _ c.loop-place.rest.now (34 ∷ [])
-    (subst (λ t. Completes g.F.FnMut c.args.to.now (in_quotes c.args.text.now) c.loop-place.to (t ++ 34 ∷ [])) (double_quotes_clean c.loop-place.rest.now c.in_default.ensures) c.loop-place.invariant.1) c.if-not-send-4.ensures.sent
+    (subst (λ t. Completes g.F.FnMut c.args.to.now (in_quotes c.args.text.now) c.loop-place.to (t ++ 34 ∷ []))
+    (double_quotes_clean c.loop-place.rest.now c.in_default.ensures) c.loop-place.invariant.1)
+    c.if-not-send-4.ensures.sent
 
 pub returns-clause-sent : goal.returns-clause-sent
 returns-clause-sent g c =
-    subst (λ t. Completes g.F.FnMut c.args.to.now (in_quotes c.args.text.now) c.loop-place.to (t ++ 34 ∷ [])) (double_quotes_clean c.loop-place.rest.now c.in_default.ensures) c.loop-place.invariant.1 _ _
+    subst (λ t. Completes g.F.FnMut c.args.to.now (in_quotes c.args.text.now) c.loop-place.to (t ++ 34 ∷ []))
+    (double_quotes_clean c.loop-place.rest.now c.in_default.ensures) c.loop-place.invariant.1 _ _
     (and_then g.F.FnMut _ _ _ _ _ _ c.if-not-send-4.ensures.sent c.send-3.ensures.sent)

@@ -10,7 +10,8 @@ use Rattle.window_text.proofs.reports.send_board.Goals as goal
 
 pub returns-then-not-send_range-clause-sent : goal.returns-then-not-send_range-clause-sent
 returns-then-not-send_range-clause-sent g c =
-    let sent = subst (λ w. HandsOut g.F.FnMut c.args.to.now (range_text w) false c.send_range.new.to) c.window-window.ensures c.if-not-send_range.ensures.sent in
+    let sent = subst (λ w. HandsOut g.F.FnMut c.args.to.now (range_text w) false c.send_range.new.to)
+    c.window-window.ensures c.if-not-send_range.ensures.sent in
     cut g.F.FnMut _ _ (range_text c.args.board.now.window) _ sent
 
 pub returns-then-not-send-clause-sent : goal.returns-then-not-send-clause-sent
@@ -22,7 +23,8 @@ pub loop-row-init : goal.loop-row-init
 loop-row-init g c =
     let window = c.args.board.now.window in
     let shown = board_text c.args.labels.now c.args.board.now in
-    let first : c.row-row.result ≡ window.head.row = c.row-row.ensures.row ∙ ap (λ (p : Position). p.row) c.head.ensures.head ∙ ap (λ (w : Corners). w.head.row) c.window-window.ensures in
+    let first : c.row-row.result ≡ window.head.row = c.row-row.ensures.row
+    ∙ ap (λ (p : Position). p.row) c.head.ensures.head ∙ ap (λ (w : Corners). w.head.row) c.window-window.ensures in
     let sent = subst (λ w. HandsOut g.F.FnMut c.args.to.now (range_text w) true c.send_range.new.to) c.window-window.ensures c.if-not-send_range.ensures.sent in
     let rows = rows_text shown window in (
       c.if-not-send.ensures.callable,
@@ -34,19 +36,25 @@ pub returns-then-not-send_board_row-clause-sent : goal.returns-then-not-send_boa
 returns-then-not-send_board_row-clause-sent g c =
     let window = c.args.board.now.window in
     let shown = board_text c.args.labels.now c.args.board.now in
-    let last : c.row-row-end.result ≡ window.tail.row = c.row-row-end.ensures.row ∙ ap (λ (p : Position). p.row) c.tail.ensures.tail ∙ ap (λ (w : Corners). w.tail.row) c.window-window.ensures in
+    let last : c.row-row-end.result ≡ window.tail.row = c.row-row-end.ensures.row
+    ∙ ap (λ (p : Position). p.row) c.tail.ensures.tail ∙ ap (λ (w : Corners). w.tail.row) c.window-window.ensures in
     let within : c.loop-row.row ≤ window.tail.row = omega (arith, c.loop-row-test.true, last) in
-    ended g.F.FnMut _ _ _ _ _ _ (subst (Completes g.F.FnMut c.args.to.now (window_text c.args.labels.now c.args.board.now) c.loop-row.to) (rows_go_on shown window c.loop-row.row within) c.loop-row.invariant.1)
+    ended g.F.FnMut _ _ _ _ _ _
+    (subst (Completes g.F.FnMut c.args.to.now (window_text c.args.labels.now c.args.board.now) c.loop-row.to)
+    (rows_go_on shown window c.loop-row.row within) c.loop-row.invariant.1)
     c.if-not-send_board_row.ensures.sent
 
 pub loop-row-preserved : goal.loop-row-preserved
 loop-row-preserved g c =
     let window = c.args.board.now.window in
     let shown = board_text c.args.labels.now c.args.board.now in
-    let last : c.row-row-end.result ≡ window.tail.row = c.row-row-end.ensures.row ∙ ap (λ (p : Position). p.row) c.tail.ensures.tail ∙ ap (λ (w : Corners). w.tail.row) c.window-window.ensures in
+    let last : c.row-row-end.result ≡ window.tail.row = c.row-row-end.ensures.row
+    ∙ ap (λ (p : Position). p.row) c.tail.ensures.tail ∙ ap (λ (w : Corners). w.tail.row) c.window-window.ensures in
     let within : c.loop-row.row ≤ window.tail.row = omega (arith, c.loop-row-test.true, last) in (
       c.if-not-send_board_row.ensures.callable,
-      next g.F.FnMut _ _ _ _ _ _ (subst (Completes g.F.FnMut c.args.to.now (window_text c.args.labels.now c.args.board.now) c.loop-row.to) (rows_go_on shown window c.loop-row.row within) c.loop-row.invariant.1)
+      next g.F.FnMut _ _ _ _ _ _
+          (subst (Completes g.F.FnMut c.args.to.now (window_text c.args.labels.now c.args.board.now) c.loop-row.to)
+          (rows_go_on shown window c.loop-row.row within) c.loop-row.invariant.1)
           c.if-not-send_board_row.ensures.sent,
     )
 
@@ -54,6 +62,8 @@ pub returns-clause-sent : goal.returns-clause-sent
 returns-clause-sent g c =
     let window = c.args.board.now.window in
     let shown = board_text c.args.labels.now c.args.board.now in
-    let last : c.row-row-end.result ≡ window.tail.row = c.row-row-end.ensures.row ∙ ap (λ (p : Position). p.row) c.tail.ensures.tail ∙ ap (λ (w : Corners). w.tail.row) c.window-window.ensures in
+    let last : c.row-row-end.result ≡ window.tail.row = c.row-row-end.ensures.row
+    ∙ ap (λ (p : Position). p.row) c.tail.ensures.tail ∙ ap (λ (w : Corners). w.tail.row) c.window-window.ensures in
     let past : window.tail.row < c.loop-row.row = omega (arith, c.loop-row-test.false, last) in
-    c.loop-row.invariant.1 _ true (subst (λ t. HandsOut g.F.FnMut c.loop-row.to t true c.loop-row.to) (sym (rows_end shown window c.loop-row.row past)) (none g.F.FnMut c.loop-row.to))
+    c.loop-row.invariant.1 _ true (subst (λ t. HandsOut g.F.FnMut c.loop-row.to t true c.loop-row.to)
+    (sym (rows_end shown window c.loop-row.row past)) (none g.F.FnMut c.loop-row.to))

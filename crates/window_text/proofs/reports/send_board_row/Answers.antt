@@ -11,7 +11,8 @@ pub returns-then-not-send_shown-clause-sent : goal.returns-then-not-send_shown-c
 returns-then-not-send_shown-clause-sent g c =
     let window = c.args.board.now.window in
     let shown = board_text c.args.labels.now c.args.board.now in
-    let col : c.col.result ≡ window.head.col = c.col.ensures.col ∙ ap (λ (p : Position). p.col) c.head.ensures.head ∙ ap (λ (w : Corners). w.head.col) c.window-window.ensures in
+    let col : c.col.result ≡ window.head.col = c.col.ensures.col ∙ ap (λ (p : Position). p.col) c.head.ensures.head
+    ∙ ap (λ (w : Corners). w.head.col) c.window-window.ensures in
     let ordered = subst (λ (w : Corners). IsOrdered w.head w.tail) c.window-window.ensures c.head.ensures.ordered in
     let said = ap (shown_text c.args.labels.now) c.shown_at.ensures ∙ ap (λ (n : ℕ). shown (record { row = c.args.row; col = n })) col in
     subst (λ t. HandsOut g.F.FnMut c.args.to.now t false c.send_shown.new.to) (sym (row_begins shown window c.args.row ordered.cols))
@@ -21,14 +22,20 @@ pub loop-col-init : goal.loop-col-init
 loop-col-init g c =
     let window = c.args.board.now.window in
     let shown = board_text c.args.labels.now c.args.board.now in
-    let col : c.col.result ≡ window.head.col = c.col.ensures.col ∙ ap (λ (p : Position). p.col) c.head.ensures.head ∙ ap (λ (w : Corners). w.head.col) c.window-window.ensures in
-    let again : c.col-col.result ≡ window.head.col = c.col-col.ensures.col ∙ ap (λ (p : Position). p.col) c.head-2.ensures.head ∙ ap (λ (w : Corners). w.head.col) c.window-window.ensures in
+    let col : c.col.result ≡ window.head.col = c.col.ensures.col ∙ ap (λ (p : Position). p.col) c.head.ensures.head
+    ∙ ap (λ (w : Corners). w.head.col) c.window-window.ensures in
+    let again : c.col-col.result ≡ window.head.col = c.col-col.ensures.col
+    ∙ ap (λ (p : Position). p.col) c.head-2.ensures.head ∙ ap (λ (w : Corners). w.head.col) c.window-window.ensures
+    in
     let ordered = subst (λ (w : Corners). IsOrdered w.head w.tail) c.window-window.ensures c.head.ensures.ordered in
     let said = ap (shown_text c.args.labels.now) c.shown_at.ensures ∙ ap (λ (n : ℕ). shown (record { row = c.args.row; col = n })) col in
     let sent = subst (λ t. HandsOut g.F.FnMut c.args.to.now t true c.send_shown.new.to) said c.if-not-send_shown.ensures.sent in (
       c.if-not-send_shown.ensures.callable,
-      subst (λ n. Completes g.F.FnMut c.args.to.now (row_text shown window c.args.row) c.send_shown.new.to (row_rest shown window c.args.row (n + 1))) (sym again)
-          (subst (λ t. Completes g.F.FnMut c.args.to.now t c.send_shown.new.to (row_rest shown window c.args.row (window.head.col + 1))) (sym (row_begins shown window c.args.row ordered.cols))
+      subst (λ n. Completes g.F.FnMut c.args.to.now (row_text shown window c.args.row) c.send_shown.new.to
+          (row_rest shown window c.args.row (n + 1))) (sym again)
+          (subst (λ t. Completes g.F.FnMut c.args.to.now t c.send_shown.new.to
+          (row_rest shown window c.args.row (window.head.col + 1)))
+          (sym (row_begins shown window c.args.row ordered.cols))
           (begun g.F.FnMut _ _ _ _ sent)),
     )
 
@@ -42,32 +49,41 @@ pub returns-then-not-send-clause-sent : goal.returns-then-not-send-clause-sent
 returns-then-not-send-clause-sent g c =
     let window = c.args.board.now.window in
     let shown = board_text c.args.labels.now c.args.board.now in
-    let last : c.col-col-end.result ≡ window.tail.col = c.col-col-end.ensures.col ∙ ap (λ (p : Position). p.col) c.tail.ensures.tail ∙ ap (λ (w : Corners). w.tail.col) c.window-window.ensures in
+    let last : c.col-col-end.result ≡ window.tail.col = c.col-col-end.ensures.col
+    ∙ ap (λ (p : Position). p.col) c.tail.ensures.tail ∙ ap (λ (w : Corners). w.tail.col) c.window-window.ensures in
     let within : c.loop-col.col ≤ window.tail.col = omega (arith, c.loop-col-test.true, last) in
     let goes = row_goes_on shown window c.args.row c.loop-col.col within in
-    ended g.F.FnMut _ _ _ _ (44 ∷ []) _ (subst (Completes g.F.FnMut c.args.to.now (row_text shown window c.args.row) c.loop-col.to) goes c.loop-col.invariant.1) c.if-not-send.ensures.sent
+    ended g.F.FnMut _ _ _ _ (44
+    ∷ []) _ (subst (Completes g.F.FnMut c.args.to.now (row_text shown window c.args.row) c.loop-col.to) goes
+    c.loop-col.invariant.1) c.if-not-send.ensures.sent
 
 pub returns-then-not-send_shown-2-clause-sent : goal.returns-then-not-send_shown-2-clause-sent
 returns-then-not-send_shown-2-clause-sent g c =
     let window = c.args.board.now.window in
     let shown = board_text c.args.labels.now c.args.board.now in
-    let last : c.col-col-end.result ≡ window.tail.col = c.col-col-end.ensures.col ∙ ap (λ (p : Position). p.col) c.tail.ensures.tail ∙ ap (λ (w : Corners). w.tail.col) c.window-window.ensures in
+    let last : c.col-col-end.result ≡ window.tail.col = c.col-col-end.ensures.col
+    ∙ ap (λ (p : Position). p.col) c.tail.ensures.tail ∙ ap (λ (w : Corners). w.tail.col) c.window-window.ensures in
     let within : c.loop-col.col ≤ window.tail.col = omega (arith, c.loop-col-test.true, last) in
     let goes = row_goes_on shown window c.args.row c.loop-col.col within in
     let said = ap (shown_text c.args.labels.now) c.shown_at-in-loop-col.ensures in
-    ended g.F.FnMut _ _ _ _ _ _ (next g.F.FnMut _ _ _ _ (44 ∷ []) _ (subst (Completes g.F.FnMut c.args.to.now (row_text shown window c.args.row) c.loop-col.to) goes c.loop-col.invariant.1) c.if-not-send.ensures.sent)
+    ended g.F.FnMut _ _ _ _ _ _ (next g.F.FnMut _ _ _ _ (44
+    ∷ []) _ (subst (Completes g.F.FnMut c.args.to.now (row_text shown window c.args.row) c.loop-col.to) goes
+    c.loop-col.invariant.1) c.if-not-send.ensures.sent)
     (subst (λ t. HandsOut g.F.FnMut c.send.new.to t false c.send_shown-in-loop-col.new.to) said c.if-not-send_shown-2.ensures.sent)
 
 pub loop-col-preserved : goal.loop-col-preserved
 loop-col-preserved g c =
     let window = c.args.board.now.window in
     let shown = board_text c.args.labels.now c.args.board.now in
-    let last : c.col-col-end.result ≡ window.tail.col = c.col-col-end.ensures.col ∙ ap (λ (p : Position). p.col) c.tail.ensures.tail ∙ ap (λ (w : Corners). w.tail.col) c.window-window.ensures in
+    let last : c.col-col-end.result ≡ window.tail.col = c.col-col-end.ensures.col
+    ∙ ap (λ (p : Position). p.col) c.tail.ensures.tail ∙ ap (λ (w : Corners). w.tail.col) c.window-window.ensures in
     let within : c.loop-col.col ≤ window.tail.col = omega (arith, c.loop-col-test.true, last) in
     let goes = row_goes_on shown window c.args.row c.loop-col.col within in
     let said = ap (shown_text c.args.labels.now) c.shown_at-in-loop-col.ensures in (
       c.if-not-send_shown-2.ensures.callable,
-      next g.F.FnMut _ _ _ _ _ _ (next g.F.FnMut _ _ _ _ (44 ∷ []) _ (subst (Completes g.F.FnMut c.args.to.now (row_text shown window c.args.row) c.loop-col.to) goes c.loop-col.invariant.1) c.if-not-send.ensures.sent)
+      next g.F.FnMut _ _ _ _ _ _ (next g.F.FnMut _ _ _ _ (44
+          ∷ []) _ (subst (Completes g.F.FnMut c.args.to.now (row_text shown window c.args.row) c.loop-col.to) goes
+          c.loop-col.invariant.1) c.if-not-send.ensures.sent)
           (subst (λ t. HandsOut g.F.FnMut c.send.new.to t true c.send_shown-in-loop-col.new.to) said c.if-not-send_shown-2.ensures.sent),
     )
 
@@ -75,6 +91,8 @@ pub returns-clause-sent : goal.returns-clause-sent
 returns-clause-sent g c =
     let window = c.args.board.now.window in
     let shown = board_text c.args.labels.now c.args.board.now in
-    let last : c.col-col-end.result ≡ window.tail.col = c.col-col-end.ensures.col ∙ ap (λ (p : Position). p.col) c.tail.ensures.tail ∙ ap (λ (w : Corners). w.tail.col) c.window-window.ensures in
+    let last : c.col-col-end.result ≡ window.tail.col = c.col-col-end.ensures.col
+    ∙ ap (λ (p : Position). p.col) c.tail.ensures.tail ∙ ap (λ (w : Corners). w.tail.col) c.window-window.ensures in
     let past : window.tail.col < c.loop-col.col = omega (arith, c.loop-col-test.false, last) in
-    subst (Completes g.F.FnMut c.args.to.now (row_text shown window c.args.row) c.loop-col.to) (row_ends shown window c.args.row c.loop-col.col past) c.loop-col.invariant.1 _ _ c.send-2.ensures.sent
+    subst (Completes g.F.FnMut c.args.to.now (row_text shown window c.args.row) c.loop-col.to)
+    (row_ends shown window c.args.row c.loop-col.col past) c.loop-col.invariant.1 _ _ c.send-2.ensures.sent

@@ -9,14 +9,18 @@ loop-report-init g c = (c.requires.callable, λ last told rest. rest)
 
 pub returns-then-not-send_report-clause-sent : goal.returns-then-not-send_report-clause-sent
 returns-then-not-send_report-clause-sent g c =
-    let rest = next_report g.F.FnMut _ _ c.args.labels.now c.args.reports.now c.loop-report.report-index c.report-item.result c.loop-report-test.true c.report-item.is c.loop-report.invariant.1 in
+    let rest = next_report g.F.FnMut _ _ c.args.labels.now c.args.reports.now c.loop-report.report-index
+    c.report-item.result c.loop-report-test.true c.report-item.is c.loop-report.invariant.1 in
     ended g.F.FnMut _ _ _ _ _ _ rest c.if-not-send_report.ensures.sent
 
 pub loop-report-preserved : goal.loop-report-preserved
 loop-report-preserved g c =
-    let rest = next_report g.F.FnMut _ _ c.args.labels.now c.args.reports.now c.loop-report.report-index c.report-item.result c.loop-report-test.true c.report-item.is c.loop-report.invariant.1 in
+    let rest = next_report g.F.FnMut _ _ c.args.labels.now c.args.reports.now c.loop-report.report-index
+    c.report-item.result c.loop-report-test.true c.report-item.is c.loop-report.invariant.1 in
     (c.if-not-send_report.ensures.callable, next g.F.FnMut _ _ _ _ _ _ rest c.if-not-send_report.ensures.sent)
 
 pub returns-clause-sent : goal.returns-clause-sent
 returns-clause-sent g c =
-    c.loop-report.invariant.1 _ true (subst (λ t. HandsOut g.F.FnMut c.loop-report.to t true c.loop-report.to) (sym (reports_end c.args.labels.now c.args.reports.now c.loop-report.report-index c.loop-report-test.false)) (none g.F.FnMut c.loop-report.to))
+    c.loop-report.invariant.1 _ true (subst (λ t. HandsOut g.F.FnMut c.loop-report.to t true c.loop-report.to)
+    (sym (reports_end c.args.labels.now c.args.reports.now c.loop-report.report-index c.loop-report-test.false))
+    (none g.F.FnMut c.loop-report.to))

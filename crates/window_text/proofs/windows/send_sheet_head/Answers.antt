@@ -8,7 +8,8 @@ returns-then-not-send-clause-sent g c = cut g.F.FnMut _ _ (codes "sheet ") (deci
 
 pub returns-then-not-send_decimal-clause-sent : goal.returns-then-not-send_decimal-clause-sent
 returns-then-not-send_decimal-clause-sent g c =
-    and_then g.F.FnMut _ _ _ (codes "sheet ") _ _ c.if-not-send.ensures.sent (cut g.F.FnMut _ _ (decimal c.args.number) (32 ∷ []) c.if-not-send_decimal.ensures.sent)
+    and_then g.F.FnMut _ _ _ (codes "sheet ") _ _ c.if-not-send.ensures.sent (cut g.F.FnMut _ _ (decimal c.args.number)
+    (32 ∷ []) c.if-not-send_decimal.ensures.sent)
 
 pub returns-clause-sent : goal.returns-clause-sent
 returns-clause-sent g c =

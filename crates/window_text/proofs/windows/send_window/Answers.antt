@@ -21,7 +21,8 @@ loop-row-init g c =
     let rows = rows_text shown c.args.range in (
       c.if-not-send.ensures.callable,
       subst (λ n. Completes g.F.FnMut c.args.to.now (sheet_window c.args.sheet.now c.args.range) c.send.new.to (rows_rest shown c.args.range n)) (sym first)
-          (next g.F.FnMut _ _ _ _ (10 ∷ []) rows (begun g.F.FnMut _ _ (range_text c.args.range) (10 ∷ rows) c.if-not-send_range.ensures.sent) c.if-not-send.ensures.sent),
+          (next g.F.FnMut _ _ _ _ (10 ∷ []) rows (begun g.F.FnMut _ _ (range_text c.args.range) (10
+          ∷ rows) c.if-not-send_range.ensures.sent) c.if-not-send.ensures.sent),
     )
 
 pub returns-then-not-send_row-clause-sent : goal.returns-then-not-send_row-clause-sent
@@ -29,7 +30,8 @@ returns-then-not-send_row-clause-sent g c =
     let shown = shown_cell c.args.sheet.now in
     let last : c.row-row-end.result ≡ c.args.range.tail.row = c.row-row-end.ensures.row ∙ ap (λ (cell : Position). cell.row) c.tail.ensures.tail in
     let within : c.loop-row.row ≤ c.args.range.tail.row = omega (arith, c.loop-row-test.true, last) in
-    ended g.F.FnMut _ _ _ _ _ _ (subst (Completes g.F.FnMut c.args.to.now (sheet_window c.args.sheet.now c.args.range) c.loop-row.to) (rows_go_on shown c.args.range c.loop-row.row within) c.loop-row.invariant.1)
+    ended g.F.FnMut _ _ _ _ _ _ (subst (Completes g.F.FnMut c.args.to.now (sheet_window c.args.sheet.now c.args.range)
+    c.loop-row.to) (rows_go_on shown c.args.range c.loop-row.row within) c.loop-row.invariant.1)
     c.if-not-send_row.ensures.sent
 
 pub loop-row-preserved : goal.loop-row-preserved
@@ -38,7 +40,8 @@ loop-row-preserved g c =
     let last : c.row-row-end.result ≡ c.args.range.tail.row = c.row-row-end.ensures.row ∙ ap (λ (cell : Position). cell.row) c.tail.ensures.tail in
     let within : c.loop-row.row ≤ c.args.range.tail.row = omega (arith, c.loop-row-test.true, last) in (
       c.if-not-send_row.ensures.callable,
-      next g.F.FnMut _ _ _ _ _ _ (subst (Completes g.F.FnMut c.args.to.now (sheet_window c.args.sheet.now c.args.range) c.loop-row.to) (rows_go_on shown c.args.range c.loop-row.row within) c.loop-row.invariant.1)
+      next g.F.FnMut _ _ _ _ _ _ (subst (Completes g.F.FnMut c.args.to.now (sheet_window c.args.sheet.now c.args.range)
+          c.loop-row.to) (rows_go_on shown c.args.range c.loop-row.row within) c.loop-row.invariant.1)
           c.if-not-send_row.ensures.sent,
     )
 
@@ -47,4 +50,5 @@ returns-clause-sent g c =
     let shown = shown_cell c.args.sheet.now in
     let last : c.row-row-end.result ≡ c.args.range.tail.row = c.row-row-end.ensures.row ∙ ap (λ (cell : Position). cell.row) c.tail.ensures.tail in
     let past : c.args.range.tail.row < c.loop-row.row = omega (arith, c.loop-row-test.false, last) in
-    c.loop-row.invariant.1 _ true (subst (λ t. HandsOut g.F.FnMut c.loop-row.to t true c.loop-row.to) (sym (rows_end shown c.args.range c.loop-row.row past)) (none g.F.FnMut c.loop-row.to))
+    c.loop-row.invariant.1 _ true (subst (λ t. HandsOut g.F.FnMut c.loop-row.to t true c.loop-row.to)
+    (sym (rows_end shown c.args.range c.loop-row.row past)) (none g.F.FnMut c.loop-row.to))

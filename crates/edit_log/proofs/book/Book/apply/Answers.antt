@@ -8,17 +8,23 @@ use Rattle.edit_log.proofs.book.Book.apply.Goals as goal
 
 pub apply-requires : goal.apply-requires
 apply-requires g c =
-    let ready : IsPreparedFor c.self.inside.opening.value c.self.inside.log.items c.args.prepared = subst (λ (b : BookValue _). IsPreparedFor b.opening b.log c.args.prepared) (sym c.self.view_is) c.requires.prepared in
+    let ready : IsPreparedFor c.self.inside.opening.value c.self.inside.log.items c.args.prepared =
+    subst (λ (b : BookValue _). IsPreparedFor b.opening b.log c.args.prepared) (sym c.self.view_is)
+    c.requires.prepared in
     let entry_is : c.prepared.inside.entry ≡ c.args.prepared.entry = ap (λ (p : PreparedValue). p.entry) c.prepared.view_is in
-    ready_for c.self.inside.opening.value c.self.inside.sheet c.self.inside.log.items (g.G.Graph.pairs c.self.inside.graph) c.args.prepared c.prepared.inside.edit c.self.invariant ready
+    ready_for c.self.inside.opening.value c.self.inside.sheet c.self.inside.log.items
+    (g.G.Graph.pairs c.self.inside.graph) c.args.prepared c.prepared.inside.edit c.self.invariant ready
     (c.prepared.invariant.same ∙ ap (λ (e : Entry). e.edit) entry_is)
 
 pub invariant_of-self : goal.invariant_of-self
 invariant_of-self g c =
-    let ready : IsPreparedFor c.self.inside.opening.value c.self.inside.log.items c.args.prepared = subst (λ (b : BookValue _). IsPreparedFor b.opening b.log c.args.prepared) (sym c.self.view_is) c.requires.prepared in
+    let ready : IsPreparedFor c.self.inside.opening.value c.self.inside.log.items c.args.prepared =
+    subst (λ (b : BookValue _). IsPreparedFor b.opening b.log c.args.prepared) (sym c.self.view_is)
+    c.requires.prepared in
     let entry_is : c.prepared.inside.entry ≡ c.args.prepared.entry = ap (λ (p : PreparedValue). p.entry) c.prepared.view_is in
     let for : IsFor c.self.inside.sheet c.prepared.inside.edit =
-    ready_for c.self.inside.opening.value c.self.inside.sheet c.self.inside.log.items (g.G.Graph.pairs c.self.inside.graph) c.args.prepared c.prepared.inside.edit c.self.invariant ready
+    ready_for c.self.inside.opening.value c.self.inside.sheet c.self.inside.log.items
+    (g.G.Graph.pairs c.self.inside.graph) c.args.prepared c.prepared.inside.edit c.self.invariant ready
     (c.prepared.invariant.same ∙ ap (λ (e : Entry). e.edit) entry_is) in
     let inside : AreInSheet c.self.inside.sheet c.prepared.inside.edit = λ k d within. (for k d within).inside in
     let is_edit : IsEdit c.prepared.inside.entry.edit = subst (λ (e : Entry). IsEdit e.edit) (sym entry_is) ready.edit in
@@ -26,8 +32,12 @@ invariant_of-self g c =
     subst (λ (e : Entry). AreHeldBeside (length c.self.inside.opening.value.labels) e.edit) (sym entry_is) ready.held in
     let made : ArePairsOf (after_edit c.self.inside.sheet c.prepared.inside.edit) (g.G.Graph.pairs c.replace_all.new.graph) =
     subst (λ (e : EditValue). ArePairsOf (after_edit c.self.inside.sheet e) (g.G.Graph.pairs c.replace_all.new.graph)) c.changes.ensures.changes
-    (c.replace_all.ensures c.self.inside.sheet (book_sheet c.self.inside.opening.value c.self.inside.sheet c.self.inside.log.items (g.G.Graph.pairs c.self.inside.graph) c.self.invariant).filled (subst (AreInSheet c.self.inside.sheet) (sym c.changes.ensures.changes) inside) c.self.invariant.pairs_are) in
-    applied_book c.self.inside.opening.value c.self.inside.sheet c.apply.new.self c.self.inside.log.items c.push_reserved.new.self.items (g.G.Graph.pairs c.self.inside.graph) (g.G.Graph.pairs c.replace_all.new.graph) c.prepared.inside.entry c.prepared.inside.edit
+    (c.replace_all.ensures c.self.inside.sheet (book_sheet c.self.inside.opening.value c.self.inside.sheet
+    c.self.inside.log.items (g.G.Graph.pairs c.self.inside.graph) c.self.invariant).filled
+    (subst (AreInSheet c.self.inside.sheet) (sym c.changes.ensures.changes) inside) c.self.invariant.pairs_are) in
+    applied_book c.self.inside.opening.value c.self.inside.sheet c.apply.new.self c.self.inside.log.items
+    c.push_reserved.new.self.items (g.G.Graph.pairs c.self.inside.graph) (g.G.Graph.pairs c.replace_all.new.graph)
+    c.prepared.inside.entry c.prepared.inside.edit
     c.self.invariant c.prepared.invariant.same is_edit held ready.room c.apply.ensures.placed c.push_reserved.ensures.items made
 
 pub returns-clause-kept : goal.returns-clause-kept

@@ -20,13 +20,18 @@ returns-clause-prepared g c =
     let is_edit : IsEdit c.args.edit = subst IsEdit copied c.changes.ensures.edit in
     let written : AreWritten c.args.edit = subst AreWritten copied c.changes.ensures.written in
     let inside : AreInSheet c.self.inside.sheet c.args.edit = subst (λ (s : SheetValue). AreInSheet s c.args.edit) (sym sheet_is) c.requires.inside in
-    let labels : HaveLabels (length c.self.inside.sheet.labels) c.args.edit = subst (λ (s : SheetValue). HaveLabels (length s.labels) c.args.edit) (sym sheet_is) c.requires.label in
+    let labels : HaveLabels (length c.self.inside.sheet.labels) c.args.edit =
+    subst (λ (s : SheetValue). HaveLabels (length s.labels) c.args.edit) (sym sheet_is) c.requires.label in
     let few : length c.self.inside.log.items < 1048576 = subst (λ (l : List Entry). length l < 1048576) (sym log_is) c.requires.room in
     let counted : c.len.result + 1 ≡ length c.self.inside.log.items + 1 = omega (arith, c.len.ensures, c.self.inside.log.ok) in
     let changed : c.changes-2.result.now ≡ c.args.edit = c.changes-2.ensures.changes ∙ copied in
-    let rows_there : ListsRowByRow c.args.self.now.sheet.sizes c.in_ok-touched.touched.items (ReachOfAll (g.G.Graph.pairs c.args.self.now.graph) (cell_ranges c.changes-2.result.now)) = c.in_ok-touched.ensures in
+    let rows_there : ListsRowByRow c.args.self.now.sheet.sizes c.in_ok-touched.touched.items
+    (ReachOfAll (g.G.Graph.pairs c.args.self.now.graph) (cell_ranges c.changes-2.result.now)) =
+    c.in_ok-touched.ensures in
     let rows : ListsRowByRow c.self.inside.sheet.sizes c.in_ok-touched.touched.items (ReachOfAll pairs (cell_ranges c.args.edit)) =
     subst (λ (e : EditValue). ListsRowByRow c.self.inside.sheet.sizes c.in_ok-touched.touched.items (ReachOfAll pairs (cell_ranges e))) changed
-    (subst (λ (b : BookValue _). ListsRowByRow b.sheet.sizes c.in_ok-touched.touched.items (ReachOfAll (g.G.Graph.pairs b.graph) (cell_ranges c.changes-2.result.now))) (sym c.self.view_is) rows_there) in
+    (subst (λ (b : BookValue _). ListsRowByRow b.sheet.sizes c.in_ok-touched.touched.items
+    (ReachOfAll (g.G.Graph.pairs b.graph) (cell_ranges c.changes-2.result.now))) (sym c.self.view_is) rows_there) in
     subst (λ (b : BookValue _). IsPreparedFor b.opening b.log prepared) c.self.view_is
-    (prepared_for c.self.inside.opening.value c.self.inside.sheet c.self.inside.log.items pairs entry (c.len.result + 1) c.in_ok-touched.touched.items c.self.invariant is_edit written inside labels counted few rows)
+    (prepared_for c.self.inside.opening.value c.self.inside.sheet c.self.inside.log.items pairs entry (c.len.result + 1)
+    c.in_ok-touched.touched.items c.self.invariant is_edit written inside labels counted few rows)

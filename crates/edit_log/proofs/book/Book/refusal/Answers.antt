@@ -11,14 +11,18 @@ pub returns-in-Some-clause-out_of_sheet : goal.returns-in-Some-clause-out_of_she
 returns-in-Some-clause-out_of_sheet g c =
     let sheet_is : c.self.inside.sheet ≡ c.args.self.now.sheet = ap (λ (b : BookValue _). b.sheet) c.self.view_is in
     let found : IsFirstOutside c.args.self.now.sheet c.args.edit.now c.in-Some.cell =
-    subst (λ (s : SheetValue). IsFirstOutside s c.args.edit.now c.in-Some.cell) sheet_is (subst (λ (e : EditValue). IsFirstOutside c.self.inside.sheet e c.in-Some.cell) c.changes.ensures.changes c.in-Some.ensures) in
+    subst (λ (s : SheetValue). IsFirstOutside s c.args.edit.now c.in-Some.cell) sheet_is
+    (subst (λ (e : EditValue). IsFirstOutside c.self.inside.sheet e c.in-Some.cell) c.changes.ensures.changes
+    c.in-Some.ensures) in
     λ cell first. ap (λ x. Some (OutOfSheet x)) (first_outside_once c.args.self.now.sheet c.args.edit.now c.in-Some.cell cell found first)
 
 pub returns-in-Some-clause-log_full : goal.returns-in-Some-clause-log_full
 returns-in-Some-clause-log_full g c =
     let sheet_is : c.self.inside.sheet ≡ c.args.self.now.sheet = ap (λ (b : BookValue _). b.sheet) c.self.view_is in
     let found : IsFirstOutside c.args.self.now.sheet c.args.edit.now c.in-Some.cell =
-    subst (λ (s : SheetValue). IsFirstOutside s c.args.edit.now c.in-Some.cell) sheet_is (subst (λ (e : EditValue). IsFirstOutside c.self.inside.sheet e c.in-Some.cell) c.changes.ensures.changes c.in-Some.ensures) in
+    subst (λ (s : SheetValue). IsFirstOutside s c.args.edit.now c.in-Some.cell) sheet_is
+    (subst (λ (e : EditValue). IsFirstOutside c.self.inside.sheet e c.in-Some.cell) c.changes.ensures.changes
+    c.in-Some.ensures) in
     λ inside full. absurd (none_outside c.args.self.now.sheet c.args.edit.now c.in-Some.cell inside found)
 
 pub returns-then-length-eq-MOST_ENTRIES-clause-out_of_sheet : goal.returns-then-length-eq-MOST_ENTRIES-clause-out_of_sheet

@@ -16,7 +16,8 @@ dependents_by_row-requires-clause-inside g c =
     let inside : AreInSheet c.self.inside.sheet c.args.changes.now = subst (λ (s : SheetValue). AreInSheet s c.args.changes.now) (sym sheet_is) c.requires in
     let ranges : c.deref.result.now ≡ cell_ranges c.args.changes.now = c.deref.ensures.value ∙ c.in_ok-ranges.ensures in
     subst (λ (s : Sizes). IsReachInside s pairs c.deref.result.now) (sym c.sizes.ensures.sizes)
-    (subst (λ (rs : List Corners). IsReachInside c.self.inside.sheet.sizes pairs rs) (sym ranges) (reach_inside c.self.inside.sheet pairs c.args.changes.now c.self.invariant.pairs_are inside))
+    (subst (λ (rs : List Corners). IsReachInside c.self.inside.sheet.sizes pairs rs) (sym ranges)
+    (reach_inside c.self.inside.sheet pairs c.args.changes.now c.self.invariant.pairs_are inside))
 
 pub dependents_by_row-requires-clause-named : goal.dependents_by_row-requires-clause-named
 dependents_by_row-requires-clause-named g c = subst AreNamed (sym c.sizes.ensures.sizes) (sizes_named c.self.inside.sheet.sizes c.sizes.ensures.sheet.size)

@@ -12,7 +12,8 @@ returns-in-Some-clause-names c =
 
 pub returns-in-None-clause-place : goal.returns-in-None-clause-place
 returns-in-None-clause-place c =
-    added_at c.add_client.result (names_of c.args.self.now) (names_of c.add_client.new.self) c.args.name.now _ (length-map c.args.self.now.names.items string_bytes) c.add_client.ensures.place c.add_client.ensures.names
+    added_at c.add_client.result (names_of c.args.self.now) (names_of c.add_client.new.self) c.args.name.now _
+    (length-map c.args.self.now.names.items string_bytes) c.add_client.ensures.place c.add_client.ensures.names
 
 pub returns-in-None-clause-names : goal.returns-in-None-clause-names
 returns-in-None-clause-names c =

@@ -20,9 +20,11 @@ loop-preserved g c =
     let reports = ap length c.push_reserved-in-loop.ensures.items ∙ length-append l.reports.items (x.reports ∷ []) in
     record {
       count = omega (arith, shorter, count);
-      passes = made_more (λ (task : Client _ _). task.pass) c.args.tasks.items l.tasks.items next l.passes.items c.push_reserved.new.self.items x l.invariant.passes is c.push_reserved.ensures.items;
+      passes = made_more (λ (task : Client _ _). task.pass) c.args.tasks.items l.tasks.items next l.passes.items
+          c.push_reserved.new.self.items x l.invariant.passes is c.push_reserved.ensures.items;
       reports =
-          made_more (λ (task : Client _ _). task.reports) c.args.tasks.items l.tasks.items next l.reports.items c.push_reserved-in-loop.new.self.items x l.invariant.reports is c.push_reserved-in-loop.ensures.items;
+          made_more (λ (task : Client _ _). task.reports) c.args.tasks.items l.tasks.items next l.reports.items
+          c.push_reserved-in-loop.new.self.items x l.invariant.reports is c.push_reserved-in-loop.ensures.items;
       had = λ rest. l.invariant.had (subst (All HadMemory) (sym is) (All-cons HadMemory x next c.if-failed.false rest));
       room = omega (arith, shorter, passes, room, c.push_reserved.ensures.capacity);
       space = omega (arith, shorter, reports, space, c.push_reserved-in-loop.ensures.capacity);

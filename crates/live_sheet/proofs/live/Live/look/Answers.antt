@@ -19,13 +19,17 @@ invariant_of-pass-clause-belongs g c =
 pub invariant_of-pass-clause-accepted : goal.invariant_of-pass-clause-accepted
 invariant_of-pass-clause-accepted g c =
     let pass = c.args.pass.now in
-    subst (λ l. AreAccepted pass.client l pass.numbers.items) (sym (look_keeps_log _ _ pass.seat c.look_at.new.seat c.look_at.new.board c.look_at.ensures.looked)) pass.accepted
+    subst (λ l. AreAccepted pass.client l pass.numbers.items)
+    (sym (look_keeps_log _ _ pass.seat c.look_at.new.seat c.look_at.new.board c.look_at.ensures.looked))
+    pass.accepted
 
 pub returns-clause-looked : goal.returns-clause-looked
 returns-clause-looked g c =
     let looked = c.look_at.ensures.looked in
     record {
-      looked = subst (λ (sizes : Sizes). HasLooked sizes c.args.window c.args.pass.now.seat c.look_at.new.seat c.look_at.new.board) c.sizes.ensures.sizes looked;
+      looked =
+          subst (λ (sizes : Sizes). HasLooked sizes c.args.window c.args.pass.now.seat c.look_at.new.seat
+          c.look_at.new.board) c.sizes.ensures.sizes looked;
       kept = record { client = refl; numbers = refl; hand = refl };
       accepted = ap (λ l. accepted_in l c.args.pass.now.numbers.items) (look_keeps_log _ _ c.args.pass.now.seat c.look_at.new.seat c.look_at.new.board looked);
     }

@@ -44,18 +44,28 @@ returns g c =
     let log = c.into_parts-sheet.result.1.items in
     let same : log_of me.editor ≡ log = me.seat.log_is ∙ sym parts.log in
     let amount = c.audit.ensures.whole (omega (arith, c.gather.ensures.parts, c.share-share.ensures.parts, c.share-share.ensures.all, c.requires.clients)) in
-    let all : accepted_count passes ≡ length log = omega (arith, amount, c.gather.ensures.amount, c.share-share.ensures.amount, me.total, ap length parts.log) in
+    let all : accepted_count passes ≡ length log = omega (
+      arith,
+      amount,
+      c.gather.ensures.amount,
+      c.share-share.ensures.amount,
+      me.total,
+      ap length parts.log,
+    ) in
     let ends = all_end opening codes log passes c.requires.order all (λ k d below. (c.gather.ensures.kept k d below).accepted)
     (λ k d below. subst (λ (l : List Entry). IsPrefix (pass_log (slice_index_or passes k d)) l) same
-    (All-contains (λ other. IsPrefix (log_of other) (log_of me.editor)) seats (slice_index_or passes k d).seat shown.prefixes (c.gather.ensures.handed k d below)))
+    (All-contains (λ other. IsPrefix (log_of other) (log_of me.editor)) seats (slice_index_or passes k d).seat
+    shown.prefixes (c.gather.ensures.handed k d below)))
     (λ k d below. subst (λ (l : List Entry). ReadsAreLegal opening codes l (slice_index_or passes k d).seat) same
     (subst (λ (o : SheetValue). ReadsAreLegal o codes (log_of me.editor) (slice_index_or passes k d).seat) c.requires.words.about
-    (All-contains (ReadsAreLegal (subject_of c.args.marks) codes (log_of me.editor)) seats (slice_index_or passes k d).seat shown.legal (c.gather.ensures.handed k d below)))) in
+    (All-contains (ReadsAreLegal (subject_of c.args.marks) codes (log_of me.editor)) seats
+    (slice_index_or passes k d).seat shown.legal (c.gather.ensures.handed k d below)))) in
     let sheet_is = parts.sheet ∙ parts.kept.replayed ∙ ap (λ (o : SheetValue). after o me.book.log) me.opening ∙ ap (after opening) (sym parts.log) in
     record {
       each = ends.0;
       others = ends.1;
       sheet_is = sheet_is;
-      values_are = values_closed opening (subject_of c.args.marks) c.into_parts-sheet.result.0 log (log_of me.editor) c.close_cells-values.result.items c.cells-cells.result
+      values_are = values_closed opening (subject_of c.args.marks) c.into_parts-sheet.result.0 log (log_of me.editor)
+          c.close_cells-values.result.items c.cells-cells.result
           c.requires.words.about same sheet_is c.sizes.ensures.sheet shown.count c.cells-cells.ensures shown.values;
     }

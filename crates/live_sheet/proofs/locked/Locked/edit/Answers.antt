@@ -10,7 +10,10 @@ use Rattle.live_sheet.proofs.locked.Locked.edit.Goals as goal
 pub returns-in_ok-room-in-Ok-clause-made : goal.returns-in_ok-room-in-Ok-clause-made
 returns-in_ok-room-in-Ok-clause-made g c =
     subst (λ book. HasApplied (client_entry c.args.pass.now.client c.args.edit) book c.make.new.self.book) c.hear_pass.ensures.book
-    (applied_from live_pairs c.hear_pass.new.self.book c.prepare.new.self.book c.make.new.self.book c.in-Ok.prepared.entry (client_entry c.args.pass.now.client c.args.edit) c.prepare.ensures.same (c.in-Ok.ensures.entry ∙ ap (λ n. client_entry n c.args.edit) c.hear_pass.ensures.pass.kept.client) c.make.ensures.made)
+    (applied_from live_pairs c.hear_pass.new.self.book c.prepare.new.self.book c.make.new.self.book
+    c.in-Ok.prepared.entry (client_entry c.args.pass.now.client c.args.edit) c.prepare.ensures.same
+    (c.in-Ok.ensures.entry ∙ ap (λ n. client_entry n c.args.edit) c.hear_pass.ensures.pass.kept.client)
+    c.make.ensures.made)
 
 pub returns-in_ok-room-in-Ok-clause-out_of_sheet :
     goal.returns-in_ok-room-in-Ok-clause-out_of_sheet

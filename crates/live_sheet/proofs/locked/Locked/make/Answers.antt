@@ -13,7 +13,8 @@ invariant_of-pass-clause-accepted g c =
     let entry = c.args.prepared.entry in
     let new_is : log_of c.learn.new.seat ≡ book.log ++ entry ∷ [] =
     c.learn.ensures.learned.log ∙ c.enter-applied.ensures.entered.log ∙ ap (λ (l : List Entry). l ++ entry ∷ []) c.args.self.now.seat.log_is in
-    accepted_now pass.client (log_of pass.seat) book.log (log_of c.learn.new.seat) pass.numbers.items c.push_reserved.new.self.items entry (client_entry pass.client entry.edit) c.enter-applied.result.number
+    accepted_now pass.client (log_of pass.seat) book.log (log_of c.learn.new.seat) pass.numbers.items
+    c.push_reserved.new.self.items entry (client_entry pass.client entry.edit) c.enter-applied.result.number
     c.requires.behind pass.accepted c.requires.entry refl new_is (c.enter-applied.ensures.number ∙ c.requires.prepared.number) c.push_reserved.ensures.items
 
 pub returns-clause-committed : goal.returns-clause-committed
@@ -33,7 +34,8 @@ returns-clause-committed g c =
       later = omega (arith, c.requires.seen, c.requires.prepared.number);
       seen = omega (arith, c.learn.ensures.learned.known_seen, ap length new_is, length-append book.log (entry ∷ []), c.requires.prepared.number);
       numbers = numbers;
-      accepted = list_now pass.client (log_of pass.seat) book.log (log_of c.learn.new.seat) pass.numbers.items c.push_reserved.new.self.items entry (client_entry pass.client entry.edit) c.args.prepared.number
+      accepted = list_now pass.client (log_of pass.seat) book.log (log_of c.learn.new.seat) pass.numbers.items
+          c.push_reserved.new.self.items entry (client_entry pass.client entry.edit) c.args.prepared.number
           c.requires.behind pass.accepted c.requires.entry refl new_is c.requires.prepared.number numbers;
       met = learned_itself pass.seat c.enter-applied.new.editor c.learn.new.seat c.learn.ensures.learned;
     }

@@ -21,4 +21,5 @@ pub invariant_of-pass-clause-accepted : goal.invariant_of-pass-clause-accepted
 invariant_of-pass-clause-accepted g c =
     let pass = c.args.pass.now in
     let log = c.learn.ensures.learned.log ∙ c.args.self.now.seat.log_is in
-    accepted_still pass.client (log_of pass.seat) (log_of c.learn.new.seat) pass.numbers.items (subst (λ l. IsPrefix (log_of pass.seat) l) (sym log) c.requires.behind) pass.accepted
+    accepted_still pass.client (log_of pass.seat) (log_of c.learn.new.seat) pass.numbers.items
+    (subst (λ l. IsPrefix (log_of pass.seat) l) (sym log) c.requires.behind) pass.accepted

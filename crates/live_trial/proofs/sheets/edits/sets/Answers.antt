@@ -7,7 +7,9 @@ use Rattle.live_trial.proofs.sheets.edits.sets.Goals as goal
 
 -- an edit of one change has the label of that one
 one_label : (labels : ℕ) (change : ChangeValue) → HasLabel labels change.content → HaveLabels labels (change ∷ [])
-one_label labels change label = All-cons (λ (c : ChangeValue). HasLabel labels c.content) change [] label (All-nil (λ (c : ChangeValue). HasLabel labels c.content))
+one_label labels change label =
+    All-cons (λ (c : ChangeValue). HasLabel labels c.content) change [] label
+    (All-nil (λ (c : ChangeValue). HasLabel labels c.content))
 
 pub returns : goal.returns
 returns c = λ labels.

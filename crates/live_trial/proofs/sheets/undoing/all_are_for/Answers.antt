@@ -8,7 +8,8 @@ use Rattle.live_trial.proofs.sheets.undoing.all_are_for.Goals as goal
 
 pub loop-entry-preserved : goal.loop-entry-preserved
 loop-entry-preserved c =
-    all_taken_more (λ (e : Entry). IsFor c.args.sheet.now e.edit) c.args.log.now c.loop-entry.entry-index c.entry-item.result c.loop-entry-test.true c.entry-item.is
+    all_taken_more (λ (e : Entry). IsFor c.args.sheet.now e.edit) c.args.log.now c.loop-entry.entry-index
+    c.entry-item.result c.loop-entry-test.true c.entry-item.is
     c.loop-entry.invariant (subst (IsFor c.args.sheet.now) c.changes.ensures.changes c.if-not-are_for.ensures)
 
 pub returns : goal.returns

@@ -8,7 +8,8 @@ no_two : {P : Type 0} (before others : List P) (x y : P) → length before ≡ 1
 no_two before others x y one was = let long : length before ≡ suc (suc (length others)) = ap length was in cc
 
 -- the one pass of a list is put back for another one of the same client
-one_pass : {P : Type 0} (of : P → ℕ) (before after rest : List P) (popped made : P) → length before ≡ 1 → before ≡ rest ++ popped ∷ [] → after ≡ rest ++ made ∷ []
+one_pass : {P : Type 0} (of : P → ℕ) (before after rest : List P) (popped made : P) → length before ≡ 1 → before ≡ rest
+    ++ popped ∷ [] → after ≡ rest ++ made ∷ []
     → of made ≡ of popped → ((k : ℕ) (p : P) → slice_get before k ≡ Some p → of p ≡ k) → (k : ℕ) (p : P) → slice_get after k ≡ Some p → of p ≡ k
 one_pass of before after [] popped made one was is same each zero p at =
     let here : Some made ≡ Some p = sym (ap (λ xs. slice_get xs 0) is) ∙ at in

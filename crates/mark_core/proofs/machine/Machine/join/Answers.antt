@@ -5,7 +5,8 @@ use Rattle.mark_core.proofs.machine.Machine.join.Goals as goal
 
 pub invariant_of-self : goal.invariant_of-self
 invariant_of-self g c =
-    let within = views_within c.self.inside.log.items c.self.inside.pending c.self.inside.marked.items c.self.inside.places.items c.self.inside.views.items c.args.self.now c.self.view_is in
+    let within = views_within c.self.inside.log.items c.self.inside.pending c.self.inside.marked.items
+    c.self.inside.places.items c.self.inside.views.items c.args.self.now c.self.view_is in
     let at : c.replace-taken.result ≡ get_or c.self.inside.views.items c.args.other c.replace-taken.result =
     c.replace-taken.ensures.value ∙ c.index_mut.ensures.value ∙ ap (λ d. get_or c.self.inside.views.items c.args.other d) (sym c.replace-taken.ensures.value) in
     kept_joined c.self.inside.log.items c.self.inside.places.items c.self.inside.views.items c.self.invariant c.args.view c.args.other
@@ -15,7 +16,8 @@ invariant_of-self g c =
 
 pub invariant_of-self-in-Err : goal.invariant_of-self-in-Err
 invariant_of-self-in-Err g c =
-    let within = views_within c.self.inside.log.items c.self.inside.pending c.self.inside.marked.items c.self.inside.places.items c.self.inside.views.items c.args.self.now c.self.view_is in
+    let within = views_within c.self.inside.log.items c.self.inside.pending c.self.inside.marked.items
+    c.self.inside.places.items c.self.inside.views.items c.args.self.now c.self.view_is in
     let at : c.replace-taken.result ≡ get_or c.self.inside.views.items c.args.other c.replace-taken.result =
     c.replace-taken.ensures.value ∙ c.index_mut.ensures.value ∙ ap (λ d. get_or c.self.inside.views.items c.args.other d) (sym c.replace-taken.ensures.value) in
     subst (λ views. IsKept c.self.inside.log.items c.self.inside.places.items views)
@@ -35,7 +37,8 @@ returns-in-Ok-clause-ok g c =
 
 pub returns-in-Err-clause-err : goal.returns-in-Err-clause-err
 returns-in-Err-clause-err g c =
-    let within = views_within c.self.inside.log.items c.self.inside.pending c.self.inside.marked.items c.self.inside.places.items c.self.inside.views.items c.args.self.now c.self.view_is in
+    let within = views_within c.self.inside.log.items c.self.inside.pending c.self.inside.marked.items
+    c.self.inside.places.items c.self.inside.views.items c.args.self.now c.self.view_is in
     let at : c.replace-taken.result ≡ get_or c.self.inside.views.items c.args.other c.replace-taken.result =
     c.replace-taken.ensures.value ∙ c.index_mut.ensures.value ∙ ap (λ d. get_or c.self.inside.views.items c.args.other d) (sym c.replace-taken.ensures.value) in
     ap (λ views. kept_state c.self.inside.log.items c.self.inside.pending c.self.inside.marked.items c.self.inside.places.items views)

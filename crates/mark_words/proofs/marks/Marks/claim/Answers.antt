@@ -10,10 +10,13 @@ pub compare_exchange-found-requires : goal.compare_exchange-found-requires
 compare_exchange-found-requires g c = (
   c.requires.table.same_table,
   omega (arith, c.args.self.now.sized, c.requires.there),
-  claims c.args.self.now.table.shared.key.subject.value (g.S.Subject.places c.args.self.now.table.shared.key.subject.value) (g.S.Subject.worth c.args.self.now.table.shared.key.subject.value)
+  claims c.args.self.now.table.shared.key.subject.value
+      (g.S.Subject.places c.args.self.now.table.shared.key.subject.value)
+      (g.S.Subject.worth c.args.self.now.table.shared.key.subject.value)
       (g.S.Subject.touches c.args.self.now.table.shared.key.subject.value) (g.S.Subject.untouched c.args.self.now.table.shared.key.subject.value)
       c.args.self.now.table.shared.key.opening.value _ _ _ _ c.args.place
-      c.args.seat.now.live c.requires.there c.args.seen c.word_of-old.result c.word_of-new.result c.requires.stale c.word_of-old.ensures c.word_of-new.ensures refl refl,
+      c.args.seat.now.live c.requires.there c.args.seen c.word_of-old.result c.word_of-new.result c.requires.stale
+      c.word_of-old.ensures c.word_of-new.ensures refl refl,
 )
 
 pub invariant_of-seat-clause-has_own : goal.invariant_of-seat-clause-has_own
@@ -27,7 +30,8 @@ invariant_of-seat-clause-fits g c = search (rules, rest_fits)
 
 pub returns-then-found-old-clause-step : goal.returns-then-found-old-clause-step
 returns-then-found-old-clause-step g c =
-    same_word _ _ _ _ _ (c.if-found-old.true ∙ c.word_of-old.ensures) (c.compare_exchange-found.ensures.2.one c.args.place c.args.seen refl c.word_of-old.ensures)
+    same_word _ _ _ _ _ (c.if-found-old.true ∙ c.word_of-old.ensures) (c.compare_exchange-found.ensures.2.one
+    c.args.place c.args.seen refl c.word_of-old.ensures)
 
 pub returns-else-found-old-clause-step : goal.returns-else-found-old-clause-step
 returns-else-found-old-clause-step g c =

@@ -18,10 +18,12 @@ pub join_seat-requires : goal.join_seat-requires
 join_seat-requires g c =
     let inv = c.loop-other.invariant in (
       inv.same_table,
-      all_last (λ (other : Seat _ _ _). other.seat.table_id ≡ c.args.self.table.shared.table_id) c.pop.new.self.items c.loop-other.others.items c.in-Some-pop.other c.in-Some-pop.ensures.items inv.tables,
+      all_last (λ (other : Seat _ _ _). other.seat.table_id ≡ c.args.self.table.shared.table_id) c.pop.new.self.items
+          c.loop-other.others.items c.in-Some-pop.other c.in-Some-pop.ensures.items inv.tables,
       c.in-Some-pop.other.bare,
       omega (arith, c.args.self.sized),
-      gathers c.args.self.table.shared.key.subject.value (g.S.Subject.places c.args.self.table.shared.key.subject.value) (g.S.Subject.worth c.args.self.table.shared.key.subject.value)
+      gathers c.args.self.table.shared.key.subject.value (g.S.Subject.places c.args.self.table.shared.key.subject.value)
+          (g.S.Subject.worth c.args.self.table.shared.key.subject.value)
           (g.S.Subject.touches c.args.self.table.shared.key.subject.value) (g.S.Subject.untouched c.args.self.table.shared.key.subject.value)
           c.args.self.table.shared.key.opening.value _ _ _ _ inv.live inv.editor c.in-Some-pop.other.live,
     )

@@ -12,7 +12,9 @@ pub store-requires : goal.store-requires
 store-requires g c = (
   c.requires.table.same_table,
   omega (arith, c.args.self.now.sized),
-  commits_some c.args.self.now.table.shared.key.subject.value (g.S.Subject.places c.args.self.now.table.shared.key.subject.value) (g.S.Subject.worth c.args.self.now.table.shared.key.subject.value)
+  commits_some c.args.self.now.table.shared.key.subject.value
+      (g.S.Subject.places c.args.self.now.table.shared.key.subject.value)
+      (g.S.Subject.worth c.args.self.now.table.shared.key.subject.value)
       (g.S.Subject.touches c.args.self.now.table.shared.key.subject.value) (g.S.Subject.untouched c.args.self.now.table.shared.key.subject.value)
       c.args.self.now.table.shared.key.opening.value _ _ _ _ _ c.args.seat.now.live c.requires.editor c.requires.pending c.requires.marked
       (ap (λ n. n + 1) (c.args.seat.now.has_own.count c.in-Some.own (sym c.take.ensures.value ∙ c.in-Some.is))),
@@ -44,7 +46,8 @@ returns-clause-doing g c entry pending =
 pub returns-clause-step : goal.returns-clause-step
 returns-clause-step g c entry pending =
     let told = c.store.ensures.2 in
-    subst (λ x. OneMore c.args.seat.now.seat.me.0.steps c.store.new.seat.me.0.steps (λ view. Commit view x) (c.in-Some.own.count + 1)) (same_Some told.entry entry (sym told.pending ∙ pending)) told.one
+    subst (λ x. OneMore c.args.seat.now.seat.me.0.steps c.store.new.seat.me.0.steps (λ view. Commit view x)
+    (c.in-Some.own.count + 1)) (same_Some told.entry entry (sym told.pending ∙ pending)) told.one
 
 pub returns-clause-same : goal.returns-clause-same
 returns-clause-same g c =

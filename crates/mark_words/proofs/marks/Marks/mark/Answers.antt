@@ -8,7 +8,9 @@ pub compare_exchange_with-requires : goal.compare_exchange_with-requires
 compare_exchange_with-requires g c = (
   c.requires.table.same_table,
   omega (arith, c.args.self.now.sized, c.requires.there),
-  marks_place c.args.self.now.table.shared.key.subject.value (g.S.Subject.places c.args.self.now.table.shared.key.subject.value) (g.S.Subject.worth c.args.self.now.table.shared.key.subject.value)
+  marks_place c.args.self.now.table.shared.key.subject.value
+      (g.S.Subject.places c.args.self.now.table.shared.key.subject.value)
+      (g.S.Subject.worth c.args.self.now.table.shared.key.subject.value)
       (g.S.Subject.touches c.args.self.now.table.shared.key.subject.value) (g.S.Subject.untouched c.args.self.now.table.shared.key.subject.value)
       c.args.self.now.table.shared.key.opening.value _ _ _ _ c.args.entry.now c.args.place c.mark-old.result c.args.number
       c.args.seat.now.live c.requires.editor c.requires.there c.requires.idle c.requires.touched c.requires.number c.mark-old.result
@@ -29,8 +31,10 @@ invariant_of-seat g c =
           (ap (λ z. z.words) c.compare_exchange_with.ensures.0) c.args.seat.now.seat.me.0.doing c.compare_exchange_with.new.seat.me.0.doing
           c.args.seat.now.editor_marks c.in-Some.own c.with_mark.result (sym c.take.ensures.value ∙ c.in-Some.is) c.args.seat.now.has_own
           c.args.entry.now c.args.place c.args.number made c.with_mark.ensures.count c.with_mark.ensures.marks;
-      knows_all = knows_marked c.args.seat.now.seat.me.0.doing c.compare_exchange_with.new.seat.me.0.doing c.args.seat.now.knows_all c.args.entry.now c.args.place c.args.number c.requires.number c.requires.room made;
-      fits = fits_marked c.args.seat.now.seat.me.0.doing c.compare_exchange_with.new.seat.me.0.doing c.args.seat.now.fits c.args.entry.now c.args.place c.args.number made;
+      knows_all = knows_marked c.args.seat.now.seat.me.0.doing c.compare_exchange_with.new.seat.me.0.doing
+          c.args.seat.now.knows_all c.args.entry.now c.args.place c.args.number c.requires.number c.requires.room made;
+      fits = fits_marked c.args.seat.now.seat.me.0.doing c.compare_exchange_with.new.seat.me.0.doing
+          c.args.seat.now.fits c.args.entry.now c.args.place c.args.number made;
     }
 
 pub returns-clause-same : goal.returns-clause-same

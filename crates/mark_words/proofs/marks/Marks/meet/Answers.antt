@@ -13,7 +13,9 @@ pub split_seat-note-requires : goal.split_seat-note-requires
 split_seat-note-requires g c = (
   c.requires.other_table.same_table,
   omega (arith, c.args.self.now.sized),
-  splits c.args.self.now.table.shared.key.subject.value (g.S.Subject.places c.args.self.now.table.shared.key.subject.value) (g.S.Subject.worth c.args.self.now.table.shared.key.subject.value)
+  splits c.args.self.now.table.shared.key.subject.value
+      (g.S.Subject.places c.args.self.now.table.shared.key.subject.value)
+      (g.S.Subject.worth c.args.self.now.table.shared.key.subject.value)
       (g.S.Subject.touches c.args.self.now.table.shared.key.subject.value) (g.S.Subject.untouched c.args.self.now.table.shared.key.subject.value)
       c.args.self.now.table.shared.key.opening.value _ _ c.args.other.now.live,
 )
@@ -26,11 +28,14 @@ join_seat-requires g c =
       c.split_seat-note.ensures.3 ∙ c.requires.other_table.same_table,
       ap (λ m. m.1) note,
       omega (arith, c.args.self.now.sized),
-      joins c.args.self.now.table.shared.key.subject.value (g.S.Subject.places c.args.self.now.table.shared.key.subject.value) (g.S.Subject.worth c.args.self.now.table.shared.key.subject.value)
+      joins c.args.self.now.table.shared.key.subject.value
+          (g.S.Subject.places c.args.self.now.table.shared.key.subject.value)
+          (g.S.Subject.worth c.args.self.now.table.shared.key.subject.value)
           (g.S.Subject.touches c.args.self.now.table.shared.key.subject.value) (g.S.Subject.untouched c.args.self.now.table.shared.key.subject.value)
           c.args.self.now.table.shared.key.opening.value
           c.args.seat.now.seat.id c.args.seat.now.seat.me.0 c.split_seat-note.result.id c.split_seat-note.result.me.0 c.args.seat.now.live
-          (ap (λ (h : History _ _). h.doing.view.spent) copy) (ap (λ (h : History _ _). h.doing.view.holds) copy) (ap (λ (h : History _ _). h.doing.editor) copy)
+          (ap (λ (h : History _ _). h.doing.view.spent) copy) (ap (λ (h : History _ _). h.doing.view.holds) copy)
+          (ap (λ (h : History _ _). h.doing.editor) copy)
           (ap (λ (h : History _ _). h.doing.gathered) (sym copy)) (ap (λ (h : History _ _). h.steps) (sym copy)),
     )
 
@@ -38,7 +43,9 @@ pub load-requires : goal.load-requires
 load-requires g c = (
   c.join_seat.ensures.0 ∙ c.requires.table.same_table,
   omega (arith, c.args.self.now.sized),
-  sees c.args.self.now.table.shared.key.subject.value (g.S.Subject.places c.args.self.now.table.shared.key.subject.value) (g.S.Subject.worth c.args.self.now.table.shared.key.subject.value)
+  sees c.args.self.now.table.shared.key.subject.value
+      (g.S.Subject.places c.args.self.now.table.shared.key.subject.value)
+      (g.S.Subject.worth c.args.self.now.table.shared.key.subject.value)
       (g.S.Subject.touches c.args.self.now.table.shared.key.subject.value) (g.S.Subject.untouched c.args.self.now.table.shared.key.subject.value)
       c.args.self.now.table.shared.key.opening.value _ _ _ _
       (ap (λ m. m.0.doing.view.spent) c.join_seat.ensures.2 ∙ c.args.seat.now.live),
@@ -46,38 +53,53 @@ load-requires g c = (
 
 pub invariant_of-seat : goal.invariant_of-seat
 invariant_of-seat g c =
-    let is = ap (λ m. m.0.doing) c.join_seat.ensures.2 ∙ ap (λ (d : Doing _ _). union_doing c.args.seat.now.seat.me.0.doing d) (ap (λ m. m.0.doing) c.split_seat-note.ensures.4) in
+    let is = ap (λ m. m.0.doing) c.join_seat.ensures.2
+    ∙ ap (λ (d : Doing _ _). union_doing c.args.seat.now.seat.me.0.doing d)
+    (ap (λ m. m.0.doing) c.split_seat-note.ensures.4) in
     let same = ap (λ z. z.words) (c.load.ensures.0 ∙ c.join_seat.ensures.0) in
     record {
-      live = met_live _ c.args.seat.now.seat.me.0.doing c.args.other.now.seat.me.0.doing c.join_seat.new.seat.me c.load.new.seat.me c.load.result is c.load.ensures.2 c.args.seat.now.knows_all ∙ c.args.seat.now.live;
+      live = met_live _ c.args.seat.now.seat.me.0.doing c.args.other.now.seat.me.0.doing c.join_seat.new.seat.me
+          c.load.new.seat.me c.load.result is c.load.ensures.2 c.args.seat.now.knows_all ∙ c.args.seat.now.live;
       bare = c.load.ensures.2.slots ∙ ap (λ m. m.1) c.join_seat.ensures.2 ∙ c.args.seat.now.bare;
       has_own =
-          met_own _ c.args.seat.now.seat.me.0.doing c.args.other.now.seat.me.0.doing c.join_seat.new.seat.me c.load.new.seat.me c.load.result is c.load.ensures.2 c.args.seat.now.knows_all
+          met_own _ c.args.seat.now.seat.me.0.doing c.args.other.now.seat.me.0.doing c.join_seat.new.seat.me
+          c.load.new.seat.me c.load.result is c.load.ensures.2 c.args.seat.now.knows_all
           c.args.seat.now.seat.table_id.words c.load.new.seat.table_id.words c.args.seat.now.editor_marks same c.args.seat.now.has_own;
-      knows_all = met_knows _ c.args.seat.now.seat.me.0.doing c.args.other.now.seat.me.0.doing c.join_seat.new.seat.me c.load.new.seat.me c.load.result is c.load.ensures.2 c.args.seat.now.knows_all;
+      knows_all = met_knows _ c.args.seat.now.seat.me.0.doing c.args.other.now.seat.me.0.doing c.join_seat.new.seat.me
+          c.load.new.seat.me c.load.result is c.load.ensures.2 c.args.seat.now.knows_all;
       fits =
-          met_fits _ c.args.seat.now.seat.me.0.doing c.args.other.now.seat.me.0.doing c.join_seat.new.seat.me c.load.new.seat.me c.load.result is c.load.ensures.2 c.args.seat.now.knows_all
+          met_fits _ c.args.seat.now.seat.me.0.doing c.args.other.now.seat.me.0.doing c.join_seat.new.seat.me
+          c.load.new.seat.me c.load.result is c.load.ensures.2 c.args.seat.now.knows_all
           c.args.seat.now.fits c.args.other.now.fits;
     }
 
 pub returns-clause-met : goal.returns-clause-met
 returns-clause-met g c =
-    let is = ap (λ m. m.0.doing) c.join_seat.ensures.2 ∙ ap (λ (d : Doing _ _). union_doing c.args.seat.now.seat.me.0.doing d) (ap (λ m. m.0.doing) c.split_seat-note.ensures.4) in
-    met _ c.args.seat.now.seat.me.0.doing c.args.other.now.seat.me.0.doing c.join_seat.new.seat.me c.load.new.seat.me c.load.result is c.load.ensures.2 c.args.seat.now.knows_all
+    let is = ap (λ m. m.0.doing) c.join_seat.ensures.2
+    ∙ ap (λ (d : Doing _ _). union_doing c.args.seat.now.seat.me.0.doing d)
+    (ap (λ m. m.0.doing) c.split_seat-note.ensures.4) in
+    met _ c.args.seat.now.seat.me.0.doing c.args.other.now.seat.me.0.doing c.join_seat.new.seat.me c.load.new.seat.me
+    c.load.result is c.load.ensures.2 c.args.seat.now.knows_all
 
 pub returns-clause-clean : goal.returns-clause-clean
 returns-clause-clean g c =
-    let is = ap (λ m. m.0.doing) c.join_seat.ensures.2 ∙ ap (λ (d : Doing _ _). union_doing c.args.seat.now.seat.me.0.doing d) (ap (λ m. m.0.doing) c.split_seat-note.ensures.4) in
-    met_clean _ c.args.seat.now.seat.me.0.doing c.args.other.now.seat.me.0.doing c.join_seat.new.seat.me c.load.new.seat.me c.load.result is c.load.ensures.2 c.args.seat.now.knows_all
+    let is = ap (λ m. m.0.doing) c.join_seat.ensures.2
+    ∙ ap (λ (d : Doing _ _). union_doing c.args.seat.now.seat.me.0.doing d)
+    (ap (λ m. m.0.doing) c.split_seat-note.ensures.4) in
+    met_clean _ c.args.seat.now.seat.me.0.doing c.args.other.now.seat.me.0.doing c.join_seat.new.seat.me
+    c.load.new.seat.me c.load.result is c.load.ensures.2 c.args.seat.now.knows_all
     (g.S.Subject.touches c.args.self.now.table.shared.key.subject.value)
 
 pub returns-clause-same : goal.returns-clause-same
 returns-clause-same g c =
-    let is = ap (λ m. m.0.doing) c.join_seat.ensures.2 ∙ ap (λ (d : Doing _ _). union_doing c.args.seat.now.seat.me.0.doing d) (ap (λ m. m.0.doing) c.split_seat-note.ensures.4) in
+    let is = ap (λ m. m.0.doing) c.join_seat.ensures.2
+    ∙ ap (λ (d : Doing _ _). union_doing c.args.seat.now.seat.me.0.doing d)
+    (ap (λ m. m.0.doing) c.split_seat-note.ensures.4) in
     record {
       same_table = c.load.ensures.0 ∙ c.join_seat.ensures.0 ∙ c.requires.table.same_table;
       same_subject =
-          met_subject _ c.args.seat.now.seat.me.0.doing c.args.other.now.seat.me.0.doing c.join_seat.new.seat.me c.load.new.seat.me c.load.result is c.load.ensures.2 c.args.seat.now.knows_all
+          met_subject _ c.args.seat.now.seat.me.0.doing c.args.other.now.seat.me.0.doing c.join_seat.new.seat.me
+          c.load.new.seat.me c.load.result is c.load.ensures.2 c.args.seat.now.knows_all
           ∙ c.requires.table.same_subject;
       same_places = c.requires.table.same_places;
     }

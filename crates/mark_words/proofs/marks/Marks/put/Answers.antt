@@ -7,7 +7,9 @@ pub store-requires : goal.store-requires
 store-requires g c = (
   c.requires.table.same_table,
   omega (arith, c.args.self.now.sized, c.requires.there),
-  puts c.args.self.now.table.shared.key.subject.value (g.S.Subject.places c.args.self.now.table.shared.key.subject.value) (g.S.Subject.worth c.args.self.now.table.shared.key.subject.value)
+  puts c.args.self.now.table.shared.key.subject.value
+      (g.S.Subject.places c.args.self.now.table.shared.key.subject.value)
+      (g.S.Subject.worth c.args.self.now.table.shared.key.subject.value)
       (g.S.Subject.touches c.args.self.now.table.shared.key.subject.value) (g.S.Subject.untouched c.args.self.now.table.shared.key.subject.value)
       c.args.self.now.table.shared.key.opening.value _ _ _ _ c.args.place
       c.args.seat.now.live c.requires.there c.args.word c.requires.held refl refl,

@@ -10,7 +10,9 @@ pub load-requires : goal.load-requires
 load-requires g c = (
   c.requires.table.same_table,
   omega (arith, c.args.self.now.sized, c.requires.there),
-  reads_clean c.args.self.now.table.shared.key.subject.value (g.S.Subject.places c.args.self.now.table.shared.key.subject.value) (g.S.Subject.worth c.args.self.now.table.shared.key.subject.value)
+  reads_clean c.args.self.now.table.shared.key.subject.value
+      (g.S.Subject.places c.args.self.now.table.shared.key.subject.value)
+      (g.S.Subject.worth c.args.self.now.table.shared.key.subject.value)
       (g.S.Subject.touches c.args.self.now.table.shared.key.subject.value) (g.S.Subject.untouched c.args.self.now.table.shared.key.subject.value)
       c.args.self.now.table.shared.key.opening.value _ _ _ _ c.args.place
       c.args.seat.now.live c.requires.there refl,
@@ -24,7 +26,8 @@ invariant_of-seat-clause-knows_all g c = search (rules, rest_knows)
 
 pub invariant_of-seat-clause-fits : goal.invariant_of-seat-clause-fits
 invariant_of-seat-clause-fits g c =
-    clean_read_fits c.args.seat.now.seat.me.0.doing c.load.new.seat.me.0.doing c.load.ensures.2.rest c.args.place c.load.result (omega arith) (c.load.ensures.2.doing c.args.place refl) c.args.seat.now.fits
+    clean_read_fits c.args.seat.now.seat.me.0.doing c.load.new.seat.me.0.doing c.load.ensures.2.rest c.args.place
+    c.load.result (omega arith) (c.load.ensures.2.doing c.args.place refl) c.args.seat.now.fits
 
 pub returns-clause-begins : goal.returns-clause-begins
 returns-clause-begins g c = begins c.args.seat.now.seat.me.0.doing.view c.args.place _

@@ -7,7 +7,9 @@ pub load-requires : goal.load-requires
 load-requires g c = (
   c.requires.table.same_table,
   omega (arith, c.args.self.now.sized, c.requires.there),
-  reads_value c.args.self.now.table.shared.key.subject.value (g.S.Subject.places c.args.self.now.table.shared.key.subject.value) (g.S.Subject.worth c.args.self.now.table.shared.key.subject.value)
+  reads_value c.args.self.now.table.shared.key.subject.value
+      (g.S.Subject.places c.args.self.now.table.shared.key.subject.value)
+      (g.S.Subject.worth c.args.self.now.table.shared.key.subject.value)
       (g.S.Subject.touches c.args.self.now.table.shared.key.subject.value) (g.S.Subject.untouched c.args.self.now.table.shared.key.subject.value)
       c.args.self.now.table.shared.key.opening.value _ _ _ _ c.args.place
       c.args.seat.now.live c.requires.there refl,
@@ -21,10 +23,12 @@ invariant_of-seat-clause-knows_all g c = search (rules, rest_knows)
 
 pub invariant_of-seat-clause-fits : goal.invariant_of-seat-clause-fits
 invariant_of-seat-clause-fits g c =
-    value_read_fits c.args.seat.now.seat.me.0.doing c.load.new.seat.me.0.doing c.load.ensures.2.rest c.args.place c.load.result (c.load.ensures.2.doing c.args.place refl) c.args.seat.now.fits
+    value_read_fits c.args.seat.now.seat.me.0.doing c.load.new.seat.me.0.doing c.load.ensures.2.rest c.args.place
+    c.load.result (c.load.ensures.2.doing c.args.place refl) c.args.seat.now.fits
 
 pub returns-clause-goes_on : goal.returns-clause-goes_on
-returns-clause-goes_on g c = goes_on c.args.seat.now.seat.me.0.doing c.load.new.seat.me.0.doing c.args.place c.load.result (c.load.ensures.2.doing c.args.place refl)
+returns-clause-goes_on g c = goes_on c.args.seat.now.seat.me.0.doing c.load.new.seat.me.0.doing c.args.place
+    c.load.result (c.load.ensures.2.doing c.args.place refl)
 
 pub returns-clause-step : goal.returns-clause-step
 returns-clause-step g c = c.load.ensures.2.one c.args.place refl

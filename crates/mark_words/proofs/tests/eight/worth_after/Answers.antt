@@ -13,7 +13,8 @@ loop-next-preserved-then-next-place c =
       sym (
           ap (λ n. last_setting c.args.place 0 (script n)) (sym next)
           ∙ last_next c.args.place 0 (script c.loop-next.next) (suc c.loop-next.next)
-          ∙ ap (λ b. if b then suc c.loop-next.next else last_setting c.args.place 0 (script c.loop-next.next)) (eq-eqb (suc c.loop-next.next % 8) c.args.place (ap (λ n. n % 8) next ∙ c.if-next-place.true))
+          ∙ ap (λ b. if b then suc c.loop-next.next else last_setting c.args.place 0 (script c.loop-next.next))
+          (eq-eqb (suc c.loop-next.next % 8) c.args.place (ap (λ n. n % 8) next ∙ c.if-next-place.true))
           ∙ next),
       omega arith,
     )

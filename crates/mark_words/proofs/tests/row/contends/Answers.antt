@@ -18,7 +18,10 @@ finish-requires-clause-computed c κs =
     c.reads-own.new.seat.seat.me.0.doing c.claim.new.seat.seat.me.0.doing c.args.place c.code.result c.reads-own.result.mark
     (ap (λ l. cell_code l c.args.place) c.reads-own.ensures.read.log ∙ ap (λ n. code_of (n + c.args.place)) c.requires.first.ends ∙ sym c.code.ensures)
     c.in-Ok.ensures.taken
-    (subst (λ (l : List ℕ). IsLastMark (λ (log : List ℕ) (entry place : ℕ). place < 2) l c.args.place c.reads-own.result.mark) (sym c.reads-own.ensures.read.log)
-    (last_read (λ (log : List ℕ) (place : ℕ). cell_code log place) (λ (log : List ℕ) (entry place : ℕ). place < 2) c.args.first.now.seat.me.0.doing c.reads-own.new.seat.seat.me.0.doing c.args.place c.reads-own.result.clean c.reads-own.result.word c.reads-own.result.mark
+    (subst (λ (l : List ℕ). IsLastMark (λ (log : List ℕ) (entry place : ℕ). place < 2) l c.args.place
+    c.reads-own.result.mark) (sym c.reads-own.ensures.read.log)
+    (last_read (λ (log : List ℕ) (place : ℕ). cell_code log place) (λ (log : List ℕ) (entry place : ℕ). place < 2)
+    c.args.first.now.seat.me.0.doing c.reads-own.new.seat.seat.me.0.doing c.args.place c.reads-own.result.clean
+    c.reads-own.result.word c.reads-own.result.mark
     c.reads-own.ensures.read (omega (arith, c.if-own-count.false, c.requires.first.entries))))
     c.put.new.seat.seat.me.0.doing c.put.ensures.doing

@@ -7,12 +7,15 @@ use Rattle.mark_words.proofs.tests.row.sets.Goals as goal
 
 pub commit-requires-clause-marked : goal.commit-requires-clause-marked
 commit-requires-clause-marked c κs entry pending place there touched =
-    both_marked c.args.marks.now c.args.editor.now c.mark.new.seat c.mark-2.new.seat c.args.entry c.args.count _ c.requires.ready c.mark.ensures.doing c.mark-2.ensures.doing place touched
+    both_marked c.args.marks.now c.args.editor.now c.mark.new.seat c.mark-2.new.seat c.args.entry c.args.count _
+    c.requires.ready c.mark.ensures.doing c.mark-2.ensures.doing place touched
 
 pub returns-clause-ready : goal.returns-clause-ready
 returns-clause-ready c =
-    let pending = entry_pending c.args.marks.now c.args.editor.now c.mark.new.seat c.mark-2.new.seat c.args.entry c.args.count _ c.requires.ready c.mark.ensures.doing c.mark-2.ensures.doing in
-    ready_next c.args.marks.now c.args.editor.now c.mark.new.seat c.mark-2.new.seat c.args.entry c.args.count _ c.requires.ready c.mark.ensures.doing c.mark-2.ensures.doing
+    let pending = entry_pending c.args.marks.now c.args.editor.now c.mark.new.seat c.mark-2.new.seat c.args.entry
+    c.args.count _ c.requires.ready c.mark.ensures.doing c.mark-2.ensures.doing in
+    ready_next c.args.marks.now c.args.editor.now c.mark.new.seat c.mark-2.new.seat c.args.entry c.args.count _
+    c.requires.ready c.mark.ensures.doing c.mark-2.ensures.doing
     c.commit.new.seat c.commit.ensures.same (c.commit.ensures.doing c.args.entry pending)
 
 pub returns-clause-last : goal.returns-clause-last

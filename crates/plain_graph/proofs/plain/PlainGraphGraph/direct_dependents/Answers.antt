@@ -26,9 +26,15 @@ loop-pair-preserved c =
           let overlap : Overlap pair.range q = subst (λ (r : Corners). Overlap r q) range (c.overlaps.ensures.0 test) in
           let one : w.of.result ≡ span_of pair.cell pair.cell = w.of.ensures.corners ∙ ap (λ (c : Position). span_of c c) cell in
           let pushed : c.if-overlaps.out.items ≡ c.loop-pair.out.items ++ span_of pair.cell pair.cell ∷ [] = rw (w.out-is, ← one) w.in_ok-push.ensures.items in
-          adds_range c.args.out.now.items c.loop-pair.out.items c.if-overlaps.out.items (span_of pair.cell pair.cell) (IsDirectDependent before q) (IsDirectDependent (before ++ pair ∷ []) q) pushed (dependents_next before pair q overlap) c.loop-pair.invariant
+          adds_range c.args.out.now.items c.loop-pair.out.items c.if-overlaps.out.items (span_of pair.cell pair.cell)
+          (IsDirectDependent before q) (IsDirectDependent (before ++ pair ∷ []) q) pushed
+          (dependents_next before pair q overlap) c.loop-pair.invariant
       | else-overlaps w ↦
           let test : c.overlaps.result ≡ false = search rules in
-          let apart : Overlap pair.range q → ⊥ = λ overlap. absurd (let yes : c.overlaps.result ≡ true = c.overlaps.ensures.1 (subst (λ (r : Corners). Overlap r q) (sym range) overlap) in cc) in
-          rw w.out-is (adds_same c.args.out.now.items c.loop-pair.out.items (IsDirectDependent before q) (IsDirectDependent (before ++ pair ∷ []) q) (dependents_kept before pair q apart) c.loop-pair.invariant)
+          let apart : Overlap pair.range q
+          → ⊥ =
+          λ overlap. absurd (let yes : c.overlaps.result ≡ true = c.overlaps.ensures.1
+          (subst (λ (r : Corners). Overlap r q) (sym range) overlap) in cc) in
+          rw w.out-is (adds_same c.args.out.now.items c.loop-pair.out.items (IsDirectDependent before q)
+          (IsDirectDependent (before ++ pair ∷ []) q) (dependents_kept before pair q apart) c.loop-pair.invariant)
     ])

@@ -24,9 +24,15 @@ loop-pair-preserved c =
           let test : c.contains.result ≡ true = search rules in
           let in_q : IsIn pair.cell q = subst (λ (c : Position). IsIn c q) cell (c.contains.ensures.0 test) in
           let pushed : c.if-contains.out.items ≡ c.loop-pair.out.items ++ pair.range ∷ [] = rw (w.out-is, ← range) w.in_ok-push.ensures.items in
-          adds_range c.args.out.now.items c.loop-pair.out.items c.if-contains.out.items pair.range (IsDirectPrecedent before q) (IsDirectPrecedent (before ++ pair ∷ []) q) pushed (precedents_next before pair q in_q) c.loop-pair.invariant
+          adds_range c.args.out.now.items c.loop-pair.out.items c.if-contains.out.items pair.range
+          (IsDirectPrecedent before q) (IsDirectPrecedent (before ++ pair ∷ []) q) pushed
+          (precedents_next before pair q in_q) c.loop-pair.invariant
       | else-contains w ↦
           let test : c.contains.result ≡ false = search rules in
-          let out : IsIn pair.cell q → ⊥ = λ inside. absurd (let yes : c.contains.result ≡ true = c.contains.ensures.1 (subst (λ (c : Position). IsIn c q) (sym cell) inside) in cc) in
-          rw w.out-is (adds_same c.args.out.now.items c.loop-pair.out.items (IsDirectPrecedent before q) (IsDirectPrecedent (before ++ pair ∷ []) q) (precedents_kept before pair q out) c.loop-pair.invariant)
+          let out : IsIn pair.cell q
+          → ⊥ =
+          λ inside. absurd (let yes : c.contains.result ≡ true = c.contains.ensures.1
+          (subst (λ (c : Position). IsIn c q) (sym cell) inside) in cc) in
+          rw w.out-is (adds_same c.args.out.now.items c.loop-pair.out.items (IsDirectPrecedent before q)
+          (IsDirectPrecedent (before ++ pair ∷ []) q) (precedents_kept before pair q out) c.loop-pair.invariant)
     ])

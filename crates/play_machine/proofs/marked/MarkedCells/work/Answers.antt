@@ -40,7 +40,8 @@ returns-clause-kept c =
     let done = c.loop-test.false in
     let most = c.loop.auto.counter-end in
     let all : c.loop.counter ≡ c.args.turns = omega (arith, done, most) in
-    let counted = turns_counted c.args.sheet.now c.loop.counter c.args.self.now.marks.items c.loop.self.marks.items kept.count (omega (arith, fewer, left, all)) before.0 in
+    let counted = turns_counted c.args.sheet.now c.loop.counter c.args.self.now.marks.items c.loop.self.marks.items
+    kept.count (omega (arith, fewer, left, all)) before.0 in
     record {
       count = before.1 ∙ kept.count;
       left = omega (arith, counted, left, same, all);

@@ -12,14 +12,19 @@ returns-in_ok-put-in-Put-clause-follows g c =
 pub returns-in_ok-push-in-Look-clause-follows : goal.returns-in_ok-push-in-Look-clause-follows
 returns-in_ok-push-in-Look-clause-follows g c =
     let told = c.in_ok-report-in-Look.ensures in
-    tells_look _ _ c.args.step.now _ _ c.in-Look.window c.in_ok-report-in-Look.report c.in-Look.is (ap₂ (λ b m. machine_of b m.marks.items) told.same_book told.same_cells) told.report c.in_ok-push-in-Look.ensures.items
+    tells_look _ _ c.args.step.now _ _ c.in-Look.window c.in_ok-report-in-Look.report c.in-Look.is
+    (ap₂ (λ b m. machine_of b m.marks.items) told.same_book told.same_cells) told.report
+    c.in_ok-push-in-Look.ensures.items
 
 pub returns-in_ok-push-in-Firm-clause-follows : goal.returns-in_ok-push-in-Firm-clause-follows
 returns-in_ok-push-in-Firm-clause-follows g c =
     let told = c.in_ok-report-in-Firm.ensures in
-    tells_firm _ _ c.args.step.now _ _ c.in-Firm.window c.in_ok-report-in-Firm.report c.clear.new.self.marks.items c.in-Firm.is c.requires.kept.count c.clear.ensures.marks (ap₂ (λ b m. machine_of b m.marks.items) told.same_book told.same_cells) told.report c.in_ok-push-in-Firm.ensures.items
+    tells_firm _ _ c.args.step.now _ _ c.in-Firm.window c.in_ok-report-in-Firm.report c.clear.new.self.marks.items
+    c.in-Firm.is c.requires.kept.count c.clear.ensures.marks (ap₂ (λ b m. machine_of b m.marks.items) told.same_book
+    told.same_cells) told.report c.in_ok-push-in-Firm.ensures.items
 
 pub returns-in_ok-work-in-Work-clause-follows : goal.returns-in_ok-work-in-Work-clause-follows
 returns-in_ok-work-in-Work-clause-follows g c =
-    let turns = subst (λ s. AreTurns s c.in-Work.turns c.args.self.now.cells.marks.items c.work.new.self.marks.items) c.sheet.ensures.sheet c.in_ok-work-in-Work.ensures.turns in
+    let turns = subst (λ s. AreTurns s c.in-Work.turns c.args.self.now.cells.marks.items c.work.new.self.marks.items)
+    c.sheet.ensures.sheet c.in_ok-work-in-Work.ensures.turns in
     tells_work _ _ c.args.step.now _ _ c.in-Work.turns c.work.new.self.marks.items c.in-Work.is turns refl refl

@@ -12,6 +12,7 @@ loop-place-preserved g c =
       told.same_book ∙ c.loop-place.invariant.0,
       told.same_cells ∙ c.loop-place.invariant.1,
       told.values,
-      board_more (machine_of c.args.self.now.book c.args.self.now.cells.marks.items) c.args.window c.loop-place.place c.cell_at.result c.in_ok-shown.shown c.loop-place.board c.push.new.self
+      board_more (machine_of c.args.self.now.book c.args.self.now.cells.marks.items) c.args.window c.loop-place.place
+          c.cell_at.result c.in_ok-shown.shown c.loop-place.board c.push.new.self
           c.loop-place.invariant.3 c.cell_at.ensures.listed shown_is c.push.ensures,
     )

@@ -10,16 +10,20 @@ wake-requires-clause-queue c =
     let sheet = c.args.sheet.now in
     let marks = c.args.marks.now.items in
     let list = c.in_ok-woken.woken.items in
-    let marks_are : c.deref.result.now ≡ new_marks sheet marks c.args.cell c.requires.count c.requires.inside = c.deref.ensures.value ∙ ap (λ p. set marks p 0) c.place-place.ensures.place in
+    let marks_are : c.deref.result.now ≡ new_marks sheet marks c.args.cell c.requires.count c.requires.inside =
+    c.deref.ensures.value ∙ ap (λ p. set marks p 0) c.place-place.ensures.place in
     let takes = subst (λ p. TakesWaiters c.args.self.now.waits c.take_waiters.new.waits p list) c.place-place.ensures.place c.in_ok-woken.ensures in
     let new : Queue = record { ready = c.args.self.now.ready; waits = c.take_waiters.new.waits; first = c.args.self.now.first } in
-    subst (λ ms. IsQueue sheet ms (waiting list) new) (sym marks_are) (woken sheet marks c.args.cell c.requires.count c.requires.inside c.args.self.now new list c.requires.queue c.requires.taken takes refl refl)
+    subst (λ ms. IsQueue sheet ms (waiting list) new) (sym marks_are) (woken sheet marks c.args.cell c.requires.count
+    c.requires.inside c.args.self.now new list c.requires.queue c.requires.taken takes refl refl)
 
 pub wake-requires-clause-waiters : goal.wake-requires-clause-waiters
 wake-requires-clause-waiters c =
     let sheet = c.args.sheet.now in
     let marks = c.args.marks.now.items in
     let list = c.in_ok-woken.woken.items in
-    let marks_are : c.deref.result.now ≡ new_marks sheet marks c.args.cell c.requires.count c.requires.inside = c.deref.ensures.value ∙ ap (λ p. set marks p 0) c.place-place.ensures.place in
+    let marks_are : c.deref.result.now ≡ new_marks sheet marks c.args.cell c.requires.count c.requires.inside =
+    c.deref.ensures.value ∙ ap (λ p. set marks p 0) c.place-place.ensures.place in
     let taken = subst (λ p. WaitAt c.args.self.now.waits p list) c.place-place.ensures.place c.in_ok-woken.ensures.taken in
-    subst (λ ms. AreWaiters sheet ms list) (sym marks_are) (woken_waiters sheet marks c.args.cell c.requires.count c.requires.inside c.args.self.now list (one c.args.cell) c.requires.queue taken)
+    subst (λ ms. AreWaiters sheet ms list) (sym marks_are) (woken_waiters sheet marks c.args.cell c.requires.count
+    c.requires.inside c.args.self.now list (one c.args.cell) c.requires.queue taken)

@@ -22,5 +22,8 @@ returns-in-Some c =
 
 pub returns-in_ok-insert-in-None : goal.returns-in_ok-insert-in-None
 returns-in_ok-insert-in-None c =
-    let updates = subst (λ p. Updates nat_cmp c.args.self.now.ready c.insert.new.self p true) (c.place-in-None.ensures.place ∙ ap (place_of c.args.sheet.now.sizes) c.in-None.ensures.cell) c.in_ok-insert-in-None.ensures.updates in
-    placed_ready c.args.sheet.now c.args.marks.now c.args.waiter.cell c.args.self.now _ c.requires.waiter.inside c.requires.marked c.in-None.ensures.found updates refl refl
+    let updates = subst (λ p. Updates nat_cmp c.args.self.now.ready c.insert.new.self p true)
+    (c.place-in-None.ensures.place ∙ ap (place_of c.args.sheet.now.sizes) c.in-None.ensures.cell)
+    c.in_ok-insert-in-None.ensures.updates in
+    placed_ready c.args.sheet.now c.args.marks.now c.args.waiter.cell c.args.self.now _ c.requires.waiter.inside
+    c.requires.marked c.in-None.ensures.found updates refl refl

@@ -14,7 +14,8 @@ loop-slot-preserved c =
     let entry : Entry = c.slot-item.result in
     let q : Corners = c.args.q in
     let before : List Entry = take place entries in
-    let next : take (place + 1) entries ≡ before ++ entry ∷ [] = take_more entries place entry c.loop-slot-test.true ∙ ap (λ (e : Entry). before ++ e ∷ []) (sym c.slot-item.is) in
+    let next : take (place + 1) entries ≡ before ++ entry ∷ [] = take_more entries place entry c.loop-slot-test.true
+    ∙ ap (λ (e : Entry). before ++ e ∷ []) (sym c.slot-item.is) in
     let range : c.slot.inside.range ≡ entry.range = ap (λ (e : Entry). e.range) c.slot.view_is in
     let id : c.slot.inside.id ≡ entry.id = ap (λ (e : Entry). e.id) c.slot.view_is in
     let one : HaveOneRange entries = rw c.deref-slot-items.ensures.value c.self.invariant in
@@ -28,6 +29,9 @@ loop-slot-preserved c =
           one_found before entry q c.args.out.now.items c.loop-slot.out.items c.if-overlaps.out.items absent overlap pushed c.loop-slot.invariant
       | else-overlaps w ↦
           let test : c.overlaps.result ≡ false = search rules in
-          let apart : Overlap entry.range q → ⊥ = λ overlap. absurd (let yes : c.overlaps.result ≡ true = c.overlaps.ensures.1 (subst (λ (r : Corners). Overlap r q) (sym range) overlap) in cc) in
+          let apart : Overlap entry.range q
+          → ⊥ =
+          λ overlap. absurd (let yes : c.overlaps.result ≡ true = c.overlaps.ensures.1
+          (subst (λ (r : Corners). Overlap r q) (sym range) overlap) in cc) in
           rw w.out-is (not_found before entry q c.args.out.now.items c.loop-slot.out.items apart c.loop-slot.invariant)
     ])

@@ -30,4 +30,8 @@ returns-in-Some-clause-removed c =
     (removes c.self.inside.slots.items c.swap_remove.new.self.items c.args.id c.in-Some.place (stands c) (took_out c) c.self.invariant)
 
 pub returns-in_default-clause-removed : goal.returns-in_default-clause-removed
-returns-in_default-clause-removed c = absurd (c.in_default.ensures (entry_of c.args.id c.args.range) (rw (c.deref.ensures.value, ap (λ (v : ListValue). v.entries) c.self.view_is) c.requires.there) refl)
+returns-in_default-clause-removed c =
+    absurd (c.in_default.ensures (entry_of c.args.id c.args.range) (rw (
+      c.deref.ensures.value,
+      ap (λ (v : ListValue). v.entries) c.self.view_is,
+    ) c.requires.there) refl)

@@ -18,7 +18,8 @@ write-requires c =
 pub returns-then-eq-clause-grid : goal.returns-then-eq-clause-grid
 returns-then-eq-clause-grid c =
     are_changed c.write.new.map.entries c.args.id c.args.range c.in-Some.slot c.requires.grid c.requires.there (sym c.stands.ensures ∙ c.in-Some.is)
-    c.write.ensures.unique c.write.ensures.written.0 (home_same c.in-Some.slot.home c.home_of.result (sym c.eq.ensures ∙ c.if-eq.true) ∙ c.home_of.ensures.home) c.home_of.ensures.fits
+    c.write.ensures.unique c.write.ensures.written.0 (home_same c.in-Some.slot.home c.home_of.result (sym c.eq.ensures
+    ∙ c.if-eq.true) ∙ c.home_of.ensures.home) c.home_of.ensures.fits
 
 pub returns-then-eq-clause-changed : goal.returns-then-eq-clause-changed
 returns-then-eq-clause-changed c =
@@ -30,4 +31,5 @@ add-requires-clause-absent c = absent_after (entries_in c.args.self.now) (entrie
 
 pub returns-else-eq-clause-changed : goal.returns-else-eq-clause-changed
 returns-else-eq-clause-changed c =
-    changes_by (entries_in c.args.self.now) (entries_in c.take_out.new.self) (entries_in c.add.new.self) c.args.id c.args.range c.take_out.ensures.removed c.add.ensures.inserted
+    changes_by (entries_in c.args.self.now) (entries_in c.take_out.new.self) (entries_in c.add.new.self) c.args.id
+    c.args.range c.take_out.ensures.removed c.add.ensures.inserted

@@ -18,7 +18,8 @@ returns-then-count-eq0 c = record {
 
 pub returns-else-count-eq0 : goal.returns-else-count-eq0
 returns-else-count-eq0 c = record {
-  counts = sets_count (λ h. get same_home c.args.self.now.counts h) (λ h. get same_home c.write.new.map h) c.args.home (Some c.args.count) c.write.ensures.written.0;
+  counts = sets_count (λ h. get same_home c.args.self.now.counts h) (λ h. get same_home c.write.new.map h) c.args.home
+      (Some c.args.count) c.write.ensures.written.0;
   items = refl;
   slots = refl;
   tallest = refl;

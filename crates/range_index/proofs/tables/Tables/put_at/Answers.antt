@@ -7,9 +7,11 @@ use Rattle.range_index.proofs.tables.Tables.put_at.Goals as goal
 
 pub returns : goal.returns
 returns c = record {
-  items = sets_slot (λ s. get same_slot c.args.self.now.items s) (λ s. get same_slot c.write.new.map s) c.args.slot (Some c.args.item) c.write.ensures.written.0;
+  items = sets_slot (λ s. get same_slot c.args.self.now.items s) (λ s. get same_slot c.write.new.map s) c.args.slot
+      (Some c.args.item) c.write.ensures.written.0;
   slots = sets_id (λ i. get nat_eq c.args.self.now.slots i) (λ i. get nat_eq c.write-2.new.map i) c.args.item.id (Some c.args.slot)
-      (subst (λ i. (q : ℕ) → get nat_eq c.write-2.new.map q ≡ cond (nat_eq i q) (Some c.args.slot) (get nat_eq c.args.self.now.slots q)) (ap (λ (e : Entry). e.id) c.item.view_is) c.write-2.ensures.written.0);
+      (subst (λ i. (q : ℕ) → get nat_eq c.write-2.new.map q ≡ cond (nat_eq i q) (Some c.args.slot)
+      (get nat_eq c.args.self.now.slots q)) (ap (λ (e : Entry). e.id) c.item.view_is) c.write-2.ensures.written.0);
   counts = refl;
   tallest = refl;
   widest = refl;

@@ -21,6 +21,7 @@ returns-clause-found c =
     (heights_apart q 8 1024 (λ h. omega (arith, h))) (heights_apart q 8 32768 (λ h. omega (arith, h))) (heights_apart q 8 1048576 (λ h. omega (arith, h)))
     c.in_ok-visit_height.ensures.found
     (found_thrice at (IsNearAt q 1024) (IsNearAt q 32768) (IsNearAt q 1048576) q first second third last (places_of c.requires)
-    (heights_apart q 1024 32768 (λ h. omega (arith, h))) (heights_apart q 1024 1048576 (λ h. omega (arith, h))) (heights_apart q 32768 1048576 (λ h. omega (arith, h)))
+    (heights_apart q 1024 32768 (λ h. omega (arith, h))) (heights_apart q 1024 1048576 (λ h. omega (arith, h)))
+    (heights_apart q 32768 1048576 (λ h. omega (arith, h)))
     c.in_ok-visit_height-2.ensures.found c.in_ok-visit_height-3.ensures.found fourth)))
     c.visit_height-4.ensures.found

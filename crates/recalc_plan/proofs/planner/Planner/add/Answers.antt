@@ -22,5 +22,6 @@ returns-clause-count c =
     let gone : c.in_ok-insert.field-0 ≡ None = c.in_ok-insert.ensures.old ∙ (ap (get nat_cmp c.remove.new.self) c.place_of-2.ensures.place ∙ updates.1) in
     omega (arith, c.in-Some.ensures.len, one_more c.remove.new.self c.insert.new.self c.in_ok-insert.field-0 gone c.in_ok-insert.ensures.len)
   where
-    one_more : (old new : BTreeMap ℕ Open) (found : Option Open) → found ≡ None → count_of new ≡ count_of old + (if is_some found then 0 else 1) → count_of new ≡ count_of old + 1
+    one_more : (old new : BTreeMap ℕ Open) (found : Option Open) → found ≡ None
+        → count_of new ≡ count_of old + (if is_some found then 0 else 1) → count_of new ≡ count_of old + 1
     one_more old new found none counted = counted ∙ ap (λ (o : Option Open). count_of old + (if is_some o then 0 else 1)) none

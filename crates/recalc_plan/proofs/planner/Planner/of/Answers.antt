@@ -13,6 +13,8 @@ loop-cell-preserved c =
     let stale = c.args.stale.now in
     let cell = c.cell-item.result in
     let entry : Open = record { cell = cell; waiters = c.new.result } in
-    let updates = subst (λ (p : ℕ). Updates nat_cmp c.loop-cell.«open» c.insert.new.self p (Some entry)) c.place_of.ensures.place c.in_ok-insert.ensures.updates in
+    let updates = subst (λ (p : ℕ). Updates nat_cmp c.loop-cell.«open» c.insert.new.self p (Some entry))
+    c.place_of.ensures.place c.in_ok-insert.ensures.updates in
     subst (λ (l : List Position). AreOpenedFor l c.insert.new.self) (sym (taken_more stale c.loop-cell.cell-index cell c.loop-cell-test.true c.cell-item.is))
-    (opens_more c.loop-cell.«open» c.insert.new.self (take c.loop-cell.cell-index stale) cell entry c.loop-cell.invariant c.place_of.ensures.named refl c.new.ensures.items updates)
+    (opens_more c.loop-cell.«open» c.insert.new.self (take c.loop-cell.cell-index stale) cell entry
+    c.loop-cell.invariant c.place_of.ensures.named refl c.new.ensures.items updates)

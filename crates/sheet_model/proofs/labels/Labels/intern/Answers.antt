@@ -5,7 +5,9 @@ use Rattle.sheet_model.proofs.LabelLemmas.{found_text, with_present, with_insert
 use Rattle.sheet_model.proofs.labels.Labels.intern.Goals as goal
 
 pub returns-in-Some-clause-place : goal.returns-in-Some-clause-place
-returns-in-Some-clause-place c = rw (← c.self.view_is) (found_text string_bytes c.args.text.now c.self.inside.texts.keys c.in-Some.place (sym c.in-Some.ensures.index))
+returns-in-Some-clause-place c =
+    rw (← c.self.view_is) (found_text string_bytes c.args.text.now c.self.inside.texts.keys c.in-Some.place
+    (sym c.in-Some.ensures.index))
 
 pub returns-in-Some-clause-table : goal.returns-in-Some-clause-table
 returns-in-Some-clause-table c = rw (← c.self.view_is) (sym (with_present string_bytes c.args.text.now c.self.inside.texts.keys (sym c.in-Some.ensures.found)))

@@ -8,7 +8,12 @@ pub invariant_of-result : goal.invariant_of-result
 invariant_of-result c =
     let all : c.loop.counter ≡ c.args.rows * c.args.cols = omega arith in
     record {
-      sheet = rw (c.loop.invariant, map-replicate content_value c.loop.counter Empty, all, c.new.ensures) (sheet_blank c.args.edition (record { rows = c.args.rows; cols = c.args.cols }) c.requires);
+      sheet = rw (
+        c.loop.invariant,
+        map-replicate content_value c.loop.counter Empty,
+        all,
+        c.new.ensures,
+      ) (sheet_blank c.args.edition (record { rows = c.args.rows; cols = c.args.cols }) c.requires);
       nothing = refl;
     }
 

@@ -8,10 +8,13 @@ pub invariant_of-self : goal.invariant_of-self
 invariant_of-self c =
     let content : content_value c.change.inside.content ≡ c.args.change.content = ap (λ x. x.content) c.change.view_is in
     let labels : c.args.self.now.labels ≡ c.self.inside.labels = ap (λ s. s.labels) (sym c.self.view_is) in
-    let has : HasLabel (length c.args.self.now.labels) (content_value c.change.inside.content) = subst (HasLabel (length c.args.self.now.labels)) (sym content) c.requires.label in
+    let has : HasLabel (length c.args.self.now.labels) (content_value c.change.inside.content) =
+    subst (HasLabel (length c.args.self.now.labels)) (sym content) c.requires.label in
     let held : IsHeld (length c.self.inside.labels) (content_value c.change.inside.content) =
     record { label = subst (λ ls. HasLabel (length ls) (content_value c.change.inside.content)) labels has; written = c.change.invariant } in
-    let changed = sheet_with_content (sheet_value c.self.inside.edition c.self.inside.sizes c.self.inside.contents.items c.self.inside.labels) c.change.inside.cell (content_value c.change.inside.content) c.self.invariant.sheet held in
+    let changed = sheet_with_content (sheet_value c.self.inside.edition c.self.inside.sizes c.self.inside.contents.items
+    c.self.inside.labels) c.change.inside.cell (content_value c.change.inside.content) c.self.invariant.sheet held
+    in
     record {
       sheet = rw (c.replace.ensures.after, c.place-place.ensures.place, map-set) changed;
       nothing = c.self.invariant.nothing;
@@ -27,7 +30,8 @@ returns-clause-sheet c = (invariant_of-self c).sheet
 pub returns-clause-held : goal.returns-clause-held
 returns-clause-held c =
     let labels : c.self.inside.labels ≡ c.args.self.now.labels = ap (λ s. s.labels) c.self.view_is in
-    let within : c.place-place.result < length (map content_value c.self.inside.contents.items) = rw c.self.invariant.sheet.filled c.place-place.ensures.within in
+    let within : c.place-place.result < length (map content_value c.self.inside.contents.items) =
+    rw c.self.invariant.sheet.filled c.place-place.ensures.within in
     let at : c.replace.result ≡ c.index_mut.result.now = c.replace.ensures.value in
     subst (λ ls. IsHeld (length ls) (content_value c.replace.result)) labels
     (held_at (length c.self.inside.labels) c.self.inside.contents.items c.place-place.result c.replace.result c.self.invariant.sheet.held within

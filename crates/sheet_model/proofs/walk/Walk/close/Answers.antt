@@ -19,6 +19,7 @@ loop-frame-preserved c =
 
 pub returns-clause-states : goal.returns-clause-states
 returns-clause-states c =
-    let none : c.loop-frame.self.frames.items ≡ [] = empty_list c.loop-frame.self.frames.items (sym c.loop-frame.self.frames.ok.0 ∙ c.in_default.ensures.cases.0) in
+    let none : c.loop-frame.self.frames.items ≡ [] =
+    empty_list c.loop-frame.self.frames.items (sym c.loop-frame.self.frames.ok.0 ∙ c.in_default.ensures.cases.0) in
     let closing = rw none at c.loop-frame.invariant.closing in
     closing_end c.args.sheet.now (states_of c.loop-frame.self.words.items) closing ∙ c.loop-frame.invariant.same

@@ -12,13 +12,16 @@ use Rattle.sheet_model.proofs.walk.Walk.enter.Goals as goal
 use Rattle.sheet_model.proofs.walk.Walk.enter.Goals.{After-index}
 
 -- what is known of the cell
-state : (c : After-index) → slice_get (states_of c.args.self.now.words.items) (place_of c.args.sheet.now.sizes c.args.cell) ≡ Some (cell_state c.index.result.now)
+state : (c : After-index)
+    → slice_get (states_of c.args.self.now.words.items) (place_of c.args.sheet.now.sizes c.args.cell) ≡ Some
+    (cell_state c.index.result.now)
 state c =
     let self = c.args.self.now in
     let count = words_count c.args.sheet.now self.words.items self.frames.items self.parts.items c.requires.sound in
     rw (← c.place.ensures.place)
     (slice_get-map cell_state self.words.items c.place.result
-    ∙ ap (option_map cell_state) (slice_get_read self.words.items (cell_count c.args.sheet.now.sizes) c.place.result c.index.result.now (sym count) c.place.ensures.within c.index.ensures))
+    ∙ ap (option_map cell_state) (slice_get_read self.words.items (cell_count c.args.sheet.now.sizes) c.place.result
+    c.index.result.now (sym count) c.place.ensures.within c.index.ensures))
 
 pub open-requires-clause-opening : goal.open-requires-clause-opening
 open-requires-clause-opening c = record {
@@ -32,7 +35,9 @@ returns-then-index-eq-UNSEEN-clause-seen c =
     let at = state (goal.at.returns-then-index-eq-UNSEEN-clause-seen c).After-index ∙ ap Some (unseen_state c.index.result.now (search rules)) in
     let differs : Open ≢ Unseen = λ e. cc in
     on_ok c.open.result
-    (λ (less : cells_left c.open.new.self < cells_left c.args.self.now). rw c.open.ensures.states (seen_set (states_of c.args.self.now.words.items) (place_of c.args.sheet.now.sizes c.args.cell) Unseen Open at differs))
+    (λ (less : cells_left c.open.new.self < cells_left c.args.self.now). rw c.open.ensures.states
+    (seen_set (states_of c.args.self.now.words.items) (place_of c.args.sheet.now.sizes c.args.cell) Unseen Open at
+    differs))
     c.open.ensures.less
 
 pub close-requires-clause-closing : goal.close-requires-clause-closing
@@ -45,10 +50,16 @@ returns-clause-sound c =
     let differs : cell_state c.index.result.now ≢ Unseen = seen_state c.index.result.now (search rules) in
     let seen : slice_get (states_of self.words.items) (place_of c.args.sheet.now.sizes c.args.cell) ≢ Some Unseen = λ e. differs (cc (at, e)) in
     rw (c.close.ensures.frames, c.clear.ensures.items)
-    (state_close c.args.sheet.now self.words.items self.frames.items self.parts.items c.requires.sound c.args.cell c.close.new.self.words.items c.requires.waiting seen c.close.ensures.words c.close.ensures.states)
+    (state_close c.args.sheet.now self.words.items self.frames.items self.parts.items c.requires.sound c.args.cell
+    c.close.new.self.words.items c.requires.waiting seen c.close.ensures.words c.close.ensures.states)
 
 pub returns-clause-seen : goal.returns-clause-seen
-returns-clause-seen c = rw c.close.ensures.states (seen_close c.args.sheet.now (states_of c.args.self.now.words.items) c.args.self.now.frames.items c.requires.sound.walk)
+returns-clause-seen c =
+    rw c.close.ensures.states (seen_close c.args.sheet.now (states_of c.args.self.now.words.items)
+    c.args.self.now.frames.items c.requires.sound.walk)
 
 pub returns-clause-less : goal.returns-clause-less
-returns-clause-less c = rw (c.close.ensures.states, c.close.ensures.frames) (work_close c.args.sheet.now (states_of c.args.self.now.words.items) c.args.self.now.frames.items c.requires.sound.walk c.requires.waiting.some)
+returns-clause-less c =
+    rw (c.close.ensures.states, c.close.ensures.frames)
+    (work_close c.args.sheet.now (states_of c.args.self.now.words.items) c.args.self.now.frames.items
+    c.requires.sound.walk c.requires.waiting.some)

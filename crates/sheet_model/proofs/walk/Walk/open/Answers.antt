@@ -18,7 +18,9 @@ returns-clause-sound c =
     on_ok c.add_content.result
     (λ (adds : AddsParts c.sizes.result (content_references (content_value c.content.result.now)) self.parts.items c.add_content.new.parts.items).
     rw (c.in_ok-push.ensures.items, c.place.ensures.place, c.len-first.ensures, self.parts.ok.0)
-    (state_open c.args.sheet.now self.words.items self.frames.items self.parts.items c.requires.sound c.args.cell c.requires.opening c.add_content.new.parts.items (rw (c.sizes.ensures.sizes, c.content.ensures.content) at adds)))
+    (state_open c.args.sheet.now self.words.items self.frames.items self.parts.items c.requires.sound c.args.cell
+    c.requires.opening c.add_content.new.parts.items (rw (c.sizes.ensures.sizes, c.content.ensures.content) at
+    adds)))
     c.add_content.ensures
 
 pub returns-clause-less : goal.returns-clause-less
@@ -27,5 +29,6 @@ returns-clause-less c =
     on_ok c.add_content.result
     (λ (adds : AddsParts c.sizes.result (content_references (content_value c.content.result.now)) self.parts.items c.add_content.new.parts.items).
     rw (c.in_ok-push.ensures.items, c.place.ensures.place)
-    (less_open c.args.sheet.now self.words.items self.frames.items self.parts.items c.requires.sound c.args.cell c.requires.opening (record { cell = c.args.cell; first = c.len-first.result })))
+    (less_open c.args.sheet.now self.words.items self.frames.items self.parts.items c.requires.sound c.args.cell
+    c.requires.opening (record { cell = c.args.cell; first = c.len-first.result })))
     c.add_content.ensures

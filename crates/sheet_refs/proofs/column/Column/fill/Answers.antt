@@ -11,4 +11,5 @@ fill-requires-clause-room c =
 pub returns : goal.returns
 returns c =
     let same : c.self.inside.runs.entries ≡ c.args.self.now = c.self.view_is in
-    rw (← same) (rows_join c.self.inside.runs.entries c.fill.new.runs.entries c.args.first c.args.last c.self.invariant.ordered c.fill.ensures.spaced.ordered c.fill.ensures.joined)
+    rw (← same) (rows_join c.self.inside.runs.entries c.fill.new.runs.entries c.args.first c.args.last
+    c.self.invariant.ordered c.fill.ensures.spaced.ordered c.fill.ensures.joined)

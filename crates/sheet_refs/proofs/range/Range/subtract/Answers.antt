@@ -18,5 +18,6 @@ returns-clause-left c =
     let before_tiled : Tile before (IsBefore range middle) = between_same before (search rules) (search rules) (search rules) (search rules) c.area-3.ensures in
     let after_tiled : Tile after (IsAfter range middle) = between_same after (search rules) (search rules) (search rules) (search rules) c.area-4.ensures in
     let tiled : Tile (above ++ (below ++ (before ++ after))) (IsLeft range c.args.other.now) =
-    subtract_tiles range c.args.other.now middle above below before after c.in-Some.ensures.shared (search rules) above_tiled below_tiled before_tiled after_tiled in
+    subtract_tiles range c.args.other.now middle above below before after c.in-Some.ensures.shared (search rules)
+    above_tiled below_tiled before_tiled after_tiled in
     rw (c.push-5.ensures, c.push-4.ensures, c.push-3.ensures, c.push-2.ensures, c.none-pieces.ensures) (simp append_assoc tiled)

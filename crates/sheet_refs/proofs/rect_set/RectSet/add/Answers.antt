@@ -15,9 +15,11 @@ returns-clause-joined c =
     let right : c.col-right.result ≡ range.tail.col = search rules in
     let left : c.col.result ≡ range.head.col = search rules in
     let from : c.col.result - 1 + 1 ≡ range.head.col = omega (arith, c.col.ensures.named.col_from) in
-    let filled : AreFilled c.reserve.new.columns.items c.fill.new.columns.items (c.col.result - 1) range.tail.col range.head.row range.tail.row = rw (← first, ← last, ← right) c.fill.ensures.filled in
+    let filled : AreFilled c.reserve.new.columns.items c.fill.new.columns.items (c.col.result - 1) range.tail.col
+    range.head.row range.tail.row = rw (← first, ← last, ← right) c.fill.ensures.filled in
     let same : ranges_from 1 c.reserve.new.columns.items ≡ c.args.self.now = c.in_ok-reserve.ensures.same ∙ (c.in_ok-widen.ensures.same ∙ c.self.view_is) in
-    subst (λ (old : List Corners). Joins old (ranges_from 1 c.fill.new.columns.items) range) same (joins_from_filled c.reserve.new.columns.items c.fill.new.columns.items range (c.col.result - 1) filled from)
+    subst (λ (old : List Corners). Joins old (ranges_from 1 c.fill.new.columns.items) range) same
+    (joins_from_filled c.reserve.new.columns.items c.fill.new.columns.items range (c.col.result - 1) filled from)
 
 pub returns-then-left-right-clause-joined : goal.returns-then-left-right-clause-joined
 returns-then-left-right-clause-joined c =
@@ -29,6 +31,11 @@ returns-then-left-right-clause-joined c =
     let from : c.col.result - 1 + 1 ≡ range.head.col = omega (arith, c.col.ensures.named.col_from) in
     let end : c.col.result - 1 + 1 ≡ range.tail.col = c.if-left-right.true ∙ right in
     let same : ranges_from 1 c.widen.new.columns.items ≡ c.args.self.now = c.in_ok-widen.ensures.same ∙ c.self.view_is in
-    on_ok_weaker c.join_one.result (λ (filled : AreFilled c.widen.new.columns.items c.join_one.new.columns.items (c.col.result - 1) (c.col.result - 1 + 1) c.row-first.result c.row-last.result).
-    let here : AreFilled c.widen.new.columns.items c.join_one.new.columns.items (c.col.result - 1) range.tail.col range.head.row range.tail.row = rw (← first, ← last, ← end) filled in
-    subst (λ (old : List Corners). Joins old (ranges_from 1 c.join_one.new.columns.items) range) same (joins_from_filled c.widen.new.columns.items c.join_one.new.columns.items range (c.col.result - 1) here from)) c.join_one.ensures.filled
+    on_ok_weaker c.join_one.result
+    (λ (filled : AreFilled c.widen.new.columns.items c.join_one.new.columns.items (c.col.result - 1)
+    (c.col.result - 1 + 1) c.row-first.result c.row-last.result).
+    let here : AreFilled c.widen.new.columns.items c.join_one.new.columns.items (c.col.result - 1) range.tail.col
+    range.head.row range.tail.row = rw (← first, ← last, ← end) filled in
+    subst (λ (old : List Corners). Joins old (ranges_from 1 c.join_one.new.columns.items) range) same
+    (joins_from_filled c.widen.new.columns.items c.join_one.new.columns.items range (c.col.result - 1) here from))
+    c.join_one.ensures.filled

@@ -9,7 +9,9 @@ loop-column-preserved c =
     let there = in_column c.loop-column.col c.column-item.result in (
       omega (arith, known.0),
       known.1,
-      ranges_step c.loop-column.col c.deref-column-items.result.now c.loop-column.column-index c.column-item.result c.loop-column.runs.items c.push_ranges.new.ranges.items c.args.self.now (search rules) c.column-item.is pushed known.2,
+      ranges_step c.loop-column.col c.deref-column-items.result.now c.loop-column.column-index c.column-item.result
+          c.loop-column.runs.items c.push_ranges.new.ranges.items c.args.self.now (search rules) c.column-item.is pushed
+          known.2,
       rw pushed (maximal_append c.loop-column.runs.items _ c.loop-column.col known.3 known.4 c.in_ok-push_ranges.ensures.runs there),
       rw pushed (runs_before c.loop-column.runs.items _ c.loop-column.col known.4 there),
     )

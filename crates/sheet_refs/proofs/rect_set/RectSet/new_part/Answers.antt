@@ -21,7 +21,8 @@ loop-left-preserved c =
       omega (arith, known.0, within.0),
       omega (arith, within.1),
       rw (c.in_ok-push_strips.ensures, c.deref-in-loop-left-3.ensures.value)
-          (parts_more columns c.args.self.now range c.loop-left.left c.in_ok-right.right c.loop-left.parts.items c.in_ok-gaps.gaps.items same named known.0 within.0 (omega arith) lack known.2),
+          (parts_more columns c.args.self.now range c.loop-left.left c.in_ok-right.right c.loop-left.parts.items
+          c.in_ok-gaps.gaps.items same named known.0 within.0 (omega arith) lack known.2),
     )
 
 pub returns : goal.returns

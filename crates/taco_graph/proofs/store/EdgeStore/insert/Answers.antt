@@ -7,10 +7,14 @@ use Rattle.taco_graph.proofs.StoreLemmas.{has_no_id, stored_more}
 use Rattle.taco_graph.proofs.store.EdgeStore.insert.Goals as goal
 
 pub insert-requires-clause-absent : goal.insert-requires-clause-absent
-insert-requires-clause-absent g c = has_no_id c.self.inside.edges.slots (λ edge. edge.dep) (g.I.RangeIndex.entries c.self.inside.runs) c.insert_reserved-key.result c.self.invariant.runs_filed c.insert_reserved-key.ensures.was_vacant
+insert-requires-clause-absent g c =
+    has_no_id c.self.inside.edges.slots (λ edge. edge.dep) (g.I.RangeIndex.entries c.self.inside.runs)
+    c.insert_reserved-key.result c.self.invariant.runs_filed c.insert_reserved-key.ensures.was_vacant
 
 pub insert-requires-2-clause-absent : goal.insert-requires-2-clause-absent
-insert-requires-2-clause-absent g c = has_no_id c.self.inside.edges.slots (λ edge. edge.prec) (g.I.RangeIndex.entries c.self.inside.rectangles) c.insert_reserved-key.result c.self.invariant.rectangles_filed c.insert_reserved-key.ensures.was_vacant
+insert-requires-2-clause-absent g c =
+    has_no_id c.self.inside.edges.slots (λ edge. edge.prec) (g.I.RangeIndex.entries c.self.inside.rectangles)
+    c.insert_reserved-key.result c.self.invariant.rectangles_filed c.insert_reserved-key.ensures.was_vacant
 
 pub invariant_of-self : goal.invariant_of-self
 invariant_of-self g c =

@@ -21,7 +21,8 @@ remove-requires-2 g c =
     record {
       there =
           subst (λ (r : Corners). Contains rectangles (entry_of c.args.key r)) (sym c.prec.ensures.prec)
-          (is_listed c.self.inside.edges.slots (λ edge. edge.prec) rectangles c.args.key c.remove-edge.result c.self.invariant.rectangles_filed c.remove-edge.ensures.value);
+          (is_listed c.self.inside.edges.slots (λ edge. edge.prec) rectangles c.args.key c.remove-edge.result
+          c.self.invariant.rectangles_filed c.remove-edge.ensures.value);
     }
 
 pub invariant_of-self : goal.invariant_of-self

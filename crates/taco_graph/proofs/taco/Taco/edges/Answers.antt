@@ -15,7 +15,8 @@ pub returns-in_err-edges-clause-stand : goal.returns-in_err-edges-clause-stand
 returns-in_err-edges-clause-stand g c =
     let slots = c.self.inside.store.slots in
     let view : edges_of slots ≡ c.args.self.now.edges = ap (λ (t : TacoValue). t.edges) c.self.view_is in
-    subst (λ (edges : List EdgeValue). StandFor edges (pairs_of edges)) view (stand_for (edges_of slots) (edges_of slots) c.edges.ensures.apart (IsPermutation-refl (edges_of slots)))
+    subst (λ (edges : List EdgeValue). StandFor edges (pairs_of edges)) view
+    (stand_for (edges_of slots) (edges_of slots) c.edges.ensures.apart (IsPermutation-refl (edges_of slots)))
 
 pub returns-in_err-edges-clause-joined : goal.returns-in_err-edges-clause-joined
 returns-in_err-edges-clause-joined g c =
@@ -26,7 +27,8 @@ pub returns-in_err-sort_edges-clause-stand : goal.returns-in_err-sort_edges-clau
 returns-in_err-sort_edges-clause-stand g c =
     let slots = c.self.inside.store.slots in
     let view : edges_of slots ≡ c.args.self.now.edges = ap (λ (t : TacoValue). t.edges) c.self.view_is in
-    subst (λ (edges : List EdgeValue). StandFor edges (pairs_of edges)) view (stand_for (edges_of slots) (edges_of slots) c.edges.ensures.apart (IsPermutation-refl (edges_of slots)))
+    subst (λ (edges : List EdgeValue). StandFor edges (pairs_of edges)) view
+    (stand_for (edges_of slots) (edges_of slots) c.edges.ensures.apart (IsPermutation-refl (edges_of slots)))
 
 pub returns-in_err-sort_edges-clause-joined : goal.returns-in_err-sort_edges-clause-joined
 returns-in_err-sort_edges-clause-joined g c =
@@ -37,7 +39,8 @@ pub returns-clause-stand : goal.returns-clause-stand
 returns-clause-stand g c =
     let slots = c.self.inside.store.slots in
     let view : edges_of slots ≡ c.args.self.now.edges = ap (λ (t : TacoValue). t.edges) c.self.view_is in
-    subst (λ (edges : List EdgeValue). StandFor edges (pairs_of edges)) view (stand_for (edges_of slots) (edges_of slots) c.edges.ensures.apart (IsPermutation-refl (edges_of slots)))
+    subst (λ (edges : List EdgeValue). StandFor edges (pairs_of edges)) view
+    (stand_for (edges_of slots) (edges_of slots) c.edges.ensures.apart (IsPermutation-refl (edges_of slots)))
 
 pub returns-clause-joined : goal.returns-clause-joined
 returns-clause-joined g c =
@@ -70,16 +73,19 @@ pub returns-in_err-edges-clause-just_one : goal.returns-in_err-edges-clause-just
 returns-in_err-edges-clause-just_one g c =
     let slots = c.self.inside.store.slots in
     let view : edges_of slots ≡ c.args.self.now.edges = ap (λ (t : TacoValue). t.edges) c.self.view_is in
-    subst AreJustOne view (λ edge is same. one_alone (edges_of slots) edge is c.edges.ensures.apart.are_edges c.edges.ensures.apart.apart (none_joins slots c.self.invariant.joined) same)
+    subst AreJustOne view (λ edge is same. one_alone (edges_of slots) edge is c.edges.ensures.apart.are_edges
+    c.edges.ensures.apart.apart (none_joins slots c.self.invariant.joined) same)
 
 pub returns-in_err-sort_edges-clause-just_one : goal.returns-in_err-sort_edges-clause-just_one
 returns-in_err-sort_edges-clause-just_one g c =
     let slots = c.self.inside.store.slots in
     let view : edges_of slots ≡ c.args.self.now.edges = ap (λ (t : TacoValue). t.edges) c.self.view_is in
-    subst AreJustOne view (λ edge is same. one_alone (edges_of slots) edge is c.edges.ensures.apart.are_edges c.edges.ensures.apart.apart (none_joins slots c.self.invariant.joined) same)
+    subst AreJustOne view (λ edge is same. one_alone (edges_of slots) edge is c.edges.ensures.apart.are_edges
+    c.edges.ensures.apart.apart (none_joins slots c.self.invariant.joined) same)
 
 pub returns-clause-just_one : goal.returns-clause-just_one
 returns-clause-just_one g c =
     let slots = c.self.inside.store.slots in
     let view : edges_of slots ≡ c.args.self.now.edges = ap (λ (t : TacoValue). t.edges) c.self.view_is in
-    subst AreJustOne view (λ edge is same. one_alone (edges_of slots) edge is c.edges.ensures.apart.are_edges c.edges.ensures.apart.apart (none_joins slots c.self.invariant.joined) same)
+    subst AreJustOne view (λ edge is same. one_alone (edges_of slots) edge is c.edges.ensures.apart.are_edges
+    c.edges.ensures.apart.apart (none_joins slots c.self.invariant.joined) same)

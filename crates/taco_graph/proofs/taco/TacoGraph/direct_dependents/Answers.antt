@@ -23,4 +23,5 @@ returns-clause-found g c =
 pub returns-clause-each : goal.returns-clause-each
 returns-clause-each g c =
     let edges : edges_of c.self.inside.store.slots ≡ c.args.self.now.edges = ap (λ (t : TacoValue). t.edges) c.self.view_is in
-    subst (λ (es : List EdgeValue). OnOk c.ask.result (AddsOneEach es (λ edge. IsMeant Dependents edge c.args.q) c.args.out.now.items c.ask.new.out.items)) edges c.ask.ensures.each
+    subst (λ (es : List EdgeValue). OnOk c.ask.result (AddsOneEach es (λ edge. IsMeant Dependents edge c.args.q)
+    c.args.out.now.items c.ask.new.out.items)) edges c.ask.ensures.each

@@ -20,7 +20,8 @@ use Rattle.tree_index.proofs.nodes.Tree.+visit_below.Goals.{then-overlaps+in_ok-
 pub returns-then-level-eq0-clause-found : goal.returns-then-level-eq0-clause-found
 returns-then-level-eq0-clause-found t c =
     let is : c.args.level ≡ 0 = search rules in
-    subst (λ (l : ℕ). OnOk c.visit_leaf.result (AddsThose (IsUnder (node_at c.args.self.now) l c.args.key) c.args.q c.args.out.now.items c.visit_leaf.new.out.items)) (sym is) c.visit_leaf.ensures.found
+    subst (λ (l : ℕ). OnOk c.visit_leaf.result (AddsThose (IsUnder (node_at c.args.self.now) l c.args.key) c.args.q
+    c.args.out.now.items c.visit_leaf.new.out.items)) (sym is) c.visit_leaf.ensures.found
 
 pub returns-in_default-clause-found : goal.returns-in_default-clause-found
 returns-in_default-clause-found t c =
@@ -53,21 +54,33 @@ loop-child-preserved t c =
     let entry : Entry = c.child-item.result in
     let q : Corners = c.args.q in
     let before : List Entry = take place items in
-    let next : take (place + 1) items ≡ before ++ entry ∷ [] = take_more items place entry c.loop-child-test.true ∙ ap (λ (e : Entry). before ++ e ∷ []) (sym c.child-item.is) in
+    let next : take (place + 1) items ≡ before ++ entry ∷ [] = take_more items place entry c.loop-child-test.true
+    ∙ ap (λ (e : Entry). before ++ e ∷ []) (sym c.child-item.is) in
     let range : c.child.inside.range ≡ entry.range = ap (λ (e : Entry). e.range) c.child.view_is in
     let id : c.child.inside.id ≡ entry.id = ap (λ (e : Entry). e.id) c.child.view_is in
     let one : HaveOneRange items = subst (λ (l : List Entry). HaveOneRange l) (sym children) (c.requires.shape.once c.args.key node there) in
-    let listed : Contains node.children entry = subst (λ (l : List Entry). Contains l entry) children (subst (λ (e : Entry). Contains items e) (sym c.child-item.is) (Contains-get_or items place entry c.loop-child-test.true)) in
+    let listed : Contains node.children entry = subst (λ (l : List Entry). Contains l entry) children
+    (subst (λ (e : Entry). Contains items e) (sym c.child-item.is)
+    (Contains-get_or items place entry c.loop-child-test.true)) in
     let old : List ℕ = c.args.out.now.items in
-    subst (λ (es : List Entry). AddsThose (IsUnderOne (node_at c.args.self.now) (c.args.level - 1) es) c.args.q c.args.out.now.items c.if-overlaps.out.items) (sym next)
+    subst (λ (es : List Entry). AddsThose (IsUnderOne (node_at c.args.self.now) (c.args.level - 1) es) c.args.q
+    c.args.out.now.items c.if-overlaps.out.items) (sym next)
     (elim c.if-overlaps.branch [
       | then-overlaps+in_ok-visit_below w ↦
-          rw w.out-is (next_found c.requires.shape (note_in c.args.self.now.notes.entries) (λ k e is. (c.requires.noted e (Leaf k)).0 is) (c.args.level - 1) items place entry q old c.loop-child.out.items w.visit_below.new.out.items one c.loop-child-test.true c.child-item.is c.loop-child.invariant
-          (subst (λ (i : ℕ). AddsThose (IsUnder (node_at c.args.self.now) (c.args.level - 1) i) q c.loop-child.out.items w.visit_below.new.out.items) id w.in_ok-visit_below.ensures.found))
+          rw w.out-is (next_found c.requires.shape (note_in c.args.self.now.notes.entries)
+          (λ k e is. (c.requires.noted e (Leaf k)).0 is) (c.args.level - 1) items place entry q old
+          c.loop-child.out.items w.visit_below.new.out.items one c.loop-child-test.true c.child-item.is
+          c.loop-child.invariant
+          (subst (λ (i : ℕ). AddsThose (IsUnder (node_at c.args.self.now) (c.args.level - 1) i) q c.loop-child.out.items
+          w.visit_below.new.out.items) id w.in_ok-visit_below.ensures.found))
       | else-overlaps w ↦
           let test : c.overlaps.result ≡ false = search rules in
-          let apart : Overlap entry.range q → ⊥ = λ overlap. absurd (let holds : c.overlaps.result ≡ true = c.overlaps.ensures.1 (subst (λ (r : Corners). Overlap r q) (sym range) overlap) in cc) in
-          rw w.out-is (next_passed c.requires.shape (c.args.level - 1) c.args.key node before entry q old c.loop-child.out.items there inner listed apart c.loop-child.invariant)
+          let apart : Overlap entry.range q
+          → ⊥ =
+          λ overlap. absurd (let holds : c.overlaps.result ≡ true = c.overlaps.ensures.1
+          (subst (λ (r : Corners). Overlap r q) (sym range) overlap) in cc) in
+          rw w.out-is (next_passed c.requires.shape (c.args.level - 1) c.args.key node before entry q old
+          c.loop-child.out.items there inner listed apart c.loop-child.invariant)
     ])
 
 pub returns-clause-found : goal.returns-clause-found
@@ -82,6 +95,9 @@ returns-clause-found t c =
     let children : items ≡ node.children = c.as_slice-child-items.ensures.value ∙ ap (λ (n : Node). n.children) c.node.view_is in
     let all : take c.loop-child.child-index items ≡ node.children = take_all c.loop-child.child-index items c.loop-child-test.false ∙ children in
     subst (λ (l : ℕ). AddsThose (IsUnder (node_at c.args.self.now) l c.args.key) c.args.q c.args.out.now.items c.loop-child.out.items) up
-    (adds_same (IsUnderOne (node_at c.args.self.now) (c.args.level - 1) node.children) (IsUnder (node_at c.args.self.now) (suc (c.args.level - 1)) c.args.key) c.args.q c.args.out.now.items c.loop-child.out.items
+    (adds_same (IsUnderOne (node_at c.args.self.now) (c.args.level - 1) node.children)
+    (IsUnder (node_at c.args.self.now) (suc (c.args.level - 1)) c.args.key) c.args.q c.args.out.now.items
+    c.loop-child.out.items
     (under_children c.requires.shape (c.args.level - 1) c.args.key node there node_level)
-    (subst (λ (l : List Entry). AddsThose (IsUnderOne (node_at c.args.self.now) (c.args.level - 1) l) c.args.q c.args.out.now.items c.loop-child.out.items) all c.loop-child.invariant))
+    (subst (λ (l : List Entry). AddsThose (IsUnderOne (node_at c.args.self.now) (c.args.level - 1) l) c.args.q
+    c.args.out.now.items c.loop-child.out.items) all c.loop-child.invariant))

@@ -14,7 +14,10 @@ returns c =
     let new = record c.args.self.now { nodes = c.try_remove.new.self } in
     let updates = c.try_remove.ensures.updates in
     rearranged c.args.self.now (record c.args.self.now { nodes = c.try_remove.new.self }) (reshaped tree
-    (gone (node_at old) (node_at (record c.args.self.now { nodes = c.try_remove.new.self })) old.root old.root tree.shape c.requires.none (record { here = updates.changed; others = updates.others }))
+    (gone (node_at old) (node_at (record c.args.self.now { nodes = c.try_remove.new.self })) old.root old.root
+    tree.shape c.requires.none (record { here = updates.changed; others = updates.others }))
     (no_leaf (node_at old) (node_at (record c.args.self.now { nodes = c.try_remove.new.self })) old.late.items old.root updates.others
-    (empty_no_leaf (node_at old) old.root (λ node there e listed. let none : Contains [] e = subst (λ (l : List Entry). Contains l e) (c.requires.none node there) listed in omega (arith, none.1)))
+    (empty_no_leaf (node_at old) old.root (λ node there e listed.
+    let none : Contains [] e = subst (λ (l : List Entry). Contains l e) (c.requires.none node there) listed in
+    omega (arith, none.1)))
     (none_no_leaf (node_at (record c.args.self.now { nodes = c.try_remove.new.self })) old.root updates.changed))) refl refl

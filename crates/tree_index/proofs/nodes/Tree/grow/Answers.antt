@@ -35,15 +35,32 @@ returns-clause-rest c =
     let empty : Node = new_node (c.node.inside.level + 1) in
     let is_empty : empty ≡ gave.node = one_node (node_at c.make_node.new.self root) empty gave.node made_it.nodes.here gave.there in
     let differs : old ≢ root = λ same. no_node (node_at c.args.self.now root) node fresh (ap (node_at c.args.self.now) (sym same) ∙ there) in
-    let first : IsShape (node_at c.make_node.new.self) old root = made (node_at c.args.self.now) (node_at c.make_node.new.self) old root (c.node.inside.level + 1) tree.shape fresh made_it.nodes (omega (arith, below_top)) in
+    let first : IsShape (node_at c.make_node.new.self) old root =
+    made (node_at c.args.self.now) (node_at c.make_node.new.self) old root (c.node.inside.level + 1) tree.shape
+    fresh made_it.nodes (omega (arith, below_top)) in
     let shape : IsShape (node_at c.push_child.new.self) root root =
-    given made_it.nodes.here (subst (λ (n : Node). SetsKey (node_at c.make_node.new.self) (node_at c.push_child.new.self) root (Some (with_children n (n.children ++ child ∷ [])))) (sym is_empty) gave.set.nodes) refl
-    old range node (swapped (node_at c.make_node.new.self) old root first) (pushed_once [] child (λ e listed. absurd (omega (arith, listed.1))) (λ i j d before within. absurd (omega (arith, within)))) (inserts_pushed [] child)
-    (made_it.nodes.others old differs ∙ there) (omega (arith, level)) covers (λ parent rectangle link. absurd ((first.no_top parent (entry_of root rectangle) link).1 refl)) differs in
-    let here : node_at c.push_child.new.self root ≡ Some (with_children empty ([] ++ child ∷ [])) = subst (λ (n : Node). node_at c.push_child.new.self root ≡ Some (with_children n (n.children ++ child ∷ []))) (sym is_empty) gave.set.nodes.here in
-    let stands = no_leaf (node_at c.args.self.now) (node_at c.push_child.new.self) c.args.self.now.late.items root (λ k other. gave.set.nodes.others k other ∙ made_it.nodes.others k other) (none_no_leaf (node_at c.args.self.now) root fresh)
+    given made_it.nodes.here
+    (subst (λ (n : Node). SetsKey (node_at c.make_node.new.self) (node_at c.push_child.new.self) root
+    (Some (with_children n (n.children ++ child ∷ [])))) (sym is_empty) gave.set.nodes) refl
+    old range node (swapped (node_at c.make_node.new.self) old root first)
+    (pushed_once [] child (λ e listed. absurd (omega (arith, listed.1)))
+    (λ i j d before within. absurd (omega (arith, within)))) (inserts_pushed [] child)
+    (made_it.nodes.others old differs ∙ there) (omega (arith, level)) covers
+    (λ parent rectangle link. absurd ((first.no_top parent (entry_of root rectangle) link).1 refl)) differs in
+    let here : node_at c.push_child.new.self root ≡ Some (with_children empty ([] ++ child ∷ [])) =
+    subst (λ (n : Node). node_at c.push_child.new.self root ≡ Some (with_children n (n.children ++ child ∷ [])))
+    (sym is_empty) gave.set.nodes.here in
+    let stands = no_leaf (node_at c.args.self.now) (node_at c.push_child.new.self) c.args.self.now.late.items root
+    (λ k other. gave.set.nodes.others k other ∙ made_it.nodes.others k other)
+    (none_no_leaf (node_at c.args.self.now) root fresh)
     (inner_no_leaf (node_at c.push_child.new.self) root (with_children empty ([] ++ child ∷ [])) here (omega arith)) in
     let mid : Tree = record c.push_child.new.self { root = root } in
     let held : Rearranges c.args.self.now (record c.push_child.new.self { root = root }) =
-    rearranged c.args.self.now (record c.push_child.new.self { root = root }) (rw (gave.set.late, made_it.late, gave.set.notes, made_it.notes) (reshaped tree shape stands)) (gave.set.late ∙ made_it.late) (gave.set.notes ∙ made_it.notes) in
+    rearranged c.args.self.now (record c.push_child.new.self { root = root }) (rw (
+      gave.set.late,
+      made_it.late,
+      gave.set.notes,
+      made_it.notes,
+    ) (reshaped tree shape stands)) (gave.set.late ∙ made_it.late) (gave.set.notes
+    ∙ made_it.notes) in
     subst (λ (t : Tree). Rearranges c.args.self.now (record t { root = root })) (sym c.set_parent.ensures) held

@@ -15,7 +15,8 @@ returns-then-node-eq0-clause-rest c = rearranged_on c.args.self.now c.open_root.
 
 pub returns-in_default-step_down-clause-rest : goal.returns-in_default-step_down-clause-rest
 returns-in_default-step_down-clause-rest c =
-    rearranged_on c.args.self.now c.loop.self c.step_down.new.self (rearranged_on c.args.self.now c.open_root.new.self c.loop.self c.open_root.ensures c.loop.invariant.0) c.step_down.ensures.rest
+    rearranged_on c.args.self.now c.loop.self c.step_down.new.self (rearranged_on c.args.self.now c.open_root.new.self
+    c.loop.self c.open_root.ensures c.loop.invariant.0) c.step_down.ensures.rest
 
 pub loop-preserved : goal.loop-preserved
 loop-preserved c = (

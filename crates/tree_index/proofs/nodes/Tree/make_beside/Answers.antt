@@ -31,7 +31,8 @@ record Makes (c : goal.After-push_child) : Type 0 where
   fresh : node_at c.args.self.now c.in-Some-make_node.key ≡ None
   made_it : SetsKey (node_at c.args.self.now) (node_at c.make_node.new.self) c.in-Some-make_node.key (Some (new_node level))
   there_mid : node_at c.make_node.new.self c.args.above ≡ Some node
-  gave : SetsKey (node_at c.make_node.new.self) (node_at c.push_child.new.self) c.args.above (Some (with_children node (node.children ++ entry_of c.in-Some-make_node.key child.range ∷ [])))
+  gave : SetsKey (node_at c.make_node.new.self) (node_at c.push_child.new.self) c.args.above
+      (Some (with_children node (node.children ++ entry_of c.in-Some-make_node.key child.range ∷ [])))
   differs : c.args.above ≢ c.in-Some-make_node.key
 
 makes : (c : goal.After-push_child) → Makes c
@@ -44,7 +45,8 @@ makes c =
     let fresh = c.in-Some-make_node.ensures.fresh in
     let differs : c.args.above ≢ key = λ same. no_node (node_at c.args.self.now key) node fresh (ap (node_at c.args.self.now) (sym same) ∙ there) in
     let there_mid : node_at c.make_node.new.self c.args.above ≡ Some node = c.in-Some-make_node.ensures.made.nodes.others c.args.above differs ∙ there in
-    let same : c.push_child.ensures.node ≡ node = one_node (node_at c.make_node.new.self c.args.above) c.push_child.ensures.node node c.push_child.ensures.there there_mid in
+    let same : c.push_child.ensures.node ≡ node = one_node (node_at c.make_node.new.self c.args.above)
+    c.push_child.ensures.node node c.push_child.ensures.there there_mid in
     let child : Entry = c.in-Some-child_at.child in
     let range : c.child.inside.range ≡ child.range = ap (λ (e : Entry). e.range) c.child.view_is in
     record {
@@ -58,8 +60,12 @@ makes c =
       fresh = fresh;
       made_it = c.in-Some-make_node.ensures.made.nodes;
       there_mid = there_mid;
-      gave = subst (λ (r : Corners). SetsKey (node_at c.make_node.new.self) (node_at c.push_child.new.self) c.args.above (Some (with_children node (node.children ++ entry_of key r ∷ [])))) range
-          (subst (λ (n : Node). SetsKey (node_at c.make_node.new.self) (node_at c.push_child.new.self) c.args.above (Some (with_children n (n.children ++ entry_of key c.child.inside.range ∷ [])))) same c.push_child.ensures.set.nodes);
+      gave =
+          subst (λ (r : Corners). SetsKey (node_at c.make_node.new.self) (node_at c.push_child.new.self) c.args.above
+          (Some (with_children node (node.children ++ entry_of key r ∷ [])))) range
+          (subst (λ (n : Node). SetsKey (node_at c.make_node.new.self) (node_at c.push_child.new.self) c.args.above
+          (Some (with_children n (n.children ++ entry_of key c.child.inside.range ∷ [])))) same
+          c.push_child.ensures.set.nodes);
       differs = differs;
     }
 
@@ -81,21 +87,41 @@ returns-clause-rest c =
     let low = tree.shape.low c.args.above m.node m.there in
     let top = root_there (node_at c.args.self.now) root (15 - m.node.level) c.args.above m.node tree.shape m.there (omega (arith, low)) in
     let no_root : key ≢ root = λ same. no_node (node_at c.args.self.now key) top.0 m.fresh (ap (node_at c.args.self.now) same ∙ top.1) in
-    let absent : HasNoId m.node.children key = λ e listed. unlisted c m c.args.above e (record { node = m.node; there = m.there; inner = m.inner; listed = listed }) in
-    let first : IsShape (node_at c.make_node.new.self) root key = made (node_at c.args.self.now) (node_at c.make_node.new.self) root key m.level tree.shape m.fresh m.made_it (omega (arith, low, m.level_is)) in
+    let absent : HasNoId m.node.children key =
+    λ e listed. unlisted c m c.args.above e (record {
+      node = m.node;
+      there = m.there;
+      inner = m.inner;
+      listed = listed;
+    }) in
+    let first : IsShape (node_at c.make_node.new.self) root key =
+    made (node_at c.args.self.now) (node_at c.make_node.new.self) root key m.level tree.shape m.fresh m.made_it
+    (omega (arith, low, m.level_is)) in
     let shape : IsShape (node_at c.push_child.new.self) root root =
-    given m.there_mid m.gave refl key m.child.range (new_node m.level) first (pushed_once m.node.children child absent (tree.shape.once c.args.above m.node m.there)) (inserts_pushed m.node.children child) m.made_it.here m.level_is
+    given m.there_mid m.gave refl key m.child.range (new_node m.level) first (pushed_once m.node.children child absent
+    (tree.shape.once c.args.above m.node m.there)) (inserts_pushed m.node.children child) m.made_it.here m.level_is
     (λ e listed. absurd (omega (arith, listed.1)))
     (λ parent rectangle link.
     let was = link_made (node_at c.args.self.now) (node_at c.make_node.new.self) key m.level m.made_it parent (entry_of c.args.above rectangle) link in
     let below = tree.shape.below parent (entry_of c.args.above rectangle) was in
-    below.covers m.child (listed_in (node_at c.args.self.now c.args.above) m.node below.node m.child m.there below.there (listed_at m.node.children c.args.place m.child m.here)))
+    below.covers m.child (listed_in (node_at c.args.self.now c.args.above) m.node below.node m.child m.there below.there
+    (listed_at m.node.children c.args.place m.child m.here)))
     no_root in
     let late : List Entry = c.args.self.now.late.items in
-    let one = no_leaf (node_at c.args.self.now) (node_at c.make_node.new.self) late key m.made_it.others (none_no_leaf (node_at c.args.self.now) key m.fresh) (new_no_leaf (node_at c.make_node.new.self) key m.level m.made_it.here) in
-    let two = no_leaf (node_at c.make_node.new.self) (node_at c.push_child.new.self) late c.args.above m.gave.others (inner_no_leaf (node_at c.make_node.new.self) c.args.above m.node m.there_mid m.inner)
+    let one = no_leaf (node_at c.args.self.now) (node_at c.make_node.new.self) late key m.made_it.others
+    (none_no_leaf (node_at c.args.self.now) key m.fresh) (new_no_leaf (node_at c.make_node.new.self) key m.level
+    m.made_it.here) in
+    let two = no_leaf (node_at c.make_node.new.self) (node_at c.push_child.new.self) late c.args.above m.gave.others
+    (inner_no_leaf (node_at c.make_node.new.self) c.args.above m.node m.there_mid m.inner)
     (inner_no_leaf (node_at c.push_child.new.self) c.args.above (with_children m.node (m.node.children ++ child ∷ [])) m.gave.here m.inner) in
-    rearranged c.args.self.now c.push_child.new.self (rw (gave_set.root, made_set.root, gave_set.late, made_set.late, gave_set.notes, made_set.notes) (reshaped tree shape
+    rearranged c.args.self.now c.push_child.new.self (rw (
+      gave_set.root,
+      made_set.root,
+      gave_set.late,
+      made_set.late,
+      gave_set.notes,
+      made_set.notes,
+    ) (reshaped tree shape
     (λ e p. ((λ is. (one e p).0 ((two e p).0 is)), (λ is. (two e p).1 ((one e p).1 is)))))) (gave_set.late ∙ made_set.late) (gave_set.notes ∙ made_set.notes)
 
 pub returns-clause-above : goal.returns-clause-above
@@ -129,9 +155,18 @@ returns-clause-beside c =
       others = λ other no_key no_above. m.gave.others other no_above ∙ m.made_it.others other no_key;
       admits = λ range has parent rectangle link. elim (link_cases m.there_mid m.gave refl parent (entry_of key rectangle) link) [
         | inl own ↦ elim ((inserts_pushed m.node.children child (entry_of key rectangle)).0 own.1) [
-          | inl was ↦ absurd (unlisted c m c.args.above (entry_of key rectangle) (record { node = m.node; there = m.there; inner = m.inner; listed = was }) refl)
+          | inl was ↦
+              absurd (unlisted c m c.args.above (entry_of key rectangle) (record {
+                node = m.node;
+                there = m.there;
+                inner = m.inner;
+                listed = was;
+              }) refl)
           | inr is ↦ subst (λ (r : Corners). Covers r range) (sym (ap (λ (e : Entry). e.range) is)) has
         ]
-        | inr other ↦ absurd (unlisted c m parent (entry_of key rectangle) (link_made (node_at c.args.self.now) (node_at c.make_node.new.self) key m.level m.made_it parent (entry_of key rectangle) other.1) refl)
+        | inr other ↦
+            absurd (unlisted c m parent (entry_of key rectangle)
+            (link_made (node_at c.args.self.now) (node_at c.make_node.new.self) key m.level m.made_it parent
+            (entry_of key rectangle) other.1) refl)
       ];
     }

@@ -25,9 +25,16 @@ pub note-requires : goal.note-requires
 note-requires c =
     let may = c.requires.may in
     let child : Entry = c.in-Some.child in
-    let here : slice_get may.source.children c.args.place ≡ Some child = sym (c.take_child.ensures.child ∙ ap (λ (o : Option Node). child_in o c.args.place) may.from_is) ∙ c.in-Some.is in
+    let here : slice_get may.source.children c.args.place ≡ Some child =
+    sym (c.take_child.ensures.child ∙ ap (λ (o : Option Node). child_in o c.args.place) may.from_is)
+    ∙ c.in-Some.is in
     let there : note_at c.args.self.now child.id ≡ Some (note_of child.range (Leaf c.args.from)) =
-    noted_in c.requires.tree c.args.from child (record { node = may.source; there = may.from_is; lowest = may.source_level; listed = listed_at may.source.children c.args.place child here }) in
+    noted_in c.requires.tree c.args.from child (record {
+      node = may.source;
+      there = may.from_is;
+      lowest = may.source_level;
+      listed = listed_at may.source.children c.args.place child here;
+    }) in
     let took = c.in-Some.ensures.taken in
     rw (c.push_child.ensures.set.notes, took.set.notes) (some_is (note_at c.args.self.now child.id) (note_of child.range (Leaf c.args.from)) there)
 
@@ -39,8 +46,10 @@ record Moves (c : goal.After-note) : Type 0 where
   to_is : node_at c.take_child.new.self c.args.to ≡ Some target
   to_was : node_at c.args.self.now c.args.to ≡ Some target
   here : slice_get source.children c.args.place ≡ Some c.in-Some.child
-  took : SetsKey (node_at c.args.self.now) (node_at c.take_child.new.self) c.args.from (Some (with_children source (swap_remove source.children c.args.place c.in-Some.child)))
-  gave : SetsKey (node_at c.take_child.new.self) (node_at c.push_child.new.self) c.args.to (Some (with_children target (target.children ++ c.in-Some.child ∷ [])))
+  took : SetsKey (node_at c.args.self.now) (node_at c.take_child.new.self) c.args.from
+      (Some (with_children source (swap_remove source.children c.args.place c.in-Some.child)))
+  gave : SetsKey (node_at c.take_child.new.self) (node_at c.push_child.new.self) c.args.to
+      (Some (with_children target (target.children ++ c.in-Some.child ∷ [])))
   lowest : source.level ≡ 0
   lowest_too : target.level ≡ 0
   few : length source.children + length target.children ≤ 16
@@ -72,9 +81,15 @@ moves c =
 there : (c : goal.After-note) → note_in c.args.self.now.notes.entries c.in-Some.child.id ≡ Some (note_of c.in-Some.child.range (Leaf c.args.from))
 there c =
     let m = moves c in
-    noted_in c.requires.tree c.args.from c.in-Some.child (record { node = m.source; there = m.from_is; lowest = m.lowest; listed = listed_at m.source.children c.args.place c.in-Some.child m.here })
+    noted_in c.requires.tree c.args.from c.in-Some.child (record {
+      node = m.source;
+      there = m.from_is;
+      lowest = m.lowest;
+      listed = listed_at m.source.children c.args.place c.in-Some.child m.here;
+    })
 
-noted : (c : goal.After-note) → SetsKey (note_in c.args.self.now.notes.entries) (note_in c.note.new.self.notes.entries) c.in-Some.child.id (Some (note_of c.in-Some.child.range (Leaf c.args.to)))
+noted : (c : goal.After-note) → SetsKey (note_in c.args.self.now.notes.entries) (note_in c.note.new.self.notes.entries)
+    c.in-Some.child.id (Some (note_of c.in-Some.child.range (Leaf c.args.to)))
 noted c = rw (c.push_child.ensures.set.notes, c.in-Some.ensures.taken.set.notes) at c.note.ensures.noted
 
 absent : (c : goal.After-note) (m : Moves c) → HasNoId m.target.children c.in-Some.child.id
@@ -88,8 +103,12 @@ returns-clause-nodes c key =
     let child : Entry = c.in-Some.child in
     let once = c.requires.tree.shape.once c.args.from m.source m.from_is in
     rw c.note.ensures.nodes (kept_by c.args.self.now (record c.note.new.self { nodes = c.push_child.new.self.nodes }) key
-    (λ n is. let first = level_on m.from_is m.took refl key n is in let second = level_on m.to_is m.gave refl key first.0 first.1 in (second.0, second.1, second.2 ∙ first.2))
-    (λ parent r link. links_back child m.from_is m.took refl (removes_at m.source.children c.args.place child child m.here once) m.to_is m.gave refl (inserts_pushed m.target.children child) (listed_at m.source.children c.args.place child m.here) (m.lowest_too ∙ sym m.lowest) parent (entry_of key r) link))
+    (λ n is. let first = level_on m.from_is m.took refl key n is in
+    let second = level_on m.to_is m.gave refl key first.0 first.1 in (second.0, second.1, second.2 ∙ first.2))
+    (λ parent r link. links_back child m.from_is m.took refl (removes_at m.source.children c.args.place child child
+    m.here once) m.to_is m.gave refl (inserts_pushed m.target.children child)
+    (listed_at m.source.children c.args.place child m.here) (m.lowest_too ∙ sym m.lowest) parent (entry_of key r)
+    link))
 
 pub returns-clause-may : goal.returns-clause-may
 returns-clause-may c =
@@ -107,10 +126,13 @@ returns-clause-may c =
       target_level = m.lowest_too;
       few = omega (arith, m.few, one_shorter m.source.children c.args.place child child m.here, length-append m.target.children (child ∷ []));
       admits =
-          may_on child m.from_is m.took refl removes m.to_is m.gave refl (inserts_pushed m.target.children child) (listed_at m.source.children c.args.place child m.here) (m.lowest_too ∙ sym m.lowest) m.admits;
+          may_on child m.from_is m.took refl removes m.to_is m.gave refl (inserts_pushed m.target.children child)
+          (listed_at m.source.children c.args.place child m.here) (m.lowest_too ∙ sym m.lowest) m.admits;
     })
 
-comes : (c : goal.After-note) → ComesTo (StandsAt (node_at c.args.self.now) c.args.self.now.late.items) (StandsAt (node_at c.push_child.new.self) c.args.self.now.late.items) c.in-Some.child.id c.in-Some.child.range (Leaf c.args.to)
+comes : (c : goal.After-note) → ComesTo (StandsAt (node_at c.args.self.now) c.args.self.now.late.items)
+    (StandsAt (node_at c.push_child.new.self) c.args.self.now.late.items) c.in-Some.child.id c.in-Some.child.range
+    (Leaf c.args.to)
 comes c =
     let m = moves c in
     let tree = c.requires.tree in
@@ -118,9 +140,12 @@ comes c =
     let late : List Entry = c.args.self.now.late.items in
     let once = tree.shape.once c.args.from m.source m.from_is in
     let lates : Removes late late child.id = same_without tree child.id (leaf_not_late tree child.id child.range c.args.from (there c)) in
-    let goes = leaf_loses m.from_is m.lowest m.took m.lowest late child.id (removes_at m.source.children c.args.place child child m.here once) lates (leaf_alone tree child.id child.range c.args.from (there c)) in
-    moves_to (StandsAt (node_at c.args.self.now) late) (StandsAt (node_at c.take_child.new.self) late) (StandsAt (node_at c.push_child.new.self) late) child.id child.range (Leaf c.args.to) goes
-    (leaf_gets m.to_is m.lowest_too m.gave m.lowest_too late late child.id child.range (changes_pushed m.target.children child (absent c m)) lates (λ k e other is. ((goes e (Leaf k)).0 is).0))
+    let goes = leaf_loses m.from_is m.lowest m.took m.lowest late child.id (removes_at m.source.children c.args.place
+    child child m.here once) lates (leaf_alone tree child.id child.range c.args.from (there c)) in
+    moves_to (StandsAt (node_at c.args.self.now) late) (StandsAt (node_at c.take_child.new.self) late)
+    (StandsAt (node_at c.push_child.new.self) late) child.id child.range (Leaf c.args.to) goes
+    (leaf_gets m.to_is m.lowest_too m.gave m.lowest_too late late child.id child.range
+    (changes_pushed m.target.children child (absent c m)) lates (λ k e other is. ((goes e (Leaf k)).0 is).0))
 
 pub returns-clause-rest : goal.returns-clause-rest
 returns-clause-rest c =
@@ -135,18 +160,26 @@ returns-clause-rest c =
     let listed = listed_at m.source.children c.args.place child m.here in
     let removes = removes_at m.source.children c.args.place child child m.here once in
     let shape : IsShape (node_at c.push_child.new.self) c.args.self.now.root c.args.self.now.root =
-    moved_entry child m.from_is m.took refl removes m.to_is m.gave refl (inserts_pushed m.target.children child) listed (m.lowest_too ∙ sym m.lowest) tree.shape m.lowest
-    (swapped_out m.source.children c.args.place child child m.here once) (pushed_once m.target.children child (absent c m) once_too) (absent c m) (m.admits child listed) in
+    moved_entry child m.from_is m.took refl removes m.to_is m.gave refl (inserts_pushed m.target.children child) listed
+    (m.lowest_too ∙ sym m.lowest) tree.shape m.lowest
+    (swapped_out m.source.children c.args.place child child m.here once)
+    (pushed_once m.target.children child (absent c m) once_too) (absent c m) (m.admits child listed) in
     let spares : spare c.note.new.self.notes ≡ spare c.args.self.now.notes = rw (gave.set.notes, took.set.notes) at c.note.ensures.room in
     record {
       tree = rw (c.note.ensures.root, gave.set.root, took.set.root, c.note.ensures.late, gave.set.late, took.set.late, c.note.ensures.nodes) (record {
         shape = shape;
-        noted = put_noted (StandsAt (node_at c.args.self.now) c.args.self.now.late.items) (StandsAt (node_at c.push_child.new.self) c.args.self.now.late.items) (note_in c.args.self.now.notes.entries) (note_in c.note.new.self.notes.entries) child.id child.range (Leaf c.args.to) tree.noted (noted c) (comes c);
+        noted =
+            put_noted (StandsAt (node_at c.args.self.now) c.args.self.now.late.items)
+            (StandsAt (node_at c.push_child.new.self) c.args.self.now.late.items)
+            (note_in c.args.self.now.notes.entries) (note_in c.note.new.self.notes.entries) child.id child.range
+            (Leaf c.args.to) tree.noted (noted c) (comes c);
         late_once = tree.late_once;
         unique = c.note.ensures.unique;
       });
-      same = same_entries c.args.self.now.notes.entries c.note.new.self.notes.entries tree.unique c.note.ensures.unique child.id child.range (Leaf c.args.from) (there c)
-          (changes_noted c.args.self.now.notes.entries c.note.new.self.notes.entries tree.unique c.note.ensures.unique child.id child.range (Leaf c.args.to) (noted c));
+      same = same_entries c.args.self.now.notes.entries c.note.new.self.notes.entries tree.unique c.note.ensures.unique
+          child.id child.range (Leaf c.args.from) (there c)
+          (changes_noted c.args.self.now.notes.entries c.note.new.self.notes.entries tree.unique c.note.ensures.unique
+          child.id child.range (Leaf c.args.to) (noted c));
       late = c.note.ensures.late ∙ gave.set.late ∙ took.set.late;
       room = rw (c.note.ensures.late, gave.set.late, took.set.late) (omega (arith, spares));
     }

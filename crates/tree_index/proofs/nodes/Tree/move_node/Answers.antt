@@ -25,8 +25,10 @@ record Moves (c : goal.After-set_parent) : Type 0 where
   to_is : node_at c.take_child.new.self c.args.to ≡ Some target
   to_was : node_at c.args.self.now c.args.to ≡ Some target
   here : slice_get source.children c.args.place ≡ Some c.in-Some.child
-  took : SetsKey (node_at c.args.self.now) (node_at c.take_child.new.self) c.args.from (Some (with_children source (swap_remove source.children c.args.place c.in-Some.child)))
-  gave : SetsKey (node_at c.take_child.new.self) (node_at c.push_child.new.self) c.args.to (Some (with_children target (target.children ++ c.in-Some.child ∷ [])))
+  took : SetsKey (node_at c.args.self.now) (node_at c.take_child.new.self) c.args.from
+      (Some (with_children source (swap_remove source.children c.args.place c.in-Some.child)))
+  gave : SetsKey (node_at c.take_child.new.self) (node_at c.push_child.new.self) c.args.to
+      (Some (with_children target (target.children ++ c.in-Some.child ∷ [])))
   source_level : source.level ≡ c.args.level
   target_level : target.level ≡ c.args.level
   few : length source.children + length target.children ≤ 16
@@ -66,7 +68,13 @@ absent : (c : goal.After-set_parent) (m : Moves c) → HasNoId m.target.children
 absent c m e has same =
     let inner : 0 < m.target.level = omega (arith, c.requires.inner, m.target_level) in
     let link : Links (node_at c.args.self.now) c.args.to e = record { node = m.target; there = m.to_was; inner = inner; listed = has } in
-    let link_too : Links (node_at c.args.self.now) c.args.from c.in-Some.child = record { node = m.source; there = m.from_is; inner = omega (arith, c.requires.inner, m.source_level); listed = listed c m } in
+    let link_too : Links (node_at c.args.self.now) c.args.from c.in-Some.child =
+    record {
+      node = m.source;
+      there = m.from_is;
+      inner = omega (arith, c.requires.inner, m.source_level);
+      listed = listed c m;
+    } in
     c.requires.may.differ (sym (c.requires.tree.shape.single c.args.to c.args.from e c.in-Some.child link link_too same))
 
 pub returns-clause-nodes : goal.returns-clause-nodes
@@ -74,8 +82,11 @@ returns-clause-nodes c key =
     let m = moves c in
     let child : Entry = c.in-Some.child in
     subst (λ (t : Tree). KeepsNode c.args.self.now t key) (sym c.set_parent.ensures) (kept_by c.args.self.now c.push_child.new.self key
-    (λ n is. let first = level_on m.from_is m.took refl key n is in let second = level_on m.to_is m.gave refl key first.0 first.1 in (second.0, second.1, second.2 ∙ first.2))
-    (λ parent r link. links_back child m.from_is m.took refl (removes_at m.source.children c.args.place child child m.here (once c m)) m.to_is m.gave refl (inserts_pushed m.target.children child) (listed c m) (m.target_level ∙ sym m.source_level) parent (entry_of key r) link))
+    (λ n is. let first = level_on m.from_is m.took refl key n is in
+    let second = level_on m.to_is m.gave refl key first.0 first.1 in (second.0, second.1, second.2 ∙ first.2))
+    (λ parent r link. links_back child m.from_is m.took refl (removes_at m.source.children c.args.place child child
+    m.here (once c m)) m.to_is m.gave refl (inserts_pushed m.target.children child) (listed c m) (m.target_level
+    ∙ sym m.source_level) parent (entry_of key r) link))
 
 pub returns-clause-may : goal.returns-clause-may
 returns-clause-may c =
@@ -91,7 +102,9 @@ returns-clause-may c =
       target_level = m.target_level;
       few = omega (arith, m.few, one_shorter m.source.children c.args.place child child m.here, length-append m.target.children (child ∷ []));
       admits =
-          may_on child m.from_is m.took refl (removes_at m.source.children c.args.place child child m.here (once c m)) m.to_is m.gave refl (inserts_pushed m.target.children child) (listed c m) (m.target_level ∙ sym m.source_level) m.admits;
+          may_on child m.from_is m.took refl (removes_at m.source.children c.args.place child child m.here (once c m))
+          m.to_is m.gave refl (inserts_pushed m.target.children child) (listed c m) (m.target_level
+          ∙ sym m.source_level) m.admits;
     } in
     subst (λ (t : Tree). MayShare t c.args.level c.args.from c.args.to) (sym c.set_parent.ensures) may
 
@@ -106,13 +119,26 @@ returns-clause-rest c =
     let inner_too : 0 < m.target.level = omega (arith, c.requires.inner, m.target_level) in
     let once_too = tree.shape.once c.args.to m.target m.to_was in
     let shape : IsShape (node_at c.push_child.new.self) c.args.self.now.root c.args.self.now.root =
-    moved_node child m.from_is m.took refl (removes_at m.source.children c.args.place child child m.here (once c m)) m.to_is m.gave refl (inserts_pushed m.target.children child) (listed c m) (m.target_level ∙ sym m.source_level) tree.shape inner
-    (swapped_out m.source.children c.args.place child child m.here (once c m)) (pushed_once m.target.children child (absent c m) once_too) (m.admits child (listed c m)) in
+    moved_node child m.from_is m.took refl (removes_at m.source.children c.args.place child child m.here (once c m))
+    m.to_is m.gave refl (inserts_pushed m.target.children child) (listed c m) (m.target_level ∙ sym m.source_level)
+    tree.shape inner
+    (swapped_out m.source.children c.args.place child child m.here (once c m))
+    (pushed_once m.target.children child (absent c m) once_too) (m.admits child (listed c m)) in
     let late : List Entry = c.args.self.now.late.items in
-    let first = no_leaf (node_at c.args.self.now) (node_at c.take_child.new.self) late c.args.from m.took.others (inner_no_leaf (node_at c.args.self.now) c.args.from m.source m.from_is inner)
+    let first = no_leaf (node_at c.args.self.now) (node_at c.take_child.new.self) late c.args.from m.took.others
+    (inner_no_leaf (node_at c.args.self.now) c.args.from m.source m.from_is inner)
     (inner_no_leaf (node_at c.take_child.new.self) c.args.from (with_children m.source (swap_remove m.source.children c.args.place child)) m.took.here inner) in
-    let second = no_leaf (node_at c.take_child.new.self) (node_at c.push_child.new.self) late c.args.to m.gave.others (inner_no_leaf (node_at c.take_child.new.self) c.args.to m.target m.to_is inner_too)
+    let second = no_leaf (node_at c.take_child.new.self) (node_at c.push_child.new.self) late c.args.to m.gave.others
+    (inner_no_leaf (node_at c.take_child.new.self) c.args.to m.target m.to_is inner_too)
     (inner_no_leaf (node_at c.push_child.new.self) c.args.to (with_children m.target (m.target.children ++ child ∷ [])) m.gave.here inner_too) in
     subst (λ (t : Tree). Rearranges c.args.self.now t) (sym c.set_parent.ensures)
-    (rearranged c.args.self.now c.push_child.new.self (rw (gave.set.root, took.set.root, gave.set.late, took.set.late, gave.set.notes, took.set.notes) (reshaped tree shape
-    (λ e p. ((λ is. (first e p).0 ((second e p).0 is)), (λ is. (second e p).1 ((first e p).1 is)))))) (gave.set.late ∙ took.set.late) (gave.set.notes ∙ took.set.notes))
+    (rearranged c.args.self.now c.push_child.new.self (rw (
+      gave.set.root,
+      took.set.root,
+      gave.set.late,
+      took.set.late,
+      gave.set.notes,
+      took.set.notes,
+    ) (reshaped tree shape
+    (λ e p. ((λ is. (first e p).0 ((second e p).0 is)), (λ is. (second e p).1 ((first e p).1 is)))))) (gave.set.late
+    ∙ took.set.late) (gave.set.notes ∙ took.set.notes))

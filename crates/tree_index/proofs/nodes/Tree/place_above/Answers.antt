@@ -13,7 +13,9 @@ returns-in-Some-place_of c =
     let children : c.as_slice.result.now ≡ above.children = c.as_slice.ensures.value ∙ ap (λ (n : Node). n.children) c.above.view_is in
     let level : c.above.inside.level ≡ above.level = ap (λ (n : Node). n.level) c.above.view_is in
     let inner : 0 < c.above.inside.level = search rules in
-    let found = found_at above.children c.in-Some-place_of.place c.args.key (subst (λ (l : List Entry). IsPlaceOf l c.args.key c.in-Some-place_of.place) children c.in-Some-place_of.ensures) in
+    let found = found_at above.children c.in-Some-place_of.place c.args.key
+    (subst (λ (l : List Entry). IsPlaceOf l c.args.key c.in-Some-place_of.place) children
+    c.in-Some-place_of.ensures) in
     record {
       node = above;
       there = there;

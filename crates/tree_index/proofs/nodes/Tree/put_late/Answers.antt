@@ -10,7 +10,8 @@ use Rattle.tree_index.proofs.NoteLemmas.{sets_note, changes_noted, inserts_noted
 use Rattle.tree_index.proofs.TreeLemmas.{not_in_leaf, not_late, tree_late_gets}
 use Rattle.tree_index.proofs.nodes.Tree.put_late.Goals as goal
 
-noted : (c : goal.After-insert) → SetsKey (note_in c.args.self.now.notes.entries) (note_in c.insert.new.self.entries) c.args.id (Some (note_of c.args.range Late))
+noted : (c : goal.After-insert) → SetsKey (note_in c.args.self.now.notes.entries) (note_in c.insert.new.self.entries)
+    c.args.id (Some (note_of c.args.range Late))
 noted c =
     sets_note (note_in c.args.self.now.notes.entries) (note_in c.insert.new.self.entries) c.args.id (Some (note_of c.args.range Late))
     (on_ok c.insert.result (c.insert.ensures.succeeds (omega (arith, c.requires.room))) c.insert.ensures.updates).0

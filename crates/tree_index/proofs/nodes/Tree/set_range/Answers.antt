@@ -17,8 +17,11 @@ returns-in-Some-get_mut c =
     let there : node_at c.args.self.now c.args.key ≡ Some node = got ∙ ap Some (sym c.node.view_is) in
     let inside : c.args.place < length c.node.inside.children.items = search rules in
     let value : c.in-Some-get_mut.child.now ≡ slice_index_or c.node.inside.children.items c.args.place c.in-Some-get_mut.child.now = search rules in
-    let at : slice_get c.node.inside.children.items c.args.place ≡ Some c.in-Some-get_mut.child.now = got_at c.node.inside.children.items c.args.place c.in-Some-get_mut.child.now inside value in
-    let updates = Updates-with_value c.args.self.now.nodes c.args.key (with_children node (slice_set c.node.inside.children.items c.args.place (entry_of child.id c.args.range))) (search rules) in
+    let at : slice_get c.node.inside.children.items c.args.place ≡ Some c.in-Some-get_mut.child.now =
+    got_at c.node.inside.children.items c.args.place c.in-Some-get_mut.child.now inside value in
+    let updates = Updates-with_value c.args.self.now.nodes c.args.key
+    (with_children node (slice_set c.node.inside.children.items c.args.place (entry_of child.id c.args.range)))
+    (search rules) in
     record {
       node = node;
       child = child;

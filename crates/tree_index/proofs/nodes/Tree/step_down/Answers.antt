@@ -11,15 +11,22 @@ child_is c = sym c.child_at.ensures ∙ c.in-Some-child_at.is ∙ ap Some (sym c
 pub returns-clause-rest : goal.returns-clause-rest
 returns-clause-rest c =
     rearranged_on c.args.self.now c.place_with_room.new.self c.set_range.new.self c.place_with_room.ensures.rest
-    (widened c.place_with_room.new.self c.set_range.new.self c.args.key c.in-Some.place c.args.range c.span.result c.place_with_room.ensures.rest.tree (c.place_with_room.ensures.level c.requires.inner) c.place_with_room.ensures.admits
+    (widened c.place_with_room.new.self c.set_range.new.self c.args.key c.in-Some.place c.args.range c.span.result
+    c.place_with_room.ensures.rest.tree (c.place_with_room.ensures.level c.requires.inner)
+    c.place_with_room.ensures.admits
     (entry_of c.child.inside.id c.child.inside.range) (child_is c) c.set_range.ensures c.span.ensures.first c.span.ensures.second c.span.ensures.least)
 
 pub returns-clause-place : goal.returns-clause-place
 returns-clause-place c =
-    place_below c.place_with_room.new.self c.set_range.new.self c.args.key c.in-Some.place c.args.range c.span.result c.place_with_room.ensures.rest.tree (c.place_with_room.ensures.level c.requires.inner) c.place_with_room.ensures.admits
-    (entry_of c.child.inside.id c.child.inside.range) (child_is c) c.set_range.ensures c.span.ensures.first c.span.ensures.second c.span.ensures.least c.in-Some.ensures.below
+    place_below c.place_with_room.new.self c.set_range.new.self c.args.key c.in-Some.place c.args.range c.span.result
+    c.place_with_room.ensures.rest.tree (c.place_with_room.ensures.level c.requires.inner)
+    c.place_with_room.ensures.admits
+    (entry_of c.child.inside.id c.child.inside.range) (child_is c) c.set_range.ensures c.span.ensures.first
+    c.span.ensures.second c.span.ensures.least c.in-Some.ensures.below
 
 pub returns-clause-admits : goal.returns-clause-admits
 returns-clause-admits c =
-    admits_below c.place_with_room.new.self c.set_range.new.self c.args.key c.in-Some.place c.args.range c.span.result c.place_with_room.ensures.rest.tree (c.place_with_room.ensures.level c.requires.inner) c.place_with_room.ensures.admits
+    admits_below c.place_with_room.new.self c.set_range.new.self c.args.key c.in-Some.place c.args.range c.span.result
+    c.place_with_room.ensures.rest.tree (c.place_with_room.ensures.level c.requires.inner)
+    c.place_with_room.ensures.admits
     (entry_of c.child.inside.id c.child.inside.range) (child_is c) c.set_range.ensures c.span.ensures.first c.span.ensures.second c.span.ensures.least

@@ -23,20 +23,29 @@ returns-in_default-place_of-clause-removed c =
     let node : Node = c.in-Some.node.now in
     let there : node_at c.args.self.now c.args.leaf ≡ Some node = search rules in
     let children : c.as_slice.result.now ≡ node.children = c.as_slice.ensures.value ∙ ap (λ (n : Node). n.children) c.node.view_is in
-    let listed : Contains node.children (entry_of c.args.id c.requires.there.0) = listed_in (node_at c.args.self.now c.args.leaf) stands.node node (entry_of c.args.id c.requires.there.0) stands.there there stands.listed in
+    let listed : Contains node.children (entry_of c.args.id c.requires.there.0) =
+    listed_in (node_at c.args.self.now c.args.leaf) stands.node node (entry_of c.args.id c.requires.there.0)
+    stands.there there stands.listed in
     absurd (c.in_default-place_of.ensures (entry_of c.args.id c.requires.there.0) (rw children listed) refl)
 
-taken : (c : goal.After-remove) → (child : Entry) × IsPlaceOf c.in-Some.node.now.children c.args.id c.in-Some-place_of.place × (node_at c.args.self.now c.args.leaf ≡ Some c.in-Some.node.now) × SetsChildren c.args.self.now c.take_child.new.self c.args.leaf (λ (l : List Entry). swap_remove l c.in-Some-place_of.place child)
+taken : (c : goal.After-remove) → (child : Entry)
+    × IsPlaceOf c.in-Some.node.now.children c.args.id c.in-Some-place_of.place
+    × (node_at c.args.self.now c.args.leaf ≡ Some c.in-Some.node.now)
+    × SetsChildren c.args.self.now c.take_child.new.self c.args.leaf
+    (λ (l : List Entry). swap_remove l c.in-Some-place_of.place child)
 taken c =
     let node : Node = c.in-Some.node.now in
     let there : node_at c.args.self.now c.args.leaf ≡ Some node = search rules in
     let children : c.as_slice.result.now ≡ node.children = c.as_slice.ensures.value ∙ ap (λ (n : Node). n.children) c.node.view_is in
-    let place : IsPlaceOf node.children c.args.id c.in-Some-place_of.place = subst (λ (l : List Entry). IsPlaceOf l c.args.id c.in-Some-place_of.place) children c.in-Some-place_of.ensures in
+    let place : IsPlaceOf node.children c.args.id c.in-Some-place_of.place =
+    subst (λ (l : List Entry). IsPlaceOf l c.args.id c.in-Some-place_of.place) children c.in-Some-place_of.ensures
+    in
     let found = found_at node.children c.in-Some-place_of.place c.args.id place in (
       found.0,
       place,
       there,
-      some_of c.take_child.result (λ (e : Entry). SetsChildren c.args.self.now c.take_child.new.self c.args.leaf (λ (l : List Entry). swap_remove l c.in-Some-place_of.place e)) found.0
+      some_of c.take_child.result (λ (e : Entry). SetsChildren c.args.self.now c.take_child.new.self c.args.leaf
+          (λ (l : List Entry). swap_remove l c.in-Some-place_of.place e)) found.0
           (c.take_child.ensures.child ∙ ap (λ (o : Option Node). child_in o c.in-Some-place_of.place) there ∙ found.1) c.take_child.ensures.taken,
     )
 
@@ -55,10 +64,16 @@ returns-clause-tree c =
     let same : c.in-Some.node.now ≡ node = one_node (node_at c.args.self.now c.args.leaf) c.in-Some.node.now node (taken c).2 sets.there in
     let left : List Entry = swap_remove node.children c.in-Some-place_of.place (taken c).0 in
     let removes : Removes node.children left id × HaveOneRange left =
-    removes_place node.children left c.in-Some-place_of.place id (taken c).0 (subst (λ (n : Node). IsPlaceOf n.children id c.in-Some-place_of.place) same (taken c).1) (tree.shape.once c.args.leaf node sets.there) refl in
+    removes_place node.children left c.in-Some-place_of.place id (taken c).0
+    (subst (λ (n : Node). IsPlaceOf n.children id c.in-Some-place_of.place) same (taken c).1)
+    (tree.shape.once c.args.leaf node sets.there) refl in
     let lowest : node.level ≡ 0 = same_level (node_at c.args.self.now c.args.leaf) node stands.node sets.there stands.there ∙ stands.lowest in
-    rw (sets.set.root, sets.set.late) (tree_loses tree c.remove.new.self.entries c.remove.ensures.unique (node_at c.take_child.new.self) c.args.leaf node (with_children node left) sets.there lowest sets.set.nodes refl removes.1
-    id removes.0 (same_without tree id (leaf_not_late tree id c.requires.there.0 c.args.leaf c.requires.there.1)) (leaf_alone tree id c.requires.there.0 c.args.leaf c.requires.there.1) (noted c))
+    rw (sets.set.root, sets.set.late) (tree_loses tree c.remove.new.self.entries c.remove.ensures.unique
+    (node_at c.take_child.new.self) c.args.leaf node (with_children node left) sets.there lowest sets.set.nodes refl
+    removes.1
+    id removes.0 (same_without tree id (leaf_not_late tree id c.requires.there.0 c.args.leaf c.requires.there.1))
+    (leaf_alone tree id c.requires.there.0 c.args.leaf c.requires.there.1) (noted c))
 
 pub returns-clause-removed : goal.returns-clause-removed
-returns-clause-removed c = removes_noted c.args.self.now.notes.entries c.remove.new.self.entries c.requires.tree.unique c.remove.ensures.unique c.args.id (noted c)
+returns-clause-removed c = removes_noted c.args.self.now.notes.entries c.remove.new.self.entries c.requires.tree.unique
+    c.remove.ensures.unique c.args.id (noted c)

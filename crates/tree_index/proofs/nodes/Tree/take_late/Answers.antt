@@ -9,7 +9,8 @@ use Rattle.tree_index.proofs.nodes.Tree.take_late.Goals as goal
 pub returns-in_default-clause-removed : goal.returns-in_default-clause-removed
 returns-in_default-clause-removed c =
     let tree = c.requires.tree in
-    absurd (c.in_default.ensures (entry_of c.args.id c.requires.there.0) (rw c.as_slice.ensures.value (stands_late tree c.args.id c.requires.there.0 c.requires.there.1)) refl)
+    absurd (c.in_default.ensures (entry_of c.args.id c.requires.there.0)
+    (rw c.as_slice.ensures.value (stands_late tree c.args.id c.requires.there.0 c.requires.there.1)) refl)
 
 noted : (c : goal.After-remove) → SetsKey (note_in c.args.self.now.notes.entries) (note_in c.remove.new.self.entries) c.args.id None
 noted c = sets_note (note_in c.args.self.now.notes.entries) (note_in c.remove.new.self.entries) c.args.id None c.remove.ensures.updates.0
@@ -17,7 +18,8 @@ noted c = sets_note (note_in c.args.self.now.notes.entries) (note_in c.remove.ne
 removed : (c : goal.After-remove) → Removes c.args.self.now.late.items c.swap_remove.new.self.items c.args.id × HaveOneRange c.swap_remove.new.self.items
 removed c =
     removes_place c.args.self.now.late.items c.swap_remove.new.self.items c.in-Some.place c.args.id c.swap_remove.result
-    (subst (λ (l : List Entry). IsPlaceOf l c.args.id c.in-Some.place) c.as_slice.ensures.value c.in-Some.ensures) c.requires.tree.late_once c.swap_remove.ensures.items
+    (subst (λ (l : List Entry). IsPlaceOf l c.args.id c.in-Some.place) c.as_slice.ensures.value c.in-Some.ensures)
+    c.requires.tree.late_once c.swap_remove.ensures.items
 
 pub returns-clause-tree : goal.returns-clause-tree
 returns-clause-tree c =
@@ -25,4 +27,5 @@ returns-clause-tree c =
     (late_not_leaf c.requires.tree c.args.id c.requires.there.0 c.requires.there.1) (noted c)
 
 pub returns-clause-removed : goal.returns-clause-removed
-returns-clause-removed c = removes_noted c.args.self.now.notes.entries c.remove.new.self.entries c.requires.tree.unique c.remove.ensures.unique c.args.id (noted c)
+returns-clause-removed c = removes_noted c.args.self.now.notes.entries c.remove.new.self.entries c.requires.tree.unique
+    c.remove.ensures.unique c.args.id (noted c)

@@ -18,7 +18,10 @@ pub take_late-requires-clause-there : goal.take_late-requires-clause-there
 take_late-requires-clause-there c = noted_at (note_at c.args.self.now c.args.id) Late (sym c.stands.ensures ∙ c.in-Some.is ∙ ap Some c.in-Late.is)
 
 pub take_from_leaf-requires-clause-there : goal.take_from_leaf-requires-clause-there
-take_from_leaf-requires-clause-there c = noted_at (note_at c.args.self.now c.args.id) (Leaf c.in-Leaf.leaf) (sym c.stands.ensures ∙ c.in-Some.is ∙ ap Some c.in-Leaf.is)
+take_from_leaf-requires-clause-there c =
+    noted_at (note_at c.args.self.now c.args.id) (Leaf c.in-Leaf.leaf) (sym c.stands.ensures ∙ c.in-Some.is
+    ∙ ap Some c.in-Leaf.is)
 
 pub returns-in-Leaf-clause-removed : goal.returns-in-Leaf-clause-removed
-returns-in-Leaf-clause-removed c = removes_on (entries_in c.args.self.now) (entries_in c.take_from_leaf.new.self) (entries_in c.mend.new.self) c.args.id c.take_from_leaf.ensures.removed c.mend.ensures.same
+returns-in-Leaf-clause-removed c = removes_on (entries_in c.args.self.now) (entries_in c.take_from_leaf.new.self)
+    (entries_in c.mend.new.self) c.args.id c.take_from_leaf.ensures.removed c.mend.ensures.same

@@ -18,11 +18,18 @@ child_is c =
     let over = c.in-Some.ensures in
     let sets = c.set_range.ensures in
     let same : over.node ≡ sets.node = one_node (node_at c.args.self.now c.in-Some.above) over.node sets.node over.there sets.there in
-    let child : Some sets.child ≡ Some (entry_of c.args.key over.rectangle) = sym sets.here ∙ ap (λ (n : Node). slice_get n.children c.in-Some.place) (sym same) ∙ over.child in
+    let child : Some sets.child ≡ Some (entry_of c.args.key over.rectangle) = sym sets.here
+    ∙ ap (λ (n : Node). slice_get n.children c.in-Some.place) (sym same) ∙ over.child in
     ap (λ (e : Entry). e.id) (some_same sets.child (entry_of c.args.key over.rectangle) child)
 
 inner : (c : goal.After-set_range) → 0 < c.set_range.ensures.node.level
-inner c = omega (arith, c.in-Some.ensures.inner, same_level (node_at c.args.self.now c.in-Some.above) c.in-Some.ensures.node c.set_range.ensures.node c.in-Some.ensures.there c.set_range.ensures.there)
+inner c =
+    omega (
+      arith,
+      c.in-Some.ensures.inner,
+      same_level (node_at c.args.self.now c.in-Some.above) c.in-Some.ensures.node
+          c.set_range.ensures.node c.in-Some.ensures.there c.set_range.ensures.there,
+    )
 
 pub returns-clause-rest : goal.returns-clause-rest
 returns-clause-rest c =
@@ -32,7 +39,13 @@ returns-clause-rest c =
     let node : Node = c.in-Some-get.node.now in
     let there : node_at c.args.self.now c.args.key ≡ Some node = search rules in
     let children : c.as_slice.result.now ≡ node.children = c.as_slice.ensures.value ∙ ap (λ (n : Node). n.children) c.node.view_is in
-    let link : Links (node_at c.args.self.now) c.in-Some.above sets.child = record { node = sets.node; there = sets.there; inner = inner c; listed = listed_at sets.node.children c.in-Some.place sets.child sets.here } in
+    let link : Links (node_at c.args.self.now) c.in-Some.above sets.child =
+    record {
+      node = sets.node;
+      there = sets.there;
+      inner = inner c;
+      listed = listed_at sets.node.children c.in-Some.place sets.child sets.here;
+    } in
     let below = tree.shape.below c.in-Some.above sets.child link in
     let here : node_at c.args.self.now sets.child.id ≡ Some node = ap (node_at c.args.self.now) (child_is c) ∙ there in
     let same : below.node ≡ node = one_node (node_at c.args.self.now sets.child.id) below.node node below.there here in
@@ -48,4 +61,5 @@ returns-clause-rest c =
 
 pub returns-clause-nodes : goal.returns-clause-nodes
 returns-clause-nodes c key other =
-    range_kept c.args.self.now c.set_range.new.self c.in-Some.above c.in-Some.place c.in-Some-span_of_all.range c.set_range.ensures c.requires.tree (inner c) key (λ same. other (same ∙ child_is c))
+    range_kept c.args.self.now c.set_range.new.self c.in-Some.above c.in-Some.place c.in-Some-span_of_all.range
+    c.set_range.ensures c.requires.tree (inner c) key (λ same. other (same ∙ child_is c))

@@ -16,10 +16,12 @@ returns-clause-found c =
     let children : c.as_slice.result.now ≡ leaf.children = c.as_slice.ensures.value ∙ ap (λ (n : Node). n.children) c.leaf.view_is in
     let items : List Entry = c.as_slice.result.now in
     on_ok_map c.visit_items.result
-    (λ adds. adds_same (λ e. Contains c.as_slice.result.now e) (IsUnder (node_at c.args.self.now) 0 c.args.key) c.args.q c.args.out.now.items c.visit_items.new.out.items
+    (λ adds. adds_same (λ e. Contains c.as_slice.result.now e) (IsUnder (node_at c.args.self.now) 0 c.args.key) c.args.q
+    c.args.out.now.items c.visit_items.new.out.items
     (λ e. (
       λ listed. record { node = leaf; there = there; lowest = lowest; listed = subst (λ (l : List Entry). Contains l e) children listed },
-      λ under. subst (λ (l : List Entry). Contains l e) (sym children) (listed_in (node_at c.args.self.now c.args.key) under.node leaf e under.there there under.listed),
+      λ under. subst (λ (l : List Entry). Contains l e) (sym children) (listed_in (node_at c.args.self.now c.args.key)
+          under.node leaf e under.there there under.listed),
     ))
     (adds_listed c.as_slice.result.now c.args.q c.args.out.now.items c.visit_items.new.out.items adds))
     c.visit_items.ensures.found

@@ -17,6 +17,9 @@ returns-clause-found c =
     let there : node_at c.args.self.now c.args.self.now.root ≡ Some root = search rules in
     let level : c.root.inside.level ≡ root.level = ap (λ (n : Node). n.level) c.root.view_is in
     on_ok_map c.visit_below.result
-    (λ adds. adds_same (IsUnder (node_at c.args.self.now) root.level c.args.self.now.root) (IsInTree (node_at c.args.self.now)) c.args.q c.args.out.now.items c.visit_below.new.out.items (in_tree c.requires.shape root there)
-    (subst (λ (l : ℕ). AddsThose (IsUnder (node_at c.args.self.now) l c.args.self.now.root) c.args.q c.args.out.now.items c.visit_below.new.out.items) level adds))
+    (λ adds. adds_same (IsUnder (node_at c.args.self.now) root.level c.args.self.now.root)
+    (IsInTree (node_at c.args.self.now)) c.args.q c.args.out.now.items c.visit_below.new.out.items
+    (in_tree c.requires.shape root there)
+    (subst (λ (l : ℕ). AddsThose (IsUnder (node_at c.args.self.now) l c.args.self.now.root) c.args.q
+    c.args.out.now.items c.visit_below.new.out.items) level adds))
     c.visit_below.ensures.found

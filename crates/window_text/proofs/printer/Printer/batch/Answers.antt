@@ -15,11 +15,17 @@ returns-then-not-send_changes g c =
     let changes = changes_text c.args.sheet.now.labels c.args.edit.now in
     let said = ap₂ changes_text c.labels.ensures.labels c.changes.ensures.changes in
     let sent = subst (λ t. HandsOut g.F.FnMut c.send.new.to t false c.send_changes.new.to) said c.if-not-send_changes.ensures.sent in
-    record { sent = and_then g.F.FnMut _ _ _ (codes "batch" ++ 10 ∷ []) _ _ c.if-not-send.ensures.sent (cut g.F.FnMut _ _ changes (codes "end" ++ 10 ∷ []) sent) }
+    record {
+      sent = and_then g.F.FnMut _ _ _ (codes "batch" ++ 10 ∷ []) _ _ c.if-not-send.ensures.sent
+          (cut g.F.FnMut _ _ changes (codes "end" ++ 10 ∷ []) sent);
+    }
 
 pub returns : goal.returns
 returns g c =
     let changes = changes_text c.args.sheet.now.labels c.args.edit.now in
     let said = ap₂ changes_text c.labels.ensures.labels c.changes.ensures.changes in
     let sent = subst (λ t. HandsOut g.F.FnMut c.send.new.to t true c.send_changes.new.to) said c.if-not-send_changes.ensures.sent in
-    record { sent = and_then g.F.FnMut _ _ _ (codes "batch" ++ 10 ∷ []) _ _ c.if-not-send.ensures.sent (and_then g.F.FnMut _ _ _ changes _ _ sent c.send-2.ensures.sent) }
+    record {
+      sent = and_then g.F.FnMut _ _ _ (codes "batch" ++ 10 ∷ []) _ _ c.if-not-send.ensures.sent
+          (and_then g.F.FnMut _ _ _ changes _ _ sent c.send-2.ensures.sent);
+    }

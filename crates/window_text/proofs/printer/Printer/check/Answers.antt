@@ -14,7 +14,8 @@ returns-then-not-send_count-2 g c =
     let edges = c.args.edges.now in
     record {
       sent = ended g.F.FnMut _ _ _ (check_text c.args.pairs edges) (count_line (codes "edges") (length edges)) (flat_map edge_line edges)
-          (begun g.F.FnMut _ _ (count_line (codes "pairs") c.args.pairs) (count_line (codes "edges") (length edges) ++ flat_map edge_line edges) c.if-not-send_count.ensures.sent) c.if-not-send_count-2.ensures.sent;
+          (begun g.F.FnMut _ _ (count_line (codes "pairs") c.args.pairs) (count_line (codes "edges") (length edges)
+          ++ flat_map edge_line edges) c.if-not-send_count.ensures.sent) c.if-not-send_count-2.ensures.sent;
     }
 
 pub loop-edge-init : goal.loop-edge-init
@@ -22,17 +23,28 @@ loop-edge-init g c =
     let edges = c.args.edges.now in (
       c.if-not-send_count-2.ensures.callable,
       next g.F.FnMut _ _ _ (check_text c.args.pairs edges) (count_line (codes "edges") (length edges)) (flat_map edge_line edges)
-          (begun g.F.FnMut _ _ (count_line (codes "pairs") c.args.pairs) (count_line (codes "edges") (length edges) ++ flat_map edge_line edges) c.if-not-send_count.ensures.sent) c.if-not-send_count-2.ensures.sent,
+          (begun g.F.FnMut _ _ (count_line (codes "pairs") c.args.pairs) (count_line (codes "edges") (length edges)
+          ++ flat_map edge_line edges) c.if-not-send_count.ensures.sent) c.if-not-send_count-2.ensures.sent,
     )
 
 pub returns-then-not-send_edge : goal.returns-then-not-send_edge
 returns-then-not-send_edge g c =
-    record { sent = ended g.F.FnMut _ _ _ _ _ _ (next_edge g.F.FnMut _ _ _ c.args.edges.now c.loop-edge.edge-index c.edge-item.result c.loop-edge-test.true c.edge-item.is c.loop-edge.invariant.1) c.if-not-send_edge.ensures.sent }
+    record {
+      sent = ended g.F.FnMut _ _ _ _ _ _ (next_edge g.F.FnMut _ _ _ c.args.edges.now c.loop-edge.edge-index
+          c.edge-item.result c.loop-edge-test.true c.edge-item.is c.loop-edge.invariant.1) c.if-not-send_edge.ensures.sent;
+    }
 
 pub loop-edge-preserved : goal.loop-edge-preserved
-loop-edge-preserved g c =
-    (c.if-not-send_edge.ensures.callable, next g.F.FnMut _ _ _ _ _ _ (next_edge g.F.FnMut _ _ _ c.args.edges.now c.loop-edge.edge-index c.edge-item.result c.loop-edge-test.true c.edge-item.is c.loop-edge.invariant.1) c.if-not-send_edge.ensures.sent)
+loop-edge-preserved g c = (
+  c.if-not-send_edge.ensures.callable,
+  next g.F.FnMut _ _ _ _ _ _ (next_edge g.F.FnMut _ _ _ c.args.edges.now c.loop-edge.edge-index c.edge-item.result
+      c.loop-edge-test.true c.edge-item.is c.loop-edge.invariant.1) c.if-not-send_edge.ensures.sent,
+)
 
 pub returns : goal.returns
 returns g c =
-    record { sent = c.loop-edge.invariant.1 _ true (subst (λ t. HandsOut g.F.FnMut c.loop-edge.to t true c.loop-edge.to) (sym (edges_end c.args.edges.now c.loop-edge.edge-index c.loop-edge-test.false)) (none g.F.FnMut c.loop-edge.to)) }
+    record {
+      sent = c.loop-edge.invariant.1 _ true (subst (λ t. HandsOut g.F.FnMut c.loop-edge.to t true c.loop-edge.to)
+          (sym (edges_end c.args.edges.now c.loop-edge.edge-index c.loop-edge-test.false))
+          (none g.F.FnMut c.loop-edge.to));
+    }

@@ -22,10 +22,13 @@ returns-then-not-send_entries g c =
     let counted : length c.deref-log.result.now ≡ length t.log = ap length c.deref-log.ensures.value in
     let count = subst (λ n. HandsOut g.F.FnMut c.args.to.now (count_line (codes "log") n) true c.send_count.new.to) counted c.if-not-send_count.ensures.sent in
     let entries = subst (λ text. HandsOut g.F.FnMut c.send_count.new.to text false c.send_entries.new.to)
-    (entries_told c.deref.result.now c.args.transcript.now.names.items c.labels-labels.result.now t.sheet.labels c.deref-log.result.now t.log c.deref.ensures.value c.labels-labels.ensures.labels c.deref-log.ensures.value) c.if-not-send_entries.ensures.sent in
+    (entries_told c.deref.result.now c.args.transcript.now.names.items c.labels-labels.result.now t.sheet.labels
+    c.deref-log.result.now t.log c.deref.ensures.value c.labels-labels.ensures.labels c.deref-log.ensures.value)
+    c.if-not-send_entries.ensures.sent in
     record {
       sent = and_then g.F.FnMut _ _ _ (count_line (codes "log") (length t.log)) _ _ count
-          (cut g.F.FnMut _ _ (entries_text t.names t.sheet.labels 1 t.log) (clients_text t.sheet.labels t.names t.reports ++ closing_text (length t.log) t.sheet) entries);
+          (cut g.F.FnMut _ _ (entries_text t.names t.sheet.labels 1 t.log)
+          (clients_text t.sheet.labels t.names t.reports ++ closing_text (length t.log) t.sheet) entries);
     }
 
 pub returns-then-not-send_clients : goal.returns-then-not-send_clients
@@ -34,9 +37,13 @@ returns-then-not-send_clients g c =
     let counted : length c.deref-log.result.now ≡ length t.log = ap length c.deref-log.ensures.value in
     let count = subst (λ n. HandsOut g.F.FnMut c.args.to.now (count_line (codes "log") n) true c.send_count.new.to) counted c.if-not-send_count.ensures.sent in
     let entries = subst (λ text. HandsOut g.F.FnMut c.send_count.new.to text true c.send_entries.new.to)
-    (entries_told c.deref.result.now c.args.transcript.now.names.items c.labels-labels.result.now t.sheet.labels c.deref-log.result.now t.log c.deref.ensures.value c.labels-labels.ensures.labels c.deref-log.ensures.value) c.if-not-send_entries.ensures.sent in
+    (entries_told c.deref.result.now c.args.transcript.now.names.items c.labels-labels.result.now t.sheet.labels
+    c.deref-log.result.now t.log c.deref.ensures.value c.labels-labels.ensures.labels c.deref-log.ensures.value)
+    c.if-not-send_entries.ensures.sent in
     let clients = subst (λ text. HandsOut g.F.FnMut c.send_entries.new.to text false c.send_clients.new.to)
-    (clients_told c.deref-2.result.now c.args.transcript.now.names.items c.labels-labels.result.now t.sheet.labels c.deref-3.result.now c.args.transcript.now.reports.items c.deref-2.ensures.value c.labels-labels.ensures.labels c.deref-3.ensures.value) c.if-not-send_clients.ensures.sent in
+    (clients_told c.deref-2.result.now c.args.transcript.now.names.items c.labels-labels.result.now t.sheet.labels
+    c.deref-3.result.now c.args.transcript.now.reports.items c.deref-2.ensures.value c.labels-labels.ensures.labels
+    c.deref-3.ensures.value) c.if-not-send_clients.ensures.sent in
     record {
       sent = and_then g.F.FnMut _ _ _ (count_line (codes "log") (length t.log)) _ _ count
           (and_then g.F.FnMut _ _ _ (entries_text t.names t.sheet.labels 1 t.log) _ _ entries
@@ -49,10 +56,15 @@ returns g c =
     let counted : length c.deref-log.result.now ≡ length t.log = ap length c.deref-log.ensures.value in
     let count = subst (λ n. HandsOut g.F.FnMut c.args.to.now (count_line (codes "log") n) true c.send_count.new.to) counted c.if-not-send_count.ensures.sent in
     let entries = subst (λ text. HandsOut g.F.FnMut c.send_count.new.to text true c.send_entries.new.to)
-    (entries_told c.deref.result.now c.args.transcript.now.names.items c.labels-labels.result.now t.sheet.labels c.deref-log.result.now t.log c.deref.ensures.value c.labels-labels.ensures.labels c.deref-log.ensures.value) c.if-not-send_entries.ensures.sent in
+    (entries_told c.deref.result.now c.args.transcript.now.names.items c.labels-labels.result.now t.sheet.labels
+    c.deref-log.result.now t.log c.deref.ensures.value c.labels-labels.ensures.labels c.deref-log.ensures.value)
+    c.if-not-send_entries.ensures.sent in
     let clients = subst (λ text. HandsOut g.F.FnMut c.send_entries.new.to text true c.send_clients.new.to)
-    (clients_told c.deref-2.result.now c.args.transcript.now.names.items c.labels-labels.result.now t.sheet.labels c.deref-3.result.now c.args.transcript.now.reports.items c.deref-2.ensures.value c.labels-labels.ensures.labels c.deref-3.ensures.value) c.if-not-send_clients.ensures.sent in
-    let closing = subst (λ n. HandsOut g.F.FnMut c.send_clients.new.to (closing_text n t.sheet) c.send_closing.result c.send_closing.new.to) counted c.send_closing.ensures.sent in
+    (clients_told c.deref-2.result.now c.args.transcript.now.names.items c.labels-labels.result.now t.sheet.labels
+    c.deref-3.result.now c.args.transcript.now.reports.items c.deref-2.ensures.value c.labels-labels.ensures.labels
+    c.deref-3.ensures.value) c.if-not-send_clients.ensures.sent in
+    let closing = subst (λ n. HandsOut g.F.FnMut c.send_clients.new.to (closing_text n t.sheet) c.send_closing.result
+    c.send_closing.new.to) counted c.send_closing.ensures.sent in
     record {
       sent = and_then g.F.FnMut _ _ _ (count_line (codes "log") (length t.log)) _ _ count
           (and_then g.F.FnMut _ _ _ (entries_text t.names t.sheet.labels 1 t.log) _ _ entries

@@ -19,9 +19,15 @@ returns-then-not-send g c =
 
 pub loop-run-preserved : goal.loop-run-preserved
 loop-run-preserved g c =
-    let rest = next_run g.F.FnMut _ _ c.args.runs.now c.loop-run.run-index c.run-item.result c.loop-run-test.true c.run-item.is c.loop-run.invariant.1 in
-    (c.if-not-send.ensures.callable, next g.F.FnMut _ _ _ _ (10 ∷ []) _ (next g.F.FnMut _ _ _ _ _ _ rest c.if-not-send_range.ensures.sent) c.if-not-send.ensures.sent)
+    let rest = next_run g.F.FnMut _ _ c.args.runs.now c.loop-run.run-index c.run-item.result c.loop-run-test.true c.run-item.is c.loop-run.invariant.1 in (
+      c.if-not-send.ensures.callable,
+      next g.F.FnMut _ _ _ _ (10 ∷ []) _ (next g.F.FnMut _ _ _ _ _ _ rest c.if-not-send_range.ensures.sent)
+          c.if-not-send.ensures.sent,
+    )
 
 pub returns : goal.returns
 returns g c =
-    record { sent = c.loop-run.invariant.1 _ true (subst (λ t. HandsOut g.F.FnMut c.loop-run.to t true c.loop-run.to) (sym (runs_end c.args.runs.now c.loop-run.run-index c.loop-run-test.false)) (none g.F.FnMut c.loop-run.to)) }
+    record {
+      sent = c.loop-run.invariant.1 _ true (subst (λ t. HandsOut g.F.FnMut c.loop-run.to t true c.loop-run.to)
+          (sym (runs_end c.args.runs.now c.loop-run.run-index c.loop-run-test.false)) (none g.F.FnMut c.loop-run.to));
+    }
