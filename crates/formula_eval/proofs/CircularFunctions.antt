@@ -21,8 +21,8 @@ use Rattle.formula_syntax.specs.declared.functions.Function.TheVariants.{Countbl
 use Rattle.formula_syntax.specs.declared.functions.Function.TheVariants.{Sign, Mod, Quotient, Iserror, Isnumber}
 use Rattle.formula_syntax.specs.declared.functions.Function.TheVariants.{Islogical, Istext, Isblank, Na, Countif, Sumif}
 use Rattle.formula_syntax.specs.declared.functions.Function.TheVariants.{Match}
-use Rattle.formula_syntax.specs.declared.functions.Place.{Place}
-use Rattle.formula_syntax.specs.declared.functions.Place.TheVariants.{Sequence, Scalar, Ranges}
+use Rattle.formula_syntax.specs.declared.functions.ParameterKind.{ParameterKind}
+use Rattle.formula_syntax.specs.declared.functions.ParameterKind.TheVariants.{Sequence, Scalar, Ranges}
 use Rattle.formula_syntax.specs.Functions.{shape_of}
 use Rattle.formula_eval.specs.declared.items.Item.{Item}
 use Rattle.formula_eval.specs.declared.items.Item.TheVariants.{Cell, Alone}
@@ -470,7 +470,7 @@ ranged_plain Istext a b c parameters h k l all = refl
 ranged_plain Isblank a b c parameters h k l all = refl
 ranged_plain Na a b c parameters h k l all = refl
 
-place_plain : (place : Place) (f : Function) (parameters : List Parameter)
+place_plain : (place : ParameterKind) (f : Function) (parameters : List Parameter)
     → list_any circular_parameter parameters ≡ false → is_circular (by_place place f parameters) ≡ false
 place_plain Sequence f parameters h = sequence_plain f (items_of parameters) (items_plain parameters h)
 place_plain Ranges f parameters h =

@@ -22,8 +22,8 @@ use Rattle.formula_syntax.specs.declared.functions.Function.TheVariants.{Countbl
 use Rattle.formula_syntax.specs.declared.functions.Function.TheVariants.{Sign, Mod, Quotient, Iserror, Isnumber}
 use Rattle.formula_syntax.specs.declared.functions.Function.TheVariants.{Islogical, Istext, Isblank, Na, Countif, Sumif}
 use Rattle.formula_syntax.specs.declared.functions.Function.TheVariants.{Match}
-use Rattle.formula_syntax.specs.declared.functions.Place.{Place}
-use Rattle.formula_syntax.specs.declared.functions.Place.TheVariants.{Sequence, Scalar, Ranges}
+use Rattle.formula_syntax.specs.declared.functions.ParameterKind.{ParameterKind}
+use Rattle.formula_syntax.specs.declared.functions.ParameterKind.TheVariants.{Sequence, Scalar, Ranges}
 use Rattle.formula_syntax.specs.Functions.{shape_of}
 use Rattle.formula_eval.specs.declared.items.Item.{Item}
 use Rattle.formula_eval.specs.declared.items.Item.TheVariants.{Cell, Alone}
@@ -324,7 +324,7 @@ scalars_of parameters = map (λ (p : Parameter). p.scalar) parameters
 module _ (f : Function) (parameters : List Parameter) (scalars : AreValues (scalars_of parameters))
     (items : AreValueItems (items_of parameters)) (few : length (items_of parameters) ≤ 9007199254740991)
     (cells : AllAreFew parameters) where
-  by_place_value : (place : Place) → IsValue (by_place place f parameters)
+  by_place_value : (place : ParameterKind) → IsValue (by_place place f parameters)
   by_place_value Sequence = sequence_total f (items_of parameters) (contributions f (items_of parameters))
       (contributions_whole f (items_of parameters) items) few
   by_place_value Ranges = ranged_in_range f (scalar_at parameters 0) (scalar_at parameters 1) (scalar_at parameters 2) parameters cells

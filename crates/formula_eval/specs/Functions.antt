@@ -15,8 +15,8 @@ use Rattle.formula_syntax.specs.declared.functions.Function.TheVariants.{Countbl
 use Rattle.formula_syntax.specs.declared.functions.Function.TheVariants.{Sign, Mod, Quotient, Iserror, Isnumber}
 use Rattle.formula_syntax.specs.declared.functions.Function.TheVariants.{Islogical, Istext, Isblank, Na, Countif, Sumif}
 use Rattle.formula_syntax.specs.declared.functions.Function.TheVariants.{Match}
-use Rattle.formula_syntax.specs.declared.functions.Place.{Place}
-use Rattle.formula_syntax.specs.declared.functions.Place.TheVariants.{Sequence, Scalar, Ranges}
+use Rattle.formula_syntax.specs.declared.functions.ParameterKind.{ParameterKind}
+use Rattle.formula_syntax.specs.declared.functions.ParameterKind.TheVariants.{Sequence, Scalar, Ranges}
 use Rattle.formula_syntax.specs.Functions.{shape_of}
 use Rattle.formula_eval.specs.declared.items.Item.{Item}
 use Rattle.formula_eval.specs.declared.items.Item.TheVariants.{Cell, Alone}
@@ -304,7 +304,7 @@ ranged_value Istext a b c parameters = Number (pos 0)
 ranged_value Isblank a b c parameters = Number (pos 0)
 ranged_value Na a b c parameters = Number (pos 0)
 
-abbrev pub by_place : Place → Function → List Parameter → Value
+abbrev pub by_place : ParameterKind → Function → List Parameter → Value
 by_place Sequence f parameters = sequence_value f (items_of parameters)
 by_place Ranges f parameters = ranged_value f (scalar_at parameters 0) (scalar_at parameters 1) (scalar_at parameters 2) parameters
 by_place Scalar f parameters = scalar_value f (scalar_at parameters 0) (scalar_at parameters 1) (scalar_at parameters 2)

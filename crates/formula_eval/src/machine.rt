@@ -3,7 +3,7 @@ ghost use Rattle.std.specs.Prelude.{List, IfErr, OnOk, Err};
 ghost use Rattle.formula_syntax.specs.Tree.{tree_of, trees_of};
 ghost use Rattle.formula_syntax.specs.Tree.{node_count, all_nodes};
 ghost use Rattle.formula_syntax.specs.Functions.{shape_of};
-ghost use Rattle.formula_syntax.specs.declared.functions.Place.TheVariants.{Sequence as SequencePlace};
+ghost use Rattle.formula_syntax.specs.declared.functions.ParameterKind.TheVariants.{Sequence as SequencePlace};
 ghost use Rattle.formula_eval.specs.Functions.{function_value, sequence_value, contributions};
 ghost use Rattle.formula_eval.specs.Functions.{scalar_at};
 ghost use Rattle.formula_eval.specs.Inputs.{IsPlainRange, seen_values};
@@ -21,7 +21,7 @@ use crate::items::Item;
 use crate::ranges::{as_reference, ranged_value};
 use crate::scalars::scalar_value;
 use crate::tally::{Tally, add};
-use formula_syntax::{Function, Node, Place};
+use formula_syntax::{Function, Node, ParameterKind};
 use sheet_refs::Range;
 use value_core::{BinaryOp, ErrorKind, PrefixOp, Value, binary, never_empty, prefix};
 
@@ -131,14 +131,14 @@ fn call<I: Inputs>(
     ensures capacity { vec_capacity pending.new ≡ vec_capacity pending.old }
 {
     match function.place() {
-        Place::Sequence => sequence(inputs, function, parameters, pending),
-        Place::Ranges => {
+        ParameterKind::Sequence => sequence(inputs, function, parameters, pending),
+        ParameterKind::Ranges => {
             let first = scalar(inputs, parameters, 0, pending);
             let second = scalar(inputs, parameters, 1, pending);
             let third = scalar(inputs, parameters, 2, pending);
             ranged_value(inputs, function, parameters, first, second, third)
         }
-        Place::Scalar => {
+        ParameterKind::Scalar => {
             let first = scalar(inputs, parameters, 0, pending);
             let second = scalar(inputs, parameters, 1, pending);
             let third = scalar(inputs, parameters, 2, pending);

@@ -1,7 +1,7 @@
 ghost use Rattle.std.specs.Prelude.{◌≡◌, ℤ, ◌+◌, ◌*ℤ◌, ◌<◌, ◌≤◌, ◌^◌, [], ◌∷◌};
 ghost use Rattle.std.specs.Prelude.{OnOk, IfErr, Err, if◌then◌else◌};
 ghost use Rattle.formula_syntax.specs.Functions.{shape_of};
-ghost use Rattle.formula_syntax.specs.declared.functions.Place.TheVariants.{Sequence};
+ghost use Rattle.formula_syntax.specs.declared.functions.ParameterKind.TheVariants.{Sequence};
 ghost use Rattle.formula_eval.specs.Functions.{contributions};
 ghost use Rattle.value_core.specs.Conversions.{in_range as value_in_range};
 ghost use Rattle.formula_eval.specs.Tallies.{Tallies, KeepsProduct, KeepsOneMore, TalliesOneMore};

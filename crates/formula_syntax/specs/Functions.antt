@@ -6,19 +6,19 @@ use Rattle.formula_syntax.specs.declared.functions.Function.TheVariants.{Countbl
 use Rattle.formula_syntax.specs.declared.functions.Function.TheVariants.{Sign, Mod, Quotient, Iserror, Isnumber}
 use Rattle.formula_syntax.specs.declared.functions.Function.TheVariants.{Islogical, Istext, Isblank, Na, Countif, Sumif}
 use Rattle.formula_syntax.specs.declared.functions.Function.TheVariants.{Match}
-use Rattle.formula_syntax.specs.declared.functions.Place.{Place}
-use Rattle.formula_syntax.specs.declared.functions.Place.TheVariants.{Sequence, Scalar, Ranges}
+use Rattle.formula_syntax.specs.declared.functions.ParameterKind.{ParameterKind}
+use Rattle.formula_syntax.specs.declared.functions.ParameterKind.TheVariants.{Sequence, Scalar, Ranges}
 
 -- what parameters a function takes: at least and at most so many, where there is an upper limit, how they are read,
 -- and which of them, from 0, have to be references
 pub record Shape : Type 0 where
   pub least : ℕ
   pub most : Option ℕ
-  pub place : Place
+  pub place : ParameterKind
   pub references : List ℕ
 
 -- a function of any parameters, and one of ranges
-abbrev pub shape : ℕ → Option ℕ → Place → Shape
+abbrev pub shape : ℕ → Option ℕ → ParameterKind → Shape
 shape least most place = record { least = least; most = most; place = place; references = [] }
 
 abbrev pub ranges : ℕ → ℕ → List ℕ → Shape

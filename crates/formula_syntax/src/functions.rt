@@ -6,7 +6,7 @@ use crate::edition::Edition;
 
 /// How a function reads its parameters.
 #[derive(Clone, Copy, Debug, PartialEq, Eq)]
-pub enum Place {
+pub enum ParameterKind {
     /// Each parameter is a sequence: a reference gives the values of its cells, any other parameter one.
     Sequence,
     /// Each parameter is one value.
@@ -195,7 +195,7 @@ impl Function {
     }
 
     /// How the parameters are read.
-    pub fn place(self) -> Place
+    pub fn place(self) -> ParameterKind
         ensures { result ≡ (shape_of self).place }
     {
         match self {
@@ -206,9 +206,9 @@ impl Function {
             | Function::Count
             | Function::Counta
             | Function::And
-            | Function::Or => Place::Sequence,
+            | Function::Or => ParameterKind::Sequence,
             Function::Countblank | Function::Countif | Function::Sumif | Function::Match =>
-                Place::Ranges,
+                ParameterKind::Ranges,
             Function::If
             | Function::Iferror
             | Function::Not
@@ -221,7 +221,7 @@ impl Function {
             | Function::Islogical
             | Function::Istext
             | Function::Isblank
-            | Function::Na => Place::Scalar,
+            | Function::Na => ParameterKind::Scalar,
         }
     }
 

@@ -31,7 +31,7 @@ mod tree;
 mod words;
 
 pub use edition::Edition;
-pub use functions::{Function, Place};
+pub use functions::{Function, ParameterKind};
 pub use laws::{formula_laws, shift_laws};
 pub use listing::refs;
 pub use printer::{print, send_formula};

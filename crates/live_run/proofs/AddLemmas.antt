@@ -8,7 +8,7 @@ use Rattle.std.proofs.lemmas.List.Quantifiers.{all_pairs_push}
 use Rattle.std.proofs.lemmas.Slice.Zip.{AllZip-long}
 use Rattle.edit_log.specs.Rows.{IsInside}
 use Rattle.edit_script.specs.declared.script.Command.{Command}
-use Rattle.mark_core.specs.View.{floor_of}
+use Rattle.mark_core.specs.Views.{floor_of}
 use Rattle.mark_core.specs.declared.actors.View.{View}
 use Rattle.sheet_model.specs.Edits.{EditValue, AreHeldBeside}
 use Rattle.sheet_model.specs.Sheets.{SheetValue}

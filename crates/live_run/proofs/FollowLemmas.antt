@@ -11,7 +11,7 @@ use Rattle.edit_script.specs.declared.script.Command.{Command}
 use Rattle.live_sheet.specs.Accepted.{AreAccepted}
 use Rattle.live_sheet.specs.Closed.{IsLegalOver}
 use Rattle.live_sheet.specs.Openings.{opening_codes}
-use Rattle.mark_core.specs.Mark.{IsPrefix, IsLastMark, IsTouched}
+use Rattle.mark_core.specs.Marks.{IsPrefix, IsLastMark, IsTouched}
 use Rattle.mark_core.specs.declared.actors.View.{View}
 use Rattle.mark_core.specs.declared.words.Finished.{Finished}
 use Rattle.mark_core.proofs.Prefixes.{prefix_length, take-prefix, take_is_prefix, touched_in_prefix}

@@ -9,7 +9,7 @@ use Rattle.edit_log.specs.Touches.{TouchesPlace}
 use Rattle.edit_script.specs.declared.script.Command.{Command}
 use Rattle.edit_script.specs.declared.script.Command.TheVariants as asks
 use Rattle.live_sheet.specs.Firm.{value_shown}
-use Rattle.mark_core.specs.Mark.{IsPrefix, IsLastMark}
+use Rattle.mark_core.specs.Marks.{IsPrefix, IsLastMark}
 use Rattle.mark_core.specs.declared.actors.View.{View}
 use Rattle.mark_core.specs.declared.words.Finished.{Finished}
 use Rattle.mark_core.specs.declared.words.Known.{Known}

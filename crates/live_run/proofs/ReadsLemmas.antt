@@ -7,7 +7,7 @@ use Rattle.std.proofs.lemmas.Bool.{cases_eq, cases_lt, cond_both, cond-true, eq-
 use Rattle.std.proofs.lemmas.List.Elements.{Contains-append_left, Contains-append_right, Contains-push}
 use Rattle.live_sheet.specs.Looks.{AreShown, ShowsLoads, after_read, after_reads, learned, read_made}
 use Rattle.live_sheet.specs.declared.loads.Loads.{Loads}
-use Rattle.mark_core.specs.View.{floor_of}
+use Rattle.mark_core.specs.Views.{floor_of}
 use Rattle.mark_core.specs.declared.actors.View.{View}
 use Rattle.mark_core.specs.declared.words.Finished.{Finished}
 use Rattle.mark_core.specs.declared.words.Known.{Known}

@@ -11,8 +11,8 @@ use Rattle.formula_syntax.specs.Tree.{Tree}
 use Rattle.live_sheet.specs.Closed.{IsLegalOver}
 use Rattle.live_sheet.specs.Looks.{ShowsLoads}
 use Rattle.live_sheet.specs.Openings.{code_before, opening_codes}
-use Rattle.mark_core.specs.Mark.{IsTouched, IsLastMark, IsPrefix}
-use Rattle.mark_core.specs.Run.{IsCodeless}
+use Rattle.mark_core.specs.Marks.{IsTouched, IsLastMark, IsPrefix}
+use Rattle.mark_core.specs.Runs.{IsCodeless}
 use Rattle.mark_core.specs.declared.actors.View.{View}
 use Rattle.mark_core.specs.declared.answers.Seen.TheVariants as seen
 use Rattle.mark_core.specs.declared.words.Finished.{Finished}

@@ -15,8 +15,8 @@ use Rattle.live_sheet.specs.Looks.{HasLooked, after_reads}
 use Rattle.live_sheet.specs.Passes.{client_of, pass_view, pass_log, pass_seen, numbers_of, IsLookOf}
 use Rattle.live_sheet.specs.declared.naming.Naming.{Ghosts}
 use Rattle.live_sheet.specs.declared.pass.Pass.{Pass}
-use Rattle.mark_core.specs.Mark.{IsPrefix, IsLastMark}
-use Rattle.mark_core.specs.View.{with_count}
+use Rattle.mark_core.specs.Marks.{IsPrefix, IsLastMark}
+use Rattle.mark_core.specs.Views.{with_count}
 use Rattle.mark_core.specs.declared.actors.View.{View}
 use Rattle.mark_core.specs.declared.words.Finished.{Finished}
 use Rattle.mark_core.proofs.Prefixes.{prefix_itself, prefix_length, prefix_more}

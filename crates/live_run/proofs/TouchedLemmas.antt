@@ -5,7 +5,7 @@ use Rattle.sheet_refs.specs.Cells.{Position}
 use Rattle.sheet_refs.specs.Sizes.{is_inside, place_of}
 use Rattle.edit_log.specs.Touches.{TouchesPlace}
 use Rattle.edit_log.proofs.PlaceLemmas.{touched_place}
-use Rattle.mark_core.specs.Mark.{IsTouched, IsLastMark}
+use Rattle.mark_core.specs.Marks.{IsTouched, IsLastMark}
 use Rattle.mark_core.proofs.Prefixes.{take_is_prefix, touched_in_prefix, touched_in_longer}
 use Rattle.sheet_model.specs.Sheets.{SheetValue}
 use Rattle.sheet_model.specs.declared.entry.Entry.{Entry}

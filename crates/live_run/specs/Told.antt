@@ -9,7 +9,7 @@ use Rattle.edit_log.specs.Touches.{TouchesPlace}
 use Rattle.edit_script.specs.declared.script.Command.{Command}
 use Rattle.live_sheet.specs.Firm.{value_shown}
 use Rattle.live_sheet.specs.Looks.{ShowsLoads}
-use Rattle.mark_core.specs.Mark.{IsLastMark}
+use Rattle.mark_core.specs.Marks.{IsLastMark}
 use Rattle.mark_core.specs.declared.actors.View.{View}
 use Rattle.mark_core.specs.declared.words.Finished.{Finished}
 use Rattle.sheet_model.specs.Edits.{EditValue, AreHeldBeside}

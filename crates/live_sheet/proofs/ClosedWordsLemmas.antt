@@ -5,12 +5,12 @@ use Rattle.std.proofs.lemmas.Option.{none-some}
 use Rattle.mark_core.specs.declared.subjects.Subject.{Ghosts}
 use Rattle.mark_core.specs.declared.actors.Edits.{Edits}
 use Rattle.mark_core.specs.Honest.{IsHonest, IsPendingMark, IsSettledMark, IsRightKnown, IsComputed}
-use Rattle.mark_core.specs.Mark.{IsLastMark}
-use Rattle.mark_core.specs.Place.{Words, words_of, place_at}
-use Rattle.mark_core.specs.State.{State, view_at}
+use Rattle.mark_core.specs.Marks.{IsLastMark}
+use Rattle.mark_core.specs.Places.{Words, words_of, place_at}
+use Rattle.mark_core.specs.States.{State, view_at}
 use Rattle.mark_core.proofs.Prefixes.{last_mark_unique}
 use Rattle.mark_words.specs.Closed.{HasClosed}
-use Rattle.mark_words.specs.Token.{subject_of, view_of, log_of, edits_of, closed_place, places_of}
+use Rattle.mark_words.specs.Tokens.{subject_of, view_of, log_of, edits_of, closed_place, places_of}
 use Rattle.mark_words.specs.declared.marks.Marks.{Marks}
 use Rattle.mark_words.specs.declared.seats.Seat.{Seat}
 use Rattle.mark_words.specs.declared.closing.Words.{Words as ClosedWords}

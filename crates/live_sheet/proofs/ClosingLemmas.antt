@@ -11,11 +11,11 @@ use Rattle.mark_core.specs.declared.answers.Seen.{Seen}
 use Rattle.mark_core.specs.declared.answers.Seen.TheVariants.{Value, Stale, Newer}
 use Rattle.mark_core.specs.declared.words.Finished.{Finished}
 use Rattle.mark_core.specs.Legal.{IsLegalRead, IsLegalAnswer}
-use Rattle.mark_core.specs.Mark.{IsPrefix}
-use Rattle.mark_core.specs.Run.{IsCodeless}
+use Rattle.mark_core.specs.Marks.{IsPrefix}
+use Rattle.mark_core.specs.Runs.{IsCodeless}
 use Rattle.mark_words.specs.declared.marks.Marks.{Marks}
 use Rattle.mark_words.specs.declared.seats.Seat.{Seat}
-use Rattle.mark_words.specs.Token.{IsSeatOf, table_of, subject_of, places_of}
+use Rattle.mark_words.specs.Tokens.{IsSeatOf, table_of, subject_of, places_of}
 use Rattle.mark_core.specs.declared.subjects.Subject.{Ghosts as SubjectGhosts}
 use Rattle.atomic_table.specs.Seated.{TableId}
 use Rattle.recalc_workers.specs.Settling.{KnowsPlace}

@@ -8,16 +8,16 @@ use Rattle.sheet_refs.specs.declared.sizes.Sizes.{Sizes}
 use Rattle.mark_core.specs.declared.events.Event.{Event}
 use Rattle.mark_core.specs.declared.events.Event.TheVariants.{See}
 use Rattle.mark_core.specs.declared.subjects.Subject.{Ghosts}
-use Rattle.mark_core.specs.Mark.{IsPrefix}
+use Rattle.mark_core.specs.Marks.{IsPrefix}
 use Rattle.mark_core.proofs.Prefixes.{prefix_length}
 use Rattle.mark_words.specs.declared.tables.Doing.{Doing}
 use Rattle.mark_words.specs.declared.tables.OwnStep.{OwnStep}
 use Rattle.mark_words.specs.declared.seats.Seat.{Seat}
 use Rattle.mark_words.specs.Doing.{with_mark}
 use Rattle.mark_words.specs.Editing.{IsIdleFor}
-use Rattle.mark_words.specs.Meet.{HasMet}
+use Rattle.mark_words.specs.Meets.{HasMet}
 use Rattle.mark_words.specs.Steps.{OneMore}
-use Rattle.mark_words.specs.Token.{doing_of, log_of, seen_of, own_steps, is_editor}
+use Rattle.mark_words.specs.Tokens.{doing_of, log_of, seen_of, own_steps, is_editor}
 use Rattle.live_sheet.specs.Edits.{HasMarked, HasHeard, HasLearned, marks_of}
 use Rattle.live_sheet.specs.Steps.{Act, StepsAre, marked}
 use Rattle.live_sheet.proofs.LookLemmas.{steps_on}

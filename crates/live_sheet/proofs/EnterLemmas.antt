@@ -17,7 +17,7 @@ use Rattle.mark_core.specs.declared.actors.View.{View}
 use Rattle.mark_core.specs.declared.subjects.Subject.{Ghosts}
 use Rattle.mark_words.specs.declared.tables.Doing.{Doing}
 use Rattle.mark_words.specs.declared.seats.Seat.{Seat}
-use Rattle.mark_words.specs.Token.{doing_of, log_of, own_steps}
+use Rattle.mark_words.specs.Tokens.{doing_of, log_of, own_steps}
 use Rattle.live_sheet.specs.Edits.{CommitsPending, HasEntered, HasMarked, IsReady, marks_of}
 use Rattle.live_sheet.specs.Steps.{StepsAre, committed}
 use Rattle.live_sheet.proofs.LookLemmas.{steps_on}

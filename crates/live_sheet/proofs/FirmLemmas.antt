@@ -6,11 +6,11 @@ use Rattle.sheet_refs.specs.Sizes.{place_of}
 use Rattle.sheet_refs.proofs.Places.{HasComeTo}
 use Rattle.mark_core.specs.declared.subjects.Subject.{Ghosts}
 use Rattle.mark_core.specs.Legal.{MeetsFloor}
-use Rattle.mark_core.specs.Mark.{IsLastMark}
+use Rattle.mark_core.specs.Marks.{IsLastMark}
 use Rattle.mark_core.proofs.Prefixes.{last_mark_unique}
 use Rattle.mark_words.specs.declared.marks.Marks.{Marks}
 use Rattle.mark_words.specs.declared.seats.Seat.{Seat}
-use Rattle.mark_words.specs.Token.{IsSeatOf, view_of, log_of, seen_of}
+use Rattle.mark_words.specs.Tokens.{IsSeatOf, view_of, log_of, seen_of}
 use Rattle.edit_log.specs.Touches.{TouchesPlace}
 use Rattle.recalc_workers.specs.Settling.{KeepsEditor, KnowsNoLess}
 use Rattle.recalc_workers.proofs.ReadingLemmas.{one_more}

@@ -10,7 +10,7 @@ use Rattle.mark_core.specs.declared.actors.Edits.{Edits}
 use Rattle.mark_core.specs.declared.subjects.Subject.{Ghosts}
 use Rattle.mark_words.specs.declared.marks.Marks.{Marks}
 use Rattle.mark_words.specs.declared.seats.Seat.{Seat}
-use Rattle.mark_words.specs.Token.{IsSeatOf, view_of}
+use Rattle.mark_words.specs.Tokens.{IsSeatOf, view_of}
 use Rattle.recalc_plan.specs.Plans.{InLevel}
 use Rattle.recalc_workers.specs.declared.desk.Desk.{Desk}
 use Rattle.recalc_workers.specs.Settling.{AreDesksOf, AreInside, Each, IsDeskAfter, IsEditorOf, KeepsEditor, KnowsCells, KnowsInputs}

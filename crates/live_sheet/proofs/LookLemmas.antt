@@ -10,8 +10,8 @@ use Rattle.mark_core.specs.declared.subjects.Subject.{Ghosts}
 use Rattle.mark_words.specs.declared.seats.Seat.{Seat}
 use Rattle.mark_words.specs.declared.tables.Doing.{Doing}
 use Rattle.mark_words.specs.declared.tables.OwnStep.{OwnStep}
-use Rattle.mark_core.specs.View.{with_count}
-use Rattle.mark_words.specs.Token.{doing_of, view_of, log_of, own_steps}
+use Rattle.mark_core.specs.Views.{with_count}
+use Rattle.mark_words.specs.Tokens.{doing_of, view_of, log_of, own_steps}
 use Rattle.sheet_model.specs.Boards.{BoardValue}
 use Rattle.sheet_model.specs.declared.board.Shown.{Shown}
 use Rattle.live_sheet.specs.declared.loads.Loads.{Loads}

@@ -11,12 +11,12 @@ use Rattle.edit_log.specs.Inputs.{CyclesOfPairsAreThoseOfInputs}
 use Rattle.edit_log.specs.Pairs.{ArePairsOf}
 use Rattle.mark_core.specs.declared.subjects.Subject.{Ghosts}
 use Rattle.mark_core.specs.declared.words.Known.{Known}
-use Rattle.mark_core.specs.Mark.{IsPrefix}
+use Rattle.mark_core.specs.Marks.{IsPrefix}
 use Rattle.mark_core.proofs.Prefixes.{prefix_length}
 use Rattle.mark_words.specs.declared.seats.Seat.{Seat}
 use Rattle.mark_words.specs.declared.tables.Doing.{Doing}
-use Rattle.mark_words.specs.Meet.{HasMet}
-use Rattle.mark_words.specs.Token.{view_of, log_of, seen_of}
+use Rattle.mark_words.specs.Meets.{HasMet}
+use Rattle.mark_words.specs.Tokens.{view_of, log_of, seen_of}
 use Rattle.recalc_workers.specs.Settling.{KeepsEditor, KnowsNoLess}
 use Rattle.recalc_workers.specs.Offices.{TellsCycle}
 use Rattle.sheet_model.specs.Budget.{Leads}

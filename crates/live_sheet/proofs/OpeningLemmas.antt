@@ -6,7 +6,7 @@ use Rattle.std.proofs.lemmas.Option.{same_Some, none-some, slice_get-map, slice_
 use Rattle.sheet_refs.specs.Cells.{Position}
 use Rattle.sheet_refs.specs.Sizes.{is_inside, cell_count, place_of}
 use Rattle.value_core.specs.Values.{code_of}
-use Rattle.mark_core.specs.Run.{IsOpening}
+use Rattle.mark_core.specs.Runs.{IsOpening}
 use Rattle.sheet_model.specs.Sheets.{SheetValue, ContentValue, Constant, Computed, IsSheet, content_of}
 use Rattle.sheet_model.specs.Values.{value_of, step_content}
 use Rattle.sheet_model.proofs.SheetValues.{one_step}

@@ -1,6 +1,6 @@
 -- What an edit does to a pass.
 use Rattle.std.proofs.Common.{◌≡◌, ◌+◌, ℕ, List, [], ◌∷◌, ◌++◌, Some, length, refl, sym, ◌∙◌, ap, subst}
-use Rattle.mark_core.specs.Mark.{IsPrefix}
+use Rattle.mark_core.specs.Marks.{IsPrefix}
 use Rattle.mark_core.specs.declared.subjects.Subject.{Ghosts as SubjectGhosts}
 use Rattle.mark_words.specs.declared.seats.Seat.{Seat}
 use Rattle.sheet_model.specs.declared.entry.Entry.{Entry}

@@ -22,7 +22,7 @@ use Rattle.mark_core.specs.declared.subjects.Subject.{Ghosts}
 use Rattle.mark_core.specs.Knows.{KnowsClean}
 use Rattle.mark_words.specs.declared.marks.Marks.{Marks}
 use Rattle.mark_words.specs.declared.seats.Seat.{Seat}
-use Rattle.mark_words.specs.Token.{IsSeatOf, view_of}
+use Rattle.mark_words.specs.Tokens.{IsSeatOf, view_of}
 use Rattle.recalc_workers.specs.Settling.{KeepsEditor, KnowsPlace}
 use Rattle.recalc_workers.proofs.ReadingLemmas.{taken_more}
 use Rattle.recalc_workers.proofs.SeatLemmas.{keeps_itself}

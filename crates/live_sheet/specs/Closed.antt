@@ -5,11 +5,11 @@ use Rattle.edit_log.specs.Touches.{place_worth, TouchesPlace}
 use Rattle.mark_core.specs.declared.actors.Edits.{Edits}
 use Rattle.mark_core.specs.declared.words.Finished.{Finished}
 use Rattle.mark_core.specs.Legal.{IsLegalRead}
-use Rattle.mark_core.specs.Mark.{IsPrefix}
-use Rattle.mark_core.specs.Run.{IsCodeless}
+use Rattle.mark_core.specs.Marks.{IsPrefix}
+use Rattle.mark_core.specs.Runs.{IsCodeless}
 use Rattle.mark_core.specs.declared.subjects.Subject.{Ghosts as SubjectGhosts}
 use Rattle.mark_words.specs.declared.seats.Seat.{Seat}
-use Rattle.mark_words.specs.Token.{topic_of, view_of}
+use Rattle.mark_words.specs.Tokens.{topic_of, view_of}
 use Rattle.sheet_model.specs.Logs.{after}
 use Rattle.sheet_model.specs.Sheets.{SheetValue}
 use Rattle.sheet_model.specs.Values.{AreValues}

@@ -5,8 +5,8 @@ use Rattle.edit_log.specs.Refusals.{IsFirstOutside}
 use Rattle.edit_log.specs.Touches.{AreTouched}
 use Rattle.edit_log.specs.declared.refused.PrepareRefused.{PrepareRefused}
 use Rattle.edit_log.specs.declared.refused.PrepareRefused.TheVariants as prepare
-use Rattle.mark_core.specs.Mark.{IsPrefix}
-use Rattle.mark_words.specs.Token.{doing_of, own_steps}
+use Rattle.mark_core.specs.Marks.{IsPrefix}
+use Rattle.mark_words.specs.Tokens.{doing_of, own_steps}
 use Rattle.recalc_workers.specs.declared.hands.Hand.{Hand}
 use Rattle.recalc_workers.specs.declared.job.Job.{Job}
 use Rattle.recalc_workers.specs.Hands.{HasPut, HasRefused}

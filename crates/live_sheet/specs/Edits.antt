@@ -4,12 +4,12 @@ use Rattle.sheet_refs.specs.Cells.{Position}
 use Rattle.sheet_refs.specs.Sizes.{place_of}
 use Rattle.sheet_refs.specs.declared.sizes.Sizes.{Sizes}
 use Rattle.mark_core.specs.declared.subjects.Subject.{Ghosts}
-use Rattle.mark_core.specs.Mark.{IsPrefix}
+use Rattle.mark_core.specs.Marks.{IsPrefix}
 use Rattle.mark_words.specs.declared.seats.Seat.{Seat}
 use Rattle.mark_words.specs.declared.tables.Doing.{Doing}
 use Rattle.mark_words.specs.Doing.{with_commit}
 use Rattle.mark_words.specs.Editing.{IsIdleFor}
-use Rattle.mark_words.specs.Token.{view_of, log_of, seen_of, edits_of, is_editor, own_steps}
+use Rattle.mark_words.specs.Tokens.{view_of, log_of, seen_of, edits_of, is_editor, own_steps}
 use Rattle.live_sheet.specs.Steps.{Act, StepsAre, saw, marked, committed}
 
 -- a mark of each of some cells for the entry

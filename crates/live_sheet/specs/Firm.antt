@@ -3,7 +3,7 @@ use Rattle.std.specs.Prelude.{◌≡◌, ◌≤◌, ◌+◌, ℕ, List, length, 
 use Rattle.sheet_refs.specs.Cells.{Position, Corners, IsIn, cells_of}
 use Rattle.mark_core.specs.declared.subjects.Subject.{Ghosts}
 use Rattle.mark_words.specs.declared.seats.Seat.{Seat}
-use Rattle.mark_words.specs.Token.{view_of, log_of, seen_of}
+use Rattle.mark_words.specs.Tokens.{view_of, log_of, seen_of}
 use Rattle.edit_log.specs.Touches.{TouchesPlace}
 use Rattle.sheet_model.specs.Boards.{BoardValue}
 use Rattle.sheet_model.specs.Logs.{after}

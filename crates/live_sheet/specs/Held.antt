@@ -7,7 +7,7 @@ use Rattle.mark_words.specs.declared.seats.Seat.{Seat}
 use Rattle.sheet_model.specs.Sheets.{SheetValue}
 use Rattle.sheet_refs.specs.Sizes.{cell_count}
 use Rattle.mark_words.specs.declared.marks.Marks.{Marks}
-use Rattle.mark_words.specs.Token.{table_of, subject_of, places_of, seat_table, doing_of, log_of, seen_of, edits_of, is_editor}
+use Rattle.mark_words.specs.Tokens.{table_of, subject_of, places_of, seat_table, doing_of, log_of, seen_of, edits_of, is_editor}
 use Rattle.recalc_workers.specs.declared.desk.Desk.{Desk}
 use Rattle.recalc_workers.specs.declared.hands.Hand.{Hand}
 use Rattle.recalc_workers.specs.declared.hands.Jobs.{Jobs}

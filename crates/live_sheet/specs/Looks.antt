@@ -7,10 +7,10 @@ use Rattle.mark_core.specs.declared.actors.View.{View}
 use Rattle.mark_core.specs.declared.events.Event.TheVariants.{ReadClean, ReadValue, ReadMark}
 use Rattle.mark_core.specs.declared.words.Finished.{Finished}
 use Rattle.mark_core.specs.declared.words.Known.{Known}
-use Rattle.mark_core.specs.View.{floor_of, with_count}
+use Rattle.mark_core.specs.Views.{floor_of, with_count}
 use Rattle.mark_core.specs.declared.subjects.Subject.{Ghosts}
 use Rattle.mark_words.specs.declared.seats.Seat.{Seat}
-use Rattle.mark_words.specs.Token.{doing_of, view_of, log_of, seen_of, own_steps}
+use Rattle.mark_words.specs.Tokens.{doing_of, view_of, log_of, seen_of, own_steps}
 use Rattle.mark_words.specs.Words.{word_of_clean}
 use Rattle.sheet_model.specs.Boards.{BoardValue}
 use Rattle.sheet_model.specs.declared.board.Shown.{Shown}

@@ -1,8 +1,8 @@
 -- What passes and desks begin with.
 use Rattle.std.specs.Prelude.{◌≡◌, ℕ, List, [], length, slice_get, Some}
-use Rattle.mark_core.specs.State.{new_view}
+use Rattle.mark_core.specs.States.{new_view}
 use Rattle.mark_words.specs.declared.seats.Seat.{Seat}
-use Rattle.mark_words.specs.Token.{view_of, own_steps, topic_of}
+use Rattle.mark_words.specs.Tokens.{view_of, own_steps, topic_of}
 use Rattle.mark_core.specs.declared.subjects.Subject.{Ghosts as SubjectGhosts}
 use Rattle.recalc_workers.specs.Hands.{IsNewHand}
 use Rattle.recalc_workers.specs.Desks.{seat_of, hand_of}

@@ -2,7 +2,7 @@
 use Rattle.std.specs.Prelude.{◌≡◌, ℕ, List, Option}
 use Rattle.mark_core.specs.declared.actors.View.{View}
 use Rattle.mark_words.specs.declared.tables.OwnStep.{OwnStep}
-use Rattle.mark_words.specs.Token.{view_of, log_of, seen_of, own_steps}
+use Rattle.mark_words.specs.Tokens.{view_of, log_of, seen_of, own_steps}
 use Rattle.recalc_workers.specs.Hands.{put_of, refused_of, taken_of}
 use Rattle.recalc_workers.specs.declared.job.Job.{Job}
 use Rattle.sheet_model.specs.Boards.{BoardValue}

@@ -1,7 +1,7 @@
 -- What a setup is of, and that names are its own.
 use Rattle.std.specs.Prelude.{◌≡◌, ℕ}
 use Rattle.atomic_table.specs.Seated.{TableId}
-use Rattle.mark_words.specs.Token.{table_of}
+use Rattle.mark_words.specs.Tokens.{table_of}
 use Rattle.sheet_model.specs.Sheets.{SheetValue}
 use Rattle.live_sheet.specs.declared.setup.Setup.{Setup}
 use Rattle.live_sheet.specs.Held.{queue_of}

@@ -7,7 +7,7 @@ use Rattle.sheet_refs.specs.declared.sizes.Sizes.{Sizes}
 use Rattle.mark_core.specs.declared.actors.View.{View}
 use Rattle.mark_core.specs.declared.subjects.Subject.{Ghosts}
 use Rattle.mark_words.specs.declared.seats.Seat.{Seat}
-use Rattle.mark_words.specs.Token.{edits_of, is_editor}
+use Rattle.mark_words.specs.Tokens.{edits_of, is_editor}
 use Rattle.recalc_workers.specs.Settling.{KnowsPlace}
 
 -- the seat is the editor's, and no edit is pending

@@ -6,7 +6,7 @@ use Rattle.sheet_model.specs.declared.entry.Entry.{Entry}
 use Rattle.mark_core.specs.declared.subjects.Subject.{Ghosts}
 use Rattle.mark_words.specs.declared.marks.Marks.{Marks}
 use Rattle.mark_words.specs.declared.seats.Seat.{Seat}
-use Rattle.mark_words.specs.Token.{IsSeatOf, table_of, topic_of, subject_of, doing_of}
+use Rattle.mark_words.specs.Tokens.{IsSeatOf, table_of, topic_of, subject_of, doing_of}
 use Rattle.mark_words.specs.Doing.{first_doing}
 use Rattle.recalc_workers.specs.declared.hands.Hand.{Hand}
 use Rattle.recalc_workers.specs.declared.hands.Jobs.{Jobs}

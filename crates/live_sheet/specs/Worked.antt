@@ -3,7 +3,7 @@ use Rattle.std.specs.Prelude.{◌≡◌}
 use Rattle.atomic_table.specs.Seated.{TableId}
 use Rattle.sheet_refs.specs.Sizes.{cell_count}
 use Rattle.mark_words.specs.declared.marks.Marks.{Marks}
-use Rattle.mark_words.specs.Token.{table_of, subject_of, places_of}
+use Rattle.mark_words.specs.Tokens.{table_of, subject_of, places_of}
 use Rattle.recalc_workers.specs.declared.turns.Turn.{Turn}
 use Rattle.recalc_workers.specs.Again.{HasUsedJobs}
 use Rattle.recalc_workers.specs.Desks.{hand_of, seat_of}

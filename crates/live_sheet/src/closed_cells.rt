@@ -1,7 +1,7 @@
 ghost use Rattle.std.specs.Prelude.{◌≡◌, ◌≤◌, [], Some, IsTrue, length, slice_get, All, vec_capacity};
 ghost use Rattle.edit_log.specs.Touches.{TouchesPlace};
-ghost use Rattle.mark_core.specs.Mark.{IsPrefix};
-ghost use Rattle.mark_words.specs.Token.{IsSeatOf, subject_of, topic_of, places_of, view_of, log_of};
+ghost use Rattle.mark_core.specs.Marks.{IsPrefix};
+ghost use Rattle.mark_words.specs.Tokens.{IsSeatOf, subject_of, topic_of, places_of, view_of, log_of};
 ghost use Rattle.sheet_model.specs.Logs.{after};
 ghost use Rattle.sheet_model.specs.Values.{value_of};
 ghost use Rattle.sheet_refs.specs.Cells.{Position};

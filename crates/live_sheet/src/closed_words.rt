@@ -1,9 +1,9 @@
 ghost use Rattle.std.specs.Prelude.{◌≡◌, ◌≤◌, ◌<◌, ◌∷◌, [], ℕ, Some};
 ghost use Rattle.std.specs.Prelude.{length, slice_get, All, vec_capacity};
-ghost use Rattle.mark_core.specs.Mark.{IsPrefix};
+ghost use Rattle.mark_core.specs.Marks.{IsPrefix};
 ghost use Rattle.mark_words.specs.Closed.{AreLegal};
-ghost use Rattle.mark_words.specs.Token.{IsSeatOf, subject_of, places_of, view_of, log_of, edits_of};
-ghost use Rattle.mark_words.specs.Token.{closed_places, closed_place};
+ghost use Rattle.mark_words.specs.Tokens.{IsSeatOf, subject_of, places_of, view_of, log_of, edits_of};
+ghost use Rattle.mark_words.specs.Tokens.{closed_places, closed_place};
 ghost use Rattle.recalc_workers.specs.Settling.{KnowsPlace};
 ghost use Rattle.live_sheet.specs.Stale.{IsFree};
 

@@ -1,6 +1,6 @@
 ghost use Rattle.std.specs.Prelude.{◌≡◌, length, OnOk, IfOk, IfErr};
 ghost use Rattle.edit_log.specs.Touches.{TouchesPlace};
-ghost use Rattle.mark_words.specs.Token.{topic_of, view_of};
+ghost use Rattle.mark_words.specs.Tokens.{topic_of, view_of};
 ghost use Rattle.sheet_refs.specs.Sizes.{cell_count};
 ghost use Rattle.live_sheet.specs.Closed.{AreInOrder, HasClosedWith, codes_of};
 ghost use Rattle.live_sheet.specs.Held.{AreWordsOf};

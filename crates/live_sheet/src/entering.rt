@@ -2,8 +2,8 @@ ghost use Rattle.std.specs.Prelude.{◌≡◌, ◌≤◌, ◌+◌, ◌∷◌, []
 ghost use Rattle.edit_log.specs.Books.{IsPreparedFor, HasApplied};
 ghost use Rattle.edit_log.specs.Touches.{TouchesPlace};
 ghost use Rattle.sheet_refs.specs.Sizes.{cell_count};
-ghost use Rattle.mark_words.specs.Token.{IsSeatOf, places_of, subject_of, is_editor, edits_of};
-ghost use Rattle.mark_words.specs.Token.{log_of, doing_of, own_steps};
+ghost use Rattle.mark_words.specs.Tokens.{IsSeatOf, places_of, subject_of, is_editor, edits_of};
+ghost use Rattle.mark_words.specs.Tokens.{log_of, doing_of, own_steps};
 ghost use Rattle.mark_words.specs.Editing.{IsAllMarked};
 ghost use Rattle.sheet_model.specs.declared.entry.Entry.{Entry};
 ghost use Rattle.live_sheet.specs.Edits.{CommitsPending, HasEntered, HasMarked, IsReady, marks_of};

@@ -1,7 +1,7 @@
 ghost use Rattle.std.specs.Prelude.{◌≡◌, ◌≤◌, ◌<◌, length, OnOk};
 ghost use Rattle.edit_log.specs.Rows.{IsInside};
 ghost use Rattle.sheet_refs.specs.Cells.{cells_of};
-ghost use Rattle.mark_words.specs.Token.{IsSeatOf, subject_of, log_of};
+ghost use Rattle.mark_words.specs.Tokens.{IsSeatOf, subject_of, log_of};
 ghost use Rattle.recalc_workers.specs.Seats.{HasDoneNothing, Keeps};
 ghost use Rattle.recalc_workers.specs.Settling.{AreDesksOf, Each, IsDeskAfter, KeepsEditor};
 ghost use Rattle.live_sheet.specs.Firm.{IsFirmLook};

@@ -1,5 +1,5 @@
 ghost use Rattle.std.specs.Prelude.{◌≡◌, ◌≤◌};
-ghost use Rattle.mark_words.specs.Token.{table_of, subject_of, places_of};
+ghost use Rattle.mark_words.specs.Tokens.{table_of, subject_of, places_of};
 ghost use Rattle.recalc_workers.specs.Hands.{sizes_of};
 ghost use Rattle.sheet_refs.specs.Sizes.{cell_count};
 ghost use Rattle.live_sheet.specs.Held.{queue_of};

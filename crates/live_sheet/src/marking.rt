@@ -1,8 +1,8 @@
 ghost use Rattle.std.specs.Prelude.{◌≡◌, ◌≤◌, ◌+◌, ◌∷◌, [], None, true, length, All, IsTrue};
 ghost use Rattle.edit_log.specs.Touches.{TouchesPlace};
 ghost use Rattle.sheet_refs.specs.Sizes.{cell_count, is_inside, place_of};
-ghost use Rattle.mark_words.specs.Token.{IsSeatOf, places_of, subject_of, doing_of, own_steps};
-ghost use Rattle.mark_words.specs.Token.{is_editor, edits_of, log_of};
+ghost use Rattle.mark_words.specs.Tokens.{IsSeatOf, places_of, subject_of, doing_of, own_steps};
+ghost use Rattle.mark_words.specs.Tokens.{is_editor, edits_of, log_of};
 ghost use Rattle.mark_words.specs.Doing.{with_mark};
 ghost use Rattle.mark_words.specs.Editing.{IsIdleFor};
 ghost use Rattle.live_sheet.specs.Edits.{HasMarked, marks_of};

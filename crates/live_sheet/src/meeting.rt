@@ -1,6 +1,6 @@
 ghost use Rattle.std.specs.Prelude.{◌≡◌, true};
-ghost use Rattle.mark_core.specs.Mark.{IsPrefix};
-ghost use Rattle.mark_words.specs.Token.{IsSeatOf, doing_of, own_steps, is_editor, log_of};
+ghost use Rattle.mark_core.specs.Marks.{IsPrefix};
+ghost use Rattle.mark_words.specs.Tokens.{IsSeatOf, doing_of, own_steps, is_editor, log_of};
 ghost use Rattle.live_sheet.specs.Edits.{HasHeard, HasLearned};
 
 use crate::crossing::{entries_cross, subject_crosses};

@@ -1,6 +1,6 @@
 ghost use Rattle.std.specs.Prelude.{◌≡◌, ◌≤◌, length, IfOk, IsTrue};
 ghost use Rattle.sheet_refs.specs.Sizes.{is_inside};
-ghost use Rattle.mark_words.specs.Token.{log_of, seen_of};
+ghost use Rattle.mark_words.specs.Tokens.{log_of, seen_of};
 ghost use Rattle.recalc_workers.specs.Offices.{IsTaskFor, TellsCycle};
 ghost use Rattle.recalc_workers.specs.Seats.{HasDoneNothing, Keeps};
 ghost use Rattle.live_sheet.specs.Held.{IsSeatIn};

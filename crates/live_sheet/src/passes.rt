@@ -1,8 +1,8 @@
 ghost use Rattle.std.specs.Prelude.{◌≡◌, ◌≤◌, ◌<◌, ◌+◌, [], length, true, false, IfOk, OnErr};
 ghost use Rattle.sheet_refs.specs.Sizes.{cell_count};
 ghost use Rattle.mark_words.specs.Opened.{HasOpened};
-ghost use Rattle.mark_words.specs.Token.{IsSeatOf, table_of, subject_of, topic_of, doing_of};
-ghost use Rattle.mark_words.specs.Token.{places_of, is_editor};
+ghost use Rattle.mark_words.specs.Tokens.{IsSeatOf, table_of, subject_of, topic_of, doing_of};
+ghost use Rattle.mark_words.specs.Tokens.{places_of, is_editor};
 ghost use Rattle.mark_words.specs.Doing.{first_doing};
 ghost use Rattle.recalc_workers.specs.Hands.{IsHandOf, IsNewHand, sizes_of};
 ghost use Rattle.live_sheet.specs.Held.{IsFreeSeat, IsHandIn, queue_of};

@@ -1,7 +1,7 @@
 ghost use Rattle.std.specs.Prelude.{◌≡◌, ◌<◌, length, OnOk};
 ghost use Rattle.sheet_refs.specs.Rectangles.{AreDisjoint};
 ghost use Rattle.sheet_refs.specs.Sizes.{cell_count};
-ghost use Rattle.mark_words.specs.Token.{IsSeatOf, subject_of, places_of, view_of, log_of};
+ghost use Rattle.mark_words.specs.Tokens.{IsSeatOf, subject_of, places_of, view_of, log_of};
 ghost use Rattle.edit_log.specs.Pairs.{ArePairsOf};
 ghost use Rattle.edit_log.specs.Touches.{TouchesPlace};
 ghost use Rattle.recalc_workers.specs.Settling.{AreDesksOf, Each, IsDeskAfter, IsEditorOf, KeepsEditor};

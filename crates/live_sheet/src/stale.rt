@@ -3,7 +3,7 @@ ghost use Rattle.std.specs.Prelude.{◌≡◌, ◌≤◌, ◌<◌, IfOk, IsTrue,
 ghost use Rattle.sheet_refs.specs.Cells.{IsIn, Position};
 ghost use Rattle.sheet_refs.specs.Rectangles.{AreDisjoint, IsAmong};
 ghost use Rattle.sheet_refs.specs.Sizes.{cell_count, is_inside, place_of};
-ghost use Rattle.mark_words.specs.Token.{IsSeatOf, subject_of, places_of, view_of};
+ghost use Rattle.mark_words.specs.Tokens.{IsSeatOf, subject_of, places_of, view_of};
 ghost use Rattle.recalc_workers.specs.Settling.{KeepsEditor, KnowsPlace};
 ghost use Rattle.live_sheet.specs.Stale.{AddsStale, IsFree, IsListedOr, KnowsAllBut, KnowsCell, LieInside};
 

@@ -1,6 +1,6 @@
 ghost use Rattle.std.specs.Prelude.{◌≡◌, ◌≤◌, true};
-ghost use Rattle.mark_core.specs.Mark.{IsPrefix};
-ghost use Rattle.mark_words.specs.Token.{IsSeatOf, view_of, log_of, seen_of, is_editor};
+ghost use Rattle.mark_core.specs.Marks.{IsPrefix};
+ghost use Rattle.mark_words.specs.Tokens.{IsSeatOf, view_of, log_of, seen_of, is_editor};
 ghost use Rattle.recalc_workers.specs.Seats.{HasDoneNothing, Keeps};
 ghost use Rattle.recalc_workers.specs.Settling.{KeepsEditor, KnowsNoLess};
 

@@ -1,7 +1,7 @@
 ghost use Rattle.std.specs.Prelude.{◌≡◌, ◌<◌, ◌↔◌, length, IsTrue, OnOk, MatchOption};
 ghost use Rattle.sheet_refs.specs.Cells.{IsIn, Position};
 ghost use Rattle.sheet_refs.specs.Sizes.{is_inside};
-ghost use Rattle.mark_words.specs.Token.{IsSeatOf, subject_of, view_of, log_of};
+ghost use Rattle.mark_words.specs.Tokens.{IsSeatOf, subject_of, view_of, log_of};
 ghost use Rattle.edit_log.specs.Touches.{TouchesPlace};
 ghost use Rattle.recalc_workers.specs.Settling.{AreDesksOf, Each, IsDeskAfter, KeepsEditor};
 ghost use Rattle.sheet_model.specs.Sheets.{IsSheetSize};

@@ -6,7 +6,7 @@ ghost use Rattle.sheet_refs.specs.Sizes.{cell_count};
 ghost use Rattle.sheet_model.specs.Sheets.{IsSheet};
 ghost use Rattle.edit_log.specs.Books.{IsBook};
 ghost use Rattle.graph_walk.specs.Graphs.{Back};
-ghost use Rattle.mark_words.specs.Token.{IsSeatOf, subject_of, view_of, log_of};
+ghost use Rattle.mark_words.specs.Tokens.{IsSeatOf, subject_of, view_of, log_of};
 ghost use Rattle.edit_log.specs.Touches.{TouchesPlace};
 ghost use Rattle.recalc_workers.specs.Settling.{AreDesksOf, Each, IsDeskAfter, KeepsEditor};
 ghost use Rattle.live_sheet.specs.Ranges.{AreCutTo, PushesPart};

@@ -4,7 +4,7 @@ use Rattle.std.specs.Prelude.{if◌then◌else◌}
 use Rattle.std.proofs.lemmas.List.{drop_more}
 use Rattle.std.proofs.lemmas.Bool.{cond_both}
 use Rattle.mark_core.specs.declared.words.Known.{Known}
-use Rattle.mark_core.specs.View.{floor_of}
+use Rattle.mark_core.specs.Views.{floor_of}
 
 floor-cons : (pair : Known) (known : List Known) (place : ℕ)
     → floor_of (pair ∷ known) place ≡ max (if pair.place == place then pair.mark + 1 else 0) (floor_of known place)

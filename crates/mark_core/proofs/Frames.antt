@@ -7,11 +7,11 @@ use Rattle.mark_core.specs.declared.words.Finished.{Finished}
 use Rattle.mark_core.specs.declared.words.Clean.{Clean}
 use Rattle.mark_core.specs.declared.answers.Seen.{Seen}
 use Rattle.mark_core.specs.declared.answers.Seen.TheVariants.{Value, Stale, Newer}
-use Rattle.mark_core.specs.Place.{Words}
-use Rattle.mark_core.specs.Mark.{IsPrefix, IsLastMark}
+use Rattle.mark_core.specs.Places.{Words}
+use Rattle.mark_core.specs.Marks.{IsPrefix, IsLastMark}
 use Rattle.mark_core.specs.declared.actors.Edits.{Edits}
 use Rattle.mark_core.specs.declared.actors.View.{View}
-use Rattle.mark_core.specs.State.{entries_of}
+use Rattle.mark_core.specs.States.{entries_of}
 use Rattle.mark_core.specs.Legal.{MeetsFloor, IsLegalAnswer}
 use Rattle.mark_core.specs.Honest.{IsRightLog, IsComputed, IsRightKnown, IsStillThere, IsRightHalf, IsRightRead}
 use Rattle.mark_core.proofs.Prefixes.{prefix_length, prefix_of_prefix, take-prefix, touched_in_longer}

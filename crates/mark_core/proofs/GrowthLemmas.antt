@@ -13,14 +13,14 @@ use Rattle.mark_core.specs.declared.words.Lost.{Lost}
 use Rattle.mark_core.specs.declared.events.Event.{Event}
 use Rattle.mark_core.specs.declared.events.Event.TheVariants.{See, Mark, Commit, Split, Join, ReadClean, ReadValue, ReadMark, Claim, Put, Finish}
 use Rattle.mark_core.specs.declared.events.Outcome.{Outcome}
-use Rattle.mark_core.specs.Place.{place_at}
-use Rattle.mark_core.specs.Mark.{IsPrefix}
-use Rattle.mark_core.specs.State.{State, view_at, spent_view}
-use Rattle.mark_core.specs.View.{with_count, with_entry, split_off, union_of, with_half, with_value, known_from}
-use Rattle.mark_core.specs.View.{read_of, with_read, with_read_at, with_read_end, with_hold, with_loss, with_put}
-use Rattle.mark_core.specs.View.{without_hold}
-use Rattle.mark_core.specs.Permission.{IsLive}
-use Rattle.mark_core.specs.Step.{Happens}
+use Rattle.mark_core.specs.Places.{place_at}
+use Rattle.mark_core.specs.Marks.{IsPrefix}
+use Rattle.mark_core.specs.States.{State, view_at, spent_view}
+use Rattle.mark_core.specs.Views.{with_count, with_entry, split_off, union_of, with_half, with_value, known_from}
+use Rattle.mark_core.specs.Views.{read_of, with_read, with_read_at, with_read_end, with_hold, with_loss, with_put}
+use Rattle.mark_core.specs.Views.{without_hold}
+use Rattle.mark_core.specs.Permissions.{IsLive}
+use Rattle.mark_core.specs.Steps.{Happens}
 use Rattle.mark_core.specs.Honest.{IsHonest}
 use Rattle.mark_core.specs.Growth.{counts_of, finishes_of, losses_of, Grows, IsCopy, IsUnion}
 use Rattle.mark_core.proofs.Prefixes.{prefix_itself, prefix_of_nothing}

@@ -3,8 +3,8 @@ use Rattle.std.proofs.Common.{◌≡◌, ◌≤◌, ℕ, List, Some, length, tak
 use Rattle.std.specs.Prelude.{Contains, All, Any}
 use Rattle.std.proofs.lemmas.List.Elements.{All-contains}
 use Rattle.mark_core.specs.declared.words.Held.{Held}
-use Rattle.mark_core.specs.Place.{place_at, words_of}
-use Rattle.mark_core.specs.State.{State, view_at}
+use Rattle.mark_core.specs.Places.{place_at, words_of}
+use Rattle.mark_core.specs.States.{State, view_at}
 use Rattle.mark_core.specs.Honest.{IsRightHold, HasOneHolder}
 use Rattle.mark_core.proofs.Holds.{any_contained}
 

@@ -7,11 +7,11 @@ use Rattle.std.proofs.lemmas.Bool.{cond_both, eqb-true, eqb-false, not-true, ne_
 use Rattle.std.proofs.lemmas.Option.{none-some, same_Some}
 use Rattle.mark_core.specs.declared.words.Clean.{Clean}
 use Rattle.mark_core.specs.declared.words.Held.{Held}
-use Rattle.mark_core.specs.Place.{Words}
+use Rattle.mark_core.specs.Places.{Words}
 use Rattle.mark_core.proofs.Stores.{StoresValue}
-use Rattle.mark_core.specs.Mark.{IsPrefix}
-use Rattle.mark_core.specs.View.{hold_with}
-use Rattle.mark_core.specs.Permission.{IsWorthKnown}
+use Rattle.mark_core.specs.Marks.{IsPrefix}
+use Rattle.mark_core.specs.Views.{hold_with}
+use Rattle.mark_core.specs.Permissions.{IsWorthKnown}
 use Rattle.mark_core.specs.Honest.{IsRightHold}
 use Rattle.mark_core.proofs.Prefixes.{prefix_length, take-prefix}
 

@@ -4,9 +4,9 @@ use Rattle.std.specs.Prelude.{IsTrue}
 use Rattle.std.proofs.lemmas.List.{take_all}
 use Rattle.std.proofs.lemmas.Bool.{cases_lt}
 use Rattle.mark_core.specs.declared.events.Event.{Event}
-use Rattle.mark_core.specs.Mark.{IsTouched, IsLastMark}
-use Rattle.mark_core.specs.State.{State}
-use Rattle.mark_core.specs.Permission.{IsWorthMarked, Allowed}
+use Rattle.mark_core.specs.Marks.{IsTouched, IsLastMark}
+use Rattle.mark_core.specs.States.{State}
+use Rattle.mark_core.specs.Permissions.{IsWorthMarked, Allowed}
 
 module _ {E : Type 0} (touches : List E → E → ℕ → Type 0) (log : List E) (place mark : ℕ) (b : Bool) where
   -- a mark is the last one where it is one and no entry after it touches the place

@@ -10,13 +10,13 @@ use Rattle.std.proofs.lemmas.Bool.{cond_both, ltb-true, ltb-false}
 use Rattle.mark_core.specs.declared.words.Clean.{Clean}
 use Rattle.mark_core.specs.declared.words.Place.{Place}
 use Rattle.mark_core.specs.declared.words.Half.{Half}
-use Rattle.mark_core.specs.Place.{place_at, blank_place, opening_place}
+use Rattle.mark_core.specs.Places.{place_at, blank_place, opening_place}
 use Rattle.mark_core.specs.declared.actors.View.{View}
-use Rattle.mark_core.specs.State.{State, view_at, with_view, spent_view, spent_with, new_view, opening_state}
-use Rattle.mark_core.specs.View.{with_count, with_entry, split_off, longer, union_with, union_of, with_half, with_value}
-use Rattle.mark_core.specs.View.{with_read, with_read_at, with_read_end, with_hold, with_loss, with_put, without_hold}
-use Rattle.mark_core.specs.Step.{with_place, after_see, after_commit, after_join, after_read_clean, after_read_value}
-use Rattle.mark_core.specs.Step.{after_read_mark, after_claim, after_refusal, after_put, after_finish}
+use Rattle.mark_core.specs.States.{State, view_at, with_view, spent_view, spent_with, new_view, opening_state}
+use Rattle.mark_core.specs.Views.{with_count, with_entry, split_off, longer, union_with, union_of, with_half, with_value}
+use Rattle.mark_core.specs.Views.{with_read, with_read_at, with_read_end, with_hold, with_loss, with_put, without_hold}
+use Rattle.mark_core.specs.Steps.{with_place, after_see, after_commit, after_join, after_read_clean, after_read_value}
+use Rattle.mark_core.specs.Steps.{after_read_mark, after_claim, after_refusal, after_put, after_finish}
 use Rattle.mark_core.specs.Kept.{known_view, kept_state, IsKept}
 use Rattle.mark_core.proofs.Lists.{set_cases}
 

@@ -5,10 +5,10 @@ use Rattle.std.proofs.lemmas.List.{get_or_past, get_or_append_left, get_or_push}
 use Rattle.std.proofs.lemmas.Bool.{cases_eq, cases_lt}
 use Rattle.mark_core.specs.declared.words.Clean.{Clean}
 use Rattle.mark_core.specs.declared.words.Place.{Place}
-use Rattle.mark_core.specs.Place.{blank_place, place_at, words_of}
+use Rattle.mark_core.specs.Places.{blank_place, place_at, words_of}
 use Rattle.mark_core.proofs.Stores.{StoresMark, StoresClean, StoresValue}
 use Rattle.mark_core.specs.declared.actors.View.{View}
-use Rattle.mark_core.specs.State.{spent_view}
+use Rattle.mark_core.specs.States.{spent_view}
 
 -- at each index the list has the new element or the old one
 pub set_cases : {X : Type 0} (xs : List X) (i : ℕ) (x d : X) (j : ℕ) → i < length xs

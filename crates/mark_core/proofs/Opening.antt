@@ -5,11 +5,11 @@ use Rattle.std.proofs.lemmas.List.{length-map}
 use Rattle.std.proofs.lemmas.Option.{slice_get-get_or, none-some, same_Some}
 use Rattle.mark_core.specs.declared.words.Place.{Place}
 use Rattle.mark_core.specs.declared.words.Held.{Held}
-use Rattle.mark_core.specs.Place.{opening_place, place_at, words_of}
-use Rattle.mark_core.specs.Mark.{IsLastMark}
-use Rattle.mark_core.specs.State.{view_at, spent_view, opening_state}
+use Rattle.mark_core.specs.Places.{opening_place, place_at, words_of}
+use Rattle.mark_core.specs.Marks.{IsLastMark}
+use Rattle.mark_core.specs.States.{view_at, spent_view, opening_state}
 use Rattle.mark_core.specs.Honest.{IsRightValue, IsRightView, IsHonest}
-use Rattle.mark_core.specs.Run.{IsOpening, IsCodeless}
+use Rattle.mark_core.specs.Runs.{IsOpening, IsCodeless}
 use Rattle.mark_core.proofs.Prefixes.{last_mark_nothing}
 use Rattle.mark_core.proofs.Holds.{any_none}
 use Rattle.mark_core.proofs.ViewLemmas.{view_spent, view_split}

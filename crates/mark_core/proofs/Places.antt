@@ -9,13 +9,13 @@ use Rattle.std.proofs.lemmas.List.Elements.{Contains-push, Contains-push_cases, 
 use Rattle.std.proofs.lemmas.Option.{same_Some, none-some}
 use Rattle.std.proofs.lemmas.Bool.{cases_eq}
 use Rattle.mark_core.specs.declared.words.Clean.{Clean}
-use Rattle.mark_core.specs.Place.{Words}
+use Rattle.mark_core.specs.Places.{Words}
 use Rattle.mark_core.proofs.Stores.{StoresMark, StoresClean, StoresValue}
-use Rattle.mark_core.specs.Mark.{IsPrefix, IsLastMark}
+use Rattle.mark_core.specs.Marks.{IsPrefix, IsLastMark}
 use Rattle.mark_core.specs.declared.actors.Edits.{Edits}
-use Rattle.mark_core.specs.State.{entries_of}
-use Rattle.mark_core.specs.Step.{marks_for, commits}
-use Rattle.mark_core.specs.Permission.{IsWorthMarked}
+use Rattle.mark_core.specs.States.{entries_of}
+use Rattle.mark_core.specs.Steps.{marks_for, commits}
+use Rattle.mark_core.specs.Permissions.{IsWorthMarked}
 use Rattle.mark_core.specs.Honest.{IsRightMark, IsRightValue}
 use Rattle.mark_core.proofs.Prefixes.{prefix_itself, prefix_more, prefix_of_prefix, prefix_length, take_is_prefix}
 use Rattle.mark_core.proofs.Prefixes.{touched_in_longer, touched_up_to, last_mark_push, last_mark_push_other}

@@ -5,7 +5,7 @@ use Rattle.std.specs.Prelude.{slice_get}
 use Rattle.std.proofs.lemmas.List.{take-append-le, take-append-drop, take_at, append-nil}
 use Rattle.std.proofs.lemmas.Option.{slice_get_within, same_Some}
 use Rattle.std.proofs.lemmas.Bool.{cases_lt}
-use Rattle.mark_core.specs.Mark.{IsPrefix, IsTouched, IsLastMark}
+use Rattle.mark_core.specs.Marks.{IsPrefix, IsTouched, IsLastMark}
 
 pub prefix_itself : {X : Type 0} (xs : List X) → IsPrefix xs xs
 prefix_itself xs = record { rest = []; whole = sym (append-nil xs) }

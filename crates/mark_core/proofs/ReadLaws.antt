@@ -14,12 +14,12 @@ use Rattle.mark_core.specs.declared.answers.Seen.{Seen}
 use Rattle.mark_core.specs.declared.answers.Seen.TheVariants.{Value, Stale, Newer}
 use Rattle.mark_core.specs.declared.events.Event.TheVariants.{ReadClean, ReadValue, ReadMark}
 use Rattle.mark_core.specs.declared.events.Outcome.{Outcome}
-use Rattle.mark_core.specs.Place.{place_at, words_of}
-use Rattle.mark_core.specs.Mark.{IsTouched, IsLastMark}
-use Rattle.mark_core.specs.State.{State, view_at, spent_view, entries_of}
-use Rattle.mark_core.specs.View.{floor_of, new_half, with_half, with_word, with_value, read_of, known_from, with_read, with_read_at, with_read_end}
-use Rattle.mark_core.specs.Step.{Happens}
-use Rattle.mark_core.specs.Answer.{Shows}
+use Rattle.mark_core.specs.Places.{place_at, words_of}
+use Rattle.mark_core.specs.Marks.{IsTouched, IsLastMark}
+use Rattle.mark_core.specs.States.{State, view_at, spent_view, entries_of}
+use Rattle.mark_core.specs.Views.{floor_of, new_half, with_half, with_word, with_value, read_of, known_from, with_read, with_read_at, with_read_end}
+use Rattle.mark_core.specs.Steps.{Happens}
+use Rattle.mark_core.specs.Answers.{Shows}
 use Rattle.mark_core.specs.Legal.{IsLegalRead, IsLegalCell}
 use Rattle.mark_core.specs.Honest.{IsRightRead, IsHonest}
 use Rattle.mark_core.specs.Growth.{BeginsRead, EndsRead}

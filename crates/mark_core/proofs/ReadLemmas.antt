@@ -12,12 +12,12 @@ use Rattle.mark_core.specs.declared.words.Known.{Known}
 use Rattle.mark_core.specs.declared.words.Half.{Half}
 use Rattle.mark_core.specs.declared.answers.Seen.{Seen}
 use Rattle.mark_core.specs.declared.answers.Seen.TheVariants.{Value, Stale, Newer}
-use Rattle.mark_core.specs.Answer.{Shows}
-use Rattle.mark_core.specs.Place.{Words}
-use Rattle.mark_core.specs.Mark.{IsTouched, IsLastMark}
+use Rattle.mark_core.specs.Answers.{Shows}
+use Rattle.mark_core.specs.Places.{Words}
+use Rattle.mark_core.specs.Marks.{IsTouched, IsLastMark}
 use Rattle.mark_core.specs.declared.actors.Edits.{Edits}
-use Rattle.mark_core.specs.State.{entries_of}
-use Rattle.mark_core.specs.View.{floor_of, read_of, known_from}
+use Rattle.mark_core.specs.States.{entries_of}
+use Rattle.mark_core.specs.Views.{floor_of, read_of, known_from}
 use Rattle.mark_core.specs.Legal.{MeetsFloor, IsLegalAnswer}
 use Rattle.mark_core.specs.Honest.{IsRightMark, IsRightValue, IsRightKnown, IsRightHalf, IsRightRead}
 use Rattle.mark_core.proofs.Prefixes.{take_is_prefix, touched_in_longer, touched_next, last_mark_in_prefix, worth-prefix}

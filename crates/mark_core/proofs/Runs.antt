@@ -3,11 +3,11 @@ use Rattle.std.proofs.Common.{◌≡◌, ◌<◌, ℕ, List, [], ◌∷◌, ◌+
 use Rattle.mark_core.specs.declared.events.Event.{Event}
 use Rattle.mark_core.specs.declared.events.Event.TheVariants.{See, Mark, Commit, Split, Join, ReadClean, ReadValue, ReadMark, Claim, Put, Finish}
 use Rattle.mark_core.specs.declared.events.Outcome.{Outcome}
-use Rattle.mark_core.specs.State.{State, view_at, opening_state}
-use Rattle.mark_core.specs.Permission.{MayMark, MayCommit}
-use Rattle.mark_core.specs.Step.{Happens, after_commit}
+use Rattle.mark_core.specs.States.{State, view_at, opening_state}
+use Rattle.mark_core.specs.Permissions.{MayMark, MayCommit}
+use Rattle.mark_core.specs.Steps.{Happens, after_commit}
 use Rattle.mark_core.specs.Honest.{IsHonest}
-use Rattle.mark_core.specs.Run.{IsOpening, IsCodeless, Runs}
+use Rattle.mark_core.specs.Runs.{IsOpening, IsCodeless, Runs}
 use Rattle.mark_core.proofs.Steps.{see_keeps, mark_keeps, commit_keeps, split_keeps, join_keeps, read_clean_keeps}
 use Rattle.mark_core.proofs.Steps.{read_value_keeps, read_mark_keeps, refusal_keeps}
 use Rattle.mark_core.proofs.WorkSteps.{claim_keeps, put_keeps, finish_keeps}

@@ -9,14 +9,14 @@ use Rattle.mark_core.specs.declared.words.Clean.{Clean}
 use Rattle.mark_core.specs.declared.words.Place.{Place}
 use Rattle.mark_core.specs.declared.words.Half.{Half}
 use Rattle.mark_core.specs.declared.words.Held.{Held}
-use Rattle.mark_core.specs.Place.{place_at, words_of}
+use Rattle.mark_core.specs.Places.{place_at, words_of}
 use Rattle.mark_core.proofs.Stores.{StoresMark}
 use Rattle.mark_core.specs.declared.actors.View.{View}
-use Rattle.mark_core.specs.State.{State, view_at, with_view, spent_view}
-use Rattle.mark_core.specs.View.{with_count, with_entry, split_off, longer, union_of, with_half, with_value, with_read_end, with_read, with_read_at, with_loss}
-use Rattle.mark_core.specs.Permission.{IsLive, MayMark, MayCommit, MayJoin, MayStepAt}
-use Rattle.mark_core.specs.Step.{marks_for, commits, after_see, after_mark, after_commit, after_split, after_join}
-use Rattle.mark_core.specs.Step.{after_read_clean, after_read_value, after_read_mark, after_refusal}
+use Rattle.mark_core.specs.States.{State, view_at, with_view, spent_view}
+use Rattle.mark_core.specs.Views.{with_count, with_entry, split_off, longer, union_of, with_half, with_value, with_read_end, with_read, with_read_at, with_loss}
+use Rattle.mark_core.specs.Permissions.{IsLive, MayMark, MayCommit, MayJoin, MayStepAt}
+use Rattle.mark_core.specs.Steps.{marks_for, commits, after_see, after_mark, after_commit, after_split, after_join}
+use Rattle.mark_core.specs.Steps.{after_read_clean, after_read_value, after_read_mark, after_refusal}
 use Rattle.mark_core.specs.Honest.{IsRightView, HasOneHolder, IsHonest}
 use Rattle.mark_core.proofs.Prefixes.{prefix_length}
 use Rattle.mark_core.proofs.Frames.{Advances}

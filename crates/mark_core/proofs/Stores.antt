@@ -1,7 +1,7 @@
 -- One word is stored, and no other word changes.
 use Rattle.std.proofs.Common.{◌≡◌, ◌≢◌, ℕ}
 use Rattle.mark_core.specs.declared.words.Clean.{Clean}
-use Rattle.mark_core.specs.Place.{Words}
+use Rattle.mark_core.specs.Places.{Words}
 
 -- one mark word is stored, and no other word changes
 pub record StoresMark (before after : Words) (place number : ℕ) : Type 0 where

@@ -6,8 +6,8 @@ use Rattle.std.proofs.lemmas.Bool.{cases_lt}
 use Rattle.mark_core.specs.declared.actors.Edits.{Edits}
 use Rattle.mark_core.specs.declared.words.Finished.{Finished}
 use Rattle.mark_core.specs.declared.answers.Seen.TheVariants.{Value, Stale, Newer}
-use Rattle.mark_core.specs.Mark.{IsTouched}
-use Rattle.mark_core.specs.Answer.{Shows}
+use Rattle.mark_core.specs.Marks.{IsTouched}
+use Rattle.mark_core.specs.Answers.{Shows}
 use Rattle.mark_core.specs.Legal.{IsLegalRead}
 use Rattle.mark_core.proofs.Prefixes.{take_is_prefix, touched_in_prefix, touched_in_longer, touched_up_to}
 

@@ -9,17 +9,17 @@ use Rattle.std.proofs.lemmas.Option.{none-some, same_Some}
 use Rattle.mark_core.specs.declared.words.Clean.{Clean}
 use Rattle.mark_core.specs.declared.words.Half.{Half}
 use Rattle.mark_core.specs.declared.words.Held.{Held}
-use Rattle.mark_core.specs.Place.{Words}
+use Rattle.mark_core.specs.Places.{Words}
 use Rattle.mark_core.proofs.Stores.{StoresClean, StoresValue}
-use Rattle.mark_core.specs.Mark.{IsPrefix}
+use Rattle.mark_core.specs.Marks.{IsPrefix}
 use Rattle.mark_core.specs.declared.actors.Edits.{Edits}
 use Rattle.mark_core.specs.declared.actors.View.{View}
-use Rattle.mark_core.specs.State.{spent_view}
-use Rattle.mark_core.specs.View.{with_count, with_entry, split_off, longer, union_of, floor_of, with_half, with_word}
-use Rattle.mark_core.specs.View.{with_value, with_read, with_read_at, with_read_end, with_hold, with_loss, hold_with}
-use Rattle.mark_core.specs.View.{with_put, without_hold, known_from, read_of}
-use Rattle.mark_core.specs.Permission.{IsWorthKnown, IsWorthMarked}
-use Rattle.mark_core.specs.Step.{commits}
+use Rattle.mark_core.specs.States.{spent_view}
+use Rattle.mark_core.specs.Views.{with_count, with_entry, split_off, longer, union_of, floor_of, with_half, with_word}
+use Rattle.mark_core.specs.Views.{with_value, with_read, with_read_at, with_read_end, with_hold, with_loss, hold_with}
+use Rattle.mark_core.specs.Views.{with_put, without_hold, known_from, read_of}
+use Rattle.mark_core.specs.Permissions.{IsWorthKnown, IsWorthMarked}
+use Rattle.mark_core.specs.Steps.{commits}
 use Rattle.mark_core.specs.Honest.{IsRightMark, IsRightValue, IsRightKnown, IsRightHalf, IsRightRead, IsRightHold, IsRightView}
 use Rattle.mark_core.proofs.Prefixes.{prefix_itself, prefix_more, prefix_of_nothing, prefix_length, take-prefix}
 use Rattle.mark_core.proofs.Frames.{Advances, log_stays, known_stays, half_stays, read_stays}

@@ -8,14 +8,14 @@ use Rattle.std.proofs.lemmas.Bool.{cases_eq}
 use Rattle.mark_core.specs.declared.words.Clean.{Clean}
 use Rattle.mark_core.specs.declared.words.Place.{Place}
 use Rattle.mark_core.specs.declared.words.Held.{Held}
-use Rattle.mark_core.specs.Place.{place_at, words_of}
+use Rattle.mark_core.specs.Places.{place_at, words_of}
 use Rattle.mark_core.proofs.Stores.{StoresClean, StoresValue}
-use Rattle.mark_core.specs.Mark.{IsPrefix}
+use Rattle.mark_core.specs.Marks.{IsPrefix}
 use Rattle.mark_core.specs.declared.actors.View.{View}
-use Rattle.mark_core.specs.State.{State, view_at, spent_view}
-use Rattle.mark_core.specs.View.{with_hold, hold_with, with_put, without_hold}
-use Rattle.mark_core.specs.Permission.{MayStepAt, MayClaim, MayPut, MayFinish}
-use Rattle.mark_core.specs.Step.{after_claim, after_put, after_finish}
+use Rattle.mark_core.specs.States.{State, view_at, spent_view}
+use Rattle.mark_core.specs.Views.{with_hold, hold_with, with_put, without_hold}
+use Rattle.mark_core.specs.Permissions.{MayStepAt, MayClaim, MayPut, MayFinish}
+use Rattle.mark_core.specs.Steps.{after_claim, after_put, after_finish}
 use Rattle.mark_core.specs.Honest.{IsRightMark, IsRightHold, IsRightRead, IsRightView, HoldsPlace, IsHonest}
 use Rattle.mark_core.proofs.Places.{values_after_claim, claim_advances, values_after_put, put_advances, values_after_finish, finish_advances}
 use Rattle.mark_core.proofs.Holds.{any_contained, any_append_left, any_push_cases, any_map, any_from_map, any_filter, any_from_filter, hold_place, is_other}

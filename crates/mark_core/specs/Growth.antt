@@ -9,10 +9,10 @@ use Rattle.mark_core.specs.declared.events.Event.{Event}
 use Rattle.mark_core.specs.declared.events.Event.TheVariants.{See, Join, Claim, Finish}
 use Rattle.mark_core.specs.declared.events.Outcome.{Outcome}
 use Rattle.mark_core.specs.declared.events.Outcome.TheVariants.{Claimed}
-use Rattle.mark_core.specs.Place.{place_at}
-use Rattle.mark_core.specs.Mark.{IsPrefix}
-use Rattle.mark_core.specs.State.{State, view_at}
-use Rattle.mark_core.specs.Permission.{IsLive}
+use Rattle.mark_core.specs.Places.{place_at}
+use Rattle.mark_core.specs.Marks.{IsPrefix}
+use Rattle.mark_core.specs.States.{State, view_at}
+use Rattle.mark_core.specs.Permissions.{IsLive}
 
 -- the counts that the event adds to those that the view loaded
 abbrev pub counts_of : {E : Type 0} → State E → Event E → ℕ → List ℕ

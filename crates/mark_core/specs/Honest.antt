@@ -5,12 +5,12 @@ use Rattle.mark_core.specs.declared.words.Known.{Known}
 use Rattle.mark_core.specs.declared.words.Half.{Half}
 use Rattle.mark_core.specs.declared.words.Finished.{Finished}
 use Rattle.mark_core.specs.declared.words.Held.{Held}
-use Rattle.mark_core.specs.Place.{Words, words_of}
-use Rattle.mark_core.specs.Mark.{IsPrefix, IsLastMark}
+use Rattle.mark_core.specs.Places.{Words, words_of}
+use Rattle.mark_core.specs.Marks.{IsPrefix, IsLastMark}
 use Rattle.mark_core.specs.declared.actors.Edits.{Edits}
 use Rattle.mark_core.specs.declared.actors.View.{View}
-use Rattle.mark_core.specs.State.{State, view_at}
-use Rattle.mark_core.specs.Permission.{IsLive, IsWorthKnown}
+use Rattle.mark_core.specs.States.{State, view_at}
+use Rattle.mark_core.specs.Permissions.{IsLive, IsWorthKnown}
 use Rattle.mark_core.specs.Legal.{MeetsFloor, IsLegalRead}
 
 module _ {E : Type 0} (touches : List E → E → ℕ → Type 0) where

@@ -2,7 +2,7 @@
 use Rattle.std.specs.Prelude.{◌≡◌, ◌<◌, ◌≤◌, ◌+◌, ◌^◌, ℕ, List, Option, length, map, take, slice_index_or, All}
 use Rattle.mark_core.specs.declared.words.Place.{Place}
 use Rattle.mark_core.specs.declared.actors.View.{View}
-use Rattle.mark_core.specs.State.{State, spent_with}
+use Rattle.mark_core.specs.States.{State, spent_with}
 
 -- the view with the entries that its count stands for
 abbrev pub known_view : {E : Type 0} → List E → View ℕ → View (List E)

@@ -4,9 +4,9 @@ use Rattle.mark_core.specs.declared.actors.Edits.{Edits}
 use Rattle.mark_core.specs.declared.words.Finished.{Finished}
 use Rattle.mark_core.specs.declared.answers.Seen.{Seen}
 use Rattle.mark_core.specs.declared.answers.Seen.TheVariants.{Value, Stale, Newer}
-use Rattle.mark_core.specs.Answer.{Shows}
-use Rattle.mark_core.specs.Mark.{IsTouched, IsLastMark}
-use Rattle.mark_core.specs.State.{entries_of}
+use Rattle.mark_core.specs.Answers.{Shows}
+use Rattle.mark_core.specs.Marks.{IsTouched, IsLastMark}
+use Rattle.mark_core.specs.States.{entries_of}
 
 -- What may be shown of a place at a number of commits. `codeless` says where the opening gave no code.
 abbrev pub IsLegalAnswer : {E : Type 0} → (List E → ℕ → ℕ) → (List E → E → ℕ → Type 0) → (ℕ → Type 0) → Edits E → ℕ → ℕ → Seen → Type 0

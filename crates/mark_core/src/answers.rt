@@ -1,6 +1,6 @@
 #![tactic(auto)]
 
-ghost use Rattle.mark_core.specs.Answer.{Shows};
+ghost use Rattle.mark_core.specs.Answers.{Shows};
 
 use crate::words::Clean;
 

@@ -1,14 +1,14 @@
 #![tactic(auto)]
 
-ghost use Rattle.mark_core.specs.Law.{OpeningsAreHonest, EventsKeepHonest, ValuesAreWorths};
-ghost use Rattle.mark_core.specs.Law.{NewerMarksTouch, StaleMarksTouch, CellsAreLegal};
-ghost use Rattle.mark_core.specs.Law.{ReadsAreLegal};
-ghost use Rattle.mark_core.specs.Law.{ReadsBegin, ReadsGoOn, ReadsEnd, SeesAnswerTheCount};
-ghost use Rattle.mark_core.specs.Law.{SplitsHandOn, JoinsHandOn, ViewsGrow};
-ghost use Rattle.mark_core.specs.Law.{HeldWordsHaveHolders, PlacesHaveOneHolder};
-ghost use Rattle.mark_core.specs.Law.{HeldPlacesAreStale, PutWordsAreKnown};
-ghost use Rattle.mark_core.specs.Law.{EventsHappenInOrder, RunsStayHonest, StaleForLaterEdits};
-ghost use Rattle.mark_core.specs.Law.{LastMarksAreUnique};
+ghost use Rattle.mark_core.specs.Laws.{OpeningsAreHonest, EventsKeepHonest, ValuesAreWorths};
+ghost use Rattle.mark_core.specs.Laws.{NewerMarksTouch, StaleMarksTouch, CellsAreLegal};
+ghost use Rattle.mark_core.specs.Laws.{ReadsAreLegal};
+ghost use Rattle.mark_core.specs.Laws.{ReadsBegin, ReadsGoOn, ReadsEnd, SeesAnswerTheCount};
+ghost use Rattle.mark_core.specs.Laws.{SplitsHandOn, JoinsHandOn, ViewsGrow};
+ghost use Rattle.mark_core.specs.Laws.{HeldWordsHaveHolders, PlacesHaveOneHolder};
+ghost use Rattle.mark_core.specs.Laws.{HeldPlacesAreStale, PutWordsAreKnown};
+ghost use Rattle.mark_core.specs.Laws.{EventsHappenInOrder, RunsStayHonest, StaleForLaterEdits};
+ghost use Rattle.mark_core.specs.Laws.{LastMarksAreUnique};
 
 use crate::subjects::Subject;
 

@@ -1,8 +1,8 @@
 #![tactic(auto)]
 
 ghost use Rattle.std.specs.Prelude.{◌≡◌, ◌<◌, ◌^◌, IfOk, map, length};
-ghost use Rattle.mark_core.specs.Place.{opening_place};
-ghost use Rattle.mark_core.specs.State.{State, opening_state};
+ghost use Rattle.mark_core.specs.Places.{opening_place};
+ghost use Rattle.mark_core.specs.States.{State, opening_state};
 
 use crate::views::Stored;
 use crate::words::{Clean, Memory, Place};
@@ -28,7 +28,7 @@ pub struct Machine<E> {
 }
 
 impl<E> Model for Machine<E> {
-    ghost use Rattle.mark_core.specs.State.{State};
+    ghost use Rattle.mark_core.specs.States.{State};
     ghost use Rattle.mark_core.specs.Kept.{kept_state, IsKept};
 
     ghost Value = { State E };

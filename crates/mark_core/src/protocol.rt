@@ -1,10 +1,10 @@
 #![tactic(auto)]
 
 ghost use Rattle.std.specs.Prelude.{◌≡◌, ◌↔◌, IsTrue, ◌<◌, ◌^◌, length, IfOk, OnErr};
-ghost use Rattle.mark_core.specs.State.{State, opening_state};
-ghost use Rattle.mark_core.specs.Core.{state_of, subject_of, Allows, Steps};
-ghost use Rattle.mark_core.specs.Permission.{HasRoom};
-ghost use Rattle.mark_core.specs.Run.{IsOpening};
+ghost use Rattle.mark_core.specs.States.{State, opening_state};
+ghost use Rattle.mark_core.specs.Cores.{state_of, subject_of, Allows, Steps};
+ghost use Rattle.mark_core.specs.Permissions.{HasRoom};
+ghost use Rattle.mark_core.specs.Runs.{IsOpening};
 
 use crate::events::{Event, Outcome};
 use crate::machine::Machine;

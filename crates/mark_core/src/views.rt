@@ -4,10 +4,10 @@ ghost use Rattle.std.specs.Prelude.{◌≡◌, ◌+◌, ◌<◌, ◌^◌, ◌∷
 ghost use Rattle.std.specs.Prelude.{max, ℕ, All, IfOk, OnOk, OnErr};
 ghost use Rattle.std.specs.Prelude.{IsTrue, map, length};
 ghost use Rattle.mark_core.specs.declared.actors.View.{View};
-ghost use Rattle.mark_core.specs.State.{spent_with, new_view};
-ghost use Rattle.mark_core.specs.View.{with_count, split_off, union_with, floor_of, with_half};
-ghost use Rattle.mark_core.specs.View.{with_value, with_read_end, with_hold, with_loss, hold_with};
-ghost use Rattle.mark_core.specs.View.{with_put, without_hold};
+ghost use Rattle.mark_core.specs.States.{spent_with, new_view};
+ghost use Rattle.mark_core.specs.Views.{with_count, split_off, union_with, floor_of, with_half};
+ghost use Rattle.mark_core.specs.Views.{with_value, with_read_end, with_hold, with_loss, hold_with};
+ghost use Rattle.mark_core.specs.Views.{with_put, without_hold};
 ghost use Rattle.std.specs.Prelude.{filter, not, ◌==◌, if◌then◌else◌};
 
 use crate::words::{Clean, Finished, Half, Held, Known, Lost, Memory};

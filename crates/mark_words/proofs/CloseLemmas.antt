@@ -12,10 +12,10 @@ use Rattle.atomic_table.specs.Table.{State as TableState, Me}
 use Rattle.atomic_table.specs.declared.shared.Seat.{Seat as TableSeat}
 use Rattle.mark_core.specs.declared.actors.Edits.{Edits}
 use Rattle.mark_core.specs.declared.actors.View.{View}
-use Rattle.mark_core.specs.Mark.{IsPrefix}
-use Rattle.mark_core.specs.Place.{words_of}
-use Rattle.mark_core.specs.State.{State, view_at}
-use Rattle.mark_core.specs.Run.{IsCodeless}
+use Rattle.mark_core.specs.Marks.{IsPrefix}
+use Rattle.mark_core.specs.Places.{words_of}
+use Rattle.mark_core.specs.States.{State, view_at}
+use Rattle.mark_core.specs.Runs.{IsCodeless}
 use Rattle.mark_core.specs.Legal.{IsLegalRead}
 use Rattle.mark_core.specs.Honest.{IsRightRead}
 use Rattle.mark_core.specs.declared.subjects.Subject.{Ghosts}
@@ -26,8 +26,8 @@ use Rattle.mark_words.specs.declared.seats.Seat.{Seat}
 use Rattle.mark_words.specs.declared.closing.Words.{Words}
 use Rattle.mark_words.specs.Words.{shown_place}
 use Rattle.mark_words.specs.Doing.{gather_history}
-use Rattle.mark_words.specs.Token.{subject_of, topic_of, places_of, seat_table, own_steps, view_of, log_of, edits_of, closed_places, closed_log}
-use Rattle.mark_words.specs.Rule.{HaveNoRepeats, past_at, IsKeptTable, IsEditor, IsSpent, AreGathered, doings_of}
+use Rattle.mark_words.specs.Tokens.{subject_of, topic_of, places_of, seat_table, own_steps, view_of, log_of, edits_of, closed_places, closed_log}
+use Rattle.mark_words.specs.Rules.{HaveNoRepeats, past_at, IsKeptTable, IsEditor, IsSpent, AreGathered, doings_of}
 use Rattle.mark_words.specs.Steps.{steps_of}
 use Rattle.mark_words.specs.Closed.{HasClosed, ArePrefixes, AreLegal}
 use Rattle.mark_words.proofs.TableLemmas.{Contains-cons_cases, not_spent, shown_same}

@@ -11,11 +11,11 @@ use Rattle.atomic_table.specs.Table.Act.{keeps}
 use Rattle.mark_core.specs.declared.actors.Edits.{Edits}
 use Rattle.mark_core.specs.declared.actors.View.{View}
 use Rattle.mark_core.specs.declared.words.Place.{Place}
-use Rattle.mark_core.specs.Place.{place_at}
-use Rattle.mark_core.specs.State.{State, view_at, spent_view}
-use Rattle.mark_core.specs.View.{with_entry}
-use Rattle.mark_core.specs.Permission.{MayMark, MayCommit}
-use Rattle.mark_core.specs.Step.{marks_for, commits, after_mark, after_commit}
+use Rattle.mark_core.specs.Places.{place_at}
+use Rattle.mark_core.specs.States.{State, view_at, spent_view}
+use Rattle.mark_core.specs.Views.{with_entry}
+use Rattle.mark_core.specs.Permissions.{MayMark, MayCommit}
+use Rattle.mark_core.specs.Steps.{marks_for, commits, after_mark, after_commit}
 use Rattle.mark_core.proofs.Prefixes.{prefix_more}
 use Rattle.mark_core.specs.declared.events.Event.TheVariants.{Mark, Commit}
 use Rattle.mark_core.specs.declared.events.Outcome.TheVariants.{Done, Count}
@@ -24,7 +24,7 @@ use Rattle.mark_words.specs.declared.tables.History.{History}
 use Rattle.mark_words.specs.Doing.{with_mark, with_commit}
 use Rattle.mark_words.specs.Words.{words_of_places}
 use Rattle.mark_words.specs.Steps.{made_of}
-use Rattle.mark_words.specs.Rule.{IsRightSeat, IsEditor, AreSeats, NameSubject, IsKeptTable, doings_of}
+use Rattle.mark_words.specs.Rules.{IsRightSeat, IsEditor, AreSeats, NameSubject, IsKeptTable, doings_of}
 use Rattle.mark_words.specs.Plays.{Marked, Committed}
 use Rattle.mark_words.proofs.TableLemmas.{first_set, mark_word, mark_set, seat_changes, subject_set}
 use Rattle.mark_words.proofs.StepLemmas.{doing_at, doings_set, next_number, with_step, one_more}

@@ -7,7 +7,7 @@ use Rattle.std.proofs.lemmas.List.Elements.{Contains-append_left, Contains-appen
 use Rattle.atomic_table.specs.Table.{Me, Step}
 use Rattle.mark_core.specs.declared.words.Known.{Known}
 use Rattle.mark_core.specs.declared.words.Finished.{Finished}
-use Rattle.mark_core.specs.Mark.{IsPrefix}
+use Rattle.mark_core.specs.Marks.{IsPrefix}
 use Rattle.mark_core.proofs.Prefixes.{prefix_itself}
 use Rattle.mark_words.specs.declared.tables.Doing.{Doing}
 use Rattle.mark_words.specs.declared.tables.History.{History}
@@ -15,7 +15,7 @@ use Rattle.mark_words.specs.declared.seats.EditorMarks.{EditorMarks}
 use Rattle.mark_words.specs.Doing.{copy_of, union_doing, with_see}
 use Rattle.mark_words.specs.EditorMarks.{HasEditorMarks, KnowsAll, FitsWords}
 use Rattle.mark_words.specs.Plays.{Saw}
-use Rattle.mark_words.specs.Meet.{HasMet, KeepsClean}
+use Rattle.mark_words.specs.Meets.{HasMet, KeepsClean}
 
 -- of two lists of which the chosen shorter one is a prefix of the other, both are
 both_prefix : {X : Type 0} (b : Bool) (xs ys : List X) → IsPrefix (if b then xs else ys) (if b then ys else xs)

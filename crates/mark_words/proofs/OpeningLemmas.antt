@@ -6,16 +6,16 @@ use mathlib.Core.Option.{some, some-injective, some-ne-none}
 use lib.ListN.{get_elem?}
 use Rattle.atomic_table.specs.Table.{opening as opening_table}
 use Rattle.mark_core.specs.declared.words.Place.{Place}
-use Rattle.mark_core.specs.Place.{opening_place}
-use Rattle.mark_core.specs.State.{view_at, opening_state}
-use Rattle.mark_core.specs.Run.{IsOpening}
+use Rattle.mark_core.specs.Places.{opening_place}
+use Rattle.mark_core.specs.States.{view_at, opening_state}
+use Rattle.mark_core.specs.Runs.{IsOpening}
 use Rattle.mark_core.proofs.Prefixes.{prefix_itself}
 use Rattle.mark_words.specs.declared.tables.Doing.{Doing}
 use Rattle.mark_words.specs.declared.tables.History.{History}
 use Rattle.mark_words.specs.declared.tables.Topic.{Topic}
 use Rattle.mark_words.specs.Words.{words_of_places, opening_words, codes_of_places}
 use Rattle.mark_words.specs.Doing.{first_doing, first_history}
-use Rattle.mark_words.specs.Rule.{IsRightSeat, AreGathered, IsKeptTable, NameSubject}
+use Rattle.mark_words.specs.Rules.{IsRightSeat, AreGathered, IsKeptTable, NameSubject}
 use Rattle.mark_words.proofs.TableLemmas.{none_gathered}
 
 words_open : (opening : List (Option ℕ)) → opening_words opening ≡ words_of_places (map opening_place opening)

@@ -11,15 +11,15 @@ use Rattle.mark_core.specs.declared.words.Half.{Half}
 use Rattle.mark_core.specs.declared.answers.Seen.TheVariants.{Value}
 use Rattle.mark_core.specs.declared.actors.Edits.{Edits}
 use Rattle.mark_core.specs.declared.actors.View.{View}
-use Rattle.mark_core.specs.Place.{place_at, words_of}
-use Rattle.mark_core.specs.Mark.{IsPrefix, IsLastMark}
-use Rattle.mark_core.specs.State.{State, view_at}
-use Rattle.mark_core.specs.View.{with_half, with_value, with_word, with_read, with_read_at, with_read_end, read_of}
+use Rattle.mark_core.specs.Places.{place_at, words_of}
+use Rattle.mark_core.specs.Marks.{IsPrefix, IsLastMark}
+use Rattle.mark_core.specs.States.{State, view_at}
+use Rattle.mark_core.specs.Views.{with_half, with_value, with_word, with_read, with_read_at, with_read_end, read_of}
 use Rattle.mark_core.specs.Growth.{EndsRead}
 use Rattle.mark_core.specs.Legal.{IsLegalRead}
 use Rattle.mark_core.specs.Honest.{IsRightMark, IsRightHalf, IsRightRead, IsHonest}
-use Rattle.mark_core.specs.Run.{IsCodeless}
-use Rattle.mark_core.specs.Step.{after_read_clean, after_read_value, after_read_mark}
+use Rattle.mark_core.specs.Runs.{IsCodeless}
+use Rattle.mark_core.specs.Steps.{after_read_clean, after_read_value, after_read_mark}
 use Rattle.mark_core.proofs.Prefixes.{prefix_length, take_is_prefix, last_mark_in_prefix}
 use Rattle.mark_core.proofs.ViewLemmas.{shorter_prefix}
 use Rattle.mark_core.proofs.ReadLemmas.{read_ends}
@@ -31,9 +31,9 @@ use Rattle.mark_words.specs.declared.tables.History.{History}
 use Rattle.mark_words.specs.Steps.{made_of}
 use Rattle.mark_words.specs.Words.{clean_at, word_of_clean}
 use Rattle.mark_words.specs.Doing.{with_clean_read, with_value_read, with_mark_read}
-use Rattle.mark_words.specs.Rule.{IsEditor, IsKeptTable}
+use Rattle.mark_words.specs.Rules.{IsEditor, IsKeptTable}
 use Rattle.mark_words.specs.Plays.{BeganRead, WentOn, EndedRead}
-use Rattle.mark_words.specs.Read.{IsWorthAfter, TellsOf, GoesOn, Ends, LearnsClean}
+use Rattle.mark_words.specs.Reads.{IsWorthAfter, TellsOf, GoesOn, Ends, LearnsClean}
 use Rattle.mark_words.proofs.TableLemmas.{clean_word, value_word, mark_word, clean_at-code_of}
 use Rattle.mark_words.proofs.StepLemmas.{with_step, next_number, one_more}
 use Rattle.mark_words.proofs.RunLemmas.{honest_state, same_view, same_subject, seat_right}

@@ -6,16 +6,16 @@ use lib.ListN.{get_elem?}
 use Rattle.atomic_table.specs.Table.{State as TableState}
 use Rattle.mark_core.specs.declared.events.Event.{Event}
 use Rattle.mark_core.specs.declared.events.Outcome.{Outcome}
-use Rattle.mark_core.specs.State.{State, view_at, opening_state}
-use Rattle.mark_core.specs.Step.{Happens}
+use Rattle.mark_core.specs.States.{State, view_at, opening_state}
+use Rattle.mark_core.specs.Steps.{Happens}
 use Rattle.mark_core.specs.Honest.{IsHonest}
-use Rattle.mark_core.specs.Run.{IsCodeless, Runs}
+use Rattle.mark_core.specs.Runs.{IsCodeless, Runs}
 use Rattle.mark_core.proofs.Runs.{honest_from_opening}
 use Rattle.mark_words.specs.declared.tables.Doing.{Doing}
 use Rattle.mark_words.specs.declared.tables.History.{History}
 use Rattle.mark_words.specs.declared.tables.Made.{Made}
-use Rattle.mark_words.specs.Rule.{IsRightSeat, IsKeptTable}
-use Rattle.mark_words.specs.Run.{word_in, RunsWith}
+use Rattle.mark_words.specs.Rules.{IsRightSeat, IsKeptTable}
+use Rattle.mark_words.specs.Runs.{word_in, RunsWith}
 use Rattle.mark_words.specs.Steps.{actor_of, is_single, steps_of, made_of, AreStepsOf}
 use Rattle.mark_words.proofs.StepLemmas.{doing_at, steps_more, others_same, steps_set, next_number, with_step}
 

@@ -7,11 +7,11 @@ use lib.ListN.{get_elem?}
 use Rattle.atomic_table.specs.Table.{Splits, Joins}
 use Rattle.atomic_table.proofs.Lists.{set_again, set_else}
 use Rattle.mark_core.specs.declared.actors.View.{View}
-use Rattle.mark_core.specs.State.{State, view_at, with_view}
-use Rattle.mark_core.specs.Mark.{IsPrefix}
-use Rattle.mark_core.specs.View.{split_off, longer, union_of}
-use Rattle.mark_core.specs.Permission.{MayJoin}
-use Rattle.mark_core.specs.Step.{after_split, after_join}
+use Rattle.mark_core.specs.States.{State, view_at, with_view}
+use Rattle.mark_core.specs.Marks.{IsPrefix}
+use Rattle.mark_core.specs.Views.{split_off, longer, union_of}
+use Rattle.mark_core.specs.Permissions.{MayJoin}
+use Rattle.mark_core.specs.Steps.{after_split, after_join}
 use Rattle.mark_core.proofs.Prefixes.{prefix_of_nothing}
 use Rattle.mark_core.specs.declared.events.Event.TheVariants.{Split, Join}
 use Rattle.mark_core.specs.declared.events.Outcome.TheVariants.{Done, Seat}
@@ -19,7 +19,7 @@ use Rattle.mark_words.specs.declared.tables.Doing.{Doing}
 use Rattle.mark_words.specs.declared.tables.History.{History}
 use Rattle.mark_words.specs.declared.tables.Made.{Made}
 use Rattle.mark_words.specs.Doing.{copy_of, shorter_of, spent_doing, copy_history, union_history, gather_history, spent_history}
-use Rattle.mark_words.specs.Rule.{IsRightSeat, AreSeats, NameSubject, IsKeptTable, doings_of}
+use Rattle.mark_words.specs.Rules.{IsRightSeat, AreSeats, NameSubject, IsKeptTable, doings_of}
 use Rattle.mark_words.specs.Steps.{steps_of, made_of, AreStepsOf}
 use Rattle.mark_words.proofs.TableLemmas.{some_within, seat_stays, seat_changes, seat_added, seat_gathers, subject_set, subject_added}
 use Rattle.mark_words.proofs.StepLemmas.{doing_at, doings_push, doings_set_both, seats_same, steps_set, steps_added, steps_gathered}

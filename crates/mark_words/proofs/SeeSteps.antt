@@ -5,10 +5,10 @@ use Rattle.atomic_table.specs.Table.{Me, Step, Allows}
 use Rattle.atomic_table.specs.Table.Act.{keeps}
 use Rattle.mark_core.specs.declared.actors.Edits.{Edits}
 use Rattle.mark_core.specs.declared.actors.View.{View}
-use Rattle.mark_core.specs.State.{State, view_at}
-use Rattle.mark_core.specs.Mark.{IsPrefix}
-use Rattle.mark_core.specs.View.{with_count}
-use Rattle.mark_core.specs.Step.{after_see}
+use Rattle.mark_core.specs.States.{State, view_at}
+use Rattle.mark_core.specs.Marks.{IsPrefix}
+use Rattle.mark_core.specs.Views.{with_count}
+use Rattle.mark_core.specs.Steps.{after_see}
 use Rattle.mark_core.proofs.Prefixes.{prefix_length}
 use Rattle.mark_core.proofs.ViewLemmas.{shorter_prefix}
 use Rattle.mark_core.specs.declared.events.Event.TheVariants.{See}
@@ -18,7 +18,7 @@ use Rattle.mark_words.specs.declared.tables.History.{History}
 use Rattle.mark_words.specs.Doing.{with_see}
 use Rattle.mark_words.specs.Words.{words_of_places}
 use Rattle.mark_words.specs.Steps.{made_of}
-use Rattle.mark_words.specs.Rule.{IsRightSeat, AreSeats, NameSubject, IsKeptTable, doings_of}
+use Rattle.mark_words.specs.Rules.{IsRightSeat, AreSeats, NameSubject, IsKeptTable, doings_of}
 use Rattle.mark_words.specs.Plays.{Saw}
 use Rattle.mark_words.proofs.TableLemmas.{first_again, seat_stays, seat_changes, subject_set}
 use Rattle.mark_words.proofs.StepLemmas.{doing_at, doings_set, next_number, with_step, one_more}

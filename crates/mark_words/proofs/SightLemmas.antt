@@ -14,14 +14,14 @@ use Rattle.mark_core.specs.declared.actors.View.{View}
 use Rattle.mark_core.specs.declared.events.Event.{Event}
 use Rattle.mark_core.specs.declared.events.Outcome.{Outcome}
 use Rattle.mark_core.specs.declared.events.Event.TheVariants.{See, Mark, Commit, Split, Join, ReadClean, ReadValue, ReadMark, Claim, Put, Finish}
-use Rattle.mark_core.specs.View.{with_count, split_off, union_of}
-use Rattle.mark_core.specs.State.{State, view_at, with_view, spent_view, opening_state}
-use Rattle.mark_core.specs.Step.{Happens}
+use Rattle.mark_core.specs.Views.{with_count, split_off, union_of}
+use Rattle.mark_core.specs.States.{State, view_at, with_view, spent_view, opening_state}
+use Rattle.mark_core.specs.Steps.{Happens}
 use Rattle.mark_words.specs.declared.tables.History.{History}
-use Rattle.mark_words.specs.Rule.{IsKeptTable}
+use Rattle.mark_words.specs.Rules.{IsKeptTable}
 use Rattle.mark_words.specs.declared.tables.Made.{Made}
 use Rattle.mark_words.specs.declared.tables.OwnStep.{OwnStep}
-use Rattle.mark_words.specs.Run.{RunsWith}
+use Rattle.mark_words.specs.Runs.{RunsWith}
 use Rattle.mark_words.specs.Steps.{is_single, single_steps, steps_from, steps_of, made_of, OneMore, NoneHandedIn}
 use Rattle.mark_words.proofs.TableLemmas.{some_within}
 use Rattle.mark_words.proofs.OrderLemmas.{not_empty}

@@ -13,7 +13,7 @@ use Rattle.mark_words.specs.declared.tables.Doing.{Doing}
 use Rattle.mark_words.specs.declared.tables.History.{History}
 use Rattle.mark_words.specs.declared.tables.Made.{Made}
 use Rattle.mark_words.specs.declared.tables.OwnStep.{OwnStep}
-use Rattle.mark_words.specs.Rule.{doings_of}
+use Rattle.mark_words.specs.Rules.{doings_of}
 use Rattle.mark_words.specs.Steps.{actor_of, is_single, single_steps, steps_from, steps_of, made_of, OneMore, NoneHandedIn, AreStepsOf}
 use Rattle.mark_words.proofs.TableLemmas.{some_within, each_set, at_push}
 

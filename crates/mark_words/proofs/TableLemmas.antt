@@ -13,15 +13,15 @@ use Rattle.atomic_table.proofs.Lists.{at_set, set_else, set_here, at_longer}
 use Rattle.mark_core.specs.declared.actors.Edits.{Edits}
 use Rattle.mark_core.specs.declared.words.Clean.{Clean}
 use Rattle.mark_core.specs.declared.words.Place.{Place}
-use Rattle.mark_core.specs.Place.{place_at}
-use Rattle.mark_core.specs.Mark.{IsPrefix}
-use Rattle.mark_core.specs.State.{State, view_at, spent_view}
+use Rattle.mark_core.specs.Places.{place_at}
+use Rattle.mark_core.specs.Marks.{IsPrefix}
+use Rattle.mark_core.specs.States.{State, view_at, spent_view}
 use Rattle.mark_words.specs.declared.tables.Doing.{Doing}
 use Rattle.mark_words.specs.declared.tables.Made.{Made}
 use Rattle.mark_words.specs.declared.tables.OwnStep.{OwnStep}
 use Rattle.mark_words.specs.declared.tables.Past.{Past}
 use Rattle.mark_words.specs.Words.{word_of_clean, clean_at, shown_place, words_of_places, words_of_state}
-use Rattle.mark_words.specs.Rule.{IsRightSeat, IsSpent, past_at, AreGathered, AreSeats, NameSubject}
+use Rattle.mark_words.specs.Rules.{IsRightSeat, IsSpent, past_at, AreGathered, AreSeats, NameSubject}
 use Rattle.mark_words.specs.Steps.{steps_of}
 
 -- an element that is there is what a look with any default gives

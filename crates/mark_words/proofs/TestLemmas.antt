@@ -12,20 +12,20 @@ use Rattle.mark_core.specs.declared.words.Finished.{Finished}
 use Rattle.mark_core.specs.declared.answers.Seen.{Seen}
 use Rattle.mark_core.specs.declared.answers.Seen.TheVariants.{Value, Stale, Newer}
 use Rattle.mark_core.specs.declared.actors.View.{View}
-use Rattle.mark_core.specs.Answer.{Shows}
-use Rattle.mark_core.specs.Mark.{IsLastMark}
+use Rattle.mark_core.specs.Answers.{Shows}
+use Rattle.mark_core.specs.Marks.{IsLastMark}
 use Rattle.mark_core.specs.Tests.TwoTestCells.{last_or}
-use Rattle.mark_core.specs.View.{new_half, read_of, hold_with}
+use Rattle.mark_core.specs.Views.{new_half, read_of, hold_with}
 use Rattle.mark_core.specs.declared.subjects.Subject.{Ghosts}
-use Rattle.mark_core.specs.Permission.{IsWorthKnown, MayClaim, MayPut, MayFinish}
+use Rattle.mark_core.specs.Permissions.{IsWorthKnown, MayClaim, MayPut, MayFinish}
 use Rattle.mark_core.proofs.Prefixes.{last_mark_unique}
 use Rattle.mark_words.specs.declared.tables.Doing.{Doing}
 use Rattle.mark_words.specs.declared.marks.Marks.{Marks}
 use Rattle.mark_words.specs.declared.seats.Seat.{Seat}
 use Rattle.mark_words.specs.Doing.{with_clean_read, with_value_read, with_mark_read, with_claim, with_word_put, with_mark, with_commit}
-use Rattle.mark_words.specs.Read.{IsWorthAfter, TellsOf, GoesOn, Ends, TellsOfRead}
+use Rattle.mark_words.specs.Reads.{IsWorthAfter, TellsOf, GoesOn, Ends, TellsOfRead}
 use Rattle.mark_words.specs.Tests.EightTestCells.{last_setting, script}
-use Rattle.mark_words.specs.Token.{IsSeatOf, doing_of}
+use Rattle.mark_words.specs.Tokens.{IsSeatOf, doing_of}
 use Rattle.mark_words.specs.Tests.Threads.{IsReadyEditor, HasReadPlace, IsWorthOf, IsStaleAfter}
 use Rattle.mark_words.proofs.ReadSteps.{read_end_cases}
 use Rattle.mark_words.proofs.TokenLemmas.{begins}

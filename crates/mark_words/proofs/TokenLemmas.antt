@@ -10,11 +10,11 @@ use Rattle.mark_core.specs.declared.words.Finished.{Finished}
 use Rattle.mark_core.specs.declared.events.Outcome.TheVariants.{Done}
 use Rattle.mark_core.specs.declared.actors.Edits.{Edits}
 use Rattle.mark_core.specs.declared.actors.View.{View}
-use Rattle.mark_core.specs.State.{State}
-use Rattle.mark_core.specs.View.{new_half, read_of, with_word}
+use Rattle.mark_core.specs.States.{State}
+use Rattle.mark_core.specs.Views.{new_half, read_of, with_word}
 use Rattle.mark_core.specs.Growth.{BeginsRead}
 use Rattle.mark_core.specs.Knows.{KnowsClean}
-use Rattle.mark_core.specs.Mark.{IsLastMark}
+use Rattle.mark_core.specs.Marks.{IsLastMark}
 use Rattle.mark_core.proofs.ReadLaws.{begins_right}
 use Rattle.mark_words.specs.declared.tables.Doing.{Doing}
 use Rattle.mark_words.specs.declared.seats.EditorMarks.{EditorMarks}

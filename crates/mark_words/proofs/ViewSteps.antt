@@ -7,16 +7,16 @@ use lib.ListN.{get_elem?}
 use Rattle.atomic_table.specs.Table.{State as TableState}
 use Rattle.mark_core.specs.declared.actors.View.{View}
 use Rattle.mark_core.specs.declared.words.Place.{Place}
-use Rattle.mark_core.specs.State.{State}
+use Rattle.mark_core.specs.States.{State}
 use Rattle.mark_core.specs.declared.events.Event.{Event}
 use Rattle.mark_core.specs.declared.events.Outcome.{Outcome}
-use Rattle.mark_core.specs.Step.{Happens}
+use Rattle.mark_core.specs.Steps.{Happens}
 use Rattle.mark_words.specs.declared.tables.Doing.{Doing}
 use Rattle.mark_words.specs.declared.tables.History.{History}
 use Rattle.mark_words.specs.Words.{words_of_state}
-use Rattle.mark_words.specs.Run.{word_in}
+use Rattle.mark_words.specs.Runs.{word_in}
 use Rattle.mark_words.specs.Steps.{actor_of, is_single, made_of}
-use Rattle.mark_words.specs.Rule.{IsRightSeat, AreSeats, NameSubject, IsKeptTable, doings_of}
+use Rattle.mark_words.specs.Rules.{IsRightSeat, AreSeats, NameSubject, IsKeptTable, doings_of}
 use Rattle.mark_words.specs.Plays.{KeepsRest}
 use Rattle.mark_words.proofs.TableLemmas.{seat_stays, seat_changes, subject_set}
 use Rattle.mark_words.proofs.StepLemmas.{doing_at, doings_set, next_number, with_step}

@@ -8,14 +8,14 @@ use Rattle.mark_core.specs.declared.words.Place.{Place}
 use Rattle.mark_core.specs.declared.events.Event.{Event}
 use Rattle.mark_core.specs.declared.events.Event.TheVariants.{See, Mark, Commit, Split, Join, ReadClean, ReadValue, ReadMark, Claim, Put, Finish}
 use Rattle.mark_core.specs.declared.events.Outcome.{Outcome}
-use Rattle.mark_core.specs.Place.{place_at, blank_place}
-use Rattle.mark_core.specs.State.{State}
-use Rattle.mark_core.specs.Step.{marks_for, commits, Gives, Happens}
+use Rattle.mark_core.specs.Places.{place_at, blank_place}
+use Rattle.mark_core.specs.States.{State}
+use Rattle.mark_core.specs.Steps.{marks_for, commits, Gives, Happens}
 use Rattle.mark_words.specs.declared.tables.Made.{Made}
-use Rattle.mark_words.specs.Run.{word_in, RunsWith}
+use Rattle.mark_words.specs.Runs.{word_in, RunsWith}
 use Rattle.mark_words.specs.Steps.{is_single, single_steps}
 use Rattle.mark_words.specs.Words.{word_of_clean, words_of_state, words_of_places}
-use Rattle.mark_words.specs.Law.{IsOneEvent, HasWord}
+use Rattle.mark_words.specs.Laws.{IsOneEvent, HasWord}
 use Rattle.mark_words.proofs.OrderLemmas.{tail_of, head_or, not_empty}
 use Rattle.mark_words.proofs.TableLemmas.{mark_word, clean_word, value_word}
 

@@ -11,20 +11,20 @@ use Rattle.atomic_table.specs.Table.Act.{keeps}
 use Rattle.mark_core.specs.declared.words.Clean.{Clean}
 use Rattle.mark_core.specs.declared.words.Place.{Place}
 use Rattle.mark_core.specs.declared.actors.View.{View}
-use Rattle.mark_core.specs.Place.{place_at}
-use Rattle.mark_core.specs.State.{State, view_at}
-use Rattle.mark_core.specs.View.{with_hold, with_loss, with_put, without_hold}
-use Rattle.mark_core.specs.Permission.{MayStepAt, MayClaim, MayPut, MayFinish}
+use Rattle.mark_core.specs.Places.{place_at}
+use Rattle.mark_core.specs.States.{State, view_at}
+use Rattle.mark_core.specs.Views.{with_hold, with_loss, with_put, without_hold}
+use Rattle.mark_core.specs.Permissions.{MayStepAt, MayClaim, MayPut, MayFinish}
 use Rattle.mark_core.specs.declared.events.Event.TheVariants.{Claim, Put, Finish}
 use Rattle.mark_core.specs.declared.events.Outcome.TheVariants.{Done, Claimed}
 use Rattle.mark_core.specs.Honest.{IsHonest}
-use Rattle.mark_core.specs.Run.{IsCodeless}
-use Rattle.mark_core.specs.Step.{after_claim, after_refusal, after_put, after_finish}
+use Rattle.mark_core.specs.Runs.{IsCodeless}
+use Rattle.mark_core.specs.Steps.{after_claim, after_refusal, after_put, after_finish}
 use Rattle.mark_words.specs.declared.tables.History.{History}
 use Rattle.mark_words.specs.Words.{word_of_clean, clean_at, words_of_places}
 use Rattle.mark_words.specs.Doing.{with_claim, with_refusal, with_word_put, with_finish}
 use Rattle.mark_words.specs.Steps.{made_of, OneMore}
-use Rattle.mark_words.specs.Rule.{IsKeptTable}
+use Rattle.mark_words.specs.Rules.{IsKeptTable}
 use Rattle.mark_words.specs.Plays.{TriedClaim, PutWord, GaveBack}
 use Rattle.mark_words.proofs.TableLemmas.{clean_word, clean_set, value_set, marks_stay, clean_at-code_of}
 use Rattle.mark_words.proofs.StepLemmas.{with_step, next_number, one_more}

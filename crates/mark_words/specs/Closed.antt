@@ -1,21 +1,21 @@
 -- What a closed table shows.
 use Rattle.std.specs.Prelude.{◌≡◌, ◌<◌, ℕ, List, ◌∷◌, Some, map, length, Contains}
 use Rattle.mark_core.specs.declared.words.Finished.{Finished}
-use Rattle.mark_core.specs.Place.{place_at}
-use Rattle.mark_core.specs.Mark.{IsPrefix}
-use Rattle.mark_core.specs.State.{State, view_at, opening_state}
+use Rattle.mark_core.specs.Places.{place_at}
+use Rattle.mark_core.specs.Marks.{IsPrefix}
+use Rattle.mark_core.specs.States.{State, view_at, opening_state}
 use Rattle.mark_core.specs.Legal.{IsLegalRead}
 use Rattle.mark_core.specs.Honest.{IsHonest}
-use Rattle.mark_core.specs.Run.{IsCodeless}
+use Rattle.mark_core.specs.Runs.{IsCodeless}
 use Rattle.mark_core.specs.declared.subjects.Subject.{Ghosts}
 use Rattle.mark_words.specs.declared.marks.Marks.{Marks}
 use Rattle.mark_words.specs.declared.seats.Seat.{Seat}
 use Rattle.mark_words.specs.declared.closing.Words.{Words}
 use Rattle.mark_words.specs.declared.tables.Made.{Made}
-use Rattle.mark_words.specs.Rule.{HaveNoRepeats}
+use Rattle.mark_words.specs.Rules.{HaveNoRepeats}
 use Rattle.mark_words.specs.Steps.{steps_of}
-use Rattle.mark_words.specs.Run.{RunsWith}
-use Rattle.mark_words.specs.Token.{subject_of, topic_of, places_of, view_of, own_steps, log_of, edits_of, closed_places, closed_place, closed_log}
+use Rattle.mark_words.specs.Runs.{RunsWith}
+use Rattle.mark_words.specs.Tokens.{subject_of, topic_of, places_of, view_of, own_steps, log_of, edits_of, closed_places, closed_place, closed_log}
 
 -- Events of the core have led from the opening state to one with these words, with the editor's edits, and with the
 -- views of all seats that were handed in, no two of which are one view of it. So it is honest. Each seat's single steps

@@ -3,10 +3,10 @@ use Rattle.std.specs.Prelude.{ℕ, List, [], ◌∷◌, Option, Some, None, true
 use Rattle.mark_core.specs.declared.words.Clean.{Clean}
 use Rattle.mark_core.specs.declared.actors.Edits.{Edits}
 use Rattle.mark_core.specs.declared.actors.View.{View}
-use Rattle.mark_core.specs.State.{new_view, spent_view}
-use Rattle.mark_core.specs.View.{with_count, with_entry, split_off, union_of}
-use Rattle.mark_core.specs.View.{with_half, with_value, with_read_end, with_hold, with_loss, with_put, without_hold}
-use Rattle.mark_core.specs.Step.{marks_for, commits}
+use Rattle.mark_core.specs.States.{new_view, spent_view}
+use Rattle.mark_core.specs.Views.{with_count, with_entry, split_off, union_of}
+use Rattle.mark_core.specs.Views.{with_half, with_value, with_read_end, with_hold, with_loss, with_put, without_hold}
+use Rattle.mark_core.specs.Steps.{marks_for, commits}
 use Rattle.mark_words.specs.declared.tables.Doing.{Doing}
 use Rattle.mark_words.specs.declared.tables.History.{History}
 use Rattle.mark_words.specs.declared.tables.Past.{Past}

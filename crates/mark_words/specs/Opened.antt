@@ -4,7 +4,7 @@ use Rattle.mark_core.specs.declared.subjects.Subject.{Ghosts}
 use Rattle.mark_words.specs.declared.marks.Marks.{Marks}
 use Rattle.mark_words.specs.declared.seats.Seat.{Seat}
 use Rattle.mark_words.specs.Doing.{first_doing}
-use Rattle.mark_words.specs.Token.{subject_of, topic_of, places_of, doing_of, IsSeatOf}
+use Rattle.mark_words.specs.Tokens.{subject_of, topic_of, places_of, doing_of, IsSeatOf}
 
 -- the table is about the subject with these codes and has its places, and the seat is one of it, with what the editor
 -- begins with

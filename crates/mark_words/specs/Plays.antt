@@ -3,7 +3,7 @@ use Rattle.std.specs.Prelude.{◌≡◌, ◌≢◌, ◌≤◌, ◌+◌, ◌*◌,
 use mathlib.Core.Option.{some}
 use Rattle.atomic_table.specs.Table.{Me, Step}
 use Rattle.mark_core.specs.declared.words.Clean.{Clean}
-use Rattle.mark_core.specs.Mark.{IsPrefix}
+use Rattle.mark_core.specs.Marks.{IsPrefix}
 use Rattle.mark_core.specs.declared.events.Event.TheVariants.{See, Mark, Commit, ReadClean, ReadValue, ReadMark, Claim, Put, Finish}
 use Rattle.mark_words.specs.declared.tables.Doing.{Doing}
 use Rattle.mark_words.specs.declared.tables.History.{History}
@@ -11,7 +11,7 @@ use Rattle.mark_words.specs.Steps.{OneMore}
 use Rattle.mark_words.specs.Words.{clean_at, word_of_clean}
 use Rattle.mark_words.specs.Doing.{with_see, with_mark, with_commit}
 use Rattle.mark_words.specs.Doing.{with_clean_read, with_value_read, with_mark_read, with_claim, with_refusal, with_word_put, with_finish}
-use Rattle.mark_words.specs.Read.{TellsOfRead}
+use Rattle.mark_words.specs.Reads.{TellsOfRead}
 
 -- The seat has seen the count that it found, which isn't below what it had seen; the editor's is the length of its
 -- log, which is that of its edits. The shorter log of its last join is a prefix of its own.

@@ -2,7 +2,7 @@
 
 ghost use Rattle.std.specs.Prelude.{◌≡◌, ◌<◌, ◌∷◌, true, All, IfOk, IsOk};
 ghost use Rattle.mark_words.specs.Closed.{HasClosed, ArePrefixes, AreLegal};
-ghost use Rattle.mark_words.specs.Token.{IsSeatOf, is_editor, closed_places, closed_place};
+ghost use Rattle.mark_words.specs.Tokens.{IsSeatOf, is_editor, closed_places, closed_place};
 
 use crate::closing::{Kept, Words};
 use crate::codes::clean_of;

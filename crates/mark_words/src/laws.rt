@@ -1,9 +1,9 @@
 #![tactic(auto)]
 
-ghost use Rattle.mark_words.specs.Law.{StepsStandLast, StepsAreEvents, StepsHaveTheirWords};
-ghost use Rattle.mark_words.specs.Law.{SeesShowTheCount, MomentsAreHonest, EventsHaveLed};
-ghost use Rattle.mark_words.specs.Law.{WordsAreThoseOfTheState, ViewsAreThoseOfTheSeats};
-ghost use Rattle.mark_words.specs.Token.{topic_of};
+ghost use Rattle.mark_words.specs.Laws.{StepsStandLast, StepsAreEvents, StepsHaveTheirWords};
+ghost use Rattle.mark_words.specs.Laws.{SeesShowTheCount, MomentsAreHonest, EventsHaveLed};
+ghost use Rattle.mark_words.specs.Laws.{WordsAreThoseOfTheState, ViewsAreThoseOfTheSeats};
+ghost use Rattle.mark_words.specs.Tokens.{topic_of};
 
 use crate::marks::Marks;
 use mark_core::Subject;

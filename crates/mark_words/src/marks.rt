@@ -1,7 +1,7 @@
 #![tactic(auto)]
 
 ghost use Rattle.std.specs.Prelude.{◌≡◌, ◌+◌, ◌*◌};
-ghost use Rattle.mark_words.specs.Rule.{place_count};
+ghost use Rattle.mark_words.specs.Rules.{place_count};
 
 use crate::tables::MarkTable;
 use mark_core::Subject;

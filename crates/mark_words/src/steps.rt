@@ -2,12 +2,12 @@
 
 ghost use Rattle.std.specs.Prelude.{◌≡◌, ◌≤◌, ◌<◌, ◌+◌, length, [], Some, IsSome, true};
 ghost use Rattle.mark_words.specs.Doing.{copy_of, with_see, with_mark, with_commit};
-ghost use Rattle.mark_words.specs.Token.{IsSeatOf, subject_of, places_of};
+ghost use Rattle.mark_words.specs.Tokens.{IsSeatOf, subject_of, places_of};
 ghost use Rattle.mark_core.specs.declared.events.Event.TheVariants.{See, Mark, Commit};
 ghost use Rattle.mark_words.specs.Steps.{OneMore};
-ghost use Rattle.mark_words.specs.Token.{doing_of, own_steps, log_of, seen_of, edits_of, is_editor};
+ghost use Rattle.mark_words.specs.Tokens.{doing_of, own_steps, log_of, seen_of, edits_of, is_editor};
 ghost use Rattle.mark_words.specs.Editing.{IsIdleFor, IsAllMarked};
-ghost use Rattle.mark_words.specs.Meet.{HasMet, KeepsClean};
+ghost use Rattle.mark_words.specs.Meets.{HasMet, KeepsClean};
 
 use crate::marks::Marks;
 use crate::plays::{Commits, Copies, MarksPlace, Sees, Unites};

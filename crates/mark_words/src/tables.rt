@@ -60,7 +60,7 @@ pub struct Keeps<S> {
 }
 
 impl<S: Subject> TableRule<S::Entry, History<S, S::Entry>, Topic<S>> for Keeps<S> {
-    ghost use Rattle.mark_words.specs.Rule.{HoldsRule};
+    ghost use Rattle.mark_words.specs.Rules.{HoldsRule};
     ghost use Rattle.mark_words.specs.Doing.{first_history};
 
     ghost holds = { λ topic. HoldsRule S.places S.worth S.touches topic };

@@ -2,7 +2,7 @@
 
 ghost use Rattle.std.specs.Prelude.{◌≡◌, ◌≤◌, ◌<◌, ◌+◌, length, true, All, IfOk, OnOk};
 ghost use Rattle.std.specs.Thread.{IsSync};
-ghost use Rattle.mark_words.specs.Token.{IsSeatOf, places_of, is_editor, log_of, closed_places};
+ghost use Rattle.mark_words.specs.Tokens.{IsSeatOf, places_of, is_editor, log_of, closed_places};
 ghost use Rattle.mark_words.specs.Tests.Threads.{IsReadyEditor, IsBlank, KnowsMany, AreTwoSeats};
 
 use crate::tests::uses::opens_and_closes;

@@ -2,13 +2,13 @@
 
 ghost use Rattle.std.specs.Prelude.{◌≡◌, ◌≢◌, ◌<◌, ◌+◌, ◌*◌, ℕ, List, IfOk, IfErr};
 ghost use Rattle.mark_core.specs.Knows.{KnowsClean};
-ghost use Rattle.mark_core.specs.Mark.{IsLastMark};
-ghost use Rattle.mark_core.specs.Permission.{MayClaim, MayPut, MayFinish};
+ghost use Rattle.mark_core.specs.Marks.{IsLastMark};
+ghost use Rattle.mark_core.specs.Permissions.{MayClaim, MayPut, MayFinish};
 ghost use Rattle.mark_words.specs.Doing.{with_claim, with_refusal, with_word_put, with_finish};
 ghost use Rattle.mark_core.specs.declared.events.Event.TheVariants.{Claim, Put, Finish};
 ghost use Rattle.mark_words.specs.Steps.{OneMore};
 ghost use Rattle.mark_words.specs.Words.{word_found};
-ghost use Rattle.mark_words.specs.Token.{IsSeatOf, subject_of, places_of, doing_of, own_steps, view_of};
+ghost use Rattle.mark_words.specs.Tokens.{IsSeatOf, subject_of, places_of, doing_of, own_steps, view_of};
 
 use crate::codes::{clean_of, word_of};
 use crate::marks::Marks;

@@ -8,7 +8,7 @@ use Rattle.sheet_refs.specs.declared.sizes.Sizes.{Sizes}
 use Rattle.graph_walk.specs.Graphs.{Pair, IsOnCycle}
 use Rattle.mark_core.specs.declared.subjects.Subject.{Ghosts}
 use Rattle.mark_words.specs.declared.seats.Seat.{Seat}
-use Rattle.mark_words.specs.Token.{log_of}
+use Rattle.mark_words.specs.Tokens.{log_of}
 use Rattle.sheet_model.specs.Budget.{Leads}
 use Rattle.sheet_model.specs.Values.{IsInput}
 use Rattle.sheet_model.specs.Logs.{after}

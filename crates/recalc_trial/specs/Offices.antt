@@ -2,7 +2,7 @@
 use Rattle.std.specs.Prelude.{◌≡◌, ℕ, List, [], Option, Some, length, slice_get}
 use Rattle.mark_core.specs.declared.subjects.Subject.{Ghosts}
 use Rattle.mark_words.specs.declared.seats.Seat.{Seat}
-use Rattle.mark_words.specs.Token.{seat_table, doing_of, log_of, edits_of, is_editor}
+use Rattle.mark_words.specs.Tokens.{seat_table, doing_of, log_of, edits_of, is_editor}
 use Rattle.value_core.specs.declared.value.Value.{Value}
 use Rattle.value_core.specs.Values.{code_of}
 use Rattle.sheet_model.specs.Sheets.{SheetValue, ContentValue, Constant}

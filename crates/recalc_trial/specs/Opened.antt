@@ -3,7 +3,7 @@ use Rattle.std.specs.Prelude.{◌≡◌, [], None, true}
 use Rattle.mark_core.specs.declared.subjects.Subject.{Ghosts}
 use Rattle.mark_words.specs.declared.marks.Marks.{Marks}
 use Rattle.mark_words.specs.declared.seats.Seat.{Seat}
-use Rattle.mark_words.specs.Token.{IsSeatOf, edits_of, is_editor, log_of, subject_of}
+use Rattle.mark_words.specs.Tokens.{IsSeatOf, edits_of, is_editor, log_of, subject_of}
 use Rattle.sheet_model.specs.Sheets.{SheetValue}
 use Rattle.sheet_model.specs.declared.entry.Entry.{Entry}
 

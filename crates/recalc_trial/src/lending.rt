@@ -1,5 +1,5 @@
 ghost use Rattle.std.specs.Prelude.{◌≡◌, ◌≤◌, length, true};
-ghost use Rattle.mark_words.specs.Token.{IsSeatOf, is_editor, log_of, seen_of};
+ghost use Rattle.mark_words.specs.Tokens.{IsSeatOf, is_editor, log_of, seen_of};
 ghost use Rattle.recalc_workers.specs.Seats.{HasDoneNothing, Keeps};
 ghost use Rattle.recalc_trial.specs.Offices.{KeepsEditor};
 

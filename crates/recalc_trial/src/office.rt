@@ -1,5 +1,5 @@
 ghost use Rattle.std.specs.Prelude.{◌≡◌, true, None, IsSome};
-ghost use Rattle.mark_words.specs.Token.{IsSeatOf, edits_of, is_editor, log_of, subject_of};
+ghost use Rattle.mark_words.specs.Tokens.{IsSeatOf, edits_of, is_editor, log_of, subject_of};
 
 use crate::lending::lend;
 use edit_log::{Book, OverSheet, place_laws, touch_laws};

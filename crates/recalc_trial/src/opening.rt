@@ -1,6 +1,6 @@
 ghost use Rattle.std.specs.Prelude.{IfOk, IfSome};
 ghost use Rattle.sheet_refs.specs.Sizes.{cell_count};
-ghost use Rattle.mark_core.specs.Run.{IsOpening};
+ghost use Rattle.mark_core.specs.Runs.{IsOpening};
 ghost use Rattle.sheet_model.specs.Sheets.{content_value};
 ghost use Rattle.edit_log.specs.Touches.{place_worth};
 ghost use Rattle.recalc_trial.specs.Offices.{IsCodeOfConstant};

@@ -2,7 +2,7 @@
 // are the values' then.
 ghost use Rattle.std.specs.Prelude.{◌≡◌, ◌<◌, ◌≤◌, length, All, IfOk, OnOk, IsTrue, None, vec_len};
 ghost use Rattle.sheet_refs.specs.Sizes.{cell_count};
-ghost use Rattle.mark_words.specs.Token.{IsSeatOf, doing_of, places_of};
+ghost use Rattle.mark_words.specs.Tokens.{IsSeatOf, doing_of, places_of};
 ghost use Rattle.recalc_workers.specs.Desks.{seat_of};
 ghost use Rattle.recalc_workers.specs.Hands.{IsHandOf};
 ghost use Rattle.recalc_workers.specs.Settling.{AreDesksOf};

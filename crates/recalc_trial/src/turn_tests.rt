@@ -1,7 +1,7 @@
 // What no clause says: that turns compute where there is memory, and that each answer can be had. The expected answers
 // were worked out by hand. Each is brought about by what was done before the turn.
 ghost use Rattle.std.specs.Prelude.{◌≡◌, ◌<◌, IfOk, OnOk};
-ghost use Rattle.mark_words.specs.Token.{IsSeatOf, doing_of, places_of, subject_of};
+ghost use Rattle.mark_words.specs.Tokens.{IsSeatOf, doing_of, places_of, subject_of};
 ghost use Rattle.recalc_workers.specs.Desks.{seat_of, hand_of};
 ghost use Rattle.recalc_workers.specs.Hands.{IsHandOf, sizes_of};
 ghost use Rattle.recalc_workers.specs.Offices.{words_for};

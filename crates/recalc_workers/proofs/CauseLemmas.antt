@@ -9,14 +9,14 @@ use Rattle.sheet_refs.specs.Sizes.{is_inside, place_of}
 use Rattle.sheet_refs.specs.declared.sizes.Sizes.{Sizes}
 use Rattle.mark_core.specs.declared.words.Clean.{Clean}
 use Rattle.mark_core.specs.declared.subjects.Subject.{Ghosts}
-use Rattle.mark_core.specs.Permission.{MayClaim}
+use Rattle.mark_core.specs.Permissions.{MayClaim}
 use Rattle.mark_core.proofs.Prefixes.{prefix_length, take-prefix}
 use Rattle.mark_words.specs.declared.seats.Seat.{Seat}
 use Rattle.mark_core.specs.declared.events.Event.TheVariants.{See}
 use Rattle.mark_words.specs.declared.tables.Doing.{Doing}
 use Rattle.mark_words.specs.Doing.{with_see}
 use Rattle.mark_words.specs.Steps.{OneMore}
-use Rattle.mark_words.specs.Token.{seat_table, doing_of, own_steps, view_of, log_of, seen_of}
+use Rattle.mark_words.specs.Tokens.{seat_table, doing_of, own_steps, view_of, log_of, seen_of}
 use Rattle.sheet_model.specs.Logs.{after}
 use Rattle.sheet_model.specs.Sheets.{SheetValue, ContentValue, content_of}
 use Rattle.sheet_model.specs.Values.{IsInput, content_references}

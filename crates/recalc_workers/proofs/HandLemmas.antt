@@ -7,19 +7,19 @@ use Rattle.crossbeam_queue.specs.Fifo.{Held}
 use Rattle.crossbeam_queue.specs.Passes.{view}
 use Rattle.sheet_refs.specs.declared.sizes.Sizes.{Sizes}
 use Rattle.recalc_workers.specs.declared.job.Job.{Job}
-use Rattle.recalc_workers.specs.declared.rules.Entry.{Entry}
+use Rattle.recalc_workers.specs.declared.rules.Queued.{Queued}
 use Rattle.recalc_workers.specs.declared.rules.HandView.{HandView}
 use Rattle.recalc_workers.specs.declared.hands.Hand.{Hand}
 use Rattle.recalc_workers.specs.Rule.{FitsSheet, AllFit, PutsEntry, TakesEntry, KnowsHeld}
 use Rattle.recalc_workers.specs.Hands.{jobs_of, put_of, taken_of, HasHeld, HasPut, HasRefused, HasTaken, HasFoundNone}
 
-fit_jobs : (sizes : Sizes) (entries : List Entry) → AllFit sizes entries → (place : ℕ) (job : Job)
+fit_jobs : (sizes : Sizes) (entries : List Queued) → AllFit sizes entries → (place : ℕ) (job : Job)
     → get_elem? (jobs_of entries) place ≡ some job → FitsSheet sizes job
 fit_jobs sizes [] all place job e = absurd (some-ne-none job (sym e))
 fit_jobs sizes (x ∷ xs) all zero job e = subst (λ (y : Job). FitsSheet sizes y) (some-injective x.job job e) (all 0 x refl)
 fit_jobs sizes (x ∷ xs) all (suc place) job e = fit_jobs sizes xs (λ q y at. all (suc q) y at) place job e
 
-joined : (xs ys : List Entry) → jobs_of (xs ++ ys) ≡ jobs_of xs ++ jobs_of ys
+joined : (xs ys : List Queued) → jobs_of (xs ++ ys) ≡ jobs_of xs ++ jobs_of ys
 joined xs ys = map-append (λ entry. entry.job) xs ys
 
 pub held : (sizes : Sizes) (n : ℕ) (old : Hand) → (view old.pass).sizes ≡ sizes → Held n (KnowsHeld (view old.pass)) → HasHeld sizes n old
@@ -38,7 +38,7 @@ none_left : (put taken held : List Job) → put ≡ taken ++ held → length hel
 none_left put taken [] e l = e ∙ append-nil taken
 none_left put taken (x ∷ xs) e l = absurd (omega arith)
 
-pub has_put : (old new : Hand) (entry : Entry) → PutsEntry (view old.pass) entry (view new.pass) → view new.note ≡ view old.note → HasPut old new entry.job
+pub has_put : (old new : Hand) (entry : Queued) → PutsEntry (view old.pass) entry (view new.pass) → view new.note ≡ view old.note → HasPut old new entry.job
 has_put old new entry h same =
     let v = view old.pass in record {
       put = ap (λ (w : HandView). jobs_of w.put) h.0 ∙ joined v.put (entry ∷ []);
@@ -58,7 +58,7 @@ has_refused sizes old new job n sized room same noted h =
       no_room = λ sole. counts (put_of old) (taken_of old) full.held 65536 (full.accounts sole) full.counted;
     }
 
-pub has_taken : (sizes : Sizes) (old new : Hand) (entry : Entry) → (view old.pass).sizes ≡ sizes → TakesEntry (view old.pass) entry (view new.pass)
+pub has_taken : (sizes : Sizes) (old new : Hand) (entry : Queued) → (view old.pass).sizes ≡ sizes → TakesEntry (view old.pass) entry (view new.pass)
     → view new.note ≡ view old.note → HasTaken sizes old new entry.job
 has_taken sizes old new entry sized h same =
     let v = view old.pass in record {

@@ -13,7 +13,7 @@ use Rattle.mark_core.specs.declared.actors.View.{View}
 use Rattle.mark_core.specs.declared.subjects.Subject.{Ghosts}
 use Rattle.mark_core.proofs.Prefixes.{prefix_of_prefix}
 use Rattle.mark_words.specs.declared.marks.Marks.{Marks}
-use Rattle.mark_words.specs.Token.{IsSeatOf, view_of}
+use Rattle.mark_words.specs.Tokens.{IsSeatOf, view_of}
 use Rattle.sheet_model.specs.declared.entry.Entry.{Entry}
 use Rattle.sheet_model.specs.Logs.{after}
 use Rattle.sheet_model.specs.Sheets.{SheetValue}

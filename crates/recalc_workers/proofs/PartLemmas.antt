@@ -9,7 +9,7 @@ use Rattle.sheet_refs.specs.declared.sizes.Sizes.{Sizes}
 use Rattle.mark_core.specs.declared.actors.View.{View}
 use Rattle.mark_core.specs.declared.subjects.Subject.{Ghosts}
 use Rattle.mark_words.specs.declared.marks.Marks.{Marks}
-use Rattle.mark_words.specs.Token.{IsSeatOf, view_of, log_of}
+use Rattle.mark_words.specs.Tokens.{IsSeatOf, view_of, log_of}
 use Rattle.recalc_workers.specs.declared.desk.Desk.{Desk}
 use Rattle.recalc_workers.specs.Desks.{seat_of}
 use Rattle.recalc_workers.specs.Seats.{HoldsNothing}

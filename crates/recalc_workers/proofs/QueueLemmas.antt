@@ -7,7 +7,7 @@ use lib.ListN.{get_elem?}
 use Rattle.crossbeam_queue.specs.Fifo.{Pushes, Pops, Forks, Learns}
 use Rattle.crossbeam_queue.proofs.Lists.{at_set, at_snoc}
 use Rattle.sheet_refs.specs.declared.sizes.Sizes.{Sizes}
-use Rattle.recalc_workers.specs.declared.rules.Entry.{Entry}
+use Rattle.recalc_workers.specs.declared.rules.Queued.{Queued}
 use Rattle.recalc_workers.specs.declared.rules.HandView.{HandView}
 use Rattle.recalc_workers.specs.Rule.{FitsSheet, AllFit, AccountsFor, FitsQueue, HoldsJobs, one_cell, sole_view}
 use Rattle.recalc_workers.specs.Rule.{first_view, with_put, with_taken, not_sole, further_view, PutsEntry, TakesEntry}
@@ -22,7 +22,7 @@ first_place : (views : List HandView) (u v : HandView) (port : ℕ) → views �
 first_place views u v port one at = (only u v port (ap (λ l. get_elem? l port) (sym one) ∙ at)).0
 
 -- a hand beside another one is no only hand
-not_alone : (sizes : Sizes) (entries : List Entry) (views : List HandView) (port j : ℕ) (v u : HandView) → FitsQueue sizes entries views u
+not_alone : (sizes : Sizes) (entries : List Queued) (views : List HandView) (port j : ℕ) (v u : HandView) → FitsQueue sizes entries views u
     → get_elem? views port ≡ some v → get_elem? views j ≡ some u → j ≢ port → u.sole ≢ true
 not_alone sizes entries views port j v u fits at there apart sole =
     let one = (fits.1 sole).0 in apart (first_place views u u j one there ∙ sym (first_place views u v port one at))
@@ -32,7 +32,7 @@ one_changed : (views : List HandView) (port : ℕ) (v w : HandView) → views �
 one_changed views port v w one at = ap (λ l. set l port w) one ∙ ap (λ i. set (v ∷ []) i w) (first_place views v v port one at)
 
 -- the views of a queue whose entries change with one view of the same sizes
-moves : (sizes : Sizes) (entries after : List Entry) (views : List HandView) (port : ℕ) (v w : HandView)
+moves : (sizes : Sizes) (entries after : List Queued) (views : List HandView) (port : ℕ) (v w : HandView)
     → ((j : ℕ) (u : HandView) → get_elem? views j ≡ some u → FitsQueue sizes entries views u)
     → get_elem? views port ≡ some v → w.sizes ≡ v.sizes → w.sole ≡ v.sole → (AccountsFor v entries → AccountsFor w after)
     → (j : ℕ) (u : HandView) → get_elem? (set views port w) j ≡ some u → FitsQueue sizes after (set views port w) u
@@ -58,14 +58,14 @@ empty sizes = (
 pub begins : HoldsJobs [] (first_view ∷ [])
 begins = empty one_cell
 
-all_more : (sizes : Sizes) (entries : List Entry) (x : Entry) → AllFit sizes entries → FitsSheet sizes x.job → AllFit sizes (entries ++ x ∷ [])
+all_more : (sizes : Sizes) (entries : List Queued) (x : Queued) → AllFit sizes entries → FitsSheet sizes x.job → AllFit sizes (entries ++ x ∷ [])
 all_more sizes entries x all fits place entry e =
-    ⊎_elim (λ at. all place entry at) (λ (is : x ≡ entry). subst (λ (y : Entry). FitsSheet sizes y.job) is fits) (at_snoc entries x entry place e)
+    ⊎_elim (λ at. all place entry at) (λ (is : x ≡ entry). subst (λ (y : Queued). FitsSheet sizes y.job) is fits) (at_snoc entries x entry place e)
 
-has_room : (put taken entries : List Entry) (n : ℕ) → put ≡ taken ++ entries → length entries < n → n ≡ 65536 → length put < length taken + 65536
+has_room : (put taken entries : List Queued) (n : ℕ) → put ≡ taken ++ entries → length entries < n → n ≡ 65536 → length put < length taken + 65536
 has_room put taken entries n e room full = let l = ap length e ∙ length-append taken entries in omega arith
 
-pub puts : (n port : ℕ) (v : HandView) (x : Entry) → n ≡ 65536 → FitsSheet v.sizes x.job → Pushes HoldsJobs n port v x (PutsEntry v x)
+pub puts : (n port : ℕ) (v : HandView) (x : Queued) → n ≡ 65536 → FitsSheet v.sizes x.job → Pushes HoldsJobs n port v x (PutsEntry v x)
 puts n port v x full fits entries views room h at =
     let mine = h.2 port v at in (
       with_put v x,
@@ -91,19 +91,19 @@ takes port v x entries views h at =
     )
 
 -- the first entry is taken out, and none is left
-learns_first : (port : ℕ) (first : Entry) → Pops HoldsJobs port (with_put first_view first) (LearnsSizes (with_put first_view first))
+learns_first : (port : ℕ) (first : Queued) → Pops HoldsJobs port (with_put first_view first) (LearnsSizes (with_put first_view first))
 learns_first port first x entries views h at =
     let v = with_put first_view first in let mine = (h.2 port v at).1 refl in let w = sole_view x.sizes in (
       w,
-      subst (λ (y : List Entry × List HandView). HoldsJobs y.0 y.1) (λ i. (ap (drop 1) mine.1 i, sym (one_changed views port v w mine.0 at) i)) (empty x.sizes),
-      (ap (λ (y : Entry). y ∷ []) (some-injective first x (ap (λ l. get_elem? l 0) mine.1)), refl),
+      subst (λ (y : List Queued × List HandView). HoldsJobs y.0 y.1) (λ i. (ap (drop 1) mine.1 i, sym (one_changed views port v w mine.0 at) i)) (empty x.sizes),
+      (ap (λ (y : Queued). y ∷ []) (some-injective first x (ap (λ l. get_elem? l 0) mine.1)), refl),
     )
 
-pub learns : (port : ℕ) (v : HandView) (first : Entry) → v ≡ with_put first_view first → Pops HoldsJobs port v (LearnsSizes v)
+pub learns : (port : ℕ) (v : HandView) (first : Queued) → v ≡ with_put first_view first → Pops HoldsJobs port v (LearnsSizes v)
 learns port v first is = subst (λ (y : HandView). Pops HoldsJobs port y (LearnsSizes y)) (sym is) (learns_first port first)
 
 -- the first entry's job is one of the sheet of one cell
-pub first_fits : (v : HandView) (x : Entry) → v ≡ first_view → x.job.cell.row ≡ 1 → x.job.cell.col ≡ 1 → x.job.tries ≡ 0 → FitsSheet v.sizes x.job
+pub first_fits : (v : HandView) (x : Queued) → v ≡ first_view → x.job.cell.row ≡ 1 → x.job.cell.col ≡ 1 → x.job.tries ≡ 0 → FitsSheet v.sizes x.job
 first_fits v x is row col tries =
     subst (λ (y : HandView). FitsSheet y.sizes x.job) (sym is)
     (subst (λ (p : ℕ × (ℕ × ℕ)). IsTrue ((nat_le 1 p.0 && nat_le p.0 1) && (nat_le 1 p.1.0 && nat_le p.1.0 1))

@@ -16,9 +16,9 @@ use Rattle.formula_eval.specs.Meaning.{IsNamedBy}
 use Rattle.std.proofs.lemmas.List.Elements.{Contains-push, Contains-append_left, Contains-append_right}
 use Rattle.mark_core.specs.declared.words.Clean.{Clean}
 use Rattle.mark_core.specs.declared.subjects.Subject.{Ghosts}
-use Rattle.mark_core.specs.Mark.{IsPrefix}
+use Rattle.mark_core.specs.Marks.{IsPrefix}
 use Rattle.mark_words.specs.declared.seats.Seat.{Seat}
-use Rattle.mark_words.specs.Token.{view_of}
+use Rattle.mark_words.specs.Tokens.{view_of}
 use Rattle.recalc_workers.specs.declared.reading.Reading.{Reading}
 use Rattle.recalc_workers.specs.declared.inputs.Unread.{Unread}
 use Rattle.recalc_workers.specs.declared.inputs.Unread.TheVariants.{Outdated, Memory}

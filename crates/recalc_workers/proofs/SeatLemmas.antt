@@ -5,17 +5,17 @@ use Rattle.mark_core.specs.declared.words.Finished.{Finished}
 use Rattle.mark_core.specs.declared.actors.View.{View}
 use Rattle.mark_core.specs.declared.events.Event.{Event}
 use Rattle.mark_core.specs.declared.subjects.Subject.{Ghosts}
-use Rattle.mark_core.specs.Mark.{IsPrefix, IsLastMark}
+use Rattle.mark_core.specs.Marks.{IsPrefix, IsLastMark}
 use Rattle.mark_core.specs.Knows.{KnowsClean}
-use Rattle.mark_core.specs.View.{with_half, new_half, with_read, read_of, known_from}
+use Rattle.mark_core.specs.Views.{with_half, new_half, with_read, read_of, known_from}
 use Rattle.mark_core.proofs.Prefixes.{prefix_itself, prefix_of_prefix}
 use Rattle.mark_words.specs.declared.tables.Doing.{Doing}
 use Rattle.mark_words.specs.declared.tables.OwnStep.{OwnStep}
 use Rattle.mark_words.specs.declared.seats.Seat.{Seat}
 use Rattle.mark_words.specs.Doing.{with_clean_read, with_value_read, with_mark_read}
-use Rattle.mark_words.specs.Read.{TellsOfRead, Ends, LearnsClean}
+use Rattle.mark_words.specs.Reads.{TellsOfRead, Ends, LearnsClean}
 use Rattle.mark_words.specs.Steps.{OneMore}
-use Rattle.mark_words.specs.Token.{seat_table, doing_of, own_steps, view_of, log_of}
+use Rattle.mark_words.specs.Tokens.{seat_table, doing_of, own_steps, view_of, log_of}
 use Rattle.mark_words.proofs.ReadSteps.{read_end_of, goes_on}
 use Rattle.recalc_workers.specs.declared.reading.Reading.{Reading}
 use Rattle.recalc_workers.specs.Seats.{Keeps, HasDoneNothing, HasRead, TellsOver}

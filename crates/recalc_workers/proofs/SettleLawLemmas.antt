@@ -8,10 +8,10 @@ use Rattle.sheet_refs.specs.declared.sizes.Sizes.{Sizes}
 use Rattle.mark_core.specs.declared.actors.View.{View}
 use Rattle.mark_core.specs.declared.words.Known.{Known}
 use Rattle.mark_core.specs.declared.subjects.Subject.{Ghosts}
-use Rattle.mark_core.specs.Mark.{IsPrefix}
+use Rattle.mark_core.specs.Marks.{IsPrefix}
 use Rattle.mark_words.specs.declared.marks.Marks.{Marks}
 use Rattle.mark_words.specs.declared.seats.Seat.{Seat}
-use Rattle.mark_words.specs.Token.{view_of}
+use Rattle.mark_words.specs.Tokens.{view_of}
 use Rattle.sheet_model.specs.declared.entry.Entry.{Entry}
 use Rattle.sheet_model.proofs.ListLemmas.{slice_get-append}
 use Rattle.recalc_workers.specs.Settling.{KnowsCells, KnowsPlace}

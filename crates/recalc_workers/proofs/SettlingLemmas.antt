@@ -5,12 +5,12 @@ use Rattle.std.proofs.lemmas.List.{append-nil, length-append}
 use Rattle.std.proofs.lemmas.List.Elements.{Contains-append_left, Contains-append_right}
 use Rattle.mark_core.specs.declared.actors.View.{View}
 use Rattle.mark_core.specs.declared.words.Known.{Known}
-use Rattle.mark_core.specs.Mark.{IsPrefix, IsLastMark}
+use Rattle.mark_core.specs.Marks.{IsPrefix, IsLastMark}
 use Rattle.mark_core.specs.declared.words.Clean.{Clean}
 use Rattle.mark_core.specs.declared.subjects.Subject.{Ghosts}
 use Rattle.mark_core.proofs.Prefixes.{prefix_itself, prefix_of_prefix, prefix_length}
 use Rattle.mark_words.specs.declared.tables.Doing.{Doing}
-use Rattle.mark_words.specs.Meet.{HasMet}
+use Rattle.mark_words.specs.Meets.{HasMet}
 use Rattle.mark_words.specs.declared.seats.Seat.{Seat}
 use Rattle.recalc_workers.specs.declared.reading.Reading.{Reading}
 use Rattle.recalc_workers.specs.Seats.{HasOnlyRead, HasRead, HoldsNothing}

@@ -14,7 +14,7 @@ use Rattle.mark_core.proofs.Prefixes.{prefix_length}
 use Rattle.mark_words.specs.declared.seats.Seat.{Seat}
 use Rattle.mark_words.specs.declared.tables.OwnStep.{OwnStep}
 use Rattle.mark_words.specs.Steps.{made_of}
-use Rattle.mark_words.specs.Token.{own_steps, view_of}
+use Rattle.mark_words.specs.Tokens.{own_steps, view_of}
 use Rattle.mark_words.specs.Words.{word_of_clean}
 use Rattle.sheet_model.proofs.PartLemmas.{slice_get-behind}
 use Rattle.sheet_model.specs.Sheets.{SheetValue}

@@ -9,15 +9,15 @@ use Rattle.mark_core.specs.declared.words.Held.{Held}
 use Rattle.mark_core.specs.declared.events.Event.TheVariants.{Claim, Put, Finish}
 use Rattle.mark_core.specs.declared.actors.View.{View}
 use Rattle.mark_core.specs.declared.subjects.Subject.{Ghosts}
-use Rattle.mark_core.specs.Mark.{IsLastMark}
-use Rattle.mark_core.specs.Permission.{IsWorthKnown, MayPut, MayFinish}
-use Rattle.mark_core.specs.View.{hold_with}
+use Rattle.mark_core.specs.Marks.{IsLastMark}
+use Rattle.mark_core.specs.Permissions.{IsWorthKnown, MayPut, MayFinish}
+use Rattle.mark_core.specs.Views.{hold_with}
 use Rattle.mark_core.proofs.Prefixes.{prefix_of_prefix}
 use Rattle.mark_words.specs.declared.tables.Doing.{Doing}
 use Rattle.mark_words.specs.declared.seats.Seat.{Seat}
 use Rattle.mark_words.specs.Doing.{with_claim, with_word_put, with_finish}
 use Rattle.mark_words.specs.Steps.{OneMore}
-use Rattle.mark_words.specs.Token.{seat_table, doing_of, own_steps, view_of, log_of}
+use Rattle.mark_words.specs.Tokens.{seat_table, doing_of, own_steps, view_of, log_of}
 use Rattle.mark_words.specs.Words.{word_of_clean}
 use Rattle.recalc_workers.specs.Seats.{HoldsNothing}
 use Rattle.recalc_workers.specs.Work.{HasFinished}

@@ -5,7 +5,7 @@ use lib.ListN.{get_elem?}
 use Rattle.crossbeam_queue.specs.Passes.{view, IsPassOf}
 use Rattle.sheet_refs.specs.declared.sizes.Sizes.{Sizes}
 use Rattle.recalc_workers.specs.declared.job.Job.{Job}
-use Rattle.recalc_workers.specs.declared.rules.Entry.{Entry}
+use Rattle.recalc_workers.specs.declared.rules.Queued.{Queued}
 use Rattle.recalc_workers.specs.declared.hands.Hand.{Hand}
 use Rattle.recalc_workers.specs.declared.hands.Jobs.{Jobs}
 use Rattle.recalc_workers.specs.Rule.{FitsSheet}
@@ -15,7 +15,7 @@ abbrev pub sizes_of : Jobs → Sizes
 sizes_of jobs = jobs.sizes
 
 -- the jobs of entries, in order
-abbrev pub jobs_of : List Entry → List Job
+abbrev pub jobs_of : List Queued → List Job
 jobs_of entries = map (λ entry. entry.job) entries
 
 -- the jobs that the hand put, in order

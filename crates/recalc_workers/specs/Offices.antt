@@ -4,7 +4,7 @@ use Rattle.sheet_refs.specs.Cells.{Position}
 use Rattle.mark_core.specs.declared.subjects.Subject.{Ghosts}
 use Rattle.mark_words.specs.declared.marks.Marks.{Marks}
 use Rattle.mark_words.specs.declared.seats.Seat.{Seat}
-use Rattle.mark_words.specs.Token.{TableId, table_of, subject_of, seat_table, doing_of, log_of, seen_of}
+use Rattle.mark_words.specs.Tokens.{TableId, table_of, subject_of, seat_table, doing_of, log_of, seen_of}
 use Rattle.sheet_model.specs.Logs.{after}
 use Rattle.sheet_model.specs.Sheets.{SheetValue, IsSheet, content_value, content_of}
 use Rattle.sheet_model.specs.declared.entry.Entry.{Entry}

@@ -2,10 +2,10 @@
 use Rattle.std.specs.Prelude.{◌≡◌, ◌≤◌, ◌+◌, ℕ, List, [], ◌∷◌, ◌++◌, Some, length}
 use Rattle.mark_core.specs.declared.words.Finished.{Finished}
 use Rattle.mark_core.specs.declared.subjects.Subject.{Ghosts}
-use Rattle.mark_core.specs.Mark.{IsPrefix, IsLastMark}
+use Rattle.mark_core.specs.Marks.{IsPrefix, IsLastMark}
 use Rattle.mark_core.specs.Knows.{KnowsClean}
 use Rattle.mark_words.specs.declared.seats.Seat.{Seat}
-use Rattle.mark_words.specs.Token.{seat_table, doing_of, own_steps, view_of, log_of, seen_of}
+use Rattle.mark_words.specs.Tokens.{seat_table, doing_of, own_steps, view_of, log_of, seen_of}
 use Rattle.recalc_workers.specs.declared.reading.Reading.{Reading}
 
 -- the seat holds no place

@@ -5,10 +5,10 @@ use Rattle.sheet_refs.specs.Sizes.{place_of}
 use Rattle.sheet_refs.specs.declared.sizes.Sizes.{Sizes}
 use Rattle.mark_core.specs.declared.actors.View.{View}
 use Rattle.mark_core.specs.declared.subjects.Subject.{Ghosts}
-use Rattle.mark_core.specs.Mark.{IsTouched}
+use Rattle.mark_core.specs.Marks.{IsTouched}
 use Rattle.mark_words.specs.declared.marks.Marks.{Marks}
 use Rattle.mark_words.specs.declared.seats.Seat.{Seat}
-use Rattle.mark_words.specs.Token.{seat_table, table_of, view_of, log_of, seen_of, edits_of, is_editor}
+use Rattle.mark_words.specs.Tokens.{seat_table, table_of, view_of, log_of, seen_of, edits_of, is_editor}
 use Rattle.sheet_model.specs.declared.entry.Entry.{Entry}
 use Rattle.sheet_model.specs.Sheets.{SheetValue}
 use Rattle.sheet_model.specs.Values.{IsInput}

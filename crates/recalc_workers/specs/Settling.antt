@@ -7,10 +7,10 @@ use Rattle.mark_core.specs.declared.actors.View.{View}
 use Rattle.mark_core.specs.declared.words.Known.{Known}
 use Rattle.mark_core.specs.declared.subjects.Subject.{Ghosts}
 use Rattle.mark_core.specs.Knows.{KnowsClean}
-use Rattle.mark_core.specs.Mark.{IsPrefix}
+use Rattle.mark_core.specs.Marks.{IsPrefix}
 use Rattle.mark_words.specs.declared.marks.Marks.{Marks}
 use Rattle.mark_words.specs.declared.seats.Seat.{Seat}
-use Rattle.mark_words.specs.Token.{IsSeatOf, view_of, log_of, edits_of, is_editor}
+use Rattle.mark_words.specs.Tokens.{IsSeatOf, view_of, log_of, edits_of, is_editor}
 use Rattle.sheet_model.specs.declared.entry.Entry.{Entry}
 use Rattle.sheet_model.specs.Logs.{after}
 use Rattle.sheet_model.specs.Sheets.{SheetValue, IsSheet}

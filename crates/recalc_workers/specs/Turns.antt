@@ -5,10 +5,10 @@ use Rattle.sheet_refs.specs.Sizes.{place_of}
 use Rattle.mark_core.specs.declared.words.Clean.{Clean}
 use Rattle.mark_core.specs.declared.words.Finished.{Finished}
 use Rattle.mark_core.specs.declared.subjects.Subject.{Ghosts}
-use Rattle.mark_core.specs.Mark.{IsPrefix}
+use Rattle.mark_core.specs.Marks.{IsPrefix}
 use Rattle.mark_words.specs.declared.seats.Seat.{Seat}
 use Rattle.mark_words.specs.declared.tables.OwnStep.{OwnStep}
-use Rattle.mark_words.specs.Token.{own_steps, view_of, log_of}
+use Rattle.mark_words.specs.Tokens.{own_steps, view_of, log_of}
 use Rattle.sheet_model.specs.Budget.{Leads}
 use Rattle.sheet_model.specs.Logs.{after}
 use Rattle.sheet_model.specs.Sheets.{SheetValue}

@@ -6,7 +6,7 @@ use Rattle.mark_core.specs.declared.subjects.Subject.{Ghosts}
 use Rattle.mark_words.specs.declared.seats.Seat.{Seat}
 use Rattle.mark_words.specs.declared.tables.OwnStep.{OwnStep}
 use Rattle.mark_words.specs.Steps.{OneMore}
-use Rattle.mark_words.specs.Token.{own_steps, view_of, log_of}
+use Rattle.mark_words.specs.Tokens.{own_steps, view_of, log_of}
 use Rattle.mark_words.specs.Words.{word_of_clean}
 use Rattle.recalc_workers.specs.Seats.{Keeps, HoldsNothing}
 

@@ -2,7 +2,7 @@ ghost use Rattle.recalc_workers.specs.TurnLaws.{DoneIsOneFinish, OthersFinishNot
 ghost use Rattle.recalc_workers.specs.TurnLaws.{NothingWasClean, LaterIsPast, StaleHasAnInput};
 ghost use Rattle.recalc_workers.specs.TurnLaws.{BusyFoundAnother, IdleTakesNone};
 ghost use Rattle.recalc_workers.specs.TurnLaws.{TakesOneAndOffersNone, TakesOneAndOffersIt};
-ghost use Rattle.mark_words.specs.Token.{subject_of};
+ghost use Rattle.mark_words.specs.Tokens.{subject_of};
 
 use mark_words::{Marks, Seat};
 use sheet_model::SheetSubject;

@@ -1,5 +1,5 @@
 ghost use Rattle.std.specs.Prelude.{◌≡◌, ◌<◌, true, length};
-ghost use Rattle.mark_words.specs.Token.{IsSeatOf, subject_of, places_of, view_of, log_of};
+ghost use Rattle.mark_words.specs.Tokens.{IsSeatOf, subject_of, places_of, view_of, log_of};
 ghost use Rattle.recalc_workers.specs.Seats.{HoldsNothing};
 ghost use Rattle.recalc_workers.specs.Settling.{HasWorked, KnowsPlace};
 

@@ -1,8 +1,8 @@
 ghost use Rattle.std.specs.Prelude.{◌≡◌, ◌<◌, OnOk, IfErr};
 ghost use Rattle.mark_core.specs.Knows.{KnowsClean};
-ghost use Rattle.mark_core.specs.Mark.{IsLastMark};
-ghost use Rattle.mark_core.specs.Permission.{MayClaim};
-ghost use Rattle.mark_words.specs.Token.{IsSeatOf, subject_of, places_of, view_of, log_of};
+ghost use Rattle.mark_core.specs.Marks.{IsLastMark};
+ghost use Rattle.mark_core.specs.Permissions.{MayClaim};
+ghost use Rattle.mark_words.specs.Tokens.{IsSeatOf, subject_of, places_of, view_of, log_of};
 ghost use Rattle.recalc_workers.specs.Seats.{HoldsNothing};
 ghost use Rattle.recalc_workers.specs.Work.{HasFinished, HasLost};
 

@@ -3,7 +3,7 @@ ghost use Rattle.std.specs.Prelude.{IfSome, IsNone, OnOk, IfErr};
 ghost use Rattle.sheet_refs.specs.Cells.{Position, IsIn, cells_of};
 ghost use Rattle.sheet_refs.specs.Sizes.{is_inside, cell_count, place_of};
 ghost use Rattle.formula_eval.specs.Meaning.{IsNamedBy};
-ghost use Rattle.mark_words.specs.Token.{IsSeatOf, subject_of, places_of, log_of};
+ghost use Rattle.mark_words.specs.Tokens.{IsSeatOf, subject_of, places_of, log_of};
 ghost use Rattle.sheet_model.specs.Sheets.{content_value};
 ghost use Rattle.sheet_model.specs.Values.{content_references};
 ghost use Rattle.sheet_model.specs.declared.parts.Part.{Part as PartValue};

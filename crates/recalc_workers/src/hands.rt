@@ -3,7 +3,7 @@ ghost use Rattle.crossbeam_queue.specs.Passes.{IsPassOf, ruled_capacity};
 
 use crate::job::Job;
 use crate::notes::{NoteSlot, Noted};
-use crate::rules::{Entry, HandView, JobQueue};
+use crate::rules::{HandView, JobQueue, Queued};
 use crossbeam_queue::Pass;
 use sheet_refs::Sizes;
 
@@ -18,7 +18,7 @@ pub struct Jobs {
 /// The token by which jobs are offered and taken. It knows the jobs that it put, that it was refused and that it took.
 #[derive(Drop)]
 pub struct Hand {
-    pub(crate) pass: Pass<Entry, HandView>,
+    pub(crate) pass: Pass<Queued, HandView>,
     pub(crate) slot: NoteSlot,
     pub(crate) note: Pass<Job, Noted>,
     ghost noting: { IsPassOf slot note },

@@ -6,7 +6,7 @@ ghost use Rattle.recalc_workers.specs.Hands.{HasPut, HasRefused, HasTaken, HasFo
 use crate::hands::{Hand, Jobs};
 use crate::job::Job;
 use crate::notes::{note, note_slot};
-use crate::rules::{Entry, Further, JobQueue, Learns, Puts, Takes};
+use crate::rules::{Further, JobQueue, Learns, Puts, Queued, Takes};
 use sheet_refs::{Cell, Memory, Sizes};
 use std::alloc::Global;
 use std::sync::Wait;
@@ -24,7 +24,7 @@ impl Jobs {
     {
         let sizes = Sizes { rows, cols };
         let cell = Cell::new(1, 1).unwrap();
-        let first = Entry {
+        let first = Queued {
             job: Job { cell, tries: 0 },
             sizes,
         };
@@ -79,7 +79,7 @@ impl Jobs {
         ensures refused { IfErr result
             (λ back. (back ≡ job) × HasRefused (sizes_of self.now) hand.old hand.new job) }
     {
-        let entry = Entry {
+        let entry = Queued {
             job,
             sizes: self.sizes,
         };

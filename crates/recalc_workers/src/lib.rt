@@ -52,7 +52,7 @@ pub use hands::{Hand, Jobs};
 pub use job::Job;
 pub use laws::hand_laws;
 pub use office::Office;
-pub use rules::{Entry, HandView};
+pub use rules::{HandView, Queued};
 pub use settled::settle_laws;
 pub use settling::{settle_circular, settle_level};
 pub use taking::turn;

@@ -1,5 +1,5 @@
 ghost use Rattle.std.specs.Prelude.{◌<◌};
-ghost use Rattle.mark_words.specs.Token.{IsSeatOf, subject_of, places_of};
+ghost use Rattle.mark_words.specs.Tokens.{IsSeatOf, subject_of, places_of};
 ghost use Rattle.recalc_workers.specs.Seats.{HasRead, TellsOver};
 
 use mark_core::{Clean, Subject};

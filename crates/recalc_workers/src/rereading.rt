@@ -1,6 +1,6 @@
 ghost use Rattle.std.specs.Prelude.{◌≡◌, ◌≤◌, length, OnOk};
 ghost use Rattle.sheet_refs.specs.Sizes.{cell_count, place_of};
-ghost use Rattle.mark_words.specs.Token.{IsSeatOf, subject_of, places_of, log_of};
+ghost use Rattle.mark_words.specs.Tokens.{IsSeatOf, subject_of, places_of, log_of};
 ghost use Rattle.sheet_model.specs.Sheets.{content_value};
 ghost use Rattle.sheet_model.specs.Values.{content_references};
 ghost use Rattle.recalc_workers.specs.Inputs.{HasListed};

@@ -7,7 +7,7 @@ use std::collections::LinkedList;
 /// A job in the queue, with the sizes of the sheet. The sizes matter in the first entry alone, by which the queue
 /// learns them; it is taken out before a job is offered.
 #[derive(Clone, Copy, Debug, PartialEq, Eq)]
-pub struct Entry {
+pub struct Queued {
     pub job: Job,
     pub sizes: Sizes,
 }
@@ -17,15 +17,15 @@ pub struct Entry {
 pub struct HandView {
     pub sizes: Sizes,
     pub sole: bool,
-    pub put: LinkedList<Entry>,
-    pub taken: LinkedList<Entry>,
+    pub put: LinkedList<Queued>,
+    pub taken: LinkedList<Queued>,
 }
 
 /// The rule of the queue: each job is one of the sheet, and what an only hand put is what it took and then what the
 /// queue holds.
 pub struct JobRule;
 
-impl Protocol<Entry, HandView> for JobRule {
+impl Protocol<Queued, HandView> for JobRule {
     ghost use Rattle.recalc_workers.specs.Rule.{HoldsJobs, first_view};
 
     ghost holds = { HoldsJobs };
@@ -36,13 +36,13 @@ impl Protocol<Entry, HandView> for JobRule {
 /// An entry is put.
 pub(crate) struct Puts;
 
-impl Outcome<Entry, HandView> for Puts {
+impl Outcome<Queued, HandView> for Puts {
     ghost use Rattle.recalc_workers.specs.Rule.{PutsEntry};
 
     ghost then = { PutsEntry };
 }
 
-impl Lesson<Entry, HandView> for Puts {
+impl Lesson<Queued, HandView> for Puts {
     ghost use Rattle.recalc_workers.specs.Rule.{KnowsHeld};
 
     ghost fact = { KnowsHeld };
@@ -51,13 +51,13 @@ impl Lesson<Entry, HandView> for Puts {
 /// An entry is taken.
 pub(crate) struct Takes;
 
-impl Outcome<Entry, HandView> for Takes {
+impl Outcome<Queued, HandView> for Takes {
     ghost use Rattle.recalc_workers.specs.Rule.{TakesEntry};
 
     ghost then = { TakesEntry };
 }
 
-impl Lesson<Entry, HandView> for Takes {
+impl Lesson<Queued, HandView> for Takes {
     ghost use Rattle.recalc_workers.specs.Rule.{KnowsHeld};
 
     ghost fact = { KnowsHeld };
@@ -66,7 +66,7 @@ impl Lesson<Entry, HandView> for Takes {
 /// The first entry is taken out, from which the sizes of the sheet are known.
 pub(crate) struct Learns;
 
-impl Outcome<Entry, HandView> for Learns {
+impl Outcome<Queued, HandView> for Learns {
     ghost use Rattle.recalc_workers.specs.Rule.{LearnsSizes};
 
     ghost then = { LearnsSizes };
@@ -84,4 +84,4 @@ impl Split<HandView> for Further {
 }
 
 /// The queue of jobs.
-pub(crate) type JobQueue = RuledArrayQueue<Entry, HandView, JobRule>;
+pub(crate) type JobQueue = RuledArrayQueue<Queued, HandView, JobRule>;

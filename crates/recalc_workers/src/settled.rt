@@ -1,4 +1,4 @@
-ghost use Rattle.mark_words.specs.Token.{subject_of};
+ghost use Rattle.mark_words.specs.Tokens.{subject_of};
 ghost use Rattle.recalc_workers.specs.SettleLaws.{CellsStayKnown, DesksStand, EditorStands};
 ghost use Rattle.recalc_workers.specs.SettleLaws.{KnownCellsAreKnownInputs, KnownCellsHaveTheirMarks};
 

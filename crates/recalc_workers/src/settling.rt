@@ -1,6 +1,6 @@
 ghost use Rattle.std.specs.Prelude.{◌≡◌, ◌<◌, length, All, OnOk};
 ghost use Rattle.std.specs.Thread.{IsSync};
-ghost use Rattle.mark_words.specs.Token.{IsSeatOf, subject_of, view_of};
+ghost use Rattle.mark_words.specs.Tokens.{IsSeatOf, subject_of, view_of};
 ghost use Rattle.sheet_model.specs.Budget.{LeadsIntoCycle};
 ghost use Rattle.sheet_model.specs.Values.{IsInput};
 ghost use Rattle.recalc_workers.specs.Settling.{AreDesksOf, AreInside, Each, IsDeskAfter};

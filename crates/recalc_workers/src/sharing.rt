@@ -1,5 +1,5 @@
 ghost use Rattle.std.specs.Prelude.{◌≡◌, true, false};
-ghost use Rattle.mark_words.specs.Token.{IsSeatOf, view_of, is_editor};
+ghost use Rattle.mark_words.specs.Tokens.{IsSeatOf, view_of, is_editor};
 ghost use Rattle.recalc_workers.specs.Desks.{seat_of, wants_memory};
 ghost use Rattle.recalc_workers.specs.Settling.{AreDesksOf, Each, IsDeskAfter, IsLent, KnowsOf};
 ghost use Rattle.recalc_workers.specs.Settling.{KeepsDesk, KeepsEditor, KnowsNoLess, KnowsOfAll};

@@ -1,6 +1,6 @@
 ghost use Rattle.std.specs.Prelude.{◌≡◌, IsTrue};
 ghost use Rattle.sheet_refs.specs.Sizes.{is_inside};
-ghost use Rattle.mark_words.specs.Token.{IsSeatOf, subject_of};
+ghost use Rattle.mark_words.specs.Tokens.{IsSeatOf, subject_of};
 ghost use Rattle.recalc_workers.specs.Again.{HasUsedJobs, IsOfferedAgain, comes_again as again_after};
 ghost use Rattle.recalc_workers.specs.Desks.{seat_of, hand_of};
 ghost use Rattle.recalc_workers.specs.Hands.{IsHandOf, is_sole, sizes_of};

@@ -2,9 +2,9 @@ ghost use Rattle.std.specs.Prelude.{◌≡◌, ◌≢◌, ◌≤◌, ◌<◌, �
 ghost use Rattle.std.specs.Prelude.{length, take, true, false, IsTrue, IsNone};
 ghost use Rattle.std.specs.Prelude.{IfSome};
 ghost use Rattle.sheet_refs.specs.Sizes.{is_inside, cell_count, place_of};
-ghost use Rattle.mark_core.specs.Mark.{IsLastMark};
-ghost use Rattle.mark_core.specs.Permission.{MayClaim};
-ghost use Rattle.mark_words.specs.Token.{IsSeatOf, subject_of, places_of, view_of, log_of};
+ghost use Rattle.mark_core.specs.Marks.{IsLastMark};
+ghost use Rattle.mark_core.specs.Permissions.{MayClaim};
+ghost use Rattle.mark_words.specs.Tokens.{IsSeatOf, subject_of, places_of, view_of, log_of};
 ghost use Rattle.sheet_model.specs.Logs.{after, IsOfSheet};
 ghost use Rattle.sheet_model.specs.Sheets.{IsSheet};
 ghost use Rattle.sheet_model.specs.Values.{IsInput};

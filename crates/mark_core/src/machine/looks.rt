@@ -2,8 +2,8 @@
 
 ghost use Rattle.std.specs.Prelude.{◌≡◌, ◌<◌, ◌↔◌, ◌-◌, ◌^◌, length, IsTrue, MatchOption, Some};
 ghost use Rattle.std.specs.Prelude.{None};
-ghost use Rattle.mark_core.specs.State.{State, view_at};
-ghost use Rattle.mark_core.specs.Permission.{IsLive, MayStepAt};
+ghost use Rattle.mark_core.specs.States.{State, view_at};
+ghost use Rattle.mark_core.specs.Permissions.{IsLive, MayStepAt};
 
 use crate::machine::Machine;
 use crate::words::{Finished, Held};

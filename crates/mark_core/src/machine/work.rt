@@ -1,11 +1,11 @@
 #![tactic(auto)]
 
 ghost use Rattle.std.specs.Prelude.{◌≡◌, ◌<◌, ◌≤◌, length, IfOk, OnOk, OnErr};
-ghost use Rattle.mark_core.specs.Place.{place_at};
-ghost use Rattle.mark_core.specs.State.{State, view_at};
+ghost use Rattle.mark_core.specs.Places.{place_at};
+ghost use Rattle.mark_core.specs.States.{State, view_at};
 ghost use Rattle.mark_core.specs.declared.events.Event.{Event};
 ghost use Rattle.mark_core.specs.declared.events.Outcome.{Outcome};
-ghost use Rattle.mark_core.specs.Step.{Gives, after_claim, after_refusal, after_put, after_finish};
+ghost use Rattle.mark_core.specs.Steps.{Gives, after_claim, after_refusal, after_put, after_finish};
 
 use crate::events::{Event, Outcome};
 use crate::machine::Machine;

@@ -3,7 +3,7 @@ use Rattle.std.specs.Prelude.{refl, ◌≡◌, ◌==◌, ◌%◌, ℕ, zero, suc
 use Rattle.mark_core.specs.declared.subjects.Subject.{Ghosts}
 use Rattle.mark_words.specs.declared.marks.Marks.{Marks}
 use Rattle.mark_words.specs.declared.seats.Seat.{Seat}
-use Rattle.mark_words.specs.Token.{IsSeatOf, places_of, is_editor, edits_of, log_of}
+use Rattle.mark_words.specs.Tokens.{IsSeatOf, places_of, is_editor, edits_of, log_of}
 
 -- the last of the entries that sets the place, and this one where none does
 abbrev pub last_setting : ℕ → ℕ → List ℕ → ℕ

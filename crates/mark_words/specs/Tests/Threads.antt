@@ -6,17 +6,17 @@ use Rattle.mark_core.specs.declared.answers.Seen.{Seen}
 use Rattle.mark_core.specs.declared.answers.Seen.TheVariants.{Value, Stale, Newer}
 use Rattle.mark_core.specs.Tests.TwoTestCells.{last_or}
 use Rattle.mark_core.specs.declared.words.Place.{Place}
-use Rattle.mark_core.specs.Place.{place_at}
-use Rattle.mark_core.specs.State.{State, opening_state}
-use Rattle.mark_core.specs.View.{read_of}
+use Rattle.mark_core.specs.Places.{place_at}
+use Rattle.mark_core.specs.States.{State, opening_state}
+use Rattle.mark_core.specs.Views.{read_of}
 use Rattle.mark_core.specs.declared.subjects.Subject.{Ghosts}
 use Rattle.mark_words.specs.declared.tables.Doing.{Doing}
 use Rattle.mark_words.specs.declared.tables.Made.{Made}
 use Rattle.mark_words.specs.declared.marks.Marks.{Marks}
 use Rattle.mark_words.specs.declared.seats.Seat.{Seat}
-use Rattle.mark_words.specs.Read.{IsWorthAfter, TellsOf}
-use Rattle.mark_words.specs.Run.{RunsWith}
-use Rattle.mark_words.specs.Token.{IsSeatOf, places_of, is_editor, edits_of, log_of}
+use Rattle.mark_words.specs.Reads.{IsWorthAfter, TellsOf}
+use Rattle.mark_words.specs.Runs.{RunsWith}
+use Rattle.mark_words.specs.Tokens.{IsSeatOf, places_of, is_editor, edits_of, log_of}
 
 -- the seat is the editor's one of a table with two places, with so many entries and none that is pending
 pub record IsReadyEditor {S E : Type 0} {G : Ghosts S E} (marks : Marks S E) (seat : Seat S E G) (count : ℕ) : Type 0 where

@@ -2,7 +2,7 @@
 
 ghost use Rattle.std.specs.Prelude.{◌≡◌, ◌≤◌, ◌<◌, ◌+◌, All, IfOk, OnOk};
 ghost use Rattle.std.specs.Thread.{IsSync};
-ghost use Rattle.mark_words.specs.Token.{IsSeatOf};
+ghost use Rattle.mark_words.specs.Tokens.{IsSeatOf};
 ghost use Rattle.mark_words.specs.Tests.EightTestCells.{IsEditing, IsScripted};
 
 use crate::tests::eight::{

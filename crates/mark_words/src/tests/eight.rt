@@ -1,7 +1,7 @@
 #![tactic(auto)]
 
 ghost use Rattle.std.specs.Prelude.{◌≡◌, ◌≤◌, ◌<◌, ◌+◌, true, All, IfOk};
-ghost use Rattle.mark_words.specs.Token.{IsSeatOf, closed_places};
+ghost use Rattle.mark_words.specs.Tokens.{IsSeatOf, closed_places};
 ghost use Rattle.mark_words.specs.Tests.EightTestCells.{last_setting, SetsPlace, last_stays, script};
 ghost use Rattle.mark_words.specs.Tests.EightTestCells.{IsScripted, IsEditing};
 

@@ -2,7 +2,7 @@
 
 ghost use Rattle.std.specs.Prelude.{◌≡◌, ◌<◌, ◌+◌};
 ghost use Rattle.mark_core.specs.Tests.TwoTestCells.{code_of};
-ghost use Rattle.mark_words.specs.Token.{IsSeatOf};
+ghost use Rattle.mark_words.specs.Tokens.{IsSeatOf};
 ghost use Rattle.mark_words.specs.Tests.Threads.{IsReadyEditor, KnowsLast};
 
 use crate::tests::uses::{Loads, reads, recomputes};

@@ -1,7 +1,7 @@
 #![tactic(auto)]
 
 ghost use Rattle.std.specs.Prelude.{◌≡◌, ◌<◌, All, IfOk};
-ghost use Rattle.mark_words.specs.Token.{IsSeatOf, subject_of};
+ghost use Rattle.mark_words.specs.Tokens.{IsSeatOf, subject_of};
 
 use crate::marks::Marks;
 use crate::seats::Seat;

@@ -2,7 +2,7 @@
 use Rattle.std.proofs.Common.{◌<◌, ◌∙◌, Some, ap, subst, arith, refl, slice_index_or, suc}
 use Rattle.std.proofs.lemmas.List.Elements.{Contains-get_or}
 use Rattle.edit_log.specs.Kept.{over_sheet}
-use Rattle.mark_words.specs.Token.{subject_of, topic_of, view_of, log_of, edits_of}
+use Rattle.mark_words.specs.Tokens.{subject_of, topic_of, view_of, log_of, edits_of}
 use Rattle.sheet_refs.proofs.Places.{place-lt}
 use Rattle.live_sheet.proofs.ClosingLemmas.{known_places, legal_over}
 use Rattle.live_sheet.proofs.closed_cells.close_cells.Goals as goal

@@ -1,7 +1,7 @@
 -- Each value is the worth of its place, by the state that was closed.
 use Rattle.std.proofs.Common.{◌<◌, slice_index_or, Some, sym, ◌∙◌, ap, subst}
-use Rattle.mark_core.specs.Mark.{IsPrefix}
-use Rattle.mark_words.specs.Token.{log_of}
+use Rattle.mark_core.specs.Marks.{IsPrefix}
+use Rattle.mark_words.specs.Tokens.{log_of}
 use Rattle.live_sheet.proofs.ClosedWordsLemmas.{closed_worth}
 use Rattle.std.proofs.lemmas.List.Elements.{Contains-get_or}
 use Rattle.live_sheet.proofs.closed_words.close_words.Goals as goal

@@ -1,6 +1,6 @@
 use Rattle.std.proofs.Common.{◌≡◌, ◌<◌, ℕ, Some, length}
 use Rattle.std.specs.Prelude.{slice_get}
-use Rattle.mark_words.specs.Token.{closed_place}
+use Rattle.mark_words.specs.Tokens.{closed_place}
 use Rattle.live_sheet.proofs.closed_words.list_values.Given as goal
 
 abbrev pub invariant-loop-place : goal.invariant-loop-place

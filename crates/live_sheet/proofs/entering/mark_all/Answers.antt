@@ -5,7 +5,7 @@ use Rattle.sheet_refs.specs.Sizes.{place_of}
 use Rattle.sheet_refs.specs.declared.sizes.Sizes.{Sizes}
 use Rattle.sheet_model.specs.declared.entry.Entry.{Entry}
 use Rattle.edit_log.specs.Touches.{TouchesPlace}
-use Rattle.mark_words.specs.Token.{subject_of, places_of, doing_of, log_of}
+use Rattle.mark_words.specs.Tokens.{subject_of, places_of, doing_of, log_of}
 use Rattle.live_sheet.specs.Edits.{HasMarked}
 use Rattle.live_sheet.proofs.EnterLemmas.{touched_all, is_ready}
 use Rattle.live_sheet.proofs.entering.mark_all.Goals as goal

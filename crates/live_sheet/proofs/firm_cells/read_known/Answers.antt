@@ -1,9 +1,9 @@
 use Rattle.std.proofs.Common.{◌≡◌, ◌≤◌, ◌+◌, ℕ, Some, length, List, ap, sym, refl, subst, ◌∙◌}
 use Rattle.mark_core.specs.declared.words.Half.{Half}
-use Rattle.mark_core.specs.Mark.{IsLastMark}
-use Rattle.mark_core.specs.View.{new_half}
+use Rattle.mark_core.specs.Marks.{IsLastMark}
+use Rattle.mark_core.specs.Views.{new_half}
 use Rattle.mark_words.specs.declared.tables.Doing.{Doing}
-use Rattle.mark_words.specs.Token.{subject_of, view_of, log_of}
+use Rattle.mark_words.specs.Tokens.{subject_of, view_of, log_of}
 use Rattle.recalc_workers.proofs.SeatLemmas.{has_read, tells_over}
 use Rattle.live_sheet.proofs.FirmLemmas.{shows_clean}
 use Rattle.live_sheet.proofs.firm_cells.read_known.Goals as goal

@@ -1,7 +1,7 @@
 use Rattle.std.proofs.Common.{◌<◌, List, length, sym, subst, refl, ap, ◌∙◌, arith}
 use Rattle.sheet_refs.specs.Cells.{cells_of}
 use Rattle.sheet_refs.proofs.Places.{comes_to_head, comes_to_next, HasComeTo}
-use Rattle.mark_words.specs.Token.{subject_of}
+use Rattle.mark_words.specs.Tokens.{subject_of}
 use Rattle.sheet_model.specs.Logs.{after}
 use Rattle.live_sheet.specs.Firm.{value_shown}
 use Rattle.live_sheet.proofs.FirmLemmas.{window_begins, window_ends, window_goes_on}

@@ -1,4 +1,4 @@
-use Rattle.mark_words.specs.Token.{subject_of, log_of}
+use Rattle.mark_words.specs.Tokens.{subject_of, log_of}
 use Rattle.sheet_model.specs.Logs.{after}
 use Rattle.live_sheet.proofs.FirmLemmas.{WindowSoFar}
 use Rattle.live_sheet.proofs.firm_cells.show_window.Given as goal

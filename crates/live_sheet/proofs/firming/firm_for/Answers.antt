@@ -1,6 +1,6 @@
 use Rattle.std.proofs.Common.{ap, length, sym, subst, ◌∙◌}
 use Rattle.sheet_refs.specs.Sizes.{cell_count}
-use Rattle.mark_words.specs.Token.{subject_of}
+use Rattle.mark_words.specs.Tokens.{subject_of}
 use Rattle.sheet_model.specs.Logs.{after}
 use Rattle.sheet_model.specs.Sheets.{IsSheet, SheetValue}
 use Rattle.live_sheet.proofs.FirmLemmas.{is_firm}

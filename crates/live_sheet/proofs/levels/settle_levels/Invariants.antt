@@ -1,4 +1,4 @@
-use Rattle.mark_words.specs.Token.{subject_of}
+use Rattle.mark_words.specs.Tokens.{subject_of}
 use Rattle.live_sheet.proofs.LevelLemmas.{LevelsSoFar}
 use Rattle.live_sheet.proofs.levels.settle_levels.Given as goal
 

@@ -1,4 +1,4 @@
-use Rattle.mark_words.specs.Token.{subject_of}
+use Rattle.mark_words.specs.Tokens.{subject_of}
 use Rattle.recalc_workers.proofs.SharingLemmas.{keeps_editor_on}
 use Rattle.live_sheet.proofs.LevelLemmas.{desks_on, on_ok}
 use Rattle.live_sheet.proofs.StaleLemmas.{cell_still}

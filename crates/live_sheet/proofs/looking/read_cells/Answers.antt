@@ -3,7 +3,7 @@ use Rattle.std.proofs.Common.{◌≡◌, ◌<◌, ◌+◌, ℕ, length, take, sy
 use Rattle.std.proofs.lemmas.Option.{get_or_from_slice_get}
 use Rattle.sheet_refs.specs.Cells.{cells_of}
 use Rattle.sheet_refs.proofs.Places.{comes_to_next}
-use Rattle.mark_words.specs.Token.{doing_of, view_of, own_steps}
+use Rattle.mark_words.specs.Tokens.{doing_of, view_of, own_steps}
 use Rattle.sheet_model.specs.Boards.{BoardValue}
 use Rattle.sheet_model.proofs.ListLemmas.{taken_more}
 use Rattle.live_sheet.specs.Looks.{after_read, loads_made}

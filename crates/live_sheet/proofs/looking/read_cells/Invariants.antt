@@ -1,7 +1,7 @@
 use Rattle.std.proofs.Common.{◌≡◌, ◌-◌, ◌≤◌, length, take}
 use Rattle.sheet_refs.specs.Cells.{cells_of}
 use Rattle.sheet_refs.proofs.Places.{HasComeTo}
-use Rattle.mark_words.specs.Token.{IsSeatOf}
+use Rattle.mark_words.specs.Tokens.{IsSeatOf}
 use Rattle.live_sheet.specs.Looks.{HasReadCells}
 use Rattle.live_sheet.proofs.looking.read_cells.Given as goal
 

@@ -1,7 +1,7 @@
 -- One cell more is marked.
 use Rattle.std.proofs.Common.{◌+◌, take, inl, refl}
 use Rattle.sheet_model.proofs.ListLemmas.{taken_more}
-use Rattle.mark_words.specs.Token.{doing_of, own_steps}
+use Rattle.mark_words.specs.Tokens.{doing_of, own_steps}
 use Rattle.live_sheet.proofs.EditLemmas.{none_marked, one_marked, one_mark_more}
 use Rattle.live_sheet.proofs.marking.mark_cells.Goals as goal
 

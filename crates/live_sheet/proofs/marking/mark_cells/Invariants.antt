@@ -1,5 +1,5 @@
 use Rattle.std.proofs.Common.{take}
-use Rattle.mark_words.specs.Token.{IsSeatOf, doing_of, own_steps}
+use Rattle.mark_words.specs.Tokens.{IsSeatOf, doing_of, own_steps}
 use Rattle.live_sheet.specs.Edits.{HasMarked, marks_of}
 use Rattle.live_sheet.specs.Steps.{StepsAre}
 use Rattle.live_sheet.proofs.marking.mark_cells.Given as goal

@@ -1,6 +1,6 @@
 -- The codes are those of the sheet that the subject is about.
 use Rattle.std.proofs.Common.{List, Option, ℕ, sym, ◌∙◌, subst}
-use Rattle.mark_core.specs.Run.{IsOpening}
+use Rattle.mark_core.specs.Runs.{IsOpening}
 use Rattle.sheet_model.specs.Sheets.{SheetValue}
 use Rattle.sheet_refs.specs.Sizes.{cell_count}
 use Rattle.edit_log.specs.Touches.{place_worth}

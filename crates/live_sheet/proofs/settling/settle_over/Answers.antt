@@ -1,4 +1,4 @@
-use Rattle.mark_words.specs.Token.{subject_of, view_of}
+use Rattle.mark_words.specs.Tokens.{subject_of, view_of}
 use Rattle.recalc_workers.proofs.SharingLemmas.{keeps_editor_on}
 use Rattle.live_sheet.specs.Stale.{KnowsCell}
 use Rattle.live_sheet.proofs.LevelLemmas.{desks_themselves, on_ok_both}

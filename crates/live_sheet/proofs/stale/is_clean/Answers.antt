@@ -1,6 +1,6 @@
 use Rattle.std.proofs.Common.{◌≡◌, ◌≤◌, ℕ, length, List, ap, sym, subst, ◌∙◌}
 use Rattle.mark_words.specs.declared.tables.Doing.{Doing}
-use Rattle.mark_words.specs.Token.{subject_of, view_of, log_of}
+use Rattle.mark_words.specs.Tokens.{subject_of, view_of, log_of}
 use Rattle.recalc_workers.proofs.SeatLemmas.{has_read, tells_over}
 use Rattle.live_sheet.proofs.StaleLemmas.{read_knows}
 use Rattle.live_sheet.proofs.stale.is_clean.Goals as goal

@@ -1,4 +1,4 @@
-use Rattle.mark_words.specs.Token.{subject_of}
+use Rattle.mark_words.specs.Tokens.{subject_of}
 use Rattle.live_sheet.proofs.StaleLemmas.{RangesSoFar}
 use Rattle.live_sheet.proofs.stale.list_stale.Given as goal
 

@@ -1,5 +1,5 @@
 use Rattle.std.proofs.Common.{◌<◌, length, sym, subst, arith}
-use Rattle.mark_words.specs.Token.{subject_of}
+use Rattle.mark_words.specs.Tokens.{subject_of}
 use Rattle.sheet_refs.specs.Cells.{cells_of}
 use Rattle.sheet_refs.proofs.Places.{comes_to_head, comes_to_next, HasComeTo}
 use Rattle.recalc_workers.proofs.SharingLemmas.{keeps_editor_on}

@@ -1,4 +1,4 @@
-use Rattle.mark_words.specs.Token.{doing_of}
+use Rattle.mark_words.specs.Tokens.{doing_of}
 use Rattle.live_sheet.proofs.MeetingLemmas.{knows_the_longer}
 use Rattle.live_sheet.proofs.telling.tell.Goals as goal
 

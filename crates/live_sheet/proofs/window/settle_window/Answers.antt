@@ -1,6 +1,6 @@
 use Rattle.std.proofs.Common.{subst}
 use Rattle.sheet_refs.specs.declared.sizes.Sizes.{Sizes}
-use Rattle.mark_words.specs.Token.{view_of}
+use Rattle.mark_words.specs.Tokens.{view_of}
 use Rattle.edit_log.specs.Touches.{TouchesPlace}
 use Rattle.live_sheet.specs.Stale.{KnowsCell}
 use Rattle.live_sheet.proofs.LevelLemmas.{on_ok_then}

@@ -1,6 +1,6 @@
 -- Word and mark don't belong to fewer entries.
 use Rattle.std.proofs.Common.{◌≡◌, ◌<◌, ℕ, take}
-use Rattle.mark_core.specs.Mark.{IsLastMark}
+use Rattle.mark_core.specs.Marks.{IsLastMark}
 use Rattle.mark_core.proofs.judging.knows_marked.Given as goal
 
 abbrev pub invariant-loop-count : goal.invariant-loop-count

@@ -1,6 +1,6 @@
 -- No entry so far touches the place.
 use Rattle.std.proofs.Common.{◌<◌, ◌+◌, ◌≤◌, ℕ}
-use Rattle.mark_core.specs.Mark.{IsTouched}
+use Rattle.mark_core.specs.Marks.{IsTouched}
 use Rattle.mark_core.proofs.judging.none_touches.Given as goal
 
 abbrev pub invariant-loop-index : goal.invariant-loop-index

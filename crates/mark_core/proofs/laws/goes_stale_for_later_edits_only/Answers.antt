@@ -1,5 +1,5 @@
 use Rattle.std.proofs.Common.{inl, inr}
-use Rattle.mark_core.specs.Run.{IsCodeless}
+use Rattle.mark_core.specs.Runs.{IsCodeless}
 use Rattle.mark_core.proofs.TwoReads.{stale_is_later, newer_is_later}
 use Rattle.mark_core.proofs.laws.goes_stale_for_later_edits_only.Goals as goal
 

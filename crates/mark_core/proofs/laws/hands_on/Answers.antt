@@ -1,9 +1,9 @@
 -- What sees, splits and joins give, and what each event adds to a view.
 use Rattle.std.proofs.Common.{◌∙◌, length, refl, ap, get_or-set_same}
 use Rattle.mark_core.specs.declared.actors.View.{View}
-use Rattle.mark_core.specs.State.{State, view_at, spent_view}
-use Rattle.mark_core.specs.View.{with_count}
-use Rattle.mark_core.specs.Run.{IsCodeless}
+use Rattle.mark_core.specs.States.{State, view_at, spent_view}
+use Rattle.mark_core.specs.Views.{with_count}
+use Rattle.mark_core.specs.Runs.{IsCodeless}
 use Rattle.mark_core.proofs.Lists.{live_within}
 use Rattle.mark_core.proofs.GrowthLemmas.{views_grow, join_unites, split_copies, split_leaves}
 use Rattle.mark_core.proofs.laws.hands_on.Goals as goal

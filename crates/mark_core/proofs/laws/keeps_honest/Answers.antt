@@ -1,5 +1,5 @@
 -- The opening state is honest, and each event keeps a state so.
-use Rattle.mark_core.specs.Run.{IsCodeless}
+use Rattle.mark_core.specs.Runs.{IsCodeless}
 use Rattle.mark_core.proofs.Opening.{opening_honest}
 use Rattle.mark_core.proofs.Runs.{keeps_honest}
 use Rattle.mark_core.proofs.laws.keeps_honest.Goals as goal

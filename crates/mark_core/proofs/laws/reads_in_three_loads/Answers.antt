@@ -1,9 +1,9 @@
 -- Each load changes the view's begun read as it says.
 use Rattle.std.proofs.Common.{refl, sym, subst}
 use Rattle.mark_core.specs.declared.actors.View.{View}
-use Rattle.mark_core.specs.Place.{place_at}
-use Rattle.mark_core.specs.State.{view_at}
-use Rattle.mark_core.specs.View.{new_half, read_of}
+use Rattle.mark_core.specs.Places.{place_at}
+use Rattle.mark_core.specs.States.{view_at}
+use Rattle.mark_core.specs.Views.{new_half, read_of}
 use Rattle.mark_core.specs.Growth.{EndsRead}
 use Rattle.mark_core.proofs.ReadLaws.{read_begins, begins_right, read_goes_on, view_ended, ends_right}
 use Rattle.mark_core.proofs.laws.reads_in_three_loads.Goals as goal

@@ -1,8 +1,8 @@
 -- What is right of each read says what it shows.
 use Rattle.std.proofs.Common.{subst}
 use Rattle.mark_core.specs.declared.answers.Seen.{Seen}
-use Rattle.mark_core.specs.Answer.{Shows}
-use Rattle.mark_core.specs.Run.{IsCodeless}
+use Rattle.mark_core.specs.Answers.{Shows}
+use Rattle.mark_core.specs.Runs.{IsCodeless}
 use Rattle.mark_core.proofs.ReadLaws.{read_right, value_shown, newer_shown, stale_shown, cell_shown}
 use Rattle.mark_core.proofs.laws.shows_what_is_right.Goals as goal
 

@@ -1,6 +1,6 @@
 -- The floor so far, and that of the pairs that are left, give the floor of all.
 use Rattle.std.proofs.Common.{◌≡◌, max, drop}
-use Rattle.mark_core.specs.View.{floor_of}
+use Rattle.mark_core.specs.Views.{floor_of}
 use Rattle.mark_core.proofs.views.floor.Given as goal
 
 abbrev pub invariant-loop-pair : goal.invariant-loop-pair

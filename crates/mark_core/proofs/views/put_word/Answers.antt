@@ -4,7 +4,7 @@ use Rattle.std.specs.Prelude.{slice_index_or}
 use Rattle.std.proofs.lemmas.List.{get_or_default}
 use Rattle.std.proofs.lemmas.List.Edits.{map_over_more}
 use Rattle.mark_core.specs.declared.words.Held.{Held}
-use Rattle.mark_core.specs.View.{hold_with}
+use Rattle.mark_core.specs.Views.{hold_with}
 use Rattle.mark_core.proofs.views.put_word.Goals as goal
 
 pub loop-hold-preserved : goal.loop-hold-preserved

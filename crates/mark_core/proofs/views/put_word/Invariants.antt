@@ -1,6 +1,6 @@
 -- The holds so far have the word where they are of the place, and the others are as they were.
 use Rattle.std.proofs.Common.{◌≡◌, ◌++◌, map, take, drop}
-use Rattle.mark_core.specs.View.{hold_with}
+use Rattle.mark_core.specs.Views.{hold_with}
 use Rattle.mark_core.proofs.views.put_word.Given as goal
 
 abbrev pub invariant-loop-hold : goal.invariant-loop-hold

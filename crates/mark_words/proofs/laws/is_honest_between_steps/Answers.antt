@@ -1,5 +1,5 @@
 -- What the rule says of its state.
-use Rattle.mark_core.specs.State.{opening_state}
+use Rattle.mark_core.specs.States.{opening_state}
 use Rattle.mark_words.proofs.RunLemmas.{run_of, honest_state}
 use Rattle.mark_words.proofs.StepLemmas.{doing_at}
 use Rattle.mark_words.proofs.TableLemmas.{words_shown}

@@ -1,5 +1,5 @@
 -- What one step more of a seat says of the events and of the words.
-use Rattle.mark_core.specs.State.{opening_state}
+use Rattle.mark_core.specs.States.{opening_state}
 use Rattle.mark_words.specs.Steps.{made_of}
 use Rattle.mark_words.proofs.OrderLemmas.{one_event_more}
 use Rattle.mark_words.proofs.WordLemmas.{one_event, has_word}

@@ -1,5 +1,5 @@
 -- The viewer stays one of the table, and the other seat knows so many entries.
-use Rattle.mark_words.specs.Token.{IsSeatOf}
+use Rattle.mark_words.specs.Tokens.{IsSeatOf}
 use Rattle.mark_words.specs.Tests.Threads.{KnowsMany}
 use Rattle.mark_words.proofs.tests.listens.Given as goal
 

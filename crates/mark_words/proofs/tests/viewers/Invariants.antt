@@ -1,6 +1,6 @@
 -- The seats so far are of the table.
 use Rattle.std.specs.Prelude.{All}
-use Rattle.mark_words.specs.Token.{IsSeatOf}
+use Rattle.mark_words.specs.Tokens.{IsSeatOf}
 use Rattle.mark_words.specs.Tests.Threads.{IsReadyEditor}
 use Rattle.mark_words.proofs.tests.viewers.Given as goal
 

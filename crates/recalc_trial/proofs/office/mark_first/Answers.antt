@@ -1,5 +1,5 @@
 use Rattle.std.proofs.Common.{rules, ◌≡◌, ◌<◌, ◌∙◌, ℕ, length, get_or, sym, ap, subst}
-use Rattle.mark_words.specs.Token.{log_of, subject_of}
+use Rattle.mark_words.specs.Tokens.{log_of, subject_of}
 use Rattle.recalc_trial.proofs.OfficeLemmas.{touches_first}
 use Rattle.recalc_trial.proofs.office.mark_first.Goals as goal
 

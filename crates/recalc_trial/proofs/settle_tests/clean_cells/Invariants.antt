@@ -1,5 +1,5 @@
 use Rattle.std.specs.Prelude.{◌≤◌}
-use Rattle.mark_words.specs.Token.{IsSeatOf}
+use Rattle.mark_words.specs.Tokens.{IsSeatOf}
 use Rattle.recalc_trial.proofs.settle_tests.clean_cells.Given as goal
 
 abbrev pub invariant-loop-number : goal.invariant-loop-number

@@ -1,5 +1,5 @@
 use Rattle.std.specs.Prelude.{◌≡◌, vec_len}
-use Rattle.mark_words.specs.Token.{IsSeatOf, doing_of}
+use Rattle.mark_words.specs.Tokens.{IsSeatOf, doing_of}
 use Rattle.recalc_workers.specs.Hands.{IsHandOf}
 use Rattle.recalc_workers.specs.Settling.{AreDesksOf}
 use Rattle.recalc_trial.proofs.settle_tests.desks_at.Given as goal

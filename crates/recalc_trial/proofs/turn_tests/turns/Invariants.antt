@@ -1,5 +1,5 @@
 use Rattle.std.proofs.Common.{◌≡◌}
-use Rattle.mark_words.specs.Token.{IsSeatOf}
+use Rattle.mark_words.specs.Tokens.{IsSeatOf}
 use Rattle.recalc_workers.specs.Hands.{IsHandOf}
 use Rattle.recalc_workers.specs.Offices.{words_for}
 use Rattle.recalc_trial.proofs.turn_tests.turns.Given as goal

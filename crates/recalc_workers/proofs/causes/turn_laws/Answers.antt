@@ -1,4 +1,4 @@
-use Rattle.mark_words.specs.Token.{subject_of}
+use Rattle.mark_words.specs.Tokens.{subject_of}
 use Rattle.recalc_workers.proofs.TurnLawLemmas.{done_is_one, others_finish_nothing, holds_stay, nothing_was_clean}
 use Rattle.recalc_workers.proofs.TurnLawLemmas.{later_is_past, stale_has_an_input, busy_found_another, idle_takes_none}
 use Rattle.recalc_workers.proofs.TurnLawLemmas.{takes_one_and_offers_none, takes_one_and_offers_it}

@@ -1,4 +1,4 @@
-use Rattle.mark_words.specs.Token.{IsSeatOf}
+use Rattle.mark_words.specs.Tokens.{IsSeatOf}
 use Rattle.recalc_workers.specs.Settling.{HasWorked}
 use Rattle.recalc_workers.proofs.clearing.clear.Given as goal
 

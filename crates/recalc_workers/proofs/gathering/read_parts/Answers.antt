@@ -4,7 +4,7 @@ use Rattle.std.proofs.lemmas.List.{take_all}
 use Rattle.std.proofs.lemmas.Option.{slice_get_read}
 use Rattle.sheet_refs.specs.Sizes.{place_of}
 use Rattle.sheet_refs.specs.Cells.{IsIn, cells_of}
-use Rattle.mark_words.specs.Token.{subject_of, log_of}
+use Rattle.mark_words.specs.Tokens.{subject_of, log_of}
 use Rattle.recalc_workers.specs.Inputs.{IsInParts, all_cells}
 use Rattle.recalc_workers.proofs.ReadingLemmas.{read_on, taken_more, part_more, stops_there}
 use Rattle.recalc_workers.proofs.gathering.read_parts.Goals as goal

@@ -1,6 +1,6 @@
 use Rattle.std.proofs.Common.{◌≡◌, ◌++◌, map, take}
 use Rattle.sheet_refs.specs.Sizes.{place_of}
-use Rattle.mark_words.specs.Token.{IsSeatOf, subject_of, log_of}
+use Rattle.mark_words.specs.Tokens.{IsSeatOf, subject_of, log_of}
 use Rattle.recalc_workers.specs.Inputs.{all_cells}
 use Rattle.recalc_workers.specs.Seats.{HasOnlyRead}
 use Rattle.recalc_workers.proofs.gathering.read_parts.Given as goal

@@ -3,7 +3,7 @@ use Rattle.std.proofs.lemmas.List.{append-nil}
 use Rattle.sheet_refs.specs.Cells.{cells_of}
 use Rattle.sheet_refs.specs.Sizes.{place_of}
 use Rattle.sheet_refs.proofs.Places.{comes_to_head, comes_to_next, HasComeTo}
-use Rattle.mark_words.specs.Token.{subject_of, log_of}
+use Rattle.mark_words.specs.Tokens.{subject_of, log_of}
 use Rattle.recalc_workers.proofs.ReadingLemmas.{read_nothing, read_on, outdated_later, one_more}
 use Rattle.recalc_workers.proofs.gathering.read_range.Goals as goal
 

@@ -2,7 +2,7 @@ use Rattle.std.proofs.Common.{◌≡◌, ◌++◌, map, take}
 use Rattle.sheet_refs.specs.Cells.{cells_of}
 use Rattle.sheet_refs.specs.Sizes.{place_of}
 use Rattle.sheet_refs.proofs.Places.{HasComeTo}
-use Rattle.mark_words.specs.Token.{IsSeatOf, subject_of, log_of}
+use Rattle.mark_words.specs.Tokens.{IsSeatOf, subject_of, log_of}
 use Rattle.recalc_workers.specs.Seats.{HasOnlyRead}
 use Rattle.recalc_workers.proofs.gathering.read_range.Given as goal
 

@@ -1,6 +1,6 @@
 use Rattle.std.proofs.Common.{ap, get_or}
 use Rattle.mark_words.specs.declared.tables.Doing.{Doing}
-use Rattle.mark_words.specs.Token.{subject_of, view_of}
+use Rattle.mark_words.specs.Tokens.{subject_of, view_of}
 use Rattle.recalc_workers.specs.Settling.{IsDeskAfter}
 use Rattle.recalc_workers.proofs.LevelLemmas.{covered_stays, some_changed, desk_itself}
 use Rattle.recalc_workers.proofs.SettlingLemmas.{no_less}

@@ -1,6 +1,6 @@
 use Rattle.std.proofs.Common.{◌∙◌, ◌≤◌, ◌*◌, ℕ, length, sym, subst}
 use Rattle.std.proofs.lemmas.Grind.{div_ceil_times}
-use Rattle.mark_words.specs.Token.{subject_of, view_of}
+use Rattle.mark_words.specs.Tokens.{subject_of, view_of}
 use Rattle.recalc_workers.proofs.LevelLemmas.{covered_stays, ready, desks_after, all_clean}
 use Rattle.recalc_workers.proofs.levels.settle_at.Goals as goal
 

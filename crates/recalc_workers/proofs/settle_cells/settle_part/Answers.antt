@@ -1,4 +1,4 @@
-use Rattle.mark_words.specs.Token.{subject_of}
+use Rattle.mark_words.specs.Tokens.{subject_of}
 use Rattle.recalc_workers.proofs.PartLemmas.{part_goes_on}
 use Rattle.recalc_workers.proofs.settle_cells.settle_part.Goals as goal
 

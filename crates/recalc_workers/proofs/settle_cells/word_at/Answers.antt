@@ -1,7 +1,7 @@
 use Rattle.std.proofs.Common.{IsTrue, refl, ◌∙◌, ap, subst}
 use Rattle.sheet_refs.specs.Sizes.{is_inside, place_of}
 use Rattle.sheet_refs.specs.declared.sizes.Sizes.{Sizes}
-use Rattle.mark_words.specs.Token.{subject_of, log_of}
+use Rattle.mark_words.specs.Tokens.{subject_of, log_of}
 use Rattle.sheet_model.specs.Sheets.{SheetValue, IsSheet, content_of, content_value}
 use Rattle.recalc_workers.specs.Desks.{seat_of}
 use Rattle.recalc_workers.proofs.SettlingLemmas.{reads_worked}

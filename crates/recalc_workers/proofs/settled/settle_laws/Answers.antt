@@ -1,4 +1,4 @@
-use Rattle.mark_words.specs.Token.{subject_of}
+use Rattle.mark_words.specs.Tokens.{subject_of}
 use Rattle.recalc_workers.proofs.SettleLawLemmas.{known_cells_have_their_marks, known_cells_are_known_inputs, cells_stay_known, editor_stands, desks_stand}
 use Rattle.recalc_workers.proofs.settled.settle_laws.Goals as goal
 

@@ -1,7 +1,7 @@
 use Rattle.std.proofs.Common.{subst}
 use Rattle.std.specs.Prelude.{OnOk}
 use Rattle.sheet_refs.specs.declared.sizes.Sizes.{Sizes}
-use Rattle.mark_words.specs.Token.{subject_of, view_of}
+use Rattle.mark_words.specs.Tokens.{subject_of, view_of}
 use Rattle.recalc_workers.specs.Settling.{KnowsCells}
 use Rattle.recalc_workers.proofs.settling.settle_level.Goals as goal
 

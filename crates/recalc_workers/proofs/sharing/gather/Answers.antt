@@ -2,7 +2,7 @@ use Rattle.std.proofs.Common.{sym, subst, List}
 use Rattle.std.specs.Prelude.{Contains}
 use Rattle.std.proofs.lemmas.List.Elements.{Contains-append_right}
 use Rattle.mark_core.specs.declared.words.Known.{Known}
-use Rattle.mark_words.specs.Token.{view_of}
+use Rattle.mark_words.specs.Tokens.{view_of}
 use Rattle.recalc_workers.specs.Desks.{seat_of}
 use Rattle.recalc_workers.proofs.sharing.gather.Goals as goal
 

@@ -1,8 +1,8 @@
 use Rattle.recalc_workers.proofs.SettlingLemmas.{lends}
 use Rattle.std.proofs.Common.{subst}
 use Rattle.mark_words.specs.declared.tables.Doing.{Doing}
-use Rattle.mark_words.specs.Meet.{HasMet}
-use Rattle.mark_words.specs.Token.{doing_of}
+use Rattle.mark_words.specs.Meets.{HasMet}
+use Rattle.mark_words.specs.Tokens.{doing_of}
 use Rattle.recalc_workers.proofs.sharing.lend.Goals as goal
 
 pub returns-clause-knows : goal.returns-clause-knows

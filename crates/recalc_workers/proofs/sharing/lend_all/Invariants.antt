@@ -1,4 +1,4 @@
-use Rattle.mark_words.specs.Token.{view_of}
+use Rattle.mark_words.specs.Tokens.{view_of}
 use Rattle.recalc_workers.specs.Settling.{IsLent}
 use Rattle.recalc_workers.proofs.SharingLemmas.{GoneThrough}
 use Rattle.recalc_workers.proofs.sharing.lend_all.Given as goal

@@ -1,6 +1,6 @@
 use Rattle.std.proofs.Common.{◌≤◌, ◌∙◌, sym, subst}
 use Rattle.sheet_refs.specs.Sizes.{cell_count}
-use Rattle.mark_words.specs.Token.{subject_of, log_of}
+use Rattle.mark_words.specs.Tokens.{subject_of, log_of}
 use Rattle.sheet_model.proofs.LogLemmas.{after-sizes}
 use Rattle.recalc_workers.specs.Offices.{IsTaskFor}
 use Rattle.recalc_workers.specs.Seats.{Keeps}

@@ -2,7 +2,7 @@ use Rattle.std.proofs.Common.{◌∙◌, sym, ap, subst, refl}
 use Rattle.std.specs.Prelude.{IsTrue}
 use Rattle.sheet_refs.specs.Sizes.{is_inside, place_of}
 use Rattle.formula_eval.specs.Meaning.{IsNamedBy}
-use Rattle.mark_words.specs.Token.{subject_of, log_of}
+use Rattle.mark_words.specs.Tokens.{subject_of, log_of}
 use Rattle.sheet_model.specs.Logs.{after}
 use Rattle.sheet_model.specs.Sheets.{IsSheet, content_value, content_of}
 use Rattle.sheet_model.specs.Values.{content_references}

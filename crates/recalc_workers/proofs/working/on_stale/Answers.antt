@@ -1,7 +1,7 @@
 use Rattle.std.proofs.Common.{◌∙◌, sym, ap, subst, refl, arith}
 use Rattle.std.specs.Prelude.{IsTrue}
 use Rattle.sheet_refs.specs.Sizes.{is_inside, cell_count, place_of}
-use Rattle.mark_words.specs.Token.{subject_of, log_of}
+use Rattle.mark_words.specs.Tokens.{subject_of, log_of}
 use Rattle.recalc_workers.specs.Inputs.{IsOutdated}
 use Rattle.recalc_workers.specs.Offices.{TellsCycle}
 use Rattle.recalc_workers.specs.declared.turns.Turn.TheVariants.{Stale}

@@ -1,5 +1,5 @@
 -- The accepted edits are those of the longer log too.
-use Rattle.mark_words.specs.Token.{log_of}
+use Rattle.mark_words.specs.Tokens.{log_of}
 use Rattle.live_sheet.proofs.AcceptedLemmas.{accepted_still}
 use Rattle.live_sheet.proofs.live.Live.firm.Goals as goal
 

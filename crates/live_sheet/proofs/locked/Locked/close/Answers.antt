@@ -1,8 +1,8 @@
 -- All shares together are the whole ledger, whose total is the length of the log.
 use Rattle.std.proofs.Common.{◌≡◌, ◌≤◌, List, length, slice_index_or, vec_capacity, sym, ◌∙◌, ap, subst, arith}
 use Rattle.std.proofs.lemmas.List.Elements.{All-contains}
-use Rattle.mark_core.specs.Mark.{IsPrefix}
-use Rattle.mark_words.specs.Token.{subject_of, topic_of, view_of, log_of}
+use Rattle.mark_core.specs.Marks.{IsPrefix}
+use Rattle.mark_words.specs.Tokens.{subject_of, topic_of, view_of, log_of}
 use Rattle.edit_log.specs.Touches.{TouchesPlace}
 use Rattle.sheet_refs.specs.Sizes.{cell_count}
 use Rattle.sheet_model.specs.Logs.{after}

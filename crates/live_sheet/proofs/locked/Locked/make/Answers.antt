@@ -1,7 +1,7 @@
 -- The entry is the last of the log that the pass knows, and its number the last of the pass's.
 use Rattle.std.proofs.Common.{◌≡◌, List, [], ◌∷◌, ◌++◌, length, refl, ◌∙◌, ap, arith, length-append}
 use Rattle.sheet_model.specs.declared.entry.Entry.{Entry}
-use Rattle.mark_words.specs.Token.{log_of}
+use Rattle.mark_words.specs.Tokens.{log_of}
 use Rattle.edit_log.specs.Books.{client_entry}
 use Rattle.live_sheet.proofs.PassEdits.{accepted_now, list_now, learned_itself}
 use Rattle.live_sheet.proofs.locked.Locked.make.Goals as goal

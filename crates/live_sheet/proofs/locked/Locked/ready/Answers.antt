@@ -1,5 +1,5 @@
 -- What is known of all cells of the sheet is known of those of the opening sheet.
-use Rattle.mark_words.specs.Token.{view_of}
+use Rattle.mark_words.specs.Tokens.{view_of}
 use Rattle.live_sheet.proofs.ClosingLemmas.{on_ok, known_now}
 use Rattle.live_sheet.proofs.locked.Locked.ready.Goals as goal
 

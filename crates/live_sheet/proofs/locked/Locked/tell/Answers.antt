@@ -1,7 +1,7 @@
 -- The pass knows the log of the book.
 use Rattle.std.proofs.Common.{refl, sym, ◌∙◌, subst}
-use Rattle.mark_core.specs.Mark.{IsPrefix}
-use Rattle.mark_words.specs.Token.{log_of}
+use Rattle.mark_core.specs.Marks.{IsPrefix}
+use Rattle.mark_words.specs.Tokens.{log_of}
 use Rattle.live_sheet.proofs.AcceptedLemmas.{accepted_still, same_accepted}
 use Rattle.live_sheet.proofs.locked.Locked.tell.Goals as goal
 

@@ -1,5 +1,5 @@
 use Rattle.std.proofs.Common.{◌≡◌, ap, ◌∙◌, length, rules}
-use Rattle.mark_core.specs.State.{State}
+use Rattle.mark_core.specs.States.{State}
 use Rattle.mark_core.proofs.KeptLemmas.{kept_see}
 use Rattle.mark_core.proofs.machine.Machine.see.Goals as goal
 

@@ -1,7 +1,7 @@
 use Rattle.std.proofs.Common.{◌≡◌, ◌+◌, ◌*◌, ◌∷◌, length, sym, ◌∙◌, ap}
 use Rattle.mark_words.specs.declared.tables.Topic.{Topic}
 use Rattle.mark_words.specs.Words.{opening_words}
-use Rattle.mark_words.specs.Rule.{place_count}
+use Rattle.mark_words.specs.Rules.{place_count}
 use Rattle.mark_words.proofs.OpeningLemmas.{opens, sized_words, opening_moves}
 use Rattle.mark_words.proofs.marks.Marks.open.Goals as goal
 

@@ -1,6 +1,6 @@
 -- All seats are of the table.
 use Rattle.std.specs.Prelude.{All}
-use Rattle.mark_words.specs.Token.{IsSeatOf}
+use Rattle.mark_words.specs.Tokens.{IsSeatOf}
 use Rattle.mark_words.proofs.tests.crowd.judge.Given as goal
 
 abbrev pub invariant-loop-reader : goal.invariant-loop-reader

@@ -1,7 +1,7 @@
 -- The editor has so many entries, and all seats are of the table.
 use Rattle.std.proofs.Common.{◌≡◌, ◌≤◌, ◌-◌, ◌%◌}
 use Rattle.std.specs.Prelude.{All}
-use Rattle.mark_words.specs.Token.{IsSeatOf}
+use Rattle.mark_words.specs.Tokens.{IsSeatOf}
 use Rattle.mark_words.specs.Tests.EightTestCells.{IsEditing, IsScripted}
 use Rattle.mark_words.proofs.tests.crowd.rounds.Given as goal
 

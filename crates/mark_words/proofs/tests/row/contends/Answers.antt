@@ -1,6 +1,6 @@
 -- The first worker knows the cell's code, and the mark that it read is the last one.
 use Rattle.std.proofs.Common.{◌<◌, ◌+◌, ℕ, List, sym, ◌∙◌, ap, subst, arith}
-use Rattle.mark_core.specs.Mark.{IsLastMark}
+use Rattle.mark_core.specs.Marks.{IsLastMark}
 use Rattle.mark_core.specs.Tests.TwoTestCells.{code_of, cell_code}
 use Rattle.mark_words.proofs.TestLemmas.{last_read, may_put, may_finish}
 use Rattle.mark_words.proofs.tests.row.contends.Goals as goal

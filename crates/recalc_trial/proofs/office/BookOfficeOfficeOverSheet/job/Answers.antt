@@ -1,5 +1,5 @@
 use Rattle.std.proofs.Common.{◌≡◌, ◌∙◌, ◌≤◌, length, sym, ap, subst}
-use Rattle.mark_words.specs.Token.{log_of, seen_of}
+use Rattle.mark_words.specs.Tokens.{log_of, seen_of}
 use Rattle.sheet_model.specs.Logs.{after}
 use Rattle.sheet_model.specs.Sheets.{IsSheet, SheetValue, content_of}
 use Rattle.sheet_model.proofs.LogLemmas.{after-sheet}

@@ -3,9 +3,9 @@ use Rattle.std.specs.Prelude.{ℕ, List}
 use Rattle.mark_core.specs.declared.protocol.Core.{Core}
 use Rattle.mark_core.specs.declared.events.Event.{Event}
 use Rattle.mark_core.specs.declared.events.Outcome.{Outcome}
-use Rattle.mark_core.specs.State.{State}
-use Rattle.mark_core.specs.Permission.{Allowed}
-use Rattle.mark_core.specs.Step.{Happens}
+use Rattle.mark_core.specs.States.{State}
+use Rattle.mark_core.specs.Permissions.{Allowed}
+use Rattle.mark_core.specs.Steps.{Happens}
 
 -- the subject that it was opened over
 abbrev pub subject_of : {S E : Type 0} → Core S E → S

@@ -2,8 +2,8 @@
 use Rattle.std.specs.Prelude.{◌≡◌, ℕ, List, [], ◌∷◌, Option, Some, None, length, slice_get}
 use Rattle.mark_core.specs.declared.events.Event.{Event}
 use Rattle.mark_core.specs.declared.events.Outcome.{Outcome}
-use Rattle.mark_core.specs.State.{State}
-use Rattle.mark_core.specs.Step.{Happens}
+use Rattle.mark_core.specs.States.{State}
+use Rattle.mark_core.specs.Steps.{Happens}
 
 -- the opening has one item per place, and a code that is given is the worth over the empty log
 pub record IsOpening {E : Type 0} (places : ℕ) (worth : List E → ℕ → ℕ) (opening : List (Option ℕ)) : Type 0 where

@@ -1,6 +1,6 @@
 -- What a meet gives.
 use Rattle.std.specs.Prelude.{◌≡◌, ◌≤◌, ◌⊎◌, ℕ, List, [], ◌∷◌, ◌++◌, true, length}
-use Rattle.mark_core.specs.Mark.{IsPrefix}
+use Rattle.mark_core.specs.Marks.{IsPrefix}
 use Rattle.mark_core.specs.Knows.{KnowsClean}
 use Rattle.mark_words.specs.declared.tables.Doing.{Doing}
 

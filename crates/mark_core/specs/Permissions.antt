@@ -5,10 +5,10 @@ use Rattle.mark_core.specs.declared.words.Finished.{Finished}
 use Rattle.mark_core.specs.declared.words.Held.{Held}
 use Rattle.mark_core.specs.declared.events.Event.{Event}
 use Rattle.mark_core.specs.declared.events.Event.TheVariants.{See, Mark, Commit, Split, Join, ReadClean, ReadValue, ReadMark, Claim, Put, Finish}
-use Rattle.mark_core.specs.Mark.{IsLastMark}
+use Rattle.mark_core.specs.Marks.{IsLastMark}
 use Rattle.mark_core.specs.declared.actors.Edits.{Edits}
 use Rattle.mark_core.specs.declared.actors.View.{View}
-use Rattle.mark_core.specs.State.{State, view_at}
+use Rattle.mark_core.specs.States.{State, view_at}
 
 -- the view wasn't joined into another
 abbrev pub IsLive : {E : Type 0} → View (List E) → Type 0

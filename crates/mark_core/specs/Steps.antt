@@ -7,12 +7,12 @@ use Rattle.mark_core.specs.declared.events.Event.TheVariants.{See, Mark, Commit,
 use Rattle.mark_core.specs.declared.events.Outcome.{Outcome}
 use Rattle.mark_core.specs.declared.events.Outcome.TheVariants.{Done, Count, Word, Claimed, Seat}
 use Rattle.mark_core.specs.declared.events.Outcome.TheVariants.{Clean as AnswersClean, Mark as AnswersMark}
-use Rattle.mark_core.specs.Place.{place_at}
+use Rattle.mark_core.specs.Places.{place_at}
 use Rattle.mark_core.specs.declared.actors.Edits.{Edits}
-use Rattle.mark_core.specs.State.{State, view_at, with_view, spent_view}
-use Rattle.mark_core.specs.View.{with_count, with_entry, split_off, union_of, with_half, with_value, with_read_end}
-use Rattle.mark_core.specs.View.{with_hold, with_loss, with_put, without_hold}
-use Rattle.mark_core.specs.Permission.{Allowed}
+use Rattle.mark_core.specs.States.{State, view_at, with_view, spent_view}
+use Rattle.mark_core.specs.Views.{with_count, with_entry, split_off, union_of, with_half, with_value, with_read_end}
+use Rattle.mark_core.specs.Views.{with_hold, with_loss, with_put, without_hold}
+use Rattle.mark_core.specs.Permissions.{Allowed}
 
 -- the state with another place in place of this one
 abbrev pub with_place : {E : Type 0} → State E → ℕ → Place → State E

@@ -7,7 +7,7 @@ use Rattle.mark_core.specs.declared.words.Half.{Half}
 use Rattle.mark_core.specs.declared.words.Finished.{Finished}
 use Rattle.mark_core.specs.declared.words.Held.{Held}
 use Rattle.mark_core.specs.declared.actors.View.{View}
-use Rattle.mark_core.specs.State.{new_view}
+use Rattle.mark_core.specs.States.{new_view}
 
 -- after a load of the count of commits
 abbrev pub with_count : {L : Type 0} → View L → ℕ → View L

@@ -11,15 +11,15 @@ use Rattle.mark_core.specs.declared.events.Event.TheVariants.{See, Split, Join, 
 use Rattle.mark_core.specs.declared.events.Outcome.{Outcome}
 use Rattle.mark_core.specs.declared.events.Outcome.TheVariants.{Count, Seat, Word}
 use Rattle.mark_core.specs.declared.events.Outcome.TheVariants.{Clean as AnswersClean, Mark as AnswersMark}
-use Rattle.mark_core.specs.Place.{place_at}
-use Rattle.mark_core.specs.Mark.{IsTouched, IsLastMark}
-use Rattle.mark_core.specs.State.{State, view_at, entries_of, opening_state}
-use Rattle.mark_core.specs.Permission.{IsLive}
-use Rattle.mark_core.specs.Step.{Happens}
-use Rattle.mark_core.specs.Answer.{Shows}
+use Rattle.mark_core.specs.Places.{place_at}
+use Rattle.mark_core.specs.Marks.{IsTouched, IsLastMark}
+use Rattle.mark_core.specs.States.{State, view_at, entries_of, opening_state}
+use Rattle.mark_core.specs.Permissions.{IsLive}
+use Rattle.mark_core.specs.Steps.{Happens}
+use Rattle.mark_core.specs.Answers.{Shows}
 use Rattle.mark_core.specs.Legal.{MeetsFloor, IsLegalCell, IsLegalRead}
 use Rattle.mark_core.specs.Honest.{IsHonest}
-use Rattle.mark_core.specs.Run.{IsCodeless, Runs}
+use Rattle.mark_core.specs.Runs.{IsCodeless, Runs}
 use Rattle.mark_core.specs.Growth.{counts_of, finishes_of, losses_of, Grows, IsCopy, IsUnion, BeginsRead, EndsRead}
 
 module _ {S E : Type 0} (places : S → ℕ) (worth : S → List E → ℕ → ℕ) (touches : S → List E → E → ℕ → Type 0) (subject : S) where

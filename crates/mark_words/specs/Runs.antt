@@ -3,9 +3,9 @@ use Rattle.std.specs.Prelude.{◌≡◌, ℕ, ◌+◌, ◌*◌, List, [], ◌∷
 use Rattle.mark_core.specs.declared.events.Event.{Event}
 use Rattle.mark_core.specs.declared.events.Event.TheVariants.{See, Mark, Commit, Split, Join, ReadClean, ReadValue, ReadMark, Claim, Put, Finish}
 use Rattle.mark_core.specs.declared.events.Outcome.{Outcome}
-use Rattle.mark_core.specs.Place.{place_at}
-use Rattle.mark_core.specs.State.{State}
-use Rattle.mark_core.specs.Step.{Happens}
+use Rattle.mark_core.specs.Places.{place_at}
+use Rattle.mark_core.specs.States.{State}
+use Rattle.mark_core.specs.Steps.{Happens}
 use Rattle.mark_words.specs.declared.tables.Made.{Made}
 use Rattle.mark_words.specs.Words.{word_of_clean}
 

@@ -2,8 +2,8 @@
 use Rattle.std.specs.Prelude.{◌≡◌, ◌≤◌, ◌+◌, ℕ, List, Some, length}
 use Rattle.mark_core.specs.declared.words.Half.{Half}
 use Rattle.mark_core.specs.declared.actors.View.{View}
-use Rattle.mark_core.specs.Mark.{IsPrefix, IsLastMark}
-use Rattle.mark_core.specs.View.{read_of}
+use Rattle.mark_core.specs.Marks.{IsPrefix, IsLastMark}
+use Rattle.mark_core.specs.Views.{read_of}
 use Rattle.mark_core.specs.Growth.{EndsRead}
 use Rattle.mark_core.specs.Knows.{KnowsClean}
 use Rattle.mark_core.specs.Legal.{MeetsFloor}

@@ -4,9 +4,9 @@ use mathlib.Core.Option.{some}
 use lib.ListN.{get_elem?}
 use Rattle.atomic_table.specs.Table.{State as TableState}
 use Rattle.mark_core.specs.declared.words.Place.{Place}
-use Rattle.mark_core.specs.Mark.{IsPrefix}
-use Rattle.mark_core.specs.State.{State, view_at, opening_state}
-use Rattle.mark_core.specs.Run.{IsOpening}
+use Rattle.mark_core.specs.Marks.{IsPrefix}
+use Rattle.mark_core.specs.States.{State, view_at, opening_state}
+use Rattle.mark_core.specs.Runs.{IsOpening}
 use Rattle.mark_words.specs.declared.tables.Doing.{Doing}
 use Rattle.mark_words.specs.declared.tables.History.{History}
 use Rattle.mark_words.specs.declared.tables.Made.{Made}
@@ -14,7 +14,7 @@ use Rattle.mark_words.specs.declared.tables.Past.{Past}
 use Rattle.mark_words.specs.declared.tables.Topic.{Topic}
 use Rattle.mark_words.specs.Words.{words_of_state}
 use Rattle.mark_words.specs.Steps.{steps_of, AreStepsOf}
-use Rattle.mark_words.specs.Run.{RunsWith}
+use Rattle.mark_words.specs.Runs.{RunsWith}
 
 -- the editor's seat is the first one, has the state's edits and knows each place's mark
 pub record IsEditor {S E : Type 0} (core : State E) (seat : ℕ) (doing : Doing S E) : Type 0 where

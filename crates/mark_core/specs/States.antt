@@ -5,7 +5,7 @@ use Rattle.mark_core.specs.declared.actors.Edits.{Edits}
 use Rattle.mark_core.specs.declared.actors.View.{View}
 use Rattle.mark_core.specs.declared.words.Place.{Place}
 use Rattle.mark_core.specs.declared.words.Known.{Known}
-use Rattle.mark_core.specs.Place.{opening_place}
+use Rattle.mark_core.specs.Places.{opening_place}
 
 -- the log with the pending entry, if there is one, at its end
 abbrev pub entries_of : {E : Type 0} → Edits E → List E

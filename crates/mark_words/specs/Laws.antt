@@ -6,17 +6,17 @@ use Rattle.atomic_table.specs.Table.{State as TableState}
 use Rattle.mark_core.specs.declared.events.Event.{Event}
 use Rattle.mark_core.specs.declared.events.Event.TheVariants.{See, Mark, Commit, Split, Join, ReadClean, ReadValue, ReadMark, Claim, Put, Finish}
 use Rattle.mark_core.specs.declared.events.Outcome.{Outcome}
-use Rattle.mark_core.specs.Place.{place_at}
-use Rattle.mark_core.specs.State.{State, view_at, opening_state}
-use Rattle.mark_core.specs.Step.{Happens}
+use Rattle.mark_core.specs.Places.{place_at}
+use Rattle.mark_core.specs.States.{State, view_at, opening_state}
+use Rattle.mark_core.specs.Steps.{Happens}
 use Rattle.mark_core.specs.Honest.{IsHonest}
-use Rattle.mark_core.specs.Run.{IsCodeless, Runs}
+use Rattle.mark_core.specs.Runs.{IsCodeless, Runs}
 use Rattle.mark_words.specs.declared.tables.History.{History}
 use Rattle.mark_words.specs.declared.tables.Made.{Made}
 use Rattle.mark_words.specs.declared.tables.Topic.{Topic}
 use Rattle.mark_words.specs.Words.{clean_at, words_of_state}
 use Rattle.mark_words.specs.Steps.{single_steps, made_of, OneMore, NoneHandedIn}
-use Rattle.mark_words.specs.Rule.{HoldsRule}
+use Rattle.mark_words.specs.Rules.{HoldsRule}
 
 -- the event happens in a state with these words, and leaves one with those
 pub record IsOneEvent {E : Type 0} (worth : List E → ℕ → ℕ) (touches : List E → E → ℕ → Type 0) (words : List ℕ)

@@ -14,7 +14,7 @@ use Rattle.mark_words.specs.declared.marks.Marks.{Marks}
 use Rattle.mark_words.specs.declared.seats.Seat.{Seat}
 use Rattle.mark_words.specs.declared.closing.Words.{Words}
 use Rattle.mark_words.specs.Words.{shown_place}
-use Rattle.mark_words.specs.Rule.{place_count}
+use Rattle.mark_words.specs.Rules.{place_count}
 
 -- which table it is
 abbrev pub table_of : {S E : Type 0} → Marks S E → TableId
