@@ -10,14 +10,12 @@ ghost use Rattle.csv_sheet.specs.Results.{AreText, IsFirstNotText, IsFirstField,
 
 use crate::records::{field, read_next, reader_of};
 use csv::ByteRecord;
-use formula_syntax::MAX_TEXT;
-use sheet_refs::Memory;
+use formula_syntax::MAX_FIELD;
+use sheet_refs::{MAX_CELLS, MAX_COLS, Memory};
 use std::alloc::Global;
 
 /// The most columns and the most cells of a sheet.
-const MAX_COLS: usize = 16_384;
-
-const MAX_CELLS: u64 = 1_048_576;
+const MOST_COLS: usize = MAX_COLS as usize;
 
 /// What is known of records before any of their fields is kept.
 #[derive(Clone, Copy)]
@@ -50,7 +48,7 @@ fn first_long(fields: &ByteRecord) -> Option<usize>
         (IsFirstLong (fields_of fields.now)) }
 {
     for col in 0..fields.len() {
-        if field(fields, col).len() > MAX_TEXT {
+        if field(fields, col).len() > MAX_FIELD {
             return Some(col);
         }
     }
@@ -107,7 +105,7 @@ impl Extent {
         ensures { IsTrue result
             ↔ ((1048576 < self.now.rows * self.now.cols) ⊎ (16384 < self.now.cols)) }
     {
-        self.cols > MAX_COLS || u64::from(self.rows) * self.cols as u64 > MAX_CELLS
+        self.cols > MOST_COLS || u64::from(self.rows) * self.cols as u64 > MAX_CELLS
     }
 }
 

@@ -18,12 +18,9 @@ use crate::refused::PrepareRefused;
 use crate::rows::cells_by_row;
 use formula_syntax::refs;
 use graph_walk::{Graph, dependents_of_all};
-use sheet_model::{Change, Content, Edit, Entry, Sheet};
+use sheet_model::{Change, Content, Edit, Entry, MOST_ENTRIES, Sheet};
 use sheet_refs::{Cell, Memory, Range, Refs, Sizes};
 use std::alloc::Global;
-
-/// The most entries of a log.
-const MOST_ENTRIES: usize = 1_048_576;
 
 // The ranges to which a content refers.
 fn refs_in(alloc: Global, content: &Content) -> Result<Refs, Memory>

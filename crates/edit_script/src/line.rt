@@ -6,7 +6,7 @@ ghost use Rattle.edit_script.specs.Lines.{Client, Set, Work};
 ghost use Rattle.edit_script.specs.Saying.{line_value, FindsLine, Orders};
 
 use crate::script::Mode;
-use formula_syntax::MAX_TEXT;
+use formula_syntax::MAX_FIELD;
 use sheet_refs::{Cell, Range, cell_of, decimal_of, range_of};
 
 /// The most letters of a client's name.
@@ -129,7 +129,7 @@ fn read_setting(text: &str) -> Option<Line<'_>>
 {
     let (name, content) = text.split_once(' ')?;
     let cell = cell_of(name.as_bytes())?;
-    if content.len() > MAX_TEXT {
+    if content.len() > MAX_FIELD {
         return None;
     }
     Some(Line::Set(cell, content))

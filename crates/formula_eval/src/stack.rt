@@ -1,12 +1,12 @@
 ghost use Rattle.std.specs.Prelude.{◌≤◌, ◌≡◌, vec_len, vec_capacity};
 
 use crate::machine::Pending;
-use formula_syntax::MAX_TEXT;
+use formula_syntax::MAX_FIELD;
 use sheet_refs::Memory;
 use std::alloc::Global;
 
 /// The most nodes of a formula: it has no more than its text has bytes.
-const MAX_NODES: usize = MAX_TEXT;
+const MAX_NODES: usize = MAX_FIELD;
 
 /// Room for the evaluation of one formula after another: as many places as a formula has nodes.
 #[derive(Drop)]

@@ -5,7 +5,7 @@ ghost use Rattle.value_core.specs.Values.{code_of};
 ghost use Rattle.formula_eval.specs.Inputs.{IsCode};
 
 use crate::*;
-use formula_syntax::{Edition, Formula, MAX_TEXT, read_formula};
+use formula_syntax::{Edition, Formula, MAX_FIELD, read_formula};
 use sheet_refs::{Cell, Sizes};
 use std::alloc::Global;
 use std::fmt::Write;
@@ -62,7 +62,7 @@ pub(crate) fn number(n: i64) -> Result<Option<Value>, Fail> {
 }
 
 fn formula(alloc: Global, text: &str) -> Result<Formula, Fail> {
-    if text.len() > MAX_TEXT {
+    if text.len() > MAX_FIELD {
         return Err(Fail::from("a long text"));
     }
     Ok(

@@ -35,7 +35,7 @@ pub use functions::{Function, ParameterKind};
 pub use laws::{formula_laws, shift_laws};
 pub use listing::refs;
 pub use printer::{print, send_formula};
-pub use reader::{MAX_DEPTH, MAX_REFERENCES, MAX_TEXT, ReadRefused, read_formula};
+pub use reader::{MAX_DEPTH, MAX_FIELD, ReadRefused, read_formula};
 pub use shifting::{shift, shift_reference};
 pub use tokens::Token;
 pub use tree::{Formula, Node, Nodes};

@@ -8,23 +8,21 @@ ghost use Rattle.formula_syntax.specs.Editions.{has_token, has_tokens};
 ghost use Rattle.formula_syntax.specs.Lexing.{BeginsOtherwise};
 ghost use Rattle.formula_syntax.specs.Grammar.{Derives};
 ghost use Rattle.formula_syntax.specs.Tree.{Tree, tree_of};
-ghost use Rattle.formula_syntax.specs.declared.reader.TheConstants.{MAX_TEXT};
+ghost use Rattle.formula_syntax.specs.declared.reader.TheConstants.{MAX_FIELD};
 
 use crate::edition::Edition;
 use crate::lexer::tokens;
 use crate::reading::{Unread, expression};
 use crate::tokens::Token;
 use crate::tree::{Formula, Node};
+use sheet_refs::MAX_REFERENCES;
 use std::alloc::{AllocError, Global};
 
-/// The longest text that is read as a formula, in bytes.
-pub const MAX_TEXT: usize = 8_192;
+/// The most bytes of a field of a sheet, and so of the text of a formula.
+pub const MAX_FIELD: usize = 8_192;
 
 /// The most parentheses that may be open at a place of a formula.
 pub const MAX_DEPTH: usize = 64;
-
-/// The most references that one formula may write.
-pub const MAX_REFERENCES: usize = 255;
 
 /// Why a text was not read as a formula.
 #[derive(Clone, Copy, Debug, PartialEq, Eq, Drop)]
@@ -41,7 +39,7 @@ pub enum ReadRefused {
 
 // Whether some front of the text opens more than 64 parentheses that it doesn't close.
 fn too_deep(text: &[u8]) -> bool
-    requires { length text.now ≤ MAX_TEXT }
+    requires { length text.now ≤ MAX_FIELD }
     ensures { IsTrue result ↔ IsTooDeep text.now }
 {
     let mut opened = 0;
@@ -161,7 +159,7 @@ fn read_tree(alloc: Global, tokens: &[Token]) -> Result<Node, Unread>
 
 // Reads a formula, with the cause of each answer.
 fn read(alloc: Global, text: &[u8], edition: Edition) -> Result<Formula, ReadRefused>
-    requires { length text.now ≤ MAX_TEXT }
+    requires { length text.now ≤ MAX_FIELD }
     ensures { IsAnswer edition text.now result }
 {
     if too_deep(text) {
@@ -191,7 +189,7 @@ fn read(alloc: Global, text: &[u8], edition: Edition) -> Result<Formula, ReadRef
 /// (`formula_laws`). The time is in proportion to the length of the text, but for the table of functions, which is
 /// gone through for each name.
 pub fn read_formula(alloc: Global, text: &[u8], edition: Edition) -> Result<Formula, ReadRefused>
-    requires { length text.now ≤ MAX_TEXT }
+    requires { length text.now ≤ MAX_FIELD }
     ensures read { IfOk result (IsRead edition text.now) }
     ensures reads { (tree : Tree) → result ≢ Err ReadRefused.Memory
         → IsRead edition text.now tree → result ≡ Ok tree }

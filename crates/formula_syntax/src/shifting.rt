@@ -11,14 +11,9 @@ use crate::functions::Function;
 use crate::listing::alone;
 use crate::reading::{binary_of, call_of, error_of, prefix_of, references_at};
 use crate::tree::{Formula, Node};
-use sheet_refs::{Cell, End, Memory, Ref};
+use sheet_refs::{Cell, End, MAX_COLS, MAX_ROWS, Memory, Ref};
 use std::alloc::{AllocError, Global};
 use value_core::{BinaryOp, ErrorKind, PrefixOp};
-
-// The last row and the last column that have a name.
-const LAST_ROW: u32 = 1_048_576;
-
-const LAST_COL: u32 = 16_384;
 
 // A row or a column moved by a whole number; None where it leaves the names. A fixed one stays.
 fn shifted_part(fixed: bool, last: u32, by: i32, part: u32) -> Option<u32>
@@ -38,8 +33,8 @@ fn shifted_part(fixed: bool, last: u32, by: i32, part: u32) -> Option<u32>
 fn shifted_end(end: End, down: i32, right: i32) -> Option<End>
     ensures { result ≡ end_of down right end }
 {
-    let row = shifted_part(end.row_fixed, LAST_ROW, down, end.cell.row())?;
-    let col = shifted_part(end.col_fixed, LAST_COL, right, end.cell.col())?;
+    let row = shifted_part(end.row_fixed, MAX_ROWS, down, end.cell.row())?;
+    let col = shifted_part(end.col_fixed, MAX_COLS, right, end.cell.col())?;
     let cell = Cell::new(row, col)?;
     Some(End {
         cell,

@@ -26,7 +26,7 @@ fn repeated(
 
 // Whether a text is read, or why not.
 fn answer(alloc: Global, text: &str) -> Option<ReadRefused> {
-    if text.len() > MAX_TEXT {
+    if text.len() > MAX_FIELD {
         return None;
     }
     read_formula(alloc, text.as_bytes(), Edition::One).err()
@@ -35,7 +35,7 @@ fn answer(alloc: Global, text: &str) -> Option<ReadRefused> {
 // What is printed of the formula that a text spells; or why it isn't read.
 fn reprinted(alloc: Global, text: &str) -> Result<String, Fail> {
     let mut shown = String::new(alloc);
-    if text.len() > MAX_TEXT {
+    if text.len() > MAX_FIELD {
         return Ok(shown);
     }
     match read_formula(alloc, text.as_bytes(), Edition::Two) {
@@ -51,7 +51,7 @@ fn reprinted(alloc: Global, text: &str) -> Result<String, Fail> {
 // What is printed of the formula that a text spells, shifted so far.
 fn shifted(alloc: Global, text: &str, down: i32, right: i32) -> Result<String, Fail> {
     let mut shown = String::new(alloc);
-    if text.len() > MAX_TEXT {
+    if text.len() > MAX_FIELD {
         return Ok(shown);
     }
     if let Ok(formula) = read_formula(alloc, text.as_bytes(), Edition::Two) {
@@ -64,7 +64,7 @@ fn shifted(alloc: Global, text: &str, down: i32, right: i32) -> Result<String, F
 // The ranges of the formula that a text spells, with a space before each.
 fn ranges_of(alloc: Global, text: &str) -> Result<String, Fail> {
     let mut shown = String::new(alloc);
-    if text.len() > MAX_TEXT {
+    if text.len() > MAX_FIELD {
         return Ok(shown);
     }
     if let Ok(formula) = read_formula(alloc, text.as_bytes(), Edition::One) {
@@ -308,7 +308,7 @@ fn limits_hold(rt: HostRuntime) -> Result<(), Fail> {
 fn long_formulas_need_no_deep_stack(rt: HostRuntime) -> Result<(), Fail> {
     let alloc = rt.alloc();
     let signs = repeated(alloc, 8_190, "-", "1", "")?;
-    assert_eq!(rt; signs.len(), MAX_TEXT);
+    assert_eq!(rt; signs.len(), MAX_FIELD);
     let sum = repeated(alloc, 4_000, "8+", "8", "")?;
     let nested = repeated(alloc, 64, "IF(1=1+1*1^", "A1", ";2)")?;
     let groups = repeated(alloc, 64, "1=-(", "A1+1", ")")?;

@@ -2,12 +2,9 @@ ghost use Rattle.std.specs.Prelude.{◌≡◌, ◌≤◌, ◌↔◌, [], IsTrue,
 ghost use Rattle.plain_graph.specs.Plain.{DropsPairs};
 
 use graph_walk::Graph;
-use sheet_refs::{Cell, Memory, Range, Refs};
+use sheet_refs::{Cell, MAX_REFERENCES, Memory, Range, Refs};
 use std::alloc::Global;
 use std::marker::Model;
-
-/// The most ranges to which one cell refers.
-const MOST_REFS: usize = 255;
 
 /// A cell that refers to a range.
 #[derive(Clone, Copy)]
@@ -109,7 +106,7 @@ impl Graph for PlainGraph {
     }
 
     fn reserve(&mut self, changes: u32) -> Result<(), Memory> {
-        self.pairs.reserve(changes as usize * MOST_REFS)?;
+        self.pairs.reserve(changes as usize * MAX_REFERENCES)?;
         Ok(())
     }
 

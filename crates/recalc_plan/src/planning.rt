@@ -9,7 +9,7 @@ use crate::levels::Plan;
 use crate::planner::Planner;
 use crate::waiter::Waiter;
 use graph_walk::Graph;
-use sheet_refs::{Cell, Memory, Range};
+use sheet_refs::{Cell, MAX_COLS, Memory, Range};
 use std::alloc::Global;
 
 // A waiter for each cell, which hasn't looked yet.
@@ -23,7 +23,7 @@ fn waiters_of<G: Graph>(alloc: Global, graph: &G, cells: &[Cell]) -> Result<Vec<
         waiters.push(Waiter {
             cell: *cell,
             left,
-            up_to: 16_384,
+            up_to: MAX_COLS,
         })?;
     }
     Ok(waiters)

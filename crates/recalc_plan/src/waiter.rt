@@ -2,7 +2,7 @@ ghost use Rattle.std.specs.Prelude.{◌≡◌, MatchOption};
 ghost use Rattle.recalc_plan.specs.Opens.{AreCells, FindsOpen, HasNoneLeft, LooksOn};
 
 use crate::opens::{Open, open_in};
-use sheet_refs::{Cell, Range};
+use sheet_refs::{Cell, MAX_COLS, Range};
 use std::collections::BTreeMap;
 
 /// A cell, and where direct precedents of it may still be open: in the ranges that are left, of whose last one the
@@ -30,7 +30,7 @@ impl Waiter {
                 return Some(cell);
             }
             self.left.pop();
-            self.up_to = 16_384;
+            self.up_to = MAX_COLS;
         }
         None
     }

@@ -7,7 +7,7 @@ use graph_walk::on_cycle;
 use mark_words::{Marks, Seat};
 use plain_graph::PlainGraph;
 use recalc_workers::{Office, Task};
-use sheet_model::{Entry, log_laws};
+use sheet_model::{Entry, MOST_ENTRIES, log_laws};
 use sheet_refs::{Cell, Memory};
 use std::alloc::Global;
 use std::sync::Wait;
@@ -28,9 +28,6 @@ pub struct BookOffice<'a> {
     ghost edits: { is_editor editor ≡ true },
     ghost idle: { IsSome next → (edits_of editor).pending ≡ None },
 }
-
-/// The most entries of a log.
-const MOST_ENTRIES: u64 = 1_048_576;
 
 /// Marks the first cell that an entry changes, where it is one of the sheet and the log has room.
 fn mark_first(
@@ -60,7 +57,7 @@ fn mark_first(
     }
     let first = &changes[0];
     let cell = first.cell;
-    if length == MOST_ENTRIES || !sizes.holds(cell) {
+    if length == MOST_ENTRIES as u64 || !sizes.holds(cell) {
         return;
     }
     let place = sizes.place(cell) as u32;

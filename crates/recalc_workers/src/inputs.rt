@@ -1,9 +1,6 @@
 use sheet_model::Part;
-use sheet_refs::{Cell, Memory};
+use sheet_refs::{Cell, MAX_REFERENCES, Memory};
 use std::alloc::Global;
-
-/// The most references of a formula.
-const REFERENCES: usize = 255;
 
 /// The inputs for whose words there is room at first.
 const INPUTS: usize = 1_024;
@@ -20,7 +17,7 @@ pub(crate) struct InputList {
 impl InputList {
     /// An empty list.
     pub(crate) fn new(alloc: Global) -> Result<InputList, Memory> {
-        let parts = Vec::with_capacity(alloc, REFERENCES)?;
+        let parts = Vec::with_capacity(alloc, MAX_REFERENCES)?;
         let words = Vec::with_capacity(alloc, INPUTS)?;
         Ok(InputList { parts, words })
     }

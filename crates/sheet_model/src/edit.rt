@@ -5,7 +5,7 @@ ghost use Rattle.sheet_model.specs.Edits.{AreOfDistinctCells, AreWritten, HasNam
 
 use crate::change::Change;
 use arrayvec::ArrayVec;
-use sheet_refs::{Cell, Memory, Sizes};
+use sheet_refs::{Cell, MAX_COLS, MAX_ROWS, Memory, Sizes};
 use std::alloc::Global;
 use std::marker::Model;
 
@@ -93,8 +93,8 @@ fn place_of_name(cell: Cell) -> usize
     ensures named { HasName cell }
 {
     let sizes = Sizes {
-        rows: 1_048_576,
-        cols: 16_384,
+        rows: MAX_ROWS,
+        cols: MAX_COLS,
     };
     sizes.place(cell)
 }

@@ -1,6 +1,9 @@
 use crate::edit::Edit;
 use sheet_refs::Memory;
 
+/// The most entries of a log, and so the most edits of a script.
+pub const MOST_ENTRIES: usize = 1_048_576;
+
 /// An edit with the client that made it, as a log keeps it.
 #[derive(Drop)]
 pub struct Entry {

@@ -5,7 +5,7 @@ ghost use Rattle.formula_syntax.specs.Spelling.{HasTooManyRefs};
 ghost use Rattle.sheet_model.specs.Sheets.{content_value};
 ghost use Rattle.sheet_model.specs.Fields.{IsNumberOf, IsTruthOf, IsErrorOf, BeginsFormula};
 ghost use Rattle.sheet_model.specs.Fields.{IsContent, IsDeepFormula, IsTableAfter};
-ghost use Rattle.formula_syntax.specs.declared.reader.TheConstants.{MAX_TEXT};
+ghost use Rattle.formula_syntax.specs.declared.reader.TheConstants.{MAX_FIELD};
 
 use crate::content::Content;
 use crate::labels::Labels;
@@ -94,7 +94,7 @@ fn begins_formula(field: &[u8]) -> bool
 
 // What a field that begins as a formula holds.
 fn formula_content(alloc: Global, field: &[u8], edition: Edition) -> Result<Content, ContentRefused>
-    requires short { length field.now ≤ MAX_TEXT }
+    requires short { length field.now ≤ MAX_FIELD }
     requires begins { BeginsFormula field.now }
     ensures read { IfOk result (λ content. IsContent edition [] field.now (content_value content)) }
     ensures too_deep { result ≢ Err ContentRefused.Memory

@@ -45,7 +45,7 @@ pub use cell_laws::{board_laws, edit_laws, field_laws, log_laws, sheet_laws};
 pub use change::Change;
 pub use content::Content;
 pub use edit::{Edit, MOST_CHANGES};
-pub use entry::Entry;
+pub use entry::{Entry, MOST_ENTRIES};
 pub use eval::add_content;
 pub use fields::{ContentRefused, read_content};
 pub use labels::Labels;

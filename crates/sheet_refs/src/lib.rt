@@ -30,7 +30,7 @@ mod sizes;
 #[cfg(test)]
 mod tests;
 
-pub use cell::Cell;
+pub use cell::{Cell, MAX_COLS, MAX_ROWS};
 pub use end_names::ref_of;
 pub use ends::{End, Ref};
 pub use laws::{name_laws, set_laws};
@@ -39,5 +39,5 @@ pub use names::{cell_of, decimal_of, range_of};
 pub use pieces::Pieces;
 pub use range::Range;
 pub use rect_set::RectSet;
-pub use refs::Refs;
-pub use sizes::Sizes;
+pub use refs::{MAX_REFERENCES, Refs};
+pub use sizes::{MAX_CELLS, Sizes};

@@ -5,6 +5,9 @@ use crate::range::Range;
 use std::alloc::Global;
 use std::marker::Model;
 
+/// The most references of a formula, counted as they are written.
+pub const MAX_REFERENCES: usize = 255;
+
 /// The ranges that a formula refers to: a list of at most 255 distinct ranges.
 #[derive(Debug, Drop)]
 pub struct Refs {

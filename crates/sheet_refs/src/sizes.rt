@@ -3,6 +3,9 @@ ghost use Rattle.std.specs.Prelude.{◌≡◌, ◌↔◌, ◌<◌, ◌+◌, ℕ,
 use crate::cell::Cell;
 use crate::range::Range;
 
+/// The most cells of a sheet.
+pub const MAX_CELLS: u64 = 1_048_576;
+
 /// A rectangle of cells that begins at A1, by its two sizes.
 #[derive(Clone, Copy, Debug, PartialEq, Eq)]
 pub struct Sizes {

@@ -12,13 +12,13 @@ use crate::store::EdgeStore;
 use edge_patterns::Edge;
 use graph_walk::Graph;
 use range_index::RangeIndex;
-use sheet_refs::{Cell, Memory, Range, Refs};
+use sheet_refs::{Cell, MAX_REFERENCES, Memory, Range, Refs};
 use std::alloc::Global;
 use std::marker::Model;
 use tree_index::TreeIndex;
 
 /// The most ranges to which one cell refers.
-const MOST_REFS: u32 = 255;
+const MOST_REFS: u32 = MAX_REFERENCES as u32;
 
 /// The most edges that come in one change: the two parts that are left of each edge that holds the cell, and one
 /// for each new range.

@@ -17,13 +17,13 @@ returns-in_err-cell c = rw c.from_residual-in_err-cell.ensures (λ value meant.
     c.split_once.ensures.cases (cell_name_space sets.name meant.0 sets.names) sets.text_is) in
     c.in_err-cell.ensures meant.0 (subst (λ n. IsCellName n meant.0) (sym (c.as_bytes.ensures.value ∙ parts.0)) sets.names))
 
-pub returns-then-content-gt-MAX_TEXT : goal.returns-then-content-gt-MAX_TEXT
-returns-then-content-gt-MAX_TEXT c = λ value meant.
+pub returns-then-content-gt-MAX_FIELD : goal.returns-then-content-gt-MAX_FIELD
+returns-then-content-gt-MAX_FIELD c = λ value meant.
     let sets = meant.3 in
     let parts =
     rw c.in_ok-name.was at (split_there c.args.text.now sets.name meant.1 c.split_once.result
     c.split_once.ensures.cases (cell_name_space sets.name meant.0 sets.names) sets.text_is) in
-    let long = c.if-content-gt-MAX_TEXT.true in
+    let long = c.if-content-gt-MAX_FIELD.true in
     let short = sets.short in
     let same = ap length parts.1 in
     omega (arith, long, short, same)
