@@ -18,7 +18,8 @@ use Rattle.sheet_model.proofs.LoopLemmas.{leads_on}
 use Rattle.sheet_model.proofs.SheetValues.{circular_cycle}
 use Rattle.edit_log.specs.Inputs.{DependsOnCycle}
 use Rattle.edit_log.specs.Kept.{input_step}
-use Rattle.edit_log.specs.Pairs.{ranges_in, ArePairsOf}
+use Rattle.edit_log.specs.Pairs.{ArePairsOf}
+use Rattle.sheet_model.specs.Ranges.{ranges_in}
 use Rattle.edit_log.specs.Touches.{DependsDirectly}
 use Rattle.sheet_model.proofs.ListMembers.{mapped_from, no_member}
 use Rattle.edit_log.proofs.PairLemmas.{pair_inside}

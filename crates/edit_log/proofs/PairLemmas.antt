@@ -12,7 +12,8 @@ use Rattle.std.proofs.Common.{Global}
 use Rattle.formula_syntax.specs.declared.tree.Formula.{Formula}
 use Rattle.sheet_model.specs.declared.content.Content.{Content}
 use Rattle.sheet_model.specs.Sheets.{SheetValue, content_value, content_of}
-use Rattle.edit_log.specs.Pairs.{IsPairOf, ArePairsOf, HasNoPairs, IsBeforeRow, HasPairsBefore, ranges_in}
+use Rattle.edit_log.specs.Pairs.{IsPairOf, ArePairsOf, HasNoPairs, IsBeforeRow, HasPairsBefore}
+use Rattle.sheet_model.specs.Ranges.{ranges_in}
 
 -- a cell of a pair lies in the sheet
 pub record IsCellOf (sheet : SheetValue) (cell : Position) : Type 0 where
@@ -132,12 +133,3 @@ with_formula sheet cell old kept new refs once before same replaced pair =
         → ((pair.cell ≡ cell) × Contains refs pair.range) ⊎ ((pair.cell ≢ cell) × Contains kept pair)
     to_new (inl above) is = inr ((row_on cell pair.cell above).1, (same pair).1 ((before pair).1 (above, is)))
     to_new (inr own) is = inl (own, once_all (ranges_at cell) refs pair.range once (subst (λ (c : Position). Contains (ranges_at c) pair.range) own is))
-
--- what is no formula refers to nothing
-pub no_formula : (content : Content) → ((formula : Arc Formula Global) → content ≢ Content.Formula formula) → ranges_in (content_value content) ≡ []
-no_formula Content.Empty not = refl
-no_formula (Content.Number n) not = refl
-no_formula (Content.Truth b) not = refl
-no_formula (Content.Error kind) not = refl
-no_formula (Content.Label place) not = refl
-no_formula (Content.Formula formula) not = absurd (not formula refl)

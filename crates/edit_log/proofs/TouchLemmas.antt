@@ -22,7 +22,8 @@ use Rattle.sheet_model.proofs.EditLemmas.{first_or_later, of_each, one_or_two}
 use Rattle.sheet_model.proofs.LogLemmas.{after-more, after-sizes, after-labels, after-sheet}
 use Rattle.edit_log.specs.Books.{BookValue, IsBookOf, IsPreparedFor, IsUnchanged, PreparedValue}
 use Rattle.edit_log.specs.Kept.{Depends}
-use Rattle.edit_log.specs.Pairs.{ranges_in, IsPairOf, ArePairsOf, IsFilled}
+use Rattle.edit_log.specs.Pairs.{IsPairOf, ArePairsOf, IsFilled}
+use Rattle.sheet_model.specs.Ranges.{ranges_in}
 use Rattle.edit_log.specs.Touches.{DependsDirectly, IsChangedBy, IsReachInside, Touches, AreTouched, ListsRowByRow, cell_range, cell_ranges, of_change}
 use Rattle.sheet_model.proofs.ListMembers.{all_from, first_member, mapped_from, mapped_to, no_member}
 use Rattle.edit_log.proofs.PairLemmas.{pair_inside}

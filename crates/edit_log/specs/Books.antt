@@ -10,7 +10,8 @@ use Rattle.sheet_model.specs.Edits.{EditValue, AreHeldBeside, AreInSheet, IsEdit
 use Rattle.sheet_model.specs.Logs.{after, AreHeld}
 use Rattle.sheet_model.specs.Sheets.{SheetValue, IsSheet}
 use Rattle.sheet_model.specs.declared.entry.Entry.{Entry}
-use Rattle.edit_log.specs.Pairs.{ArePairsOf, ranges_in}
+use Rattle.edit_log.specs.Pairs.{ArePairsOf}
+use Rattle.sheet_model.specs.Ranges.{ranges_in}
 use Rattle.edit_log.specs.Touches.{AreTouched}
 
 -- the sheet with which it was opened, the sheet and the graph now, the log, and how many changes there is room for

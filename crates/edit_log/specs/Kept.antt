@@ -20,7 +20,7 @@ use Rattle.sheet_model.proofs.EditLemmas.{changed_or_not, edit-others, edit-size
 use Rattle.sheet_model.proofs.LogLemmas.{after-more}
 use Rattle.sheet_model.proofs.LoopLemmas.{agree_on}
 use Rattle.sheet_model.proofs.ValueLemmas.{step_local}
-use Rattle.edit_log.specs.Pairs.{ranges_in}
+use Rattle.sheet_model.specs.Ranges.{ranges_in}
 use Rattle.edit_log.specs.Touches.{DependsDirectly, IsChangedBy, Touches, place_worth, TouchesPlace, cell_at}
 
 -- an element at a place is in the list, and so is what it is mapped to

@@ -2,14 +2,9 @@
 use Rattle.std.specs.Prelude.{◌≡◌, ◌↔◌, ◌⊎◌, ◌<◌, ℕ, List, [], length, Contains}
 use Rattle.sheet_refs.specs.Cells.{Position, Corners}
 use Rattle.sheet_refs.specs.Sizes.{cell_count}
-use Rattle.formula_syntax.specs.Listing.{ranges_of}
-use Rattle.sheet_model.specs.Sheets.{SheetValue, ContentValue, Constant, Computed, content_of}
+use Rattle.sheet_model.specs.Ranges.{ranges_in}
+use Rattle.sheet_model.specs.Sheets.{SheetValue, content_of}
 use Rattle.graph_walk.specs.Graphs.{Pair}
-
--- the ranges to which what stands in a cell refers; only a formula refers to any
-abbrev pub ranges_in : ContentValue → List Corners
-ranges_in (Constant value) = []
-ranges_in (Computed tree) = ranges_of tree
 
 -- a cell whose formula refers to a range
 abbrev pub IsPairOf : SheetValue → Pair → Type 0

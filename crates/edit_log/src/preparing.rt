@@ -2,12 +2,9 @@ ghost use Rattle.std.specs.Prelude.{◌≡◌, ◌<◌, ◌≤◌, length, Err, 
 ghost use Rattle.std.specs.Prelude.{MatchOption, OnOk, IfErr, IfSome, IsNone};
 ghost use Rattle.sheet_refs.specs.Cells.{Position};
 ghost use Rattle.sheet_refs.specs.Sizes.{AreNamed};
-ghost use Rattle.formula_syntax.specs.Listing.{IsOnceEach};
 ghost use Rattle.graph_walk.specs.Starts.{ReachOfAll};
 ghost use Rattle.sheet_model.specs.Edits.{AreInSheet, HaveLabels};
-ghost use Rattle.sheet_model.specs.Sheets.{content_value};
 ghost use Rattle.edit_log.specs.Books.{HaveRefs, IsPreparedFor, IsUnchanged, client_entry};
-ghost use Rattle.edit_log.specs.Pairs.{ranges_in};
 ghost use Rattle.edit_log.specs.Refusals.{IsCause, IsFirstOutside};
 ghost use Rattle.edit_log.specs.Touches.{ListsRowByRow, IsReachInside, cell_ranges};
 ghost use Rattle.edit_log.specs.declared.refused.PrepareRefused.TheVariants as refused;
@@ -16,21 +13,10 @@ use crate::book::Book;
 use crate::prepared::Prepared;
 use crate::refused::PrepareRefused;
 use crate::rows::cells_by_row;
-use formula_syntax::refs;
 use graph_walk::{Graph, dependents_of_all};
-use sheet_model::{Change, Content, Edit, Entry, MOST_ENTRIES, Sheet};
+use sheet_model::{Change, Edit, Entry, MOST_ENTRIES, Sheet};
 use sheet_refs::{Cell, Memory, Range, Refs, Sizes};
 use std::alloc::Global;
-
-// The ranges to which a content refers.
-fn refs_in(alloc: Global, content: &Content) -> Result<Refs, Memory>
-    ensures { IfOk result (IsOnceEach (ranges_in (content_value content.now))) }
-{
-    match content {
-        Content::Formula(formula) => refs(alloc, formula),
-        _ => Refs::of(alloc, &[]),
-    }
-}
 
 // The ranges to which the formula of each change refers.
 fn refs_of_all(alloc: Global, changes: &[Change]) -> Result<Vec<Refs>, Memory>
@@ -38,7 +24,7 @@ fn refs_of_all(alloc: Global, changes: &[Change]) -> Result<Vec<Refs>, Memory>
 {
     let mut all = Vec::with_capacity(alloc, changes.len())?;
     for change in changes {
-        let refs = refs_in(alloc, &change.content)?;
+        let refs = change.content.refs(alloc)?;
         all.push(refs)?;
     }
     Ok(all)

@@ -18,7 +18,7 @@ use Rattle.sheet_model.specs.declared.entry.Entry.{Entry}
 use Rattle.sheet_refs.specs.Cells.{Position, Corners, IsOrdered, cells_of}
 use Rattle.sheet_refs.specs.Sizes.{place_of}
 use Rattle.value_core.specs.declared.value.Value.{Value as CellValue}
-use Rattle.window_text.specs.declared.report.Report.{Report}
+use Rattle.sheet_model.specs.declared.report.Report.{Report}
 use Rattle.live_run.specs.Legal.{LookAsked, IsShownValue, Shows, edit_asked, edits_asked, looks_asked, looks_behind}
 use Rattle.live_run.specs.Told.{HasAnswered, IsBehind, IsMarkAt, IsMarkedSince, IsReported, IsTold, StandsAs}
 use Rattle.live_run.proofs.CommandLemmas.{edits_push, looks_more}

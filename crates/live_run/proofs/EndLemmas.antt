@@ -14,8 +14,8 @@ use Rattle.sheet_model.specs.Edits.{AreHeldBeside}
 use Rattle.sheet_model.specs.Logs.{AreHeld}
 use Rattle.sheet_model.specs.Sheets.{IsSheet, SheetValue}
 use Rattle.sheet_model.specs.declared.entry.Entry.{Entry}
-use Rattle.window_text.specs.Reports.{IsFull}
-use Rattle.window_text.specs.declared.report.Report.{Report}
+use Rattle.sheet_model.specs.Boards.{IsFull}
+use Rattle.sheet_model.specs.declared.report.Report.{Report}
 use Rattle.live_run.specs.Client.{Begins, HasEnded, HasRun, IsCutShort}
 use Rattle.live_run.specs.Legal.{HasFollowed, edits_asked, edits_by}
 use Rattle.live_run.specs.Parts.{edits_of}

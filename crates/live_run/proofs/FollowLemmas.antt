@@ -24,8 +24,8 @@ use Rattle.sheet_refs.specs.Cells.{Position, Corners, cells_of}
 use Rattle.sheet_refs.specs.Sizes.{is_inside, place_of}
 use Rattle.sheet_refs.proofs.Grid.{cells_listed}
 use Rattle.sheet_refs.proofs.Places.{first_cell}
-use Rattle.window_text.specs.Reports.{IsFull}
-use Rattle.window_text.specs.declared.report.Report.{Report}
+use Rattle.sheet_model.specs.Boards.{IsFull}
+use Rattle.sheet_model.specs.declared.report.Report.{Report}
 use Rattle.live_run.specs.Legal.{Answers, HasFollowed, IsLegalReport, IsTouchedLater, LookAsked, MayShow, Shows}
 use Rattle.live_run.specs.Legal.{StaysCurrent, edits_asked, edits_by, looks_asked, numbers_by, WaitsForLast}
 use Rattle.live_run.specs.Told.{HasAnswered, IsBehind, IsMarkAt, IsMarkedSince, IsReported, IsTold, StandsAs}

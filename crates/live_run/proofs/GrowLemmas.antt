@@ -22,7 +22,7 @@ use Rattle.sheet_model.specs.Sheets.{SheetValue}
 use Rattle.sheet_model.specs.declared.board.Shown.{Shown}
 use Rattle.sheet_model.specs.declared.entry.Entry.{Entry}
 use Rattle.sheet_model.proofs.ListLemmas.{slice_get-append}
-use Rattle.window_text.specs.declared.report.Report.{Report}
+use Rattle.sheet_model.specs.declared.report.Report.{Report}
 use Rattle.live_run.specs.Legal.{LookAsked, edits_asked, looks_asked}
 use Rattle.live_run.specs.Told.{HasAnswered, IsBehind, IsKnownBy, IsMarkAt, IsMarkedSince, IsReadBy, IsReported, IsTold, StandsAs}
 use Rattle.live_run.proofs.CommandLemmas.{edits_push, looks_more}

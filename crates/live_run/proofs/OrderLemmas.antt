@@ -10,7 +10,7 @@ use Rattle.edit_script.specs.declared.script.Command.{Command}
 use Rattle.edit_script.specs.declared.script.Command.TheVariants as asks
 use Rattle.sheet_model.specs.Sheets.{SheetValue}
 use Rattle.sheet_refs.specs.Cells.{Corners}
-use Rattle.window_text.specs.declared.report.Report.{Report}
+use Rattle.sheet_model.specs.declared.report.Report.{Report}
 use Rattle.live_run.specs.Client.{IsOrderFor, command_of, commands_of, look_command}
 use Rattle.live_run.specs.Legal.{LookAsked, edits_asked, looks_asked, looks_behind}
 use Rattle.live_run.specs.Orders.{IsOrderOf, MayTake, TakesBoard}

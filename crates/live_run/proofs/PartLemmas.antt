@@ -11,7 +11,7 @@ use Rattle.sheet_model.proofs.ListLemmas.{slice_get-pushed, taken_more}
 use Rattle.edit_script.specs.declared.script.Command.{Command}
 use Rattle.edit_script.specs.declared.script.Command.TheVariants as asks
 use Rattle.edit_script.specs.declared.script.Step.{Step}
-use Rattle.window_text.specs.declared.report.Report.{Report}
+use Rattle.sheet_model.specs.declared.report.Report.{Report}
 use Rattle.live_run.specs.Legal.{LookAsked, commands_by, looks_asked, looks_behind}
 use Rattle.live_run.specs.Parts.{AddsReport, ArePartsOf, AreStepsAnswerable, IsAnswerable, IsPartFor, IsPartOf}
 use Rattle.live_run.specs.Runs.{AreReportsFor, IsCommandFor, IsReportFor}

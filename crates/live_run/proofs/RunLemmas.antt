@@ -18,8 +18,8 @@ use Rattle.sheet_model.specs.Sheets.{SheetValue, IsSheet}
 use Rattle.sheet_model.specs.declared.entry.Entry.{Entry}
 use Rattle.sheet_model.proofs.ListMembers.{all_from, first_member, later_member, mapped_to, no_member}
 use Rattle.sheet_model.proofs.EditLemmas.{first_or_later}
-use Rattle.window_text.specs.Reports.{IsFull}
-use Rattle.window_text.specs.declared.report.Report.{Report}
+use Rattle.sheet_model.specs.Boards.{IsFull}
+use Rattle.sheet_model.specs.declared.report.Report.{Report}
 use Rattle.live_run.specs.Client.{HasEnded, HasRun, IsReady, task_commands}
 use Rattle.live_run.specs.Legal.{HasFollowed, edits_asked, edits_by, numbers_by}
 use Rattle.live_run.specs.Told.{StandsAs}

@@ -14,7 +14,7 @@ use Rattle.live_sheet.specs.declared.pass.Pass.{Pass}
 use Rattle.sheet_model.specs.Edits.{AreHeldBeside, EditValue}
 use Rattle.sheet_model.specs.Sheets.{SheetValue}
 use Rattle.sheet_refs.specs.Cells.{Corners}
-use Rattle.window_text.specs.declared.report.Report.{Report}
+use Rattle.sheet_model.specs.declared.report.Report.{Report}
 use Rattle.live_run.specs.Client.{Begins, HasMade, HasRun, IsCutAt, IsCutShort, IsLook, IsOrderFor, command_of, commands_of, look_command, task_commands}
 use Rattle.live_run.specs.Legal.{edits_asked, looks_asked, looks_behind}
 use Rattle.live_run.specs.Told.{HasAnswered, IsReported, StandsAs}

@@ -32,7 +32,7 @@ use Rattle.sheet_model.proofs.ListMembers.{all_from, mapped_from}
 use Rattle.sheet_refs.specs.Cells.{Position, Corners, IsOrdered, cells_of}
 use Rattle.sheet_refs.specs.Sizes.{place_of}
 use Rattle.sheet_refs.proofs.Grid.{cells_listed}
-use Rattle.window_text.specs.declared.report.Report.{Report}
+use Rattle.sheet_model.specs.declared.report.Report.{Report}
 use Rattle.live_run.specs.Client.{HasAddedReport, HasMade, HasMadeEdit, HasRun, HasShownFirmly, IsOrderFor, command_of, look_command}
 use Rattle.live_run.specs.Legal.{IsShownValue, LookAsked, edit_asked, edits_asked, looks_behind}
 use Rattle.live_run.specs.Told.{HasAnswered, IsTold, StandsAs}

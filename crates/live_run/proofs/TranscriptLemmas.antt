@@ -8,7 +8,7 @@ use Rattle.edit_script.specs.Scripts.{ScriptValue}
 use Rattle.sheet_model.specs.Sheets.{SheetValue}
 use Rattle.sheet_model.specs.declared.entry.Entry.{Entry}
 use Rattle.window_text.specs.Transcripts.{IsWhole, transcript_value}
-use Rattle.window_text.specs.declared.report.Report.{Report}
+use Rattle.sheet_model.specs.declared.report.Report.{Report}
 use Rattle.window_text.specs.declared.transcript.Transcript.{Transcript}
 use Rattle.live_run.specs.Legal.{HasFollowed, IsLegalTranscript, commands_by}
 use Rattle.live_run.specs.Parts.{ArePartsOf}

@@ -13,7 +13,7 @@ use Rattle.live_sheet.specs.declared.pass.Pass.{Pass}
 use Rattle.sheet_model.specs.Boards.{BoardValue}
 use Rattle.sheet_model.specs.Edits.{EditValue, AreWritten}
 use Rattle.sheet_model.specs.Sheets.{SheetValue}
-use Rattle.window_text.specs.declared.report.Report.{Report}
+use Rattle.sheet_model.specs.declared.report.Report.{Report}
 use Rattle.live_run.specs.Legal.{edits_asked, looks_asked}
 use Rattle.live_run.specs.Runs.{IsCommandFor}
 use Rattle.live_run.specs.Told.{HasAnswered}

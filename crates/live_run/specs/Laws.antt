@@ -4,7 +4,7 @@ use Rattle.std.specs.List.{AllZip}
 use Rattle.edit_script.specs.declared.script.Command.{Command}
 use Rattle.sheet_model.specs.Sheets.{SheetValue}
 use Rattle.sheet_model.specs.declared.entry.Entry.{Entry}
-use Rattle.window_text.specs.declared.report.Report.{Report}
+use Rattle.sheet_model.specs.declared.report.Report.{Report}
 use Rattle.live_run.specs.Legal.{HasFollowed, LookAsked, edits_asked, edits_by, looks_asked}
 
 -- among the entries of which a report tells are exactly those of its client's edits that stand before the look

@@ -18,7 +18,7 @@ use Rattle.sheet_model.specs.declared.board.Shown.TheVariants.{Value, Stale, New
 use Rattle.sheet_model.specs.declared.entry.Entry.{Entry}
 use Rattle.value_core.specs.declared.value.Value.{Value as CellValue}
 use Rattle.window_text.specs.Transcripts.{TranscriptValue}
-use Rattle.window_text.specs.declared.report.Report.{Report}
+use Rattle.sheet_model.specs.declared.report.Report.{Report}
 
 -- the commands of a client of a script, in order
 abbrev pub commands_by : ℕ → List Step → List Command

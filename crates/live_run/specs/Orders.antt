@@ -3,7 +3,7 @@ use Rattle.std.specs.Prelude.{◌≡◌, ◌<◌, Bool, true, false, List, [], �
 use Rattle.sheet_refs.specs.Cells.{Corners}
 use Rattle.edit_script.specs.declared.script.Command.{Command}
 use Rattle.edit_script.specs.declared.script.Command.TheVariants as asks
-use Rattle.window_text.specs.declared.report.Report.{Report}
+use Rattle.sheet_model.specs.declared.report.Report.{Report}
 use Rattle.live_run.specs.declared.order.Order.{Order}
 use Rattle.live_run.specs.declared.order.Order.TheVariants.{Put, Look}
 

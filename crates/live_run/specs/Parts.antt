@@ -4,7 +4,7 @@ use Rattle.edit_script.specs.declared.script.Command.{Command}
 use Rattle.edit_script.specs.declared.script.Command.TheVariants as asks
 use Rattle.edit_script.specs.declared.script.Step.{Step}
 use Rattle.sheet_refs.specs.Cells.{Corners, cells_of}
-use Rattle.window_text.specs.declared.report.Report.{Report}
+use Rattle.sheet_model.specs.declared.report.Report.{Report}
 use Rattle.live_run.specs.Legal.{commands_by, edits_asked}
 use Rattle.sheet_model.specs.Sheets.{SheetValue}
 use Rattle.live_run.specs.Runs.{AreCommandsFor, AreReportsFor}

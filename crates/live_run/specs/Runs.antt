@@ -10,7 +10,7 @@ use Rattle.play_machine.specs.Playing.{is_put}
 use Rattle.sheet_model.specs.Edits.{IsFor}
 use Rattle.sheet_model.specs.Sheets.{SheetValue}
 use Rattle.sheet_refs.specs.Cells.{Corners, cells_of}
-use Rattle.window_text.specs.declared.report.Report.{Report}
+use Rattle.sheet_model.specs.declared.report.Report.{Report}
 use Rattle.live_run.specs.Legal.{LookAsked, looks_asked}
 
 -- the window lies in the sheet, and has at most 65536 cells

@@ -6,8 +6,8 @@ use Rattle.sheet_model.specs.Logs.{after}
 use Rattle.sheet_model.specs.Sheets.{SheetValue}
 use Rattle.sheet_model.specs.Values.{AreValues}
 use Rattle.sheet_model.specs.declared.entry.Entry.{Entry}
-use Rattle.window_text.specs.Reports.{IsFull}
-use Rattle.window_text.specs.declared.report.Report.{Report}
+use Rattle.sheet_model.specs.Boards.{IsFull}
+use Rattle.sheet_model.specs.declared.report.Report.{Report}
 use Rattle.live_run.specs.Client.{HasEnded, IsReady, task_commands}
 use Rattle.live_run.specs.Legal.{HasFollowed}
 use Rattle.live_run.specs.declared.client.Client.{Client}

@@ -19,7 +19,7 @@ use Rattle.sheet_model.specs.declared.board.Shown.{Shown}
 use Rattle.sheet_model.specs.declared.board.Shown.TheVariants.{Value, Stale}
 use Rattle.sheet_model.specs.declared.entry.Entry.{Entry}
 use Rattle.value_core.specs.declared.value.Value.{Value as CellValue}
-use Rattle.window_text.specs.declared.report.Report.{Report}
+use Rattle.sheet_model.specs.declared.report.Report.{Report}
 use Rattle.live_run.specs.Legal.{LookAsked, edits_asked, looks_asked, Shows, IsShownValue}
 
 -- the log has this edit of the client under the number

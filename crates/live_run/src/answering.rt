@@ -11,11 +11,10 @@ use crate::cut::Cut;
 use crate::order::Order;
 use live_sheet::{EditRefused, Live, Naming, Pass};
 use recalc_workers::Gate;
-use sheet_model::{Board, Edit};
+use sheet_model::{Board, Edit, Report};
 use sheet_refs::{Memory, Range};
 use std::sync::Wait;
 use std::thread::Threads;
-use window_text::Report;
 
 /// Makes an edit.
 fn put<N: Naming, R: Wait>(

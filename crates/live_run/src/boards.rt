@@ -3,10 +3,9 @@ ghost use Rattle.sheet_refs.specs.Cells.{cells_of};
 ghost use Rattle.live_run.specs.Parts.{AddsReport, IsAnswerable, IsReportOf};
 
 use edit_script::Command;
-use sheet_model::Board;
+use sheet_model::{Board, Report};
 use sheet_refs::{Memory, Range};
 use std::alloc::Global;
-use window_text::Report;
 
 /// A report of a look at a window that is yet to be made: its board has room for the window.
 fn report_for(alloc: Global, firm: bool, window: Range) -> Result<Report, Memory>

@@ -10,11 +10,11 @@ use crate::ordering::orders_of;
 use edit_script::Command;
 use live_sheet::{Live, Naming, Pass};
 use recalc_workers::Gate;
+use sheet_model::Report;
 use sheet_refs::Memory;
 use std::alloc::Global;
 use std::sync::Wait;
 use std::thread::Threads;
-use window_text::Report;
 
 /// One client's part of a run.
 #[derive(Drop)]

@@ -3,9 +3,9 @@ ghost use Rattle.live_run.specs.Tasks.{HadMemory};
 
 use crate::client::Client;
 use live_sheet::{Naming, Pass};
+use sheet_model::Report;
 use sheet_refs::Memory;
 use std::alloc::Global;
-use window_text::Report;
 
 /// The passes of clients that have come to their end, and their reports, both in the order of the clients.
 #[derive(Drop)]

@@ -7,9 +7,9 @@ ghost use Rattle.live_run.specs.Runs.{AreCommandsFor, AreReportsFor};
 use crate::order::Order;
 use edit_script::Command;
 use live_sheet::Naming;
+use sheet_model::Report;
 use sheet_refs::{Memory, Range};
 use std::alloc::Global;
-use window_text::Report;
 
 /// An order to look, on the board of the last report, which is taken away.
 fn look_order(is_firm: bool, window: Range, reports: &mut Vec<Report>) -> Order

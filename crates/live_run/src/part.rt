@@ -1,5 +1,5 @@
 use edit_script::Command;
-use window_text::Report;
+use sheet_model::Report;
 
 /// What a client is to do, and its reports before it has looked.
 #[derive(Drop)]

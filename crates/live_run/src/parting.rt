@@ -6,9 +6,9 @@ ghost use Rattle.live_run.specs.Runs.{AreReportsFor};
 use crate::boards::add_report;
 use crate::part::Part;
 use edit_script::{Command, Step};
+use sheet_model::Report;
 use sheet_refs::Memory;
 use std::alloc::Global;
-use window_text::Report;
 
 /// An equal command. The contents of an edit are shared.
 fn copy_command(command: &Command) -> Result<Command, Memory>

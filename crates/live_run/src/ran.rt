@@ -1,5 +1,5 @@
 use live_sheet::Closed;
-use window_text::Report;
+use sheet_model::Report;
 
 /// What a run leaves.
 #[derive(Drop)]

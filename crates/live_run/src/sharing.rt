@@ -3,7 +3,7 @@ ghost use Rattle.live_run.specs.contracts.client.Client.{the_row as client_row};
 
 use crate::order::Order;
 use live_sheet::{Naming, passes_cross};
-use window_text::Report;
+use sheet_model::Report;
 
 // A type that may go to another thread is one by its values.
 fn may_go<T: Send>()

@@ -16,7 +16,7 @@ use Rattle.edit_script.specs.declared.script.Command.{Command}
 use Rattle.edit_script.specs.declared.script.Command.TheVariants.{Put, Look, Firm, Work}
 use Rattle.edit_script.specs.declared.script.Step.{Step}
 use Rattle.edit_script.proofs.OneScript.{none_last, one_last}
-use Rattle.window_text.specs.declared.report.Report.{Report}
+use Rattle.sheet_model.specs.declared.report.Report.{Report}
 use Rattle.play_machine.specs.Machine.{AreTurns, FollowsCommand, IsFirstCell, IsMarked, IsReady, IsTurn, Machine}
 use Rattle.play_machine.specs.Machine.{MarksTouched, OneList, Plays, machine_after, mark_of, opening, report_of}
 use Rattle.play_machine.specs.Machine.{with_marks, without_mark}

@@ -26,15 +26,15 @@ use Rattle.edit_log.specs.Touches.{AreTouched, IsChangedBy, DependsDirectly, Tou
 use Rattle.edit_script.specs.declared.script.Command.{Command}
 use Rattle.edit_script.specs.declared.script.Command.TheVariants.{Put, Look, Firm, Work}
 use Rattle.edit_script.specs.declared.script.Step.{Step}
-use Rattle.window_text.specs.Reports.{IsFull}
-use Rattle.window_text.specs.declared.report.Report.{Report}
+use Rattle.sheet_model.specs.Boards.{IsFull}
+use Rattle.sheet_model.specs.declared.report.Report.{Report}
 use Rattle.play_machine.specs.Machine.{AreTurns, FollowsCommand, IsMarked, IsNowhere, Machine, MarksTouched, Plays}
 use Rattle.play_machine.specs.Machine.{machine_after, opening, report_of, shown_of, with_marks}
 use Rattle.play_machine.specs.Machine.FollowsCommand.{puts, looks, settles, works}
 use Rattle.play_machine.specs.Machine.Plays.{more, none as no_steps}
 use Rattle.play_machine.specs.Marking.{SetsMarks, marked_count}
 use Rattle.play_machine.specs.Waiting.{AreKept, IsQueue, nothing}
-use Rattle.play_machine.specs.declared.marked.MarkedCells.{MarkedCells}
+use Rattle.play_machine.specs.declared.marked_cells.MarkedCells.{MarkedCells}
 use Rattle.play_machine.specs.Playing.{IsCommandOfSheet, TellsReports, is_put}
 
 -- cells that an entry touches, marked with a number

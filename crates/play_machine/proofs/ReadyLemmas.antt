@@ -12,7 +12,7 @@ use Rattle.sheet_refs.proofs.Places.{place-lt, place_same}
 use Rattle.formula_syntax.specs.Listing.{IsOnceEach}
 use Rattle.formula_syntax.proofs.Listings.{once_all}
 use Rattle.sheet_model.specs.Sheets.{SheetValue, content_of}
-use Rattle.edit_log.specs.Pairs.{ranges_in}
+use Rattle.sheet_model.specs.Ranges.{ranges_in}
 use Rattle.play_machine.specs.Machine.{IsFirstCell, IsNowhere, IsReady, is_marked, mark_of}
 use Rattle.play_machine.specs.Marking.{HasNoMark, NoneHasMark}
 use Rattle.play_machine.proofs.MarkLemmas.{mark_outside, not_both, only_member, unmarked_from}

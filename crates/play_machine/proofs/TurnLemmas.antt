@@ -14,7 +14,7 @@ use Rattle.sheet_refs.proofs.Places.{inside_from, place-lt}
 use Rattle.sheet_model.specs.Sheets.{SheetValue, content_of}
 use Rattle.sheet_model.proofs.ListLemmas.{count_by-set}
 use Rattle.edit_log.specs.Kept.{cell_at-place}
-use Rattle.edit_log.specs.Pairs.{ranges_in}
+use Rattle.sheet_model.specs.Ranges.{ranges_in}
 use Rattle.edit_log.specs.Touches.{cell_at}
 use Rattle.play_machine.specs.Machine.{AreTurns, IsFirstCell, IsMarked, IsNowhere, IsReady, IsTurn, is_marked, mark_of, without_mark}
 use Rattle.play_machine.specs.Machine.AreTurns.{none as no_turns, more as more_turns}

@@ -11,7 +11,7 @@ use Rattle.sheet_refs.specs.declared.sizes.Sizes.{Sizes}
 use Rattle.formula_syntax.specs.Listing.{IsOnceEach}
 use Rattle.formula_syntax.proofs.Listings.{once_all, once_back}
 use Rattle.sheet_model.specs.Sheets.{SheetValue, content_of}
-use Rattle.edit_log.specs.Pairs.{ranges_in}
+use Rattle.sheet_model.specs.Ranges.{ranges_in}
 use Rattle.play_machine.specs.Machine.{is_marked, mark_of}
 use Rattle.play_machine.specs.Marking.{HasNoMark, NoneHasMark}
 use Rattle.play_machine.specs.Waiting.{HasNoMarkedInput, IsMarkedInput, IsNextMarked, IsSeen, IsWaiter}

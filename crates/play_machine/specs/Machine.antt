@@ -14,7 +14,7 @@ use Rattle.edit_log.specs.Touches.{DependsDirectly, Touches}
 use Rattle.edit_script.specs.declared.script.Command.{Command}
 use Rattle.edit_script.specs.declared.script.Command.TheVariants as asks
 use Rattle.edit_script.specs.declared.script.Step.{Step}
-use Rattle.window_text.specs.declared.report.Report.{Report}
+use Rattle.sheet_model.specs.declared.report.Report.{Report}
 
 -- the sheet as it is now, how many edits there were, and for each cell, row by row, the number of the edit that marked it,
 -- or 0 where it isn't marked

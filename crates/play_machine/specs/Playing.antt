@@ -7,8 +7,8 @@ use Rattle.edit_log.specs.Books.{BookValue}
 use Rattle.edit_script.specs.declared.script.Command.{Command}
 use Rattle.edit_script.specs.declared.script.Command.TheVariants.{Put, Look, Firm, Work}
 use Rattle.edit_script.specs.declared.script.Step.{Step}
-use Rattle.window_text.specs.declared.report.Report.{Report}
-use Rattle.window_text.specs.Texts.{IsWithinSheet}
+use Rattle.sheet_model.specs.declared.report.Report.{Report}
+use Rattle.sheet_model.specs.Sheets.{IsWithinSheet}
 use Rattle.play_machine.specs.Machine.{Machine, FollowsCommand}
 
 -- a window of at most 65536 cells of the sheet

@@ -9,11 +9,11 @@ use Rattle.sheet_refs.specs.Sizes.{is_inside, cell_count, part_inside, place_of}
 use Rattle.sheet_refs.specs.declared.sizes.Sizes.{Sizes}
 use Rattle.formula_syntax.specs.Listing.{IsOnceEach}
 use Rattle.sheet_model.specs.Sheets.{SheetValue, content_of}
-use Rattle.edit_log.specs.Pairs.{ranges_in}
+use Rattle.sheet_model.specs.Ranges.{ranges_in}
 use Rattle.edit_log.specs.Touches.{DependsDirectly}
 use Rattle.play_machine.specs.Machine.{IsMarked, IsReady, is_marked}
 use Rattle.play_machine.specs.Marking.{NoneHasMark, marked_count}
-use Rattle.play_machine.specs.declared.marked.MarkedCells.{MarkedCells}
+use Rattle.play_machine.specs.declared.marked_cells.MarkedCells.{MarkedCells}
 use Rattle.play_machine.specs.declared.queue.Queue.{Queue}
 use Rattle.play_machine.specs.declared.waiter.Waiter.{Waiter}
 

@@ -4,17 +4,17 @@
 //! shows of a cell is its mark, or its value where it has none. What each command does, and in which order turns clear
 //! marks, `specs/Machine.antt` says; `play` makes the reports of all steps.
 //!
-//! Below stand `edit_log`, whose book finds the cells that an edit touches, `edit_script`, `window_text`, which prints
-//! reports, and `sheet_model`; the program stands above.
+//! Below stand `edit_log`, whose book finds the cells that an edit touches, `edit_script` and `sheet_model`; `live_run`
+//! and the program, which prints the reports, stand above.
 #![tactic(auto)]
 
 mod laws;
-mod marked;
+mod machine;
+mod marked_cells;
 mod marks;
-mod player;
-mod playing;
+mod play;
 mod queue;
 mod waiter;
 
 pub use laws::play_laws;
-pub use playing::play;
+pub use play::play;

@@ -1,14 +1,10 @@
 ghost use Rattle.std.specs.Prelude.{◌≡◌, length, IfOk, MatchOption, IsTrue};
 ghost use Rattle.sheet_refs.specs.Sizes.{cell_count, is_inside};
-ghost use Rattle.formula_syntax.specs.Listing.{IsOnceEach};
-ghost use Rattle.sheet_model.specs.Sheets.{content_of};
-ghost use Rattle.edit_log.specs.Pairs.{ranges_in};
 ghost use Rattle.play_machine.specs.Marking.{HasNoMark};
 ghost use Rattle.play_machine.specs.Waiting.{HasNoMarkedInput, IsMarkedInput, IsNextMarked, IsSeen, IsWaiter};
 
 use crate::marks::mark_at;
-use formula_syntax::refs;
-use sheet_model::{Content, Sheet};
+use sheet_model::Sheet;
 use sheet_refs::{Cell, Memory, Range, Refs, Sizes};
 use std::alloc::Global;
 
@@ -41,16 +37,6 @@ fn next_marked(sizes: Sizes, marks: &[u64], range: Range, from: u64) -> Option<(
     None
 }
 
-// What a cell refers to.
-fn refs_of(alloc: Global, sheet: &Sheet, cell: Cell) -> Result<Refs, Memory>
-    ensures { IfOk result (IsOnceEach (ranges_in (content_of sheet.now cell))) }
-{
-    let Content::Formula(formula) = sheet.content(cell) else {
-        return Refs::of(alloc, &[]);
-    };
-    refs(alloc, formula)
-}
-
 impl Waiter {
     /// A cell that hasn't looked yet.
     pub(crate) fn new(
@@ -63,7 +49,7 @@ impl Waiter {
         ensures cell { IfOk result (λ waiter. waiter.cell ≡ cell) }
         ensures waiter { IfOk result (IsWaiter sheet.now marks.now) }
     {
-        let refs = refs_of(alloc, sheet, cell)?;
+        let refs = sheet.content(cell).refs(alloc)?;
         Ok(Waiter {
             cell,
             refs,

@@ -6,7 +6,7 @@ use Rattle.sheet_model.specs.Edits.{EditValue}
 use Rattle.sheet_model.specs.Sheets.{SheetValue, with_labels}
 use Rattle.sheet_undo.proofs.UndoLemmas.{none_numbered}
 use Rattle.window_text.specs.Changes.{batch_text}
-use Rattle.window_text.specs.Texts.{IsWithinSheet}
+use Rattle.sheet_model.specs.Sheets.{IsWithinSheet}
 use Rattle.edit_script.specs.Scripts.{ScriptValue}
 use Rattle.edit_script.specs.declared.script.Mode.{Mode}
 use Rattle.sheet_cli.specs.Answers.{Answer, AnswersRequest, AnswersWindow, AnswersCheck, AnswersFill, AnswersGenerated}

@@ -8,7 +8,8 @@ use Rattle.sheet_refs.specs.Names.IsRangeName.{two}
 use Rattle.sheet_refs.proofs.Places.{inside_from}
 use Rattle.sheet_model.specs.Budget.{ev}
 use Rattle.sheet_model.specs.Values.{value_of}
-use Rattle.window_text.specs.Texts.{IsWithinSheet, show_text}
+use Rattle.window_text.specs.Texts.{show_text}
+use Rattle.sheet_model.specs.Sheets.{IsWithinSheet}
 use Rattle.sheet_cli.specs.Answers.{AnswersWindow, OverSheet, Owes, TellsTexts}
 use Rattle.sheet_cli.specs.Answers.Answer.{output, refusal}
 use Rattle.sheet_cli.specs.Answers.AnswersWindow.{outside, written}

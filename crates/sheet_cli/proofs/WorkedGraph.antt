@@ -10,7 +10,8 @@ use Rattle.value_core.specs.declared.value.Value.TheVariants.{Empty}
 use Rattle.sheet_model.specs.Sheets.{Constant, content_of}
 use Rattle.graph_walk.specs.Graphs.{HoldsReach, Pair, Reach, Step}
 use Rattle.graph_walk.specs.Paths.{IsPath}
-use Rattle.edit_log.specs.Pairs.{ArePairsOf, IsPairOf, ranges_in}
+use Rattle.edit_log.specs.Pairs.{ArePairsOf, IsPairOf}
+use Rattle.sheet_model.specs.Ranges.{ranges_in}
 use Rattle.edge_patterns.specs.Edges.{EdgeValue, IsBeside, IsEdge, IsRange}
 use Rattle.edge_patterns.specs.declared.axis.Axis.TheVariants.{Down}
 use Rattle.edge_patterns.specs.declared.edge.Pattern.TheVariants.{Rr, Single}

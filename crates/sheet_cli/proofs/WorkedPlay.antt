@@ -15,7 +15,7 @@ use Rattle.sheet_model.proofs.ListMembers.{first_member}
 use Rattle.graph_walk.specs.Graphs.{Step}
 use Rattle.graph_walk.specs.Paths.{IsPath}
 use Rattle.edit_log.specs.Books.{client_entry}
-use Rattle.edit_log.specs.Pairs.{ranges_in}
+use Rattle.sheet_model.specs.Ranges.{ranges_in}
 use Rattle.edit_log.specs.Touches.{DependsDirectly, Touches}
 use Rattle.edit_log.proofs.TouchLemmas.{sole_change}
 use Rattle.edit_script.specs.declared.script.Command.TheVariants as asks
@@ -26,7 +26,7 @@ use Rattle.play_machine.specs.Machine.FollowsCommand.{puts, looks, works}
 use Rattle.play_machine.specs.Machine.IsTurn.{clears_ready}
 use Rattle.play_machine.specs.Machine.Plays.{none as nothing_played, more as play_more}
 use Rattle.window_text.specs.Reports.{play_text}
-use Rattle.window_text.specs.declared.report.Report.{Report}
+use Rattle.sheet_model.specs.declared.report.Report.{Report}
 use Rattle.sheet_cli.proofs.WorkedGraph.{at, from_to, holds_reach, of_worked, on_cell, one_cell, same_at, worked_pairs, worked_runs}
 use Rattle.sheet_cli.proofs.WorkedScript.{whole_window, worked_change, worked_edit, worked_steps}
 use Rattle.sheet_cli.proofs.WorkedSheet.{worked_sheet}

@@ -21,8 +21,9 @@ use Rattle.play_machine.specs.Machine.{ArePlayed}
 use Rattle.sheet_undo.specs.Undoing.{HasNoEntry, IsOvertaken}
 use Rattle.window_text.specs.Changes.{batch_text}
 use Rattle.window_text.specs.Reports.{play_text}
-use Rattle.window_text.specs.declared.report.Report.{Report}
-use Rattle.window_text.specs.Texts.{IsWithinSheet, check_text, generated_text, show_text, runs_text}
+use Rattle.sheet_model.specs.declared.report.Report.{Report}
+use Rattle.window_text.specs.Texts.{check_text, generated_text, show_text, runs_text}
+use Rattle.sheet_model.specs.Sheets.{IsWithinSheet}
 use Rattle.window_text.specs.Transcripts.{TranscriptValue, live_text}
 use Rattle.edge_patterns.specs.Edges.{EdgeValue}
 use Rattle.graph_walk.specs.Graphs.{Pair, SamePairs}

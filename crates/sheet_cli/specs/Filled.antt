@@ -10,7 +10,7 @@ use Rattle.sheet_fill.specs.FilledTexts.{SaysEdit}
 use Rattle.sheet_fill.specs.Filling.{HasNoOthers, HasTooMany, filled}
 use Rattle.sheet_model.specs.Sheets.{Constant, SheetValue, content_of}
 use Rattle.window_text.specs.Changes.{batch_text}
-use Rattle.window_text.specs.Texts.{IsWithinSheet}
+use Rattle.sheet_model.specs.Sheets.{IsWithinSheet}
 
 -- the sheet has the cell that is copied, and the whole range that is filled
 abbrev pub HasPlaces : Position → Corners → SheetValue → Type 0

@@ -2,8 +2,10 @@
 use Rattle.std.specs.Prelude.{◌≡◌, ℕ, List, [], All}
 use Rattle.sheet_model.specs.Values.{AreValues}
 use Rattle.window_text.specs.Changes.{batch_text}
-use Rattle.window_text.specs.Reports.{IsFull, play_text}
-use Rattle.window_text.specs.Texts.{IsWithinSheet, check_text, generated_text, runs_text, show_text}
+use Rattle.window_text.specs.Reports.{play_text}
+use Rattle.sheet_model.specs.Boards.{IsFull}
+use Rattle.window_text.specs.Texts.{check_text, generated_text, runs_text, show_text}
+use Rattle.sheet_model.specs.Sheets.{IsWithinSheet}
 use Rattle.window_text.specs.Transcripts.{IsWhole, live_text, transcript_value}
 use Rattle.sheet_cli.specs.Graphs.{cells_text, none_text}
 use Rattle.sheet_cli.specs.declared.output.Parts.{Parts}

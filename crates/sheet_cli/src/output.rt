@@ -7,8 +7,10 @@ ghost use Rattle.sink_buffer.specs.Buffers.{Passes};
 ghost use Rattle.taco_graph.specs.Pairs.{HaveFewPairs, pairs_of};
 ghost use Rattle.text_pieces.specs.Pieces.{HandsOut};
 ghost use Rattle.window_text.specs.Changes.{batch_text};
-ghost use Rattle.window_text.specs.Reports.{IsFull, play_text};
-ghost use Rattle.window_text.specs.Texts.{IsWithinSheet, check_text, generated_text, runs_text, show_text};
+ghost use Rattle.window_text.specs.Reports.{play_text};
+ghost use Rattle.sheet_model.specs.Boards.{IsFull};
+ghost use Rattle.window_text.specs.Texts.{check_text, generated_text, runs_text, show_text};
+ghost use Rattle.sheet_model.specs.Sheets.{IsWithinSheet};
 ghost use Rattle.window_text.specs.Transcripts.{IsWhole, live_text, transcript_value};
 ghost use Rattle.sheet_cli.specs.Graphs.{cells_text, none_text};
 ghost use Rattle.sheet_cli.specs.Outputs.{CanBePrinted, parts_text};
@@ -18,14 +20,14 @@ use edge_patterns::Edge;
 use edit_log::Book;
 use live_gen::sum_of_numbers;
 use sheet_io::{Failed, Sink};
-use sheet_model::{Edit, Sheet, all_values};
+use sheet_model::{Edit, Report, Sheet, all_values};
 use sheet_refs::{Cell, Memory, Range};
 use sink_buffer::SinkBuffer;
 use std::alloc::Global;
 use std::marker::Model;
 use taco_graph::{SheetGraph, pair_count};
 use text_pieces::send;
-use window_text::{Printer, Report, Transcript};
+use window_text::{Printer, Transcript};
 
 /// What a text is printed of.
 #[derive(Drop)]

@@ -1,7 +1,7 @@
 // `show`, `deps` and `precs`: the commands about a window of a sheet.
 ghost use Rattle.std.specs.Prelude.{◌≡◌, ◌≤◌, ◌∷◌, MatchBool, IfOk};
 ghost use Rattle.sheet_refs.specs.Names.{Finds};
-ghost use Rattle.window_text.specs.Texts.{IsWithinSheet};
+ghost use Rattle.sheet_model.specs.Sheets.{IsWithinSheet};
 ghost use Rattle.sheet_cli.specs.Answers.{AnswersWindow, Writes};
 ghost use Rattle.sheet_cli.specs.Graphs.{AreDependents, ArePrecedents};
 ghost use Rattle.sheet_cli.specs.Replies.{RepliesTo, answer_of};

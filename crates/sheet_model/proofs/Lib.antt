@@ -16,6 +16,7 @@ pub mod LogLemmas
 mod LookLemmas
 pub mod LoopLemmas
 pub mod PartLemmas
+pub mod RangeLemmas
 mod ResultLemmas
 pub mod SameSheets
 pub mod SheetLemmas

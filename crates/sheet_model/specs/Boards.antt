@@ -1,5 +1,5 @@
 -- Boards: what is shown of the cells of a window, row by row.
-use Rattle.std.specs.Prelude.{ℕ, ◌≤◌, List, [], ◌∷◌, ◌++◌, length}
+use Rattle.std.specs.Prelude.{◌≡◌, ℕ, ◌≤◌, List, [], ◌∷◌, ◌++◌, length}
 use Rattle.sheet_refs.specs.Cells.{Corners, cells_of}
 use Rattle.sheet_model.specs.declared.board.Shown.{Shown}
 
@@ -31,3 +31,7 @@ pub record IsStoredBoard (room : ℕ) (window : Corners) (count capacity : ℕ) 
   pub shown : count ≤ length (cells_of window)
   pub fits : length (cells_of window) ≤ capacity
   pub taken : room ≤ capacity
+
+-- something is shown of each cell of its window
+abbrev pub IsFull : BoardValue → Type 0
+IsFull board = length board.cells ≡ length (cells_of board.window)

@@ -6,6 +6,7 @@ pub mod Fields
 pub mod Labels
 pub mod Logs
 pub mod Parts
+pub mod Ranges
 pub mod Seen
 pub mod Sheets
 pub mod Tables

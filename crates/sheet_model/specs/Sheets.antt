@@ -1,6 +1,7 @@
 -- Sheets: a rectangle of cells that begins at A1, what stands in each cell, and the texts of labels.
 use Rattle.std.specs.Prelude.{◌≡◌, ◌≢◌, ℕ, ◌*◌, ◌<◌, ◌≤◌, if◌then◌else◌, List, [], length, map, replicate, slice_index_or, slice_set, All, IsTrue}
-use Rattle.sheet_refs.specs.Cells.{Position}
+use Rattle.sheet_refs.specs.Cells.{Corners, Position}
+use Rattle.sheet_refs.specs.Cells.{IsIn}
 use Rattle.sheet_refs.specs.declared.sizes.Sizes.{Sizes}
 use Rattle.sheet_refs.specs.Sizes.{is_inside, cell_count, place_of}
 use Rattle.formula_syntax.specs.declared.edition.Edition.{Edition}
@@ -123,3 +124,7 @@ ConstantsAreInRange =
 abbrev pub FormulasCanBeRead : Type 0
 FormulasCanBeRead =
     (sheet : SheetValue) (cell : Position) (formula : Tree) → IsSheet sheet → content_of sheet cell ≡ Computed formula → IsFormula formula
+
+-- each cell of the range is a cell of the sheet
+abbrev pub IsWithinSheet : Corners → SheetValue → Type 0
+IsWithinSheet range sheet = (cell : Position) → IsIn cell range → IsTrue (is_inside sheet.sizes cell)

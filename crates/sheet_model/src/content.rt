@@ -1,8 +1,10 @@
 ghost use Rattle.std.specs.Prelude.{◌≡◌, map, IfOk};
+ghost use Rattle.formula_syntax.specs.Listing.{IsOnceEach};
+ghost use Rattle.sheet_model.specs.Ranges.{ranges_in};
 ghost use Rattle.sheet_model.specs.Sheets.{content_value};
 
-use formula_syntax::Formula;
-use sheet_refs::Memory;
+use formula_syntax::{Formula, refs};
+use sheet_refs::{Memory, Refs};
 use std::alloc::Global;
 use std::sync::Arc;
 use value_core::{ErrorKind, Whole};
@@ -37,6 +39,16 @@ impl Content {
             Content::Label(place) => Content::Label(*place),
             Content::Formula(formula) => Content::Formula(formula.clone()?),
         })
+    }
+
+    /// The ranges to which it refers, each once; only a formula refers to any.
+    pub fn refs(&self, alloc: Global) -> Result<Refs, Memory>
+        ensures { IfOk result (IsOnceEach (ranges_in (content_value self.now))) }
+    {
+        match self {
+            Content::Formula(formula) => refs(alloc, formula),
+            _ => Refs::of(alloc, &[]),
+        }
     }
 }
 

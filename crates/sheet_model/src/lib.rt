@@ -33,6 +33,7 @@ mod known;
 mod labels;
 mod laws;
 mod parts;
+mod report;
 mod sheet;
 mod subject;
 #[cfg(test)]
@@ -51,6 +52,7 @@ pub use fields::{ContentRefused, read_content};
 pub use labels::Labels;
 pub use laws::value_laws;
 pub use parts::Part;
+pub use report::Report;
 pub use sheet::Sheet;
 pub use subject::SheetSubject;
 pub use walk::all_values;

@@ -4,7 +4,7 @@ use Rattle.std.proofs.Math.ListN.{drop_of_length-le}
 use Rattle.std.proofs.lemmas.List.{drop_more}
 use Rattle.text_pieces.specs.Pieces.{Taker}
 use Rattle.window_text.specs.Reports.{play_text, report_text}
-use Rattle.window_text.specs.declared.report.Report.{Report}
+use Rattle.sheet_model.specs.declared.report.Report.{Report}
 use Rattle.text_pieces.proofs.PieceLemmas.{Completes}
 
 -- the text of the reports from a place on

@@ -12,7 +12,7 @@ use Rattle.window_text.specs.Reports.{board_text, place_in, play_text, report_ki
 use Rattle.window_text.specs.Texts.{rows_text}
 use Rattle.window_text.specs.Told.{IsCounted, IsOneWord, IsTellableReport, ToldCell, line as name_line, told_at, told_report, told_reports, told_shown}
 use Rattle.window_text.specs.Transcripts.{client_text, clients_text}
-use Rattle.window_text.specs.declared.report.Report.{Report}
+use Rattle.sheet_model.specs.declared.report.Report.{Report}
 use Rattle.window_text.proofs.ToldCells.{IsTellable, told_text}
 use Rattle.window_text.proofs.ToldChanges.{value_told_text, value_tellable}
 use Rattle.window_text.proofs.ToldEntries.{name_ends}

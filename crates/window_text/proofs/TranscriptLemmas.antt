@@ -11,7 +11,7 @@ use Rattle.sheet_refs.specs.declared.sizes.Sizes.{Sizes}
 use Rattle.sheet_model.specs.Sheets.{IsSheetSize}
 use Rattle.sheet_model.specs.declared.entry.Entry.{Entry}
 use Rattle.window_text.specs.Transcripts.{client_text, clients_text, edit_head, entries_text, entry_text}
-use Rattle.window_text.specs.declared.report.Report.{Report}
+use Rattle.sheet_model.specs.declared.report.Report.{Report}
 
 chosen : (b : Bool) (one other : List ℕ) → b ≡ true → (if b then one else other) ≡ one
 chosen true one other same = refl

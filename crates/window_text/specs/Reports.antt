@@ -7,7 +7,7 @@ use Rattle.sheet_model.specs.Boards.{BoardValue}
 use Rattle.sheet_model.specs.declared.board.Shown.{Shown}
 use Rattle.sheet_model.specs.declared.board.Shown.TheVariants as shown
 use Rattle.window_text.specs.Texts.{rows_text, shown_value}
-use Rattle.window_text.specs.declared.report.Report.{Report}
+use Rattle.sheet_model.specs.declared.report.Report.{Report}
 
 -- how what is shown of a cell is printed beside a table of labels: its value, or a sign and the number of an edit
 abbrev pub shown_text : List (List ℕ) → Shown → List ℕ
@@ -18,10 +18,6 @@ shown_text labels (shown.Newer number) = 94 ∷ decimal number
 -- the place of a cell among those of its window, row by row, counted from 0
 abbrev pub place_in : Corners → Position → ℕ
 place_in window cell = (cell.row - window.head.row) * width window + (cell.col - window.head.col)
-
--- something is shown of each cell of its window
-abbrev pub IsFull : BoardValue → Type 0
-IsFull board = length board.cells ≡ length (cells_of board.window)
 
 -- how a cell of a board is printed; a full board shows something of each
 abbrev pub board_text : List (List ℕ) → BoardValue → Position → List ℕ

@@ -14,10 +14,6 @@ use Rattle.sheet_model.specs.Labels.{label_text}
 use Rattle.sheet_model.specs.Sheets.{SheetValue}
 use Rattle.sheet_model.specs.Values.{value_of}
 
--- each cell of the range is a cell of the sheet
-abbrev pub IsWithinSheet : Corners → SheetValue → Type 0
-IsWithinSheet range sheet = (cell : Position) → IsIn cell range → IsTrue (is_inside sheet.sizes cell)
-
 -- how a value is printed beside a table of labels
 abbrev pub shown_value : List (List ℕ) → Value → List ℕ
 shown_value labels value = value_text (label_text labels) value

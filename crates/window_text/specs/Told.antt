@@ -19,7 +19,7 @@ use Rattle.sheet_model.specs.declared.board.Shown.TheVariants as shown
 use Rattle.sheet_model.specs.declared.entry.Entry.{Entry}
 use Rattle.window_text.specs.Reports.{place_in}
 use Rattle.window_text.specs.Transcripts.{TranscriptValue, live_text, name_at, whole_range}
-use Rattle.window_text.specs.declared.report.Report.{Report}
+use Rattle.sheet_model.specs.declared.report.Report.{Report}
 
 -- a value, of which a label is a text
 pub data ToldValue : Type 0 where

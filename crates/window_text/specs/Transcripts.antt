@@ -8,9 +8,10 @@ use Rattle.sheet_model.specs.Sheets.{SheetValue}
 use Rattle.sheet_model.specs.Values.{AreValues}
 use Rattle.sheet_model.specs.declared.entry.Entry.{Entry}
 use Rattle.window_text.specs.Changes.{changes_text}
-use Rattle.window_text.specs.Reports.{IsFull, play_text}
+use Rattle.window_text.specs.Reports.{play_text}
+use Rattle.sheet_model.specs.Boards.{IsFull}
 use Rattle.window_text.specs.Texts.{count_line, sheet_head, sheet_window}
-use Rattle.window_text.specs.declared.report.Report.{Report}
+use Rattle.sheet_model.specs.declared.report.Report.{Report}
 use Rattle.window_text.specs.declared.transcript.Transcript.{Transcript}
 
 -- the clients' names, the entries of the log, the closing sheet, and the reports of each client

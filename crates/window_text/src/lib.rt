@@ -8,7 +8,7 @@
 //! clients are told by their texts, is a law (`specs/Told.antt`).
 //!
 //! Below stand `text_pieces`, `value_core`, `formula_syntax`, which prints formulas, `edge_patterns` and `sheet_model`;
-//! above stand `play_machine`, which makes the reports, and `sheet_cli`, which keeps the pieces.
+//! above stand `live_run` and `sheet_cli`, which keeps the pieces.
 #![tactic(auto)]
 
 mod changes;
@@ -18,12 +18,11 @@ mod laws;
 mod live;
 mod pieces;
 mod printer;
-mod report;
 mod reports;
 mod transcript;
 mod windows;
 
 pub use laws::text_laws;
 pub use printer::Printer;
-pub use report::Report;
+pub use sheet_model::Report;
 pub use transcript::Transcript;

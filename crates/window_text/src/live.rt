@@ -3,16 +3,15 @@ ghost use Rattle.std.specs.Prelude.{◌≡◌, ◌<◌, ◌∷◌, ◌++◌, len
 ghost use Rattle.std.specs.Fmt.{decimal};
 ghost use Rattle.text_pieces.specs.Pieces.{HandsOut};
 ghost use Rattle.sheet_model.specs.Values.{AreValues};
-ghost use Rattle.window_text.specs.Reports.{IsFull};
+ghost use Rattle.sheet_model.specs.Boards.{IsFull};
 ghost use Rattle.window_text.specs.Transcripts.{client_text, clients_text, closing_rows, closing_text};
 ghost use Rattle.window_text.specs.Transcripts.{edit_head, edit_text, entries_text, entry_text};
 
 use crate::changes::send_changes;
 use crate::pieces::send_decimal;
-use crate::report::Report;
 use crate::reports::send_reports;
 use crate::windows::{send_sheet_head, send_window};
-use sheet_model::{Edit, Entry, Labels, Sheet};
+use sheet_model::{Edit, Entry, Labels, Report, Sheet};
 use sheet_refs::{Cell, Range};
 use text_pieces::send;
 

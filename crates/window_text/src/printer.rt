@@ -2,20 +2,21 @@ ghost use Rattle.std.specs.Prelude.{All};
 ghost use Rattle.sheet_model.specs.Values.{AreValues};
 ghost use Rattle.text_pieces.specs.Pieces.{HandsOut};
 ghost use Rattle.window_text.specs.Changes.{batch_text};
-ghost use Rattle.window_text.specs.Reports.{IsFull, play_text};
-ghost use Rattle.window_text.specs.Texts.{IsWithinSheet, check_text, generated_text, runs_text, show_text};
+ghost use Rattle.window_text.specs.Reports.{play_text};
+ghost use Rattle.sheet_model.specs.Boards.{IsFull};
+ghost use Rattle.window_text.specs.Texts.{check_text, generated_text, runs_text, show_text};
+ghost use Rattle.sheet_model.specs.Sheets.{IsWithinSheet};
 ghost use Rattle.window_text.specs.Transcripts.{IsWhole, live_text, transcript_value};
 
 use crate::changes::send_changes;
 use crate::edges::{send_count, send_edge};
 use crate::generated::send_sum;
 use crate::live::{send_clients, send_closing, send_entries};
-use crate::report::Report;
 use crate::reports::send_reports;
 use crate::transcript::Transcript;
 use crate::windows::{send_sheet_head, send_window};
 use edge_patterns::Edge;
-use sheet_model::{Edit, Entry, Sheet};
+use sheet_model::{Edit, Entry, Report, Sheet};
 use sheet_refs::Range;
 use text_pieces::{send, send_range};
 

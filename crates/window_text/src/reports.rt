@@ -3,14 +3,14 @@ ghost use Rattle.std.specs.Fmt.{decimal};
 ghost use Rattle.sheet_refs.specs.Cells.{IsIn, cells_of};
 ghost use Rattle.sheet_model.specs.declared.board.Shown.TheVariants as shown;
 ghost use Rattle.text_pieces.specs.Pieces.{HandsOut};
-ghost use Rattle.window_text.specs.Reports.{IsFull, board_text, place_in, play_text, report_text, shown_text};
+ghost use Rattle.window_text.specs.Reports.{board_text, place_in, play_text, report_text, shown_text};
+ghost use Rattle.sheet_model.specs.Boards.{IsFull};
 ghost use Rattle.window_text.specs.Reports.{report_kind, window_text};
 ghost use Rattle.window_text.specs.Texts.{row_text};
 
 use crate::pieces::send_value;
-use crate::report::Report;
 use itoa::Buffer;
-use sheet_model::{Board, Labels, Shown};
+use sheet_model::{Board, Labels, Report, Shown};
 use sheet_refs::Range;
 use text_pieces::{send, send_range};
 

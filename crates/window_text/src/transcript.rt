@@ -1,5 +1,4 @@
-use crate::report::Report;
-use sheet_model::{Entry, Sheet};
+use sheet_model::{Entry, Report, Sheet};
 
 /// What a live run comes to.
 #[derive(Drop)]

@@ -3,7 +3,8 @@ ghost use Rattle.std.specs.Prelude.{◌≡◌, ◌≤◌, IsTrue};
 ghost use Rattle.sheet_refs.specs.Sizes.{is_inside};
 ghost use Rattle.sheet_model.specs.Values.{AreValues, value_of};
 ghost use Rattle.text_pieces.specs.Pieces.{HandsOut};
-ghost use Rattle.window_text.specs.Texts.{IsWithinSheet, row_text, sheet_head, sheet_window, shown_cell};
+ghost use Rattle.window_text.specs.Texts.{row_text, sheet_head, sheet_window, shown_cell};
+ghost use Rattle.sheet_model.specs.Sheets.{IsWithinSheet};
 
 use crate::pieces::{send_decimal, send_value};
 use sheet_model::Sheet;

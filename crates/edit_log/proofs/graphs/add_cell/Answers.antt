@@ -2,8 +2,9 @@ use Rattle.std.proofs.Common.{◌≡◌, ap, sym, ◌∙◌, subst, []}
 use Rattle.formula_syntax.specs.Tree.{Tree}
 use Rattle.formula_syntax.specs.Listing.{IsOnceEach, ranges_of}
 use Rattle.sheet_model.specs.Sheets.{Computed, content_value, content_of}
-use Rattle.edit_log.specs.Pairs.{ranges_in}
-use Rattle.edit_log.proofs.PairLemmas.{without_formula, with_formula, no_formula}
+use Rattle.sheet_model.specs.Ranges.{ranges_in}
+use Rattle.edit_log.proofs.PairLemmas.{without_formula, with_formula}
+use Rattle.sheet_model.proofs.RangeLemmas.{no_formula}
 use Rattle.edit_log.proofs.graphs.add_cell.Goals as goal
 
 pub returns-in_default : goal.returns-in_default

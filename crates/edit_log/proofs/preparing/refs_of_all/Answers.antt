@@ -3,7 +3,7 @@ use Rattle.formula_syntax.specs.Listing.{IsOnceEach}
 use Rattle.sheet_model.specs.Changes.{ChangeValue}
 use Rattle.sheet_model.specs.Sheets.{content_value}
 use Rattle.edit_log.specs.Books.{AreRefsOf, HaveRefs}
-use Rattle.edit_log.specs.Pairs.{ranges_in}
+use Rattle.sheet_model.specs.Ranges.{ranges_in}
 use Rattle.edit_log.proofs.ReplaceLemmas.{refs_more}
 use Rattle.edit_log.proofs.preparing.refs_of_all.Goals as goal
 

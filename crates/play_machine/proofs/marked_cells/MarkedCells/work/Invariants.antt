@@ -2,7 +2,7 @@ use Rattle.std.proofs.Common.{◌≡◌, length}
 use Rattle.play_machine.specs.Machine.{AreTurns}
 use Rattle.play_machine.specs.Waiting.{IsQueue}
 use Rattle.play_machine.specs.Waiting.Unplaced.{nothing}
-use Rattle.play_machine.proofs.marked.MarkedCells.work.Given as goal
+use Rattle.play_machine.proofs.marked_cells.MarkedCells.work.Given as goal
 
 abbrev pub invariant-loop : goal.invariant-loop
 invariant-loop l =

@@ -2,7 +2,7 @@ use Rattle.std.proofs.Common.{ap₂, refl, subst}
 use Rattle.play_machine.specs.Machine.{AreTurns}
 use Rattle.play_machine.specs.Playing.{machine_of}
 use Rattle.play_machine.proofs.PlayLemmas.{tells_firm, tells_look, tells_put, tells_work}
-use Rattle.play_machine.proofs.player.Player.follow.Goals as goal
+use Rattle.play_machine.proofs.machine.Player.follow.Goals as goal
 
 pub returns-in_ok-put-in-Put-clause-follows : goal.returns-in_ok-put-in-Put-clause-follows
 returns-in_ok-put-in-Put-clause-follows g c =

@@ -7,15 +7,14 @@ ghost use Rattle.play_machine.specs.Machine.{MarksTouched, machine_after, openin
 ghost use Rattle.play_machine.specs.Playing.{IsWindow, machine_of};
 ghost use Rattle.play_machine.specs.Waiting.{AreKept};
 
-use crate::marked::MarkedCells;
+use crate::marked_cells::MarkedCells;
 use crate::marks::mark_at;
 use edit_log::{Book, PrepareRefused, Prepared};
 use graph_walk::Graph;
-use sheet_model::{Board, Edit, Sheet, Shown, all_values};
+use sheet_model::{Board, Edit, Report, Sheet, Shown, all_values};
 use sheet_refs::{Cell, Memory, Range};
 use std::alloc::Global;
 use value_core::{Value, decode};
-use window_text::Report;
 
 /// The play machine of a book: the marks of its cells, and the values of the cells where they were computed since the
 /// last edit.

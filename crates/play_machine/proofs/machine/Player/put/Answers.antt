@@ -1,7 +1,7 @@
 use Rattle.std.proofs.Common.{ap, ◌∙◌}
 use Rattle.sheet_model.specs.Sheets.{SheetValue}
 use Rattle.play_machine.proofs.PlayLemmas.{put_kept, put_machine, put_marks}
-use Rattle.play_machine.proofs.player.Player.put.Goals as goal
+use Rattle.play_machine.proofs.machine.Player.put.Goals as goal
 
 pub returns-clause-marks : goal.returns-clause-marks
 returns-clause-marks g c =

@@ -5,7 +5,7 @@ use Rattle.play_machine.specs.Waiting.{IsQueue}
 use Rattle.play_machine.specs.Waiting.Unplaced.{nothing}
 use Rattle.play_machine.proofs.CountLemmas.{turns_counted}
 use Rattle.play_machine.proofs.TurnLemmas.{turn_length, turns_clear}
-use Rattle.play_machine.proofs.marked.MarkedCells.work.Goals as goal
+use Rattle.play_machine.proofs.marked_cells.MarkedCells.work.Goals as goal
 
 pub returns-then-turns-self-clause-turns : goal.returns-then-turns-self-clause-turns
 returns-then-turns-self-clause-turns c =

@@ -1,17 +1,17 @@
 ghost use Rattle.std.specs.Prelude.{◌≡◌, ◌<◌, [], length, All, IfOk, IfSome, IsTrue, OnOk};
 ghost use Rattle.sheet_model.specs.Values.{AreValues};
-ghost use Rattle.window_text.specs.Reports.{IsFull};
+ghost use Rattle.sheet_model.specs.Boards.{IsFull};
 ghost use Rattle.play_machine.specs.Machine.{ArePlayed};
 ghost use Rattle.play_machine.specs.Playing.{AreFit, IsCommandOfSheet, TellsReports, is_put, machine_of};
 ghost use Rattle.play_machine.specs.Waiting.{AreKept};
 
-use crate::player::Player;
+use crate::machine::Player;
 use edit_log::Book;
 use edit_script::{Command, Step};
 use graph_walk::Graph;
+use sheet_model::Report;
 use sheet_refs::Memory;
 use std::alloc::Global;
-use window_text::Report;
 
 impl<G: Graph> Player<G> {
     // Does what a step asks for, and adds its report, where it makes one.

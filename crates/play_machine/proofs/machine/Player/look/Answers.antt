@@ -2,7 +2,7 @@ use Rattle.std.proofs.Common.{ap, ap₂, ◌∙◌}
 use Rattle.play_machine.specs.Machine.{shown_of}
 use Rattle.play_machine.specs.Playing.{machine_of}
 use Rattle.play_machine.proofs.PlayLemmas.{board_more}
-use Rattle.play_machine.proofs.player.Player.look.Goals as goal
+use Rattle.play_machine.proofs.machine.Player.look.Goals as goal
 
 pub loop-place-preserved : goal.loop-place-preserved
 loop-place-preserved g c =

@@ -4,7 +4,7 @@ use Rattle.sheet_refs.specs.Cells.{cells_of}
 use Rattle.sheet_model.specs.Values.{AreValues}
 use Rattle.play_machine.specs.Machine.{shown_of}
 use Rattle.play_machine.specs.Playing.{machine_of}
-use Rattle.play_machine.proofs.player.Player.look.Given as goal
+use Rattle.play_machine.proofs.machine.Player.look.Given as goal
 
 abbrev pub invariant-loop-place : goal.invariant-loop-place
 invariant-loop-place g l =

@@ -1,4 +1,4 @@
-use sheet_model::Board;
+use crate::board::Board;
 
 /// What a client was shown at one of its looks.
 #[derive(Drop)]
