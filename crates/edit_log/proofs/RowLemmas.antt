@@ -20,7 +20,7 @@ use Rattle.sheet_refs.specs.Sizes.{is_inside, place_of, cell_count, cell_of_plac
 use Rattle.sheet_refs.specs.declared.sizes.Sizes.{Sizes}
 use Rattle.sheet_refs.proofs.Grid.{cells_listed}
 use Rattle.sheet_refs.proofs.Places.{place-lt, place_same, range_place, place_inside}
-use Rattle.edit_log.specs.Rows.{run_places, IsInside, AreInside, AreCellsAt}
+use Rattle.edit_log.specs.Rows.{run_places, IsInside, LieInside, AreCellsAt}
 use Rattle.edit_log.specs.Touches.{ListsRowByRow}
 use Rattle.sheet_model.proofs.ListMembers.{all_from, first_member, later_member, mapped_from, mapped_to, joined_from, joined_to, pairs_append}
 
@@ -115,7 +115,7 @@ apart a b cell a_is b_is (inl left) in_a in_b = absurd (omega (arith, left, in_a
 apart a b cell a_is b_is (inr above) in_a in_b = absurd (omega (arith, above.1, in_a.row_to, in_b.row_from))
 
 -- the places of all runs differ
-pub runs_differ : (sizes : Sizes) (runs : List Corners) → AreMaximalRuns runs → AreInside sizes runs
+pub runs_differ : (sizes : Sizes) (runs : List Corners) → AreMaximalRuns runs → LieInside sizes runs
     → AllPairs (λ a b. a ≢ b) (flat_map (run_places sizes) runs)
 runs_differ sizes [] are inside = λ i j d lt within. absurd (omega (arith, within))
 runs_differ sizes (run ∷ runs) are inside =
@@ -148,7 +148,7 @@ runs_differ sizes (run ∷ runs) are inside =
         apart run later.0 b.0 first_vertical vertical before (subst (λ (c : Position). IsIn c run) one a.1) b.1
 
 -- and are places of the rectangle
-pub places_within : (sizes : Sizes) (runs : List Corners) → AreMaximalRuns runs → AreInside sizes runs
+pub places_within : (sizes : Sizes) (runs : List Corners) → AreMaximalRuns runs → LieInside sizes runs
     → All (λ place. place < cell_count sizes) (flat_map (run_places sizes) runs)
 places_within sizes runs are inside = all_from (λ place. place < cell_count sizes) (flat_map (run_places sizes) runs) within
   where
@@ -162,7 +162,7 @@ places_within sizes runs are inside = all_from (λ place. place < cell_count siz
 
 -- the cells at the sorted places of the runs are those of the runs, row by row
 pub listed_rows : (sizes : Sizes) (runs : List Corners) (places sorted : List ℕ) (cells : List Position)
-    → AreMaximalRuns runs → AreInside sizes runs → places ≡ flat_map (run_places sizes) runs
+    → AreMaximalRuns runs → LieInside sizes runs → places ≡ flat_map (run_places sizes) runs
     → IsPermutation places sorted → IsSorted nat_cmp sorted → AreCellsAt sizes sorted cells
     → ListsRowByRow sizes cells (IsAmong runs)
 listed_rows sizes runs places sorted cells are inside places_are moved is_sorted cells_are = record {

@@ -13,8 +13,8 @@ run_places sizes run = map (place_of sizes) (cells_of run)
 abbrev pub IsInside : Sizes → Corners → Type 0
 IsInside sizes range = (cell : Position) → IsIn cell range → IsTrue (is_inside sizes cell)
 
-abbrev pub AreInside : Sizes → List Corners → Type 0
-AreInside sizes ranges = (cell : Position) → IsAmong ranges cell → IsTrue (is_inside sizes cell)
+abbrev pub LieInside : Sizes → List Corners → Type 0
+LieInside sizes ranges = (cell : Position) → IsAmong ranges cell → IsTrue (is_inside sizes cell)
 
 -- some cells of a rectangle are those at some places
 pub record AreCellsAt (sizes : Sizes) (places : List ℕ) (cells : List Position) : Type 0 where

@@ -1,7 +1,7 @@
 ghost use Rattle.std.specs.Prelude.{◌≡◌, ◌<◌, ◌++◌, flat_map, All, IfOk, OnOk};
 ghost use Rattle.sheet_refs.specs.Rectangles.{IsAmong, AreMaximalRuns};
 ghost use Rattle.sheet_refs.specs.Sizes.{cell_count, AreNamed};
-ghost use Rattle.edit_log.specs.Rows.{run_places, AreInside, IsInside, AreCellsAt};
+ghost use Rattle.edit_log.specs.Rows.{run_places, LieInside, IsInside, AreCellsAt};
 ghost use Rattle.edit_log.specs.Touches.{ListsRowByRow};
 
 use sheet_refs::{Cell, Memory, Range, Sizes};
@@ -21,7 +21,7 @@ fn push_places(places: &mut Vec<usize>, sizes: Sizes, run: Range) -> Result<(), 
 
 // The places of the cells of some runs.
 fn places_of(alloc: Global, sizes: Sizes, runs: &[Range]) -> Result<Vec<usize>, Memory>
-    requires { AreInside sizes runs.now }
+    requires { LieInside sizes runs.now }
     ensures { IfOk result (λ places. places.items ≡ flat_map (run_places sizes) runs.now) }
 {
     let mut places = Vec::new(alloc);
@@ -49,7 +49,7 @@ fn cells_at(alloc: Global, sizes: Sizes, places: &[usize]) -> Result<Vec<Cell>, 
 pub(crate) fn cells_by_row(alloc: Global, sizes: Sizes, runs: &[Range]) -> Result<Vec<Cell>, Memory>
     requires named { AreNamed sizes }
     requires runs { AreMaximalRuns runs.now }
-    requires inside { AreInside sizes runs.now }
+    requires inside { LieInside sizes runs.now }
     ensures { IfOk result (λ cells. ListsRowByRow sizes cells.items (IsAmong runs.now)) }
 {
     let mut places = places_of(alloc, sizes, runs)?;

@@ -17,7 +17,8 @@ use Rattle.edit_log.proofs.InputLemmas.{depends_step, input_depends}
 use Rattle.recalc_plan.specs.Plans.{InLevel, IsCircular, IsPlan, StaleStep}
 use Rattle.live_sheet.specs.Levels.{InputsComeFirst, KnowsLevels, LevelsLieInside}
 use Rattle.live_sheet.specs.Ranges.{AreClosed}
-use Rattle.live_sheet.specs.Stale.{KnowsAllBut, LieInside}
+use Rattle.live_sheet.specs.Stale.{KnowsAllBut}
+use Rattle.edit_log.specs.Rows.{LieInside}
 
 module _ (sheet : SheetValue) (pairs : List Pair) (are : ArePairsOf sheet pairs) (ranges : List Corners)
     (inside : LieInside sheet.sizes ranges) (Knows : Position → Type 0) (stale : List Position)

@@ -17,7 +17,7 @@ use Rattle.edit_log.proofs.InputLemmas.{depends_step}
 use Rattle.recalc_workers.proofs.ReadingLemmas.{taken_more}
 use Rattle.sheet_model.specs.Sheets.{IsSheetSize, SheetValue}
 use Rattle.live_sheet.specs.Ranges.{AreClosed, AreCutTo, PushesPart}
-use Rattle.live_sheet.specs.Stale.{LieInside}
+use Rattle.edit_log.specs.Rows.{LieInside}
 use Rattle.live_sheet.proofs.StaleLemmas.{apart_from_first}
 
 -- maximal runs are disjoint

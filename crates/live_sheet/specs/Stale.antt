@@ -1,8 +1,7 @@
 -- Which cells of some ranges are not known as clean.
-use Rattle.std.specs.Prelude.{◌≡◌, ◌≢◌, ◌⊎◌, ℕ, List, [], ◌∷◌, ◌++◌, true, None, IsTrue, AllPairs, Contains}
-use Rattle.sheet_refs.specs.Cells.{Position, Corners}
-use Rattle.sheet_refs.specs.Rectangles.{IsAmong}
-use Rattle.sheet_refs.specs.Sizes.{is_inside, place_of}
+use Rattle.std.specs.Prelude.{◌≡◌, ◌≢◌, ◌⊎◌, ℕ, List, [], ◌∷◌, ◌++◌, true, None, AllPairs, Contains}
+use Rattle.sheet_refs.specs.Cells.{Position}
+use Rattle.sheet_refs.specs.Sizes.{place_of}
 use Rattle.sheet_refs.specs.declared.sizes.Sizes.{Sizes}
 use Rattle.mark_core.specs.declared.actors.View.{View}
 use Rattle.mark_core.specs.declared.subjects.Subject.{Ghosts}
@@ -30,10 +29,6 @@ pub record AddsStale (Knows Set : Position → Type 0) (old new : List Position)
   pub added : List Position
   pub whole : new ≡ old ++ added
   pub stale : KnowsAllBut Knows Set added
-
--- all cells of the ranges lie in the rectangle
-abbrev pub LieInside : Sizes → List Corners → Type 0
-LieInside sizes ranges = (cell : Position) → IsAmong ranges cell → IsTrue (is_inside sizes cell)
 
 -- a cell is known, and the list is as it was, or it stands last in it
 abbrev pub IsListedOr : (Position → Type 0) → Position → List Position → List Position → Type 0

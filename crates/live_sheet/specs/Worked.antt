@@ -16,7 +16,7 @@ use Rattle.live_sheet.specs.declared.desk.Desk.{Desk}
 use Rattle.live_sheet.specs.declared.naming.Naming.{Ghosts}
 
 -- the words are the table of this name, about the cells of this opening sheet
-pub record AreWordsOf {E : Type 0} (words : TableId) (opening : SheetValue) (marks : Marks SheetValue E) : Type 0 where
+pub record AreWordsNamed {E : Type 0} (words : TableId) (opening : SheetValue) (marks : Marks SheetValue E) : Type 0 where
   pub table : table_of marks ≡ words
   pub subject : subject_of marks ≡ opening
   pub places : places_of marks ≡ cell_count opening.sizes

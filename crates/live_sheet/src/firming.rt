@@ -7,7 +7,7 @@ ghost use Rattle.recalc_workers.specs.Settling.{AreDesksOf, Each, IsDeskAfter, K
 ghost use Rattle.live_sheet.specs.Firm.{IsFirmLook};
 ghost use Rattle.live_sheet.specs.Held.{IsSeatIn};
 ghost use Rattle.live_sheet.specs.Stale.{IsFree};
-ghost use Rattle.live_sheet.specs.Worked.{AreWordsOf};
+ghost use Rattle.live_sheet.specs.Worked.{AreWordsNamed};
 
 use crate::crossing::{entries_cross, subject_crosses};
 use crate::firm_cells::show_window;
@@ -83,7 +83,7 @@ impl<N: Naming> Locked<N> {
         board: &mut Board,
         gate: &T,
     ) -> Result<(), Memory>
-        requires words { AreWordsOf N.words N.opening marks.now }
+        requires words { AreWordsNamed N.words N.opening marks.now }
         requires seat { IsSeatIn N.words N.opening seat.old }
         requires inside { IsInside N.opening.sizes window }
         requires room { length (cells_of window) ≤ board.old.room }

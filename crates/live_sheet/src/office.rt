@@ -4,7 +4,7 @@ ghost use Rattle.mark_words.specs.Tokens.{log_of, seen_of};
 ghost use Rattle.recalc_workers.specs.Offices.{IsTaskFor, TellsCycle};
 ghost use Rattle.recalc_workers.specs.Seats.{HasDoneNothing, Keeps};
 ghost use Rattle.live_sheet.specs.Held.{IsSeatIn};
-ghost use Rattle.live_sheet.specs.Worked.{AreWordsOf};
+ghost use Rattle.live_sheet.specs.Worked.{AreWordsNamed};
 
 use crate::crossing::{entries_cross, subject_crosses};
 use crate::live::Live;
@@ -22,7 +22,7 @@ use std::sync::Wait;
 impl<N: Naming> Locked<N> {
     /// Lets the seat know what the editor's seat knows: the log, which isn't shorter than what the seat had seen.
     fn lend(&mut self, marks: &Marks<OverSheet>, seat: &mut Seat<OverSheet>)
-        requires words { AreWordsOf N.words N.opening marks.now }
+        requires words { AreWordsNamed N.words N.opening marks.now }
         requires seat { IsSeatIn N.words N.opening seat.old }
         ensures book { self.new.book ≡ self.old.book }
         ensures keeps { Keeps seat.old seat.new }
@@ -43,7 +43,7 @@ impl<N: Naming> Locked<N> {
         cell: Cell,
         seat: &mut Seat<OverSheet>,
     ) -> Result<Task, Memory>
-        requires words { AreWordsOf N.words N.opening marks.now }
+        requires words { AreWordsNamed N.words N.opening marks.now }
         requires seat { IsSeatIn N.words N.opening seat.old }
         ensures book { self.new.book ≡ self.old.book }
         ensures keeps { Keeps seat.old seat.new }
@@ -66,7 +66,7 @@ impl<N: Naming> Locked<N> {
         cell: Cell,
         seat: &mut Seat<OverSheet>,
     ) -> Result<bool, Memory>
-        requires words { AreWordsOf N.words N.opening marks.now }
+        requires words { AreWordsNamed N.words N.opening marks.now }
         requires seat { IsSeatIn N.words N.opening seat.old }
         ensures book { self.new.book ≡ self.old.book }
         ensures keeps { Keeps seat.old seat.new }

@@ -5,7 +5,7 @@ ghost use Rattle.recalc_workers.specs.Settling.{AreDesksOf, Each, IsDeskAfter, K
 ghost use Rattle.live_sheet.specs.Firm.{HasSettled};
 ghost use Rattle.live_sheet.specs.Held.{IsSeatIn};
 ghost use Rattle.live_sheet.specs.Stale.{IsFree};
-ghost use Rattle.live_sheet.specs.Worked.{AreWordsOf};
+ghost use Rattle.live_sheet.specs.Worked.{AreWordsNamed};
 
 use crate::crossing::{entries_cross, subject_crosses};
 use crate::live::Live;
@@ -69,7 +69,7 @@ impl<N: Naming> Locked<N> {
         seat: &mut Seat<OverSheet>,
         gate: &T,
     ) -> Result<(), Memory>
-        requires words { AreWordsOf N.words N.opening marks.now }
+        requires words { AreWordsNamed N.words N.opening marks.now }
         requires seat { IsSeatIn N.words N.opening seat.old }
         ensures book { self.new.book ≡ self.old.book }
         ensures keeps { Keeps seat.old seat.new }

@@ -6,7 +6,8 @@ ghost use Rattle.edit_log.specs.Pairs.{ArePairsOf};
 ghost use Rattle.edit_log.specs.Touches.{TouchesPlace};
 ghost use Rattle.recalc_workers.specs.Settling.{AreDesksOf, Each, IsDeskAfter, IsEditorOf, KeepsEditor};
 ghost use Rattle.live_sheet.specs.Ranges.{AreClosed, KnowsAmong};
-ghost use Rattle.live_sheet.specs.Stale.{IsFree, LieInside};
+ghost use Rattle.live_sheet.specs.Stale.{IsFree};
+ghost use Rattle.edit_log.specs.Rows.{LieInside};
 
 use crate::crossing::{entries_cross, subject_crosses};
 use crate::levels::settle_plan;

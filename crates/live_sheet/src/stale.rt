@@ -5,7 +5,8 @@ ghost use Rattle.sheet_refs.specs.Rectangles.{AreDisjoint, IsAmong};
 ghost use Rattle.sheet_refs.specs.Sizes.{cell_count, is_inside, place_of};
 ghost use Rattle.mark_words.specs.Tokens.{IsSeatOf, subject_of, places_of, view_of};
 ghost use Rattle.recalc_workers.specs.Settling.{KeepsEditor, KnowsPlace};
-ghost use Rattle.live_sheet.specs.Stale.{AddsStale, IsFree, IsListedOr, KnowsAllBut, KnowsCell, LieInside};
+ghost use Rattle.live_sheet.specs.Stale.{AddsStale, IsFree, IsListedOr, KnowsAllBut, KnowsCell};
+ghost use Rattle.edit_log.specs.Rows.{LieInside};
 
 use mark_words::{Marks, Seat};
 use sheet_model::SheetSubject;
