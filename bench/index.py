@@ -11,6 +11,10 @@ with the least of RUNS runs each (3 by default), the indexes in turn, in microse
     answers   how many ids such a query gets
     removal   for each range, in the order in which they came
 
+Below them stand the queries of a tree that was filled with as many ranges elsewhere and emptied by nine tenths before these
+came, beside those of a fresh one, for the shapes that can lie elsewhere; and the memory of each index that makes room for the
+inserts of one change and for those of a largest batch.
+
 Of a list, which looks at all its ranges, and of mdds fewer queries and removals are timed.
 """
 
@@ -20,7 +24,7 @@ import sys
 import tempfile
 
 import proved
-from measuring import ROOT, head
+from measuring import ROOT, STARTER, head, told
 
 SOURCES = ROOT / "bench" / "index"
 LIBRARIES = ["sheet_refs", "range_index", "tree_index", "slab", "arrayvec"]
@@ -39,6 +43,10 @@ SHAPES = {
 }
 
 
+# The shapes whose ranges can lie elsewhere.
+REFILLED = [what for what, (line, count, _, _) in SHAPES.items() if line in ("cells", "small", "windows", "rectangles") and count == 100_000]
+
+
 def build():
     """The program, proved and built, and whether the peer's could be, whose headers are wanted."""
     program = proved.program("index_bench", SOURCES, LIBRARIES, ["tree", "cells", "10", "1", "10"])
@@ -47,10 +55,10 @@ def build():
     return program, bool(headers) and not subprocess.run(peer, stderr=subprocess.DEVNULL).returncode
 
 
-def timed(program, index, line, count, queries, removals):
+def timed(program, index, line, count, queries, removals, *more):
     """The times of one run, each for one of what was done, and how many ids a query got."""
     words = [PEER] if index == "mdds" else [program, index]
-    ran = subprocess.run([*words, line, str(count), str(queries), str(removals)], stdout=subprocess.PIPE, text=True)
+    ran = subprocess.run([*words, line, str(count), str(queries), str(removals), *more], stdout=subprocess.PIPE, text=True)
     if ran.returncode:
         sys.exit(f"bench/index.py: {index} ended with status {ran.returncode} over {line}")
     inserts, asked, removed, answers = map(int, ran.stdout.split())
@@ -66,6 +74,21 @@ def measure(program, index, line, count, queries, few, runs):
     return [min(column) for column in zip(*taken)]
 
 
+def refill(program, what, runs):
+    """Prints the time of a query of a fresh tree, of one that was filled elsewhere before, and the second by the first."""
+    line, count, queries, _ = SHAPES[what]
+    fresh, again = (min(timed(program, "tree", line, count, queries, 0, *more)[1] for _ in range(runs)) for more in ([], ["refilled"]))
+    print(f"{fresh:8.2f} {again:9.2f} {again / fresh:6.2f}  {what}", flush=True)
+
+
+def room(program, index):
+    """Prints the most memory that was resident where an index made room for no insert, for one change's, and for 1,024 changes'."""
+    with tempfile.TemporaryDirectory() as folder:
+        peaks = [told(STARTER, folder, program, index, "room", str(count), "0", "0")[3] for count in (0, 765, 1_024 * 765)]
+    none, one, most = (it / 1e6 for it in peaks)
+    print(f"{index:>5} {one - none:10.2f} {most - none:10.2f}", flush=True)
+
+
 def main():
     runs = int(sys.argv[1]) if len(sys.argv) > 1 else 3
     word = sys.argv[2] if len(sys.argv) > 2 else ""
@@ -79,6 +102,13 @@ def main():
         for index in indexes:
             inserted, asked, removed, answers = measure(program, index, line, count, queries, few, runs)
             print(f"{index:>5} {inserted:8.2f} {asked:9.2f} {answers:9.1f} {removed:8.2f}  {what}", flush=True)
+    print(f"\n{'fresh':>8} {'refilled':>9} {'ratio':>6}")
+    for what in REFILLED:
+        if word in what:
+            refill(program, what, runs)
+    print(f"\n{'':>5} {'change, MB':>10} {'batch, MB':>10}  room for inserts")
+    for index in ("list", "grid", "tree"):
+        room(program, index)
 
 
 if __name__ == "__main__":
