@@ -1,6 +1,6 @@
 -- Which contents refer to ranges.
 use Rattle.std.specs.declared.sync.Arc.{Arc}
-use Rattle.std.proofs.Common.{Global, ◌≡◌, ◌≢◌, [], refl, absurd}
+use Rattle.std.proofs.Common.{Global, ◌≡◌, ◌≢◌, [], refl}
 use Rattle.formula_syntax.specs.declared.tree.Formula.{Formula}
 use Rattle.sheet_model.specs.Ranges.{ranges_in}
 use Rattle.sheet_model.specs.Sheets.{content_value}
