@@ -1,20 +1,24 @@
 #!/usr/bin/env python3
-"""Times `live` of the built program beside `show`, `play` and itself, by the clock.
+"""Times `live` of the built program beside `show`, `play` and itself, and the calls of a live sheet beside those of a book, by the
+clock.
 
-Run by hand: bench/live.py [RUNS]. A line for each pair, with the least of RUNS runs each (3 by default), the two in turn:
+Run by hand: bench/live.py [RUNS] [WORD]. A line for each pair whose name contains WORD (all by default), with the least of RUNS
+runs each (3 by default), the two in turn:
 
     one, other  seconds by the clock of the whole run of the program, its output sent to a file
     ratio       the one divided by the other
     more        the one less the other, in seconds
 
 The number of processors stands in the first line, since threads are what is measured. How the program is
-started is that of bench/measuring.py.
+started is that of bench/measuring.py. The calls are made by the program of bench/live, which is proved and built first, and
+takes long where nothing of it is kept; `library` as WORD measures these alone, `program` the others.
 """
 
 import pathlib
 import sys
 import tempfile
 
+import live_program
 import measuring
 from measuring import build, grid, head, lines, started, sums
 
@@ -38,6 +42,22 @@ def edits(count):
     return "".join(f"set A{at % 1_000 + 1} {at}\n" for at in range(count))
 
 
+def of_clients(count, each):
+    """So many clients with so many edits each."""
+    return "".join(f"client c{client}\n{edits(each)}" for client in range(count))
+
+
+def beside(others):
+    """64 looks of one client at the first 64 columns, and so many edits of another one past them."""
+    looks = "look A1:BL1024\n" * 64
+    return f"client a\n{looks}client b\n" + "".join(f"set BN{at % 1_000 + 1} {at}\n" for at in range(others))
+
+
+def wide():
+    """65,536 numbers and sums, and a column of numbers that nothing refers to past an empty one."""
+    return lines(1_024, lambda row: ",".join(sums(row, col) for col in range(1, 65)) + f",,{row}")
+
+
 # What is measured: sheet, the words and the script of the one run, and those of the other.
 MEASURED = {
     "an empty script on a ledger of 50,000 rows, 4 workers; show of one cell": (ledger, FOUR, "", "show sheet.csv F50000", ""),
@@ -45,7 +65,21 @@ MEASURED = {
     "100,000 edits of a number with one dependent, 4 workers; play": (pairs, FOUR, edits(100_000), "play sheet.csv script.txt", edits(100_000)),
     "the same, 1 worker; play": (pairs, ONE, edits(100_000), "play sheet.csv script.txt", edits(100_000)),
     "64 looks of 65,536 cells, 4 workers; none": (lambda: grid(sums), FOUR, "look A1:BL1024\n" * 64, FOUR, ""),
+    "64 such looks beside 10,000 edits outside them, 1 worker; the looks alone": (wide, ONE, beside(10_000), ONE, beside(0)),
+    "four clients with 25,000 edits each, 4 workers; one with 100,000": (pairs, FOUR, of_clients(4, 25_000), FOUR, of_clients(1, 100_000)),
 }
+
+# What calls of a live sheet are timed: what is done over which shape of how many rows, how often; and what beside.
+CALLS = {
+    "100,000 edits of a number with one dependent; by a book": (("edits", "pairs", 1_000, 1, 100_000), [("book", "pairs", 1_000, 1, 100_000)]),
+    "an edit with 1,000,000 dependents; reading its sheet": (("edits", "level", 1_000_000, 1, 1), [("loading", "level", 1_000_000)]),
+    "opening 1,048,576 cells, half of them formulas; reading and evaluating": (
+        ("opening", "pairs", 524_288),
+        [("loading", "pairs", 524_288), ("values", "pairs", 524_288)],
+    ),
+}
+LOOKS = 200
+CELLS = 65_536
 
 
 def taken(folder, words, script):
@@ -54,18 +88,44 @@ def taken(folder, words, script):
     return started(folder, *words.split())[1]
 
 
-def main():
-    runs = int(sys.argv[1]) if len(sys.argv) > 1 else 3
-    build()
-    head(runs, "least of {runs} runs each, by the clock")
-    print(f"{'one':>8} {'other':>8} {'ratio':>7} {'more':>7}")
+def program(runs, word):
+    """Prints the lines of the program."""
     with tempfile.TemporaryDirectory(prefix="antifreeze-bench-") as folder:
         folder = pathlib.Path(folder)
         for what, (sheet, words, script, other_words, other_script) in MEASURED.items():
-            (folder / "sheet.csv").write_text(sheet())
-            times = [(taken(folder, words, script), taken(folder, other_words, other_script)) for _ in range(runs)]
-            one, other = (min(it) for it in zip(*times))
-            print(f"{one:8.3f} {other:8.3f} {one / other:7.2f} {one - other:7.3f}  {what}", flush=True)
+            if word in f"program: {what}":
+                (folder / "sheet.csv").write_text(sheet())
+                line(what, [(taken(folder, words, script), taken(folder, other_words, other_script)) for _ in range(runs)])
+
+
+def line(what, times):
+    """Prints the least of two times, and what they are to one another."""
+    one, other = (min(it) for it in zip(*times))
+    print(f"{one:8.3f} {other:8.3f} {one / other:7.2f} {one - other:7.3f}  {what}", flush=True)
+
+
+def library(runs, word):
+    """Prints the lines of calls, the time of a look for each cell, and the memory of an open sheet for each cell."""
+    timed = live_program.built()
+    for what, (one, others) in CALLS.items():
+        if word in f"library: {what}":
+            line(what, [(timed(*one) / 1e9, sum(timed(*it) for it in others) / 1e9) for _ in range(runs)])
+    if word in "library: looks":
+        looks = min(timed("looks", "numbers", CELLS, 1, LOOKS) for _ in range(runs))
+        print(f"{looks / LOOKS / CELLS:8.2f} nanoseconds for each cell of a look of {CELLS:,} cells")
+    if word in "library: memory":
+        print(f"{live_program.peak('opening', 'pairs', 524_288) / 1_048_576:8.0f} bytes for each cell of such a sheet, open")
+
+
+def main():
+    runs = int(sys.argv[1]) if len(sys.argv) > 1 else 3
+    word = sys.argv[2] if len(sys.argv) > 2 else ""
+    build()
+    head(runs, "least of {runs} runs each, by the clock")
+    print(f"{'one':>8} {'other':>8} {'ratio':>7} {'more':>7}")
+    program(runs, word)
+    if any(word in f"library: {what}" for what in (*CALLS, "looks", "memory")):
+        library(runs, word)
 
 
 if __name__ == "__main__":

@@ -12,9 +12,9 @@ mod laws;
 mod machine;
 mod marked_cells;
 mod marks;
-mod play;
 mod queue;
+mod steps;
 mod waiter;
 
 pub use laws::play_laws;
-pub use play::play;
+pub use steps::play;

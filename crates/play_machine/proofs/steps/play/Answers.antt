@@ -4,7 +4,7 @@ use Rattle.edit_script.specs.declared.script.Step.{Step}
 use Rattle.play_machine.specs.Machine.{Plays, opening}
 use Rattle.play_machine.specs.Playing.{IsCommandOfSheet, is_put, machine_of}
 use Rattle.play_machine.proofs.PlayLemmas.{count_more, count_taken, fit_moves, follows_keeps, one_of, opened, plays_full, plays_more, plays_none}
-use Rattle.play_machine.proofs.play.play.Goals as goal
+use Rattle.play_machine.proofs.steps.play.Goals as goal
 
 pub loop-step-init : goal.loop-step-init
 loop-step-init g c =

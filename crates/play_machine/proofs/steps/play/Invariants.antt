@@ -4,7 +4,7 @@ use Rattle.sheet_model.specs.Values.{AreValues}
 use Rattle.play_machine.specs.Machine.{Plays, opening}
 use Rattle.play_machine.specs.Playing.{is_put, machine_of}
 use Rattle.play_machine.specs.Waiting.{AreKept}
-use Rattle.play_machine.proofs.play.play.Given as goal
+use Rattle.play_machine.proofs.steps.play.Given as goal
 
 abbrev pub invariant-loop-step : goal.invariant-loop-step
 invariant-loop-step g l =
