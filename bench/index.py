@@ -77,7 +77,7 @@ def measure(program, index, line, count, queries, few, runs):
 def refill(program, what, runs):
     """Prints the time of a query of a fresh tree, of one that was filled elsewhere before, and the second by the first."""
     line, count, queries, _ = SHAPES[what]
-    fresh, again = (min(timed(program, "tree", line, count, queries, 0, *more)[1] for _ in range(runs)) for more in ([], ["refilled"]))
+    fresh, again = (min(timed(program, "tree", line, count, queries, 1, *more)[1] for _ in range(runs)) for more in ([], ["refilled"]))
     print(f"{fresh:8.2f} {again:9.2f} {again / fresh:6.2f}  {what}", flush=True)
 
 
