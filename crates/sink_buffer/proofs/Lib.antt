@@ -1,2 +1,2 @@
 pub mod PassLemmas
-mod SendLemmas
+pub mod SendLemmas
