@@ -65,7 +65,7 @@ def others():
 
 def taken(folder, words):
     """Time by the clock and peak of memory of one run of another program; None where it fails."""
-    status, _, clock, peak = told(STARTER, folder, "timeout", str(60 * MINUTES), *words)
+    status, _, clock, peak = told(STARTER, folder, "sh", "-c", f'exec timeout {60 * MINUTES} "$@" 2> /dev/null', "sh", *words)
     return (clock, peak) if not status else None
 
 
