@@ -78,11 +78,13 @@ def chart(name, title, across, up, series):
         drawn.append(f'<line x1="{LEFT}" y1="{y(tick):.1f}" x2="{WIDTH - RIGHT}" y2="{y(tick):.1f}" stroke="#ddd"/>')
         drawn.append(f'<text x="{LEFT - 8}" y="{y(tick) + 4:.1f}" text-anchor="end">{shown(tick)}</text>')
     for place, (what, line) in enumerate(series.items()):
-        colour = COLOURS[place % len(COLOURS)]
+        # Where the colours begin anew, lines are dashed, and their names stand in italics.
+        colour, again = COLOURS[place % len(COLOURS)], place >= len(COLOURS)
+        dashes, slant = (' stroke-dasharray="6 4"', ' font-style="italic"') if again else ("", "")
         path = " ".join(f"{x(a):.1f},{y(b):.1f}" for a, b in line)
-        drawn.append(f'<polyline points="{path}" fill="none" stroke="{colour}" stroke-width="2"/>')
+        drawn.append(f'<polyline points="{path}" fill="none" stroke="{colour}" stroke-width="2"{dashes}/>')
         drawn += [f'<circle cx="{x(a):.1f}" cy="{y(b):.1f}" r="3" fill="{colour}"/>' for a, b in line]
-        drawn.append(f'<text x="{WIDTH - RIGHT + 12}" y="{TOP + 16 + 18 * place}" fill="{colour}">{escaped(what)}</text>')
+        drawn.append(f'<text x="{WIDTH - RIGHT + 12}" y="{TOP + 16 + 18 * place}" fill="{colour}"{slant}>{escaped(what)}</text>')
     middle = (TOP + HEIGHT - BOTTOM) // 2
     drawn.append(f'<text x="{(LEFT + WIDTH - RIGHT) // 2}" y="{HEIGHT - 30}" text-anchor="middle">{escaped(across)}</text>')
     drawn.append(f'<text x="18" y="{middle}" text-anchor="middle" transform="rotate(-90 18 {middle})">{escaped(up)}</text>')
