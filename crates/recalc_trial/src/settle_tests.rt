@@ -183,7 +183,7 @@ fn is_clean(marks: &Marks<OverSheet>, seat: &mut Seat<OverSheet>, sheet: &Sheet,
 }
 
 /// How many cells of a column of so many rows are clean after so many desks settled it.
-#[tactic(auto, using(crate::proofs::SettleLemmas::inputs_known, crate::proofs::OpenedLemmas::is_editor_of, crate::proofs::OpenedLemmas::places_are))]
+#[tactic(auto, using(crate::proofs::OpenedLemmas::is_editor_of, crate::proofs::OpenedLemmas::places_are))]
 fn settled<R: Threads + Wait + Sync>(
     rt: &R,
     alloc: Global,
