@@ -95,7 +95,10 @@ learns_first : (port : ℕ) (first : Queued) → Pops HoldsJobs port (with_put f
 learns_first port first x entries views h at =
     let v = with_put first_view first in let mine = (h.2 port v at).1 refl in let w = sole_view x.sizes in (
       w,
-      subst (λ (y : List Queued × List HandView). HoldsJobs y.0 y.1) (λ i. (ap (drop 1) mine.1 i, sym (one_changed views port v w mine.0 at) i)) (empty x.sizes),
+      subst (λ (y : List Queued × List HandView). HoldsJobs y.0 y.1) (λ i. (
+        ap (drop 1) mine.1 i,
+        sym (one_changed views port v w mine.0 at) i,
+      )) (empty x.sizes),
       (ap (λ (y : Queued). y ∷ []) (some-injective first x (ap (λ l. get_elem? l 0) mine.1)), refl),
     )
 
