@@ -19,8 +19,8 @@ use Rattle.formula_syntax.specs.Formula.{IsFormula}
 use Rattle.formula_syntax.specs.Grammar.{Derives}
 use Rattle.formula_syntax.specs.Lexing.{HasTokens}
 use Rattle.formula_syntax.specs.Reading.{read, steps, Answers}
-use Rattle.formula_syntax.specs.declared.reading.Unread.{Unread}
-use Rattle.formula_syntax.specs.declared.reading.Unread.TheVariants as unread
+use Rattle.formula_syntax.specs.declared.parser.Unread.{Unread}
+use Rattle.formula_syntax.specs.declared.parser.Unread.TheVariants as unread
 use Rattle.formula_syntax.specs.Spelling.{IsIntroduced, Spells, SpellsIn, IsTooDeep, IsNoFormula, HasTooManyRefs}
 use Rattle.formula_syntax.specs.Spelling.{IsRead, IsAnswer, is_reference_token, refusal_of}
 use Rattle.formula_syntax.specs.Spelling.IsIntroduced.{plain, prefixed}

@@ -7,8 +7,8 @@ use Rattle.formula_syntax.specs.declared.tree.Node.{Node}
 use Rattle.formula_syntax.specs.declared.functions.Function.{Function}
 use Rattle.formula_syntax.specs.Functions.{shape_of}
 use Rattle.std.proofs.lemmas.Bool.Decides.{nat_tests}
-use Rattle.formula_syntax.specs.declared.reading.Unread.{Unread}
-use Rattle.formula_syntax.specs.declared.reading.Unread.TheVariants.{NotFormula, Memory}
+use Rattle.formula_syntax.specs.declared.parser.Unread.{Unread}
+use Rattle.formula_syntax.specs.declared.parser.Unread.TheVariants.{NotFormula, Memory}
 use Rattle.value_core.specs.declared.operators.BinaryOp.{BinaryOp}
 use Rattle.formula_syntax.specs.declared.tokens.Token.{Token}
 use Rattle.formula_syntax.specs.declared.tokens.Token.TheVariants as token

@@ -5,8 +5,8 @@ use Rattle.std.specs.Prelude.{Result, Ok, Err, Vec, map, slice_get}
 use Rattle.std.specs.List.{list_all}
 use Rattle.std.specs.Borrow.{Bor}
 use Rattle.std.specs.declared.alloc.Global.{Global}
-use Rattle.formula_syntax.specs.declared.reading.Unread.{Unread}
-use Rattle.formula_syntax.specs.declared.reading.Unread.TheVariants.{NotFormula, Memory}
+use Rattle.formula_syntax.specs.declared.parser.Unread.{Unread}
+use Rattle.formula_syntax.specs.declared.parser.Unread.TheVariants.{NotFormula, Memory}
 use Rattle.formula_syntax.specs.declared.tree.Node.{Node}
 use Rattle.value_core.specs.declared.operators.BinaryOp.{BinaryOp}
 use Rattle.value_core.specs.declared.operators.BinaryOp.TheVariants.{Add, Sub}

@@ -9,8 +9,8 @@ use Rattle.formula_syntax.specs.Grammar.{Derives}
 use Rattle.formula_syntax.specs.Tree.{Tree, references_of}
 use Rattle.formula_syntax.specs.Printing.{plain as plain_text}
 use Rattle.formula_syntax.specs.declared.tokens.Token.TheVariants as token
-use Rattle.formula_syntax.specs.declared.reading.Unread.{Unread}
-use Rattle.formula_syntax.specs.declared.reading.Unread.TheVariants as unread
+use Rattle.formula_syntax.specs.declared.parser.Unread.{Unread}
+use Rattle.formula_syntax.specs.declared.parser.Unread.TheVariants as unread
 use Rattle.formula_syntax.specs.declared.reader.ReadRefused.{ReadRefused}
 use Rattle.formula_syntax.specs.declared.reader.ReadRefused.TheVariants.{NotFormula, TooDeep, TooManyRefs, Memory}
 

@@ -5,9 +5,9 @@ ghost use Rattle.formula_syntax.specs.Lexing.{StartsWord, IsFront, HasNoToken, H
 ghost use Rattle.formula_syntax.specs.Lexing.{BeginsOtherwise, past_blanks};
 ghost use Rattle.formula_syntax.specs.declared.tokens.Token.{Token as AToken};
 
-use crate::reading::Unread;
+use crate::lexeme::{blank, in_word, word_length, word_of};
+use crate::parser::Unread;
 use crate::tokens::Token;
-use crate::words::{blank, in_word, word_length, word_of};
 use sheet_refs::ref_of;
 use std::alloc::Global;
 use value_core::{BinaryOp, ErrorKind};

@@ -18,17 +18,15 @@
 mod edition;
 mod functions;
 mod laws;
+mod lexeme;
 mod lexer;
 mod listing;
+mod parser;
 mod printer;
 mod reader;
-mod reading;
 mod shifting;
-#[cfg(test)]
-mod tests;
 mod tokens;
 mod tree;
-mod words;
 
 pub use edition::Edition;
 pub use functions::{Function, ParameterKind};

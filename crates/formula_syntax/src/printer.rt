@@ -11,7 +11,7 @@ ghost use Rattle.formula_syntax.specs.Tree.{all_nodes, node_count, tree_of, tree
 ghost use Rattle.text_pieces.specs.Pieces.{HandsOut};
 
 use crate::functions::Function;
-use crate::reading::level;
+use crate::parser::level;
 use crate::tree::{Formula, Node};
 use itoa::Buffer;
 use sheet_refs::Memory;

@@ -12,7 +12,7 @@ ghost use Rattle.formula_syntax.specs.declared.reader.TheConstants.{MAX_FIELD};
 
 use crate::edition::Edition;
 use crate::lexer::tokens;
-use crate::reading::{Unread, expression};
+use crate::parser::{Unread, expression};
 use crate::tokens::Token;
 use crate::tree::{Formula, Node};
 use sheet_refs::MAX_REFERENCES;

@@ -9,7 +9,7 @@ ghost use Rattle.formula_syntax.specs.Tree.{node_count, all_nodes};
 
 use crate::functions::Function;
 use crate::listing::alone;
-use crate::reading::{binary_of, call_of, error_of, prefix_of, references_at};
+use crate::parser::{binary_of, call_of, error_of, prefix_of, references_at};
 use crate::tree::{Formula, Node};
 use sheet_refs::{Cell, End, MAX_COLS, MAX_ROWS, Memory, Ref};
 use std::alloc::{AllocError, Global};

@@ -4,7 +4,7 @@ use Rattle.std.proofs.lemmas.Grind.{common_steps}
 use Rattle.sheet_refs.specs.Names.{IsDecimal}
 use Rattle.formula_syntax.specs.Lexing.IsWord.{number, truth, function, reference}
 use Rattle.formula_syntax.proofs.WordLemmas.{no_word}
-use Rattle.formula_syntax.proofs.words.word_of.Goals as goal
+use Rattle.formula_syntax.proofs.lexeme.word_of.Goals as goal
 
 pub returns-in-Some : goal.returns-in-Some
 returns-in-Some c =

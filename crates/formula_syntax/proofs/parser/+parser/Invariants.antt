@@ -1,7 +1,7 @@
 use Rattle.std.proofs.Common.{◌<◌, ◌≤◌, ◌+◌, ◌-◌, ◌*◌, length, map}
 use Rattle.formula_syntax.specs.Tree.{tree_of}
 use Rattle.formula_syntax.proofs.Steps.{Climbs, LeadsAll}
-use Rattle.formula_syntax.proofs.reading.+reading.Given as goal
+use Rattle.formula_syntax.proofs.parser.+parser.Given as goal
 
 abbrev pub decreases-call : goal.decreases-call
 decreases-call l = 16 * length l.tokens.now + 15

@@ -2,7 +2,7 @@ use Rattle.std.proofs.Common.{◌≡◌, ◌∷◌, ◌++◌, [], rules, ap, ◌
 use Rattle.formula_syntax.specs.Reading.{under_all}
 use Rattle.formula_syntax.specs.Tree.{tree_of}
 use Rattle.formula_syntax.proofs.Signs.{under_step}
-use Rattle.formula_syntax.proofs.reading.under_signs.Goals as goal
+use Rattle.formula_syntax.proofs.parser.under_signs.Goals as goal
 
 pub loop-sign-preserved : goal.loop-sign-preserved
 loop-sign-preserved c =

@@ -1,7 +1,7 @@
 use Rattle.std.proofs.Common.{◌≡◌, ◌≤◌, length}
 use Rattle.formula_syntax.specs.Reading.{after_signs, with_signs, under_all}
 use Rattle.formula_syntax.specs.Tree.{Tree}
-use Rattle.formula_syntax.proofs.reading.signs.Given as goal
+use Rattle.formula_syntax.proofs.parser.signs.Given as goal
 
 abbrev pub invariant-loop-sign : goal.invariant-loop-sign
 invariant-loop-sign l = record {

@@ -31,7 +31,7 @@ pub(crate) enum Unread {
 }
 
 impl From<AllocError> for Unread {
-    ghost use Rattle.formula_syntax.specs.declared.reading.Unread.TheVariants.{Memory};
+    ghost use Rattle.formula_syntax.specs.declared.parser.Unread.TheVariants.{Memory};
 
     ghost from_gives = { λ _ unread. unread ≡ Memory };
 
@@ -41,7 +41,7 @@ impl From<AllocError> for Unread {
 }
 
 impl<T: Drop> From<AllocFailed<T>> for Unread {
-    ghost use Rattle.formula_syntax.specs.declared.reading.Unread.TheVariants.{Memory};
+    ghost use Rattle.formula_syntax.specs.declared.parser.Unread.TheVariants.{Memory};
 
     ghost from_gives = { λ _ unread. unread ≡ Memory };
 
@@ -261,7 +261,7 @@ fn under_signs(alloc: Global, mut signs: Vec<PrefixOp>, operand: Node) -> Result
 /// The operand behind an operator is read with the tighter levels alone, so that operators of one level group
 /// from the left. The calls nest as deep as parentheses and operators that grow tighter do; signs and chains
 /// of operators are read by loops.
-#[cycle(reading)]
+#[cycle(parser)]
 pub(crate) fn expression(
     alloc: Global,
     at: u8,
@@ -285,7 +285,7 @@ pub(crate) fn expression(
 }
 
 // Reads signs and the operand behind them.
-#[cycle(reading)]
+#[cycle(parser)]
 fn signed_operand(alloc: Global, tokens: &[Token]) -> Result<(Node, &[Token]), Unread>
     ensures read { Answers (λ n. read n 4 tokens.now) (steps 4 tokens.now) result }
     ensures shorter { IfOk result (λ found. length found.1.now < length tokens.now) }
@@ -298,7 +298,7 @@ fn signed_operand(alloc: Global, tokens: &[Token]) -> Result<(Node, &[Token]), U
 }
 
 // Reads what has no operator outside parentheses.
-#[cycle(reading)]
+#[cycle(parser)]
 fn primary(alloc: Global, tokens: &[Token]) -> Result<(Node, &[Token]), Unread>
     ensures read { Answers (λ n. read n 5 tokens.now) (steps 5 tokens.now) result }
     ensures shorter { IfOk result (λ found. length found.1.now < length tokens.now) }
@@ -310,7 +310,7 @@ fn primary(alloc: Global, tokens: &[Token]) -> Result<(Node, &[Token]), Unread>
 }
 
 // The same by the first token.
-#[cycle(reading)]
+#[cycle(parser)]
 fn primary_from<'a>(
     alloc: Global,
     first: &Token,
@@ -334,7 +334,7 @@ fn primary_from<'a>(
 }
 
 // Reads an expression and the parenthesis that closes it.
-#[cycle(reading)]
+#[cycle(parser)]
 fn group(alloc: Global, tokens: &[Token]) -> Result<(Node, &[Token]), Unread>
     ensures read { Answers (λ n. grouped_at n tokens.now) (steps 0 tokens.now) result }
     ensures shorter { IfOk result (λ found. length found.1.now < length tokens.now) }
@@ -347,7 +347,7 @@ fn group(alloc: Global, tokens: &[Token]) -> Result<(Node, &[Token]), Unread>
 }
 
 // Reads the parameters of a call, with their parentheses.
-#[cycle(reading)]
+#[cycle(parser)]
 fn call(alloc: Global, function: Function, tokens: &[Token]) -> Result<(Node, &[Token]), Unread>
     ensures read { Answers (λ n. call_at n function tokens.now) (steps 0 tokens.now) result }
     ensures shorter { IfOk result (λ found. length found.1.now < length tokens.now) }
@@ -363,7 +363,7 @@ fn call(alloc: Global, function: Function, tokens: &[Token]) -> Result<(Node, &[
 }
 
 // Reads the parameters behind an open parenthesis, up to the one that closes it.
-#[cycle(reading)]
+#[cycle(parser)]
 fn parameters(alloc: Global, tokens: &[Token]) -> Result<(Vec<Node>, &[Token]), Unread>
     ensures read { AnswersAll (λ n. parameters_at n tokens.now) (steps 0 tokens.now + 1) result }
     ensures shorter { IfOk result (λ found. length found.1.now < length tokens.now) }
@@ -375,7 +375,7 @@ fn parameters(alloc: Global, tokens: &[Token]) -> Result<(Vec<Node>, &[Token]), 
 }
 
 // Reads one or more parameters, up to the parenthesis that closes them.
-#[cycle(reading)]
+#[cycle(parser)]
 fn some_parameters(alloc: Global, tokens: &[Token]) -> Result<(Vec<Node>, &[Token]), Unread>
     ensures read { AnswersAll (λ n. several n [] tokens.now) (steps 0 tokens.now + 1) result }
     ensures shorter { IfOk result (λ found. length found.1.now < length tokens.now) }

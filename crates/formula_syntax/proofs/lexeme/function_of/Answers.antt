@@ -2,7 +2,7 @@ use Rattle.std.proofs.Common.{arith}
 use Rattle.formula_syntax.specs.Lexing.{IsSpelt}
 use Rattle.formula_syntax.specs.Functions.{function_name}
 use Rattle.formula_syntax.proofs.WordLemmas.{all_apart}
-use Rattle.formula_syntax.proofs.words.function_of.Goals as goal
+use Rattle.formula_syntax.proofs.lexeme.function_of.Goals as goal
 
 pub returns : goal.returns
 returns c =

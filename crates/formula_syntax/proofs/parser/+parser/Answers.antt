@@ -8,7 +8,7 @@ use Rattle.formula_syntax.specs.Tree.{tree_of, binary}
 use Rattle.formula_syntax.proofs.Steps.{climb_starts, climb_fails, climb_ends, climb_more, climb_breaks, none_tighter}
 use Rattle.formula_syntax.proofs.Steps.{signs_read, signs_fail, primary_answers, nothing_reads, all_start, all_more}
 use Rattle.formula_syntax.proofs.Steps.{all_end, all_stop, all_fail}
-use Rattle.formula_syntax.proofs.reading.+reading.Goals as goal
+use Rattle.formula_syntax.proofs.parser.+parser.Goals as goal
 
 pub expression-returns-in_err-left-clause-read : goal.expression-returns-in_err-left-clause-read
 expression-returns-in_err-left-clause-read t c =

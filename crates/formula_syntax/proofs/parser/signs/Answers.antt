@@ -3,7 +3,7 @@ use Rattle.formula_syntax.specs.Grammar.{sign_written}
 use Rattle.formula_syntax.specs.Reading.{under_all}
 use Rattle.formula_syntax.specs.declared.tokens.Token.TheVariants as token
 use Rattle.formula_syntax.proofs.Signs.{signs_step, after_step, no_sign_after, no_sign_with}
-use Rattle.formula_syntax.proofs.reading.signs.Goals as goal
+use Rattle.formula_syntax.proofs.parser.signs.Goals as goal
 
 pub loop-sign-preserved : goal.loop-sign-preserved
 loop-sign-preserved c =
