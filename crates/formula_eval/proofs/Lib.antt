@@ -1,3 +1,4 @@
+mod BlockLemmas
 mod CircularFunctions
 pub mod CircularMeaning
 mod ClipLemmas

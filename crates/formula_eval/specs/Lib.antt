@@ -1,3 +1,4 @@
+pub mod Blocks
 pub mod Functions
 pub mod Inputs
 pub mod Items
@@ -6,5 +7,6 @@ pub mod Meaning
 pub mod Pending
 pub mod Seen
 pub mod Stops
+pub mod Sums
 pub mod Tallies
 pub mod Views

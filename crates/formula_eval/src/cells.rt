@@ -13,12 +13,14 @@ ghost use Rattle.formula_eval.specs.declared.cells.View.TheVariants.{Where};
 use crate::inputs::Inputs;
 use crate::items::Item;
 use crate::scan::sizes;
-use crate::tally::{Tally, add};
+use crate::sums::{Sum, add_range};
+use crate::tally::{Running, Tally, add};
 use formula_syntax::Function;
 use sheet_refs::{Cell, Range};
 use value_core::{ErrorKind, Value, Whole, decode};
 
-/// The value of a cell of the rectangle.
+/// The value of a cell of the rectangle. It is a part of the loops over the cells of a range.
+#[inline(always)]
 pub(crate) fn value_at<I: Inputs>(inputs: &I, cell: Cell) -> Value
     requires inside { IsTrue (is_inside (I.sizes inputs.now) cell) }
     requires known { IsKnownPlain (I.codes inputs.now) cell }
@@ -106,6 +108,37 @@ fn look<I: Inputs>(inputs: &I, view: &View, cell: Cell) -> Value
 /// Adds what a view takes of the cells of a range to the sequence of a function, row by row, up to the first
 /// error that is handed on. It looks at each cell of the rectangle once; cells past it take no time.
 pub(crate) fn add_cells<I: Inputs>(
+    inputs: &I,
+    function: Function,
+    view: &View,
+    range: Range,
+    tally: &mut Tally,
+) -> Result<(), ErrorKind>
+    requires plain { IsPlainRange (I.sizes inputs.now) (I.codes inputs.now) range }
+    requires view { IsViewOf (I.sizes inputs.now) (I.codes inputs.now) range view.now }
+    requires bounded { IsBounded tally.old }
+    requires room { tally.old.count < 2 ^ 59 }
+    ensures ok { OnOk result (AddsItems function tally.old tally.new
+        (seen_items (I.sizes inputs.now) (I.codes inputs.now) view.now range)) }
+    ensures few { OnOk result (tally.new.count ≤ tally.old.count + 17179869184) }
+    ensures err { IfErr result (λ kind. contributions function
+        (seen_items (I.sizes inputs.now) (I.codes inputs.now) view.now range) ≡ Err kind) }
+{
+    match (view, function, &tally.running) {
+        (View::All, Function::Sum, Running::Sum(total)) => {
+            let sum = Sum {
+                total: *total,
+                count: tally.count,
+            };
+            *tally = add_range(inputs, range, sum)?.tally();
+            Ok(())
+        }
+        _ => add_seen(inputs, function, view, range, tally),
+    }
+}
+
+// The same for every view and function.
+fn add_seen<I: Inputs>(
     inputs: &I,
     function: Function,
     view: &View,

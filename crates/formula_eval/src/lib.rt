@@ -9,22 +9,20 @@
 
 mod cells;
 mod evaluation;
-#[cfg(test)]
-mod function_tests;
 mod inputs;
 mod items;
 mod laws;
+mod lines;
 mod machine;
 mod ranges;
 mod scalars;
 mod scan;
 mod stack;
+mod sums;
 mod tally;
-#[cfg(test)]
-mod tests;
 
 pub use evaluation::{eval, eval_known};
-pub use inputs::{Inputs, Missing};
+pub use inputs::{Block, Inputs, Missing};
 pub use laws::eval_laws;
 pub use scan::CIRCULAR;
 pub use stack::Stack;

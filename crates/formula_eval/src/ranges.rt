@@ -178,14 +178,16 @@ fn summed_place(parameters: &[Node]) -> usize
     if parameters.len() > 2 { 2 } else { 0 }
 }
 
-fn rows_of(range: Range) -> u32
+/// How many rows a range has.
+pub(crate) fn rows_of(range: Range) -> u32
     ensures rows { result ≡ height range }
     ensures some { 1 ≤ result }
 {
     range.tail().row() - range.head().row() + 1
 }
 
-fn cols_of(range: Range) -> u32
+/// How many columns a range has.
+pub(crate) fn cols_of(range: Range) -> u32
     ensures cols { result ≡ width range }
     ensures some { 1 ≤ result }
 {

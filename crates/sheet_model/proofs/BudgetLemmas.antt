@@ -1,6 +1,6 @@
 -- What a budget of steps gives: a value that is not circular stays the same with more budget, and cells each of which has an
 -- input among them are circular with any.
-use Rattle.std.proofs.Common.{◌≡◌, ◌≢◌, ℕ, zero, suc, ◌+◌, ◌<◌, ◌≤◌, ◌⊎◌, inl, inr, List, length, map, get_or}
+use Rattle.std.proofs.Common.{◌≡◌, ◌≢◌, ℕ, zero, suc, ◌<◌, ◌≤◌, ◌⊎◌, inl, inr, List, length, map, get_or}
 use Rattle.std.proofs.Common.{slice_get, Some, option_map, refl, sym, ◌∙◌, ap, subst, arith, eqb, true, false}
 use Rattle.std.proofs.Common.{le_of_suc-le-suc}
 use Rattle.std.proofs.lemmas.Bool.Decides.{nat_tests}
@@ -10,7 +10,7 @@ use Rattle.std.proofs.lemmas.Option.{slice_get_cases, slice_get-map, get_or_from
 use Rattle.std.proofs.lemmas.Map.Steps.{length-le_from_distinct_below}
 use Rattle.std.proofs.lemmas.Map.Keys.{IsDistinct-from_apart}
 use Rattle.std.proofs.lemmas.Map.Views.{Contains-from_any}
-use Rattle.sheet_model.specs.Budget.{IsLocal, IsStrict, ev, SettlesAt, IsCircular}
+use Rattle.sheet_model.specs.Budget.{IsLocal, IsStrict, ev, IsCircular}
 
 module _ {C V : Type 0} (Input : C → C → Type 0) (circ : V) (step : C → (C → V) → V) (local : IsLocal Input step) (strict : IsStrict Input circ step) where
   -- a value that is not circular stays the same with more budget
@@ -22,12 +22,6 @@ module _ {C V : Type 0} (Input : C → C → Type 0) (circ : V) (step : C → (C
       local c (ev circ step m) (ev circ step n)
       (λ d input. stability n m d (λ is_circ. differs (strict c d (ev circ step n) input is_circ)) (le_of_suc-le-suc le))
 
-  -- one step over values that inputs have from a budget on is the value from one more on
-  pub settles_next : (k : ℕ) (v : C → V) (c : C) → ((d : C) → Input c d → SettlesAt circ step k d (v d)) → SettlesAt circ step (suc k) c (step c v)
-  unfolding ev
-  settles_next k v c inputs zero le = absurd (let impossible : suc k ≤ 0 = le in omega arith)
-  settles_next k v c inputs (suc n) le = local c (ev circ step n) v (λ d input. inputs d input n (le_of_suc-le-suc le))
-
   -- cells each of which has an input among them, or a circular one, are circular
   pub circular_closed : (Open : C → Type 0) → ((c : C) → Open c → (d : C) × Input c d
       × (Open d ⊎ IsCircular circ step d)) → (c : C) → Open c → IsCircular circ step c
@@ -36,14 +30,6 @@ module _ {C V : Type 0} (Input : C → C → Type 0) (circ : V) (step : C → (C
   circular_closed Open closed c open_c (suc n) =
       let next = closed c open_c in
       strict c next.0 (ev circ step n) next.1 (elim next.2 [ inl open_d ↦ circular_closed Open closed next.0 open_d n | inr known ↦ known n ])
-
-  -- a cell that is circular from a budget on is so with each budget
-  pub circular_always : ((v : V) → (v ≡ circ) ⊎ (v ≢ circ)) → (k : ℕ) (c : C) → SettlesAt circ step k c circ → IsCircular circ step c
-  circular_always decide k c settles n =
-      elim (decide (ev circ step n c)) [
-        | inl circular ↦ circular
-        | inr differs ↦ absurd (differs (sym (stability n (n + k) c differs (omega arith)) ∙ settles (n + k) (omega arith)))
-      ]
 
 module _ {C : Type 0} (number : C → ℕ) (count : ℕ) (cells : List C) where
   read : (i : ℕ) → i < length cells → (c : C) × (slice_get cells i ≡ Some c)

@@ -1,6 +1,6 @@
 -- A turn of the walk that finds a cycle.
 use Rattle.std.proofs.Common.{◌≡◌, ◌≢◌, ℕ, suc, ◌<◌, ◌≤◌, ◌⊎◌, inl, inr, List, [], ◌∷◌, ◌++◌, length, map, slice_get}
-use Rattle.std.proofs.Common.{set, Some, Bool, true, false, not, option_map, IsTrue, refl, sym, ◌∙◌, ap, subst, arith}
+use Rattle.std.proofs.Common.{set, Some, Bool, true, false, not, option_map, IsTrue, refl, sym, ◌∙◌, ap, arith}
 use Rattle.std.proofs.Common.{length-set}
 use Rattle.std.proofs.lemmas.Option.{slice_get_within, slice_get_cases, get_or_from_slice_get, slice_get-map}
 use Rattle.std.proofs.lemmas.List.{length-map, map-set}
@@ -8,19 +8,20 @@ use Rattle.sheet_refs.specs.Cells.{Position}
 use Rattle.value_core.specs.declared.value.ErrorKind.TheVariants.{Circ}
 use Rattle.value_core.specs.declared.value.Value.{Value}
 use Rattle.value_core.specs.declared.value.Value.TheVariants.{Error}
-use Rattle.sheet_model.specs.Budget.{SettlesAt, IsCircular}
+use Rattle.sheet_model.specs.Budget.{IsCircular}
 use Rattle.sheet_refs.specs.Sizes.{is_inside, place_of, cell_count}
 use Rattle.sheet_model.specs.Sheets.{SheetValue}
 use Rattle.formula_eval.specs.Meaning.{is_circular}
-use Rattle.sheet_model.specs.Values.{step, IsInput}
+use Rattle.sheet_model.specs.Values.{step, value_of, IsInput}
 use Rattle.sheet_model.specs.Words.{CellState, Unseen, Open, Known, is_plain_state}
 use Rattle.sheet_model.specs.declared.walk.Frame.{Frame}
-use Rattle.sheet_model.specs.Walks.{is_known, is_unseen, known_count, work_left, closed_state, IsWalkOf, KeepsSeen, IsWaiting, IsClosing}
-use Rattle.sheet_model.proofs.BudgetLemmas.{circular_closed, circular_always}
-use Rattle.sheet_model.proofs.ListLemmas.{slice_get-append, slice_get-push, slice_get-pushed, count_by-map, count_by-map-le, set_same, map_same}
+use Rattle.sheet_model.specs.Walks.{is_unseen, work_left, closed_state, IsWalkOf, KeepsSeen, IsWaiting, IsClosing}
+use Rattle.sheet_model.proofs.BudgetLemmas.{circular_closed}
+use Rattle.sheet_model.proofs.ListLemmas.{slice_get-append, slice_get-push, slice_get-pushed, count_by-map}
+use Rattle.sheet_model.proofs.ListLemmas.{set_same, map_same}
 use Rattle.sheet_refs.proofs.Places.{place-lt, place_same}
-use Rattle.sheet_model.proofs.ValueLemmas.{step_local, step_strict, circular_or_not, is_circular-true}
-use Rattle.sheet_model.proofs.WalkLemmas.{settles_later}
+use Rattle.sheet_model.proofs.SheetValues.{circular_from_all, circular_with_all}
+use Rattle.sheet_model.proofs.ValueLemmas.{step_local, step_strict, is_circular-true}
 use Rattle.sheet_model.proofs.TurnLemmas.{read_set}
 
 -- the state of a cell of the rectangle
@@ -92,8 +93,7 @@ module _ (sheet : SheetValue) (states : List CellState) (frames : List Frame) (w
       go Unseen at stop = absurd (seen at)
       go Open at stop = inl (waiting.inside, at)
       go (Known v) at stop =
-          inr (circular_always (IsInput sheet) (Error Circ) (step sheet) (step_local sheet) (step_strict sheet) circular_or_not (known_count states) cell
-          (subst (λ w. SettlesAt (Error Circ) (step sheet) (known_count states) cell w) (circular v stop) (walk.settled cell v waiting.inside at)))
+          inr (circular_with_all sheet cell walk.is_sheet (walk.settled cell v waiting.inside at ∙ circular v stop))
 
       blocked : (IsTrue (is_inside sheet.sizes cell) × (slice_get states (place_of sheet.sizes cell) ≡ Some Open)) ⊎ IsCircular (Error Circ) (step sheet) cell
       blocked = go state.0 state.1 (stop_here state.0 state.1)
@@ -111,6 +111,7 @@ module _ (sheet : SheetValue) (states : List CellState) (frames : List Frame) (w
   pub walk_close : (cell : Position) → IsWaiting sheet states frames cell
       → slice_get states (place_of sheet.sizes cell) ≢ Some Unseen → IsWalkOf sheet (map closed_state states) []
   walk_close cell waiting seen = record {
+    is_sheet = walk.is_sheet;
     count = length-map states closed_state ∙ walk.count;
     settled = λ c v inside at.
         let was = closed_read states (place_of sheet.sizes c) (Known v) at in
@@ -122,23 +123,11 @@ module _ (sheet : SheetValue) (states : List CellState) (frames : List Frame) (w
     waits = λ i f g at_i at_j. absurd (cc);
   }
     where
-      more_known : known_count states ≤ known_count (map closed_state states)
-      more_known = count_by-map-le is_known closed_state states keeps
-        where
-          keeps : (s : CellState) → is_known s ≡ true → is_known (closed_state s) ≡ true
-          keeps Unseen e = e
-          keeps Open e = refl
-          keeps (Known v) e = refl
-
       settled_before : (c : Position) (v : Value) → IsTrue (is_inside sheet.sizes c) → (s : CellState)
-          → slice_get states (place_of sheet.sizes c) ≡ Some s → closed_state s ≡ Known v
-          → SettlesAt (Error Circ) (step sheet) (known_count (map closed_state states)) c v
+          → slice_get states (place_of sheet.sizes c) ≡ Some s → closed_state s ≡ Known v → value_of sheet c ≡ v
       settled_before c v inside Unseen at e = absurd (cc)
-      settled_before c v inside Open at e = let same : Error Circ ≡ v = cc in λ n le. open_circular cell waiting seen c inside at n ∙ same
-      settled_before c v inside (Known u) at e =
-          let same : u ≡ v = cc in
-          settles_later sheet (known_count states) (known_count (map closed_state states)) c v more_known
-          (subst (λ w. SettlesAt (Error Circ) (step sheet) (known_count states) c w) same (walk.settled c u inside at))
+      settled_before c v inside Open at e = let same : Error Circ ≡ v = cc in circular_from_all sheet c (open_circular cell waiting seen c inside at) ∙ same
+      settled_before c v inside (Known u) at e = let same : u ≡ v = cc in walk.settled c u inside at ∙ same
 
   pub closing_begin : IsClosing sheet states frames
   closing_begin = record {

@@ -1,4 +1,5 @@
 mod ApplyLemmas
+mod BlockLemmas
 mod BoardLemmas
 mod BudgetLemmas
 pub mod ContentLemmas
@@ -8,11 +9,13 @@ pub mod DistinctLemmas
 pub mod EditLemmas
 mod FieldLemmas
 mod HonestLemmas
+mod KeptLemmas
 pub mod LabelLemmas
 mod LeftLemmas
 pub mod ListLemmas
 pub mod ListMembers
 pub mod LogLemmas
+mod LineLemmas
 mod LookLemmas
 pub mod LoopLemmas
 pub mod PartLemmas

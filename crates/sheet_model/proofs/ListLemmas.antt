@@ -1,7 +1,7 @@
 -- What stands at a place of a list after a push or a write.
-use Rattle.std.proofs.Common.{◌≡◌, ◌≢◌, ℕ, zero, suc, ◌+◌, ◌<◌, ◌≤◌, take, get_or, ◌∙◌, ◌⊎◌, inl, inr, subst, All, List}
+use Rattle.std.proofs.Common.{◌≡◌, ◌≢◌, ℕ, zero, suc, ◌+◌, ◌<◌, take, get_or, ◌∙◌, ◌⊎◌, inl, inr, subst, All, List}
 use Rattle.std.proofs.Common.{[], ◌∷◌, ◌++◌, length, map, slice_get, set, count_by, Result, Ok, Err, OnOk, Some, Bool}
-use Rattle.std.proofs.Common.{true, false, cond, refl, sym, ap, arith}
+use Rattle.std.proofs.Common.{cond, refl, sym, ap, arith}
 use Rattle.std.specs.List.{AllZip}
 use Rattle.std.proofs.Math.Seq.{take-suc}
 use Rattle.std.proofs.lemmas.List.{map-append}
@@ -63,30 +63,11 @@ module _ {A : Type 0} (p : A → Bool) where
       let rest = count_by-set zs i x y at in
       rw (count-cons z (set zs i y), count-cons z zs) (omega (arith, rest))
 
-  -- where an element passes, at least one does
-  pub count_by-pos : (xs : List A) (i : ℕ) (x : A) → slice_get xs i ≡ Some x → p x ≡ true → 1 ≤ count_by p xs
-  count_by-pos [] i x at passes = absurd (cc)
-  count_by-pos (z ∷ zs) zero x at passes = let same : z ≡ x = cc in rw (count-cons z zs, same, passes) (omega arith)
-  count_by-pos (z ∷ zs) (suc i) x at passes = let rest = count_by-pos zs i x at passes in rw (count-cons z zs) (omega (arith, rest))
-
   -- a function that keeps whether an element passes keeps how many do
   pub count_by-map : (f : A → A) (xs : List A) → ((x : A) → p (f x) ≡ p x) → count_by p (map f xs) ≡ count_by p xs
   count_by-map f [] same = refl
   count_by-map f (x ∷ xs) same =
       rw (count-cons (f x) (map f xs), count-cons x xs, same x) (ap (λ n. cond (p x) 1 0 + n) (count_by-map f xs same))
-
-  -- where each element that passes does so after a function, no fewer do
-  pub count_by-map-le : (f : A → A) (xs : List A) → ((x : A) → p x ≡ true → p (f x) ≡ true) → count_by p xs ≤ count_by p (map f xs)
-  count_by-map-le f [] keeps = omega arith
-  count_by-map-le f (x ∷ xs) keeps =
-      let rest = count_by-map-le f xs keeps in
-      let one : cond (p x) 1 0 ≤ cond (p (f x)) 1 0 = go (p x) (p (f x)) (keeps x) in
-      rw (count-cons (f x) (map f xs), count-cons x xs) (omega (arith, rest))
-    where
-      go : (a b : Bool) → (a ≡ true → b ≡ true) → cond a 1 0 ≤ cond b 1 0
-      go true true h = omega arith
-      go true false h = absurd (let h2 : false ≡ true = h refl in cc)
-      go false b h = omega arith
 
 -- what stands in a list with another last element stood there before, or is that element
 pub slice_get-last : {A : Type 0} (xs : List A) (y z : A) (i : ℕ) (x : A) → slice_get (xs ++ z ∷ []) i ≡ Some x

@@ -1,5 +1,6 @@
 -- Members of lists that are mapped or joined.
-use Rattle.std.proofs.Common.{◌≡◌, inl, inr, ℕ, zero, suc, ◌<◌, List, [], ◌∷◌, ◌++◌, map, length, get_or, Contains, All, arith, refl, ap}
+use Rattle.std.proofs.Common.{◌≡◌, inl, inr, ℕ, zero, suc, ◌<◌, List, [], ◌∷◌, ◌++◌, map, length, get_or, Contains}
+use Rattle.std.proofs.Common.{All, arith, refl, sym, ap}
 use Rattle.std.specs.Prelude.{AllPairs, flat_map}
 use Rattle.std.proofs.lemmas.List.Elements.{All-append, Contains-append_left, Contains-append_right, Contains-append_cases}
 use Rattle.std.proofs.lemmas.List.Kept.{AllPairs-cons}
@@ -7,6 +8,11 @@ use Rattle.std.proofs.lemmas.List.Kept.{AllPairs-cons}
 -- nothing is in the empty list
 pub no_member : {A : Type 0} (x : A) → Contains [] x → ⊥
 no_member x there = absurd (omega (arith, there))
+
+-- only one is in a list of one
+pub only_member : {A : Type 0} (x y : A) → Contains (x ∷ []) y → y ≡ x
+only_member x y (zero, below, is) = sym is
+only_member x y (suc k, below, is) = absurd (omega (arith, below))
 
 -- the first element, and the others, are in the list
 pub first_member : {A : Type 0} (x : A) (xs : List A) → Contains (x ∷ xs) x

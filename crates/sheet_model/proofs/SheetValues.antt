@@ -1,5 +1,5 @@
 -- The values of a sheet: each is one step over them, and no other values are.
-use Rattle.std.proofs.Common.{◌≡◌, ◌↔◌, ℕ, zero, suc, ◌<◌}
+use Rattle.std.proofs.Common.{◌≡◌, ◌↔◌, ℕ, zero, suc, ◌<◌, ◌∙◌, ap}
 use Rattle.sheet_refs.specs.Cells.{Position}
 use Rattle.sheet_refs.specs.Sizes.{place_of, cell_count}
 use Rattle.sheet_refs.proofs.Places.{place-lt, place_same}
@@ -7,7 +7,7 @@ use Rattle.value_core.specs.declared.value.Value.{Value}
 use Rattle.value_core.specs.Values.{IsValue}
 use Rattle.sheet_refs.specs.declared.sizes.Sizes.{Sizes}
 use Rattle.formula_eval.proofs.FormulaInRange.{formula_in_range}
-use Rattle.sheet_model.specs.Budget.{ev, LeadsIntoCycle}
+use Rattle.sheet_model.specs.Budget.{ev, IsCircular, LeadsIntoCycle}
 use Rattle.sheet_model.specs.Sheets.{SheetValue, ContentValue, Constant, Computed, IsWritten, IsSheet, content_of}
 use Rattle.sheet_model.specs.Values.{value_of, step, step_content, circular_value, IsInput}
 use Rattle.sheet_model.proofs.ValueLemmas.{step_local, step_strict, circular_or_not}
@@ -45,6 +45,26 @@ circular_cycle sheet cell is = (
       (cell_count sheet.sizes) (input_below sheet) (input_apart sheet) cell,
   λ leads. cycle_circular (IsInput sheet) circular_value (step sheet) (step_local sheet) (step_strict sheet) cell leads (suc (cell_count sheet.sizes)),
 )
+
+-- a cell that is circular is so with every budget, and one that is so with every budget is circular
+pub circular_with_all : (sheet : SheetValue) (cell : Position) → IsSheet sheet → value_of sheet cell ≡ circular_value
+    → IsCircular circular_value (step sheet) cell
+circular_with_all sheet cell is circular =
+    cycle_circular (IsInput sheet) circular_value (step sheet) (step_local sheet) (step_strict sheet) cell
+    ((circular_cycle sheet cell is).0 circular)
+
+pub circular_from_all : (sheet : SheetValue) (cell : Position) → IsCircular circular_value (step sheet) cell → value_of sheet cell ≡ circular_value
+unfolding value_of
+circular_from_all sheet cell always = always (suc (cell_count sheet.sizes))
+
+-- the value of a constant, and of a cell whose inputs have these values
+pub constant_value : (sheet : SheetValue) (cell : Position) (v : Value) → IsSheet sheet → content_of sheet cell ≡ Constant v → value_of sheet cell ≡ v
+constant_value sheet cell v is constant = one_step sheet cell is ∙ ap (step_content sheet.sizes (value_of sheet)) constant
+
+pub value_over : (sheet : SheetValue) (cell : Position) (values : Position → Value) → IsSheet sheet
+    → ((input : Position) → IsInput sheet cell input → value_of sheet input ≡ values input)
+    → value_of sheet cell ≡ step sheet cell values
+value_over sheet cell values is same = one_step sheet cell is ∙ step_local sheet cell (value_of sheet) values same
 
 -- what may be written gives a value in range over such values, and so with every budget
 content_in_range : (sizes : Sizes) (values : Position → Value) (content : ContentValue) → IsWritten content

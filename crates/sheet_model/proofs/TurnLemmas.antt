@@ -1,24 +1,20 @@
 -- A turn of the walk that opens one more cell, and one that settles the newest open cell.
-use Rattle.std.proofs.Common.{◌≡◌, ◌≢◌, ℕ, suc, ◌+◌, ◌<◌, ◌⊎◌, inl, inr, List, [], ◌∷◌, ◌++◌, length, slice_get, set}
+use Rattle.std.proofs.Common.{◌≡◌, ◌≢◌, ℕ, suc, ◌<◌, ◌⊎◌, inl, inr, List, [], ◌∷◌, ◌++◌, length, slice_get, set}
 use Rattle.std.proofs.Common.{Some, IsTrue, sym, ◌∙◌, ap, subst, arith, length-set, length-append}
 use Rattle.std.proofs.lemmas.Bool.Decides.{eqb_tells}
 use Rattle.std.proofs.lemmas.Option.{slice_get_within, get_or_from_slice_get}
 use Rattle.sheet_refs.specs.Cells.{Position}
-use Rattle.value_core.specs.declared.value.ErrorKind.TheVariants.{Circ}
 use Rattle.value_core.specs.declared.value.Value.{Value}
-use Rattle.value_core.specs.declared.value.Value.TheVariants.{Error}
-use Rattle.sheet_model.specs.Budget.{SettlesAt}
 use Rattle.sheet_refs.specs.Sizes.{is_inside, place_of}
 use Rattle.sheet_model.specs.Sheets.{SheetValue}
-use Rattle.sheet_model.specs.Values.{step, IsInput}
+use Rattle.sheet_model.specs.Values.{step, value_of, IsInput}
 use Rattle.sheet_model.specs.Words.{CellState, Unseen, Open, Known, is_plain}
 use Rattle.sheet_model.specs.declared.walk.Frame.{Frame}
-use Rattle.sheet_model.specs.Walks.{known_value, known_values, is_known, is_unseen, known_count, work_left, IsWalkOf, KeepsSeen}
-use Rattle.sheet_model.proofs.BudgetLemmas.{settles_next}
+use Rattle.sheet_model.specs.Walks.{known_value, known_values, is_unseen, work_left, IsWalkOf, KeepsSeen}
 use Rattle.sheet_model.proofs.ListLemmas.{slice_get-append, slice_get-push, slice_get-pushed, slice_get-set_same, slice_get-set_other, count_by-set}
 use Rattle.sheet_refs.proofs.Places.{place_same}
-use Rattle.sheet_model.proofs.ValueLemmas.{step_local, step_strict}
-use Rattle.sheet_model.proofs.WalkLemmas.{settles_later, differ, known_plain}
+use Rattle.sheet_model.proofs.SheetValues.{value_over}
+use Rattle.sheet_model.proofs.WalkLemmas.{differ, known_plain}
 
 -- a write at one place, read at another or at that one
 pub read_set : (states : List CellState) (p q : ℕ) (s t u : CellState) → slice_get states p ≡ Some s
@@ -37,12 +33,12 @@ module _ (sheet : SheetValue) (states : List CellState) where
       → (first : ℕ) → IsWalkOf sheet (set states (place_of sheet.sizes cell) Open) (frames
       ++ record { cell = cell; first = first } ∷ [])
   walk_open frames cell walk inside unseen waiting first = record {
+    is_sheet = walk.is_sheet;
     count = length-set states p Open ∙ walk.count;
     settled = λ c v c_inside at.
         elim (read_set states p (place_of sheet.sizes c) Unseen Open (Known v) unseen at) [
           | inl here ↦ absurd (let no = here.1 in cc)
-          | inr other ↦ settles_later sheet (known_count states) (known_count (set states p Open)) c v
-              (omega (arith, known_same)) (walk.settled c v c_inside other.1)
+          | inr other ↦ walk.settled c v c_inside other.1
         ];
     listed = λ q at.
         elim (read_set states p q Unseen Open Open unseen at) [
@@ -93,9 +89,6 @@ module _ (sheet : SheetValue) (states : List CellState) where
       apart : (i : ℕ) (f : Frame) → slice_get frames i ≡ Some f → place_of sheet.sizes f.cell ≢ p
       apart i f at = differ states (place_of sheet.sizes f.cell) p Open Unseen (walk.opened i f at) unseen (λ same. cc)
 
-      known_same : known_count (set states p Open) + 0 ≡ known_count states + 0
-      known_same = count_by-set is_known states p Unseen Open unseen
-
   pub work_open : (frames : List Frame) (frame : Frame) (p : ℕ) → slice_get states p ≡ Some Unseen
       → work_left (set states p Open) (frames ++ frame ∷ []) < work_left states frames
   work_open frames frame p unseen = let fewer = count_by-set is_unseen states p Unseen Open unseen in
@@ -107,16 +100,14 @@ module _ (sheet : SheetValue) (states : List CellState) where
       → IsWalkOf sheet (set states (place_of sheet.sizes f.cell)
       (Known (step sheet f.cell (known_values sheet.sizes states)))) rest
   walk_finish rest f walk plain = record {
+    is_sheet = walk.is_sheet;
     count = length-set states p (Known value) ∙ walk.count;
     settled = λ c v c_inside at.
         elim (read_set states p (place_of sheet.sizes c) Open (Known value) (Known v) here at) [
           | inl same ↦ (let same_value : value ≡ v = (let e = same.1 in cc) in
               let same_cell : f.cell ≡ c = place_same sheet.sizes f.cell c f_inside c_inside (sym same.0) in
-              subst (λ k. SettlesAt (Error Circ) (step sheet) k c v) (sym one_more)
-              (subst (λ d. SettlesAt (Error Circ) (step sheet) (suc (known_count states)) d v) same_cell
-              (subst (λ w. SettlesAt (Error Circ) (step sheet) (suc (known_count states)) f.cell w) same_value settles)))
-          | inr other ↦ settles_later sheet (known_count states) (known_count (set states p (Known value))) c v
-              (omega (arith, one_more)) (walk.settled c v c_inside other.1)
+              ap (value_of sheet) (sym same_cell) ∙ settles ∙ same_value)
+          | inr other ↦ walk.settled c v c_inside other.1
         ];
     listed = λ q at.
         elim (read_set states p q Open (Known value) Open here at) [
@@ -154,18 +145,14 @@ module _ (sheet : SheetValue) (states : List CellState) where
       apart : (i : ℕ) (g : Frame) → slice_get rest i ≡ Some g → place_of sheet.sizes g.cell ≢ p
       apart i g at = walk.once i (length rest) g f (slice_get_within rest i g at) (old i g at) at_end
 
-      one_more : known_count (set states p (Known value)) ≡ suc (known_count states)
-      one_more = let counted = count_by-set is_known states p Open (Known value) here in omega (arith, counted)
-
-      settles : SettlesAt (Error Circ) (step sheet) (suc (known_count states)) f.cell value
+      settles : value_of sheet f.cell ≡ value
       settles =
-          settles_next (IsInput sheet) (Error Circ) (step sheet) (step_local sheet) (step_strict sheet)
-          (known_count states) (known_values sheet.sizes states) f.cell
+          value_over sheet f.cell (known_values sheet.sizes states) walk.is_sheet
           (λ d input.
           let known = known_plain sheet.sizes states walk.count d input.inside (plain d input) in
           let e : known_values sheet.sizes states d ≡ known.0 =
           ap known_value (get_or_from_slice_get states (place_of sheet.sizes d) (Known known.0) Unseen known.1) in
-          subst (λ v. SettlesAt (Error Circ) (step sheet) (known_count states) d v) (sym e) (walk.settled d known.0 input.inside known.1))
+          walk.settled d known.0 input.inside known.1 ∙ sym e)
 
   pub work_finish : (rest : List Frame) (f : Frame) (p : ℕ) (v : Value) → slice_get states p ≡ Some Open
       → work_left (set states p (Known v)) rest < work_left states (rest ++ f ∷ [])

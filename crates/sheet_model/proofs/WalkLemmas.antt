@@ -1,6 +1,6 @@
 -- What each turn of the walk keeps.
 use Rattle.std.proofs.Common.{◌≡◌, ◌≢◌, ℕ, zero, suc, ◌+◌, ◌<◌, ◌≤◌, inl, inr, List, [], ◌∷◌, ◌++◌, length, take, map}
-use Rattle.std.proofs.Common.{slice_get, get_or, set, Some, true, false, option_map, IsTrue, refl, sym, ◌∙◌, ap, subst}
+use Rattle.std.proofs.Common.{slice_get, get_or, set, Some, true, false, option_map, IsTrue, sym, ◌∙◌, ap, subst}
 use Rattle.std.proofs.Common.{arith, get_or-set_other}
 use Rattle.std.proofs.Math.Seq.{take-suc}
 use Rattle.std.proofs.lemmas.List.{length-map, map-append}
@@ -10,25 +10,14 @@ use Rattle.sheet_refs.specs.Cells.{Position}
 use Rattle.sheet_refs.specs.Sizes.{is_inside, place_of, cell_count}
 use Rattle.sheet_refs.specs.declared.sizes.Sizes.{Sizes}
 use Rattle.sheet_refs.proofs.Places.{place-lt}
-use Rattle.value_core.specs.declared.value.ErrorKind.TheVariants.{Circ}
 use Rattle.value_core.specs.declared.value.Value.{Value}
-use Rattle.value_core.specs.declared.value.Value.TheVariants.{Empty, Error}
-use Rattle.formula_eval.specs.Meaning.{IsNamedBy}
-use Rattle.sheet_model.specs.Budget.{SettlesAt}
+use Rattle.value_core.specs.declared.value.Value.TheVariants.{Empty}
 use Rattle.sheet_model.specs.Sheets.{SheetValue, ContentValue, Constant, Computed, IsSheet, content_value, content_of}
-use Rattle.sheet_model.specs.Values.{step_content, step, content_references, IsInput}
-use Rattle.sheet_model.specs.Walks.{first_state, is_known, known_count, IsWalkOf}
+use Rattle.sheet_model.specs.Walks.{first_state, IsWalkOf}
 use Rattle.sheet_model.specs.Words.{CellState, Unseen, Open, Known, cell_state, states_of, is_plain_state, is_plain}
 use Rattle.sheet_model.specs.declared.content.Content.{Content}
-use Rattle.sheet_model.proofs.BudgetLemmas.{settles_next}
-use Rattle.sheet_model.proofs.ListLemmas.{count_by-pos}
 use Rattle.sheet_model.proofs.WordLemmas.{states_push}
-use Rattle.sheet_model.proofs.ValueLemmas.{step_local, step_strict}
-
--- a settled value stays so with more budget to begin from
-pub settles_later : (sheet : SheetValue) (k m : ℕ) (c : Position) (v : Value) → k ≤ m
-    → SettlesAt (Error Circ) (step sheet) k c v → SettlesAt (Error Circ) (step sheet) m c v
-settles_later sheet k m c v le settles n from = settles n (omega arith)
+use Rattle.sheet_model.proofs.SheetValues.{constant_value}
 
 -- a place other than that of a state which is no such one
 pub differ : (states : List CellState) (p q : ℕ) (s t : CellState) → slice_get states p ≡ Some s → slice_get states q ≡ Some t → s ≢ t → p ≢ q
@@ -94,15 +83,9 @@ constant_known sheet cell v inside at =
 -- before the walk the constants are known, and no cell is open
 pub walk_new : (sheet : SheetValue) → IsSheet sheet → IsWalkOf sheet (map first_state sheet.contents) []
 walk_new sheet is_sheet = record {
+  is_sheet = is_sheet;
   count = length-map sheet.contents first_state ∙ is_sheet.filled;
-  settled = λ cell v inside at.
-      let is_constant = constant_known sheet cell v inside at in
-      let one : 1 ≤ known_count (map first_state sheet.contents) =
-      count_by-pos is_known (map first_state sheet.contents) (place_of sheet.sizes cell) (Known v) at refl in
-      settles_later sheet 1 (known_count (map first_state sheet.contents)) cell v one
-      (subst (λ w. SettlesAt (Error Circ) (step sheet) 1 cell w) (ap (step_content sheet.sizes (λ d. Error Circ)) is_constant)
-      (settles_next (IsInput sheet) (Error Circ) (step sheet) (step_local sheet) (step_strict sheet) 0 (λ d. Error Circ) cell
-      (λ d input. absurd (let no = subst (λ content. IsNamedBy (content_references content) d) is_constant input.named in let none = no.listed in cc))));
+  settled = λ cell v inside at. constant_value sheet cell v is_sheet (constant_known sheet cell v inside at);
   listed = λ p at. absurd (not_open sheet.contents p at);
   inside = λ i frame at. absurd (cc);
   opened = λ i frame at. absurd (cc);

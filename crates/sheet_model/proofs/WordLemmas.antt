@@ -1,6 +1,7 @@
 -- Words as what they tell of cells.
 use Rattle.std.proofs.Common.{◌≡◌, ◌≢◌, ℕ, zero, suc, ◌<◌, ◌==◌, inl, inr, List, [], ◌∷◌, ◌++◌, length, slice_get}
-use Rattle.std.proofs.Common.{get_or, set, Some, None, Bool, true, false, not, cond, option_map, IsTrue, refl, sym, ◌∙◌}
+use Rattle.std.proofs.Common.{get_or, set, Option, Some, None, Bool, true, false, not, cond, option_map, IsTrue}
+use Rattle.std.proofs.Common.{refl, sym, ◌∙◌}
 use Rattle.std.proofs.Common.{ap, subst, arith}
 use Rattle.std.proofs.lemmas.Bool.Decides.{nat_tests}
 use Rattle.std.proofs.lemmas.List.{map-set}
@@ -15,7 +16,7 @@ use Rattle.value_core.specs.declared.value.ErrorKind.TheVariants as error
 use Rattle.value_core.specs.declared.value.Value.{Value}
 use Rattle.value_core.specs.declared.value.Value.TheVariants.{Empty, Number, Truth, Error, Label}
 use Rattle.value_core.specs.Decoding.{value_of_word, value_of_its_code}
-use Rattle.value_core.specs.Values.{IsValue, code_of}
+use Rattle.value_core.specs.Values.{IsDecoded, IsValue, code_of}
 use Rattle.formula_eval.specs.Inputs.{IsCode, IsKnownPlain, IsPlainRange, ArePlain}
 use Rattle.formula_eval.specs.Meaning.{is_circular, formula_value, IsNamedBy, IsFormulaValue}
 use Rattle.formula_syntax.specs.Tree.{Tree}
@@ -51,6 +52,12 @@ code_is_word v is u same =
     let known : v ≡ u = (let e = sym (state_of_code v is) ∙ same in cc) in
     let both : IsValue v × (code_of v ≡ code_of v) = (is, refl) in
     subst (λ (u : Value). IsValue u × (code_of u ≡ code_of v)) known both
+
+-- what the code of a value is decoded to
+pub decoded_code : (word : ℕ) (result : Option Value) (v : Value) → IsDecoded word result → IsValue v → word ≡ code_of v → result ≡ Some v
+decoded_code word None v is in_range same = absurd (is v in_range (sym same))
+decoded_code word (Some u) v is in_range same =
+    ap Some (sym (value_of_its_code u is.0) ∙ ap value_of_word (is.1 ∙ same) ∙ value_of_its_code v in_range)
 
 pub unseen_is_word : IsCodeWord 5
 unseen_is_word v same = absurd (cc)

@@ -1,6 +1,6 @@
 -- Values by a budget of steps: over any cells, any values, and any function that gives a cell its value from those of its inputs.
 -- `circ` is the value of a cell that leads into a cycle.
-use Rattle.std.specs.Prelude.{◌≡◌, ◌⊎◌, ℕ, zero, suc, ◌≤◌, List, slice_get, Some}
+use Rattle.std.specs.Prelude.{◌≡◌, ◌⊎◌, ℕ, zero, suc, List, slice_get, Some}
 
 -- the value of a cell depends on the values of its inputs alone
 abbrev pub IsLocal : {C V : Type 0} (Input : C → C → Type 0) (step : C → (C → V) → V) → Type 0
@@ -14,10 +14,6 @@ IsStrict {C} {V} Input circ step = (c d : C) (f : C → V) → Input c d → f d
 unfoldable pub ev : {C V : Type 0} (circ : V) (step : C → (C → V) → V) → ℕ → C → V
 ev circ step zero c = circ
 ev circ step (suc n) c = step c (ev circ step n)
-
--- the cell has this value with each budget from k on
-abbrev pub SettlesAt : {C V : Type 0} (circ : V) (step : C → (C → V) → V) → ℕ → C → V → Type 0
-SettlesAt circ step k c v = (n : ℕ) → k ≤ n → ev circ step n c ≡ v
 
 -- the cell is circular with each budget
 abbrev pub IsCircular : {C V : Type 0} (circ : V) (step : C → (C → V) → V) → C → Type 0

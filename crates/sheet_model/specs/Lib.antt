@@ -3,7 +3,9 @@ pub mod Budget
 pub mod Changes
 pub mod Edits
 pub mod Fields
+pub mod KeptValues
 pub mod Labels
+pub mod Lines
 pub mod Logs
 pub mod Parts
 pub mod Ranges

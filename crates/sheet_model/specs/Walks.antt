@@ -7,11 +7,10 @@ use Rattle.sheet_refs.specs.declared.sizes.Sizes.{Sizes}
 use Rattle.value_core.specs.declared.value.ErrorKind.TheVariants.{Circ}
 use Rattle.value_core.specs.declared.value.Value.{Value}
 use Rattle.value_core.specs.declared.value.Value.TheVariants as value
-use Rattle.sheet_model.specs.Budget.{SettlesAt}
 use Rattle.sheet_model.specs.Parts.{IsAt, IsLeftInParts, AreParts}
-use Rattle.sheet_model.specs.Sheets.{SheetValue, ContentValue, Constant, Computed}
+use Rattle.sheet_model.specs.Sheets.{SheetValue, ContentValue, Constant, Computed, IsSheet}
 use Rattle.formula_eval.specs.Meaning.{IsNamedBy}
-use Rattle.sheet_model.specs.Values.{content_references, step, IsInput}
+use Rattle.sheet_model.specs.Values.{content_references, value_of, IsInput}
 use Rattle.sheet_model.specs.Words.{CellState, Unseen, Open, Known, AreWords, states_of, is_plain}
 use Rattle.sheet_model.specs.declared.parts.Part.{Part}
 use Rattle.sheet_model.specs.declared.walk.Frame.{Frame}
@@ -37,19 +36,10 @@ abbrev pub ArePlainInputs : Sizes → List CellState → ContentValue → Type 0
 ArePlainInputs sizes states content = (cell : Position) → IsNamedBy (content_references content) cell
     → IsTrue (is_inside sizes cell) → IsTrue (is_plain sizes states cell)
 
-abbrev pub is_known : CellState → Bool
-is_known Unseen = false
-is_known Open = false
-is_known (Known value) = true
-
 abbrev pub is_unseen : CellState → Bool
 is_unseen Unseen = true
 is_unseen Open = false
 is_unseen (Known value) = false
-
--- how many cells have a known value
-abbrev pub known_count : List CellState → ℕ
-known_count states = count_by is_known states
 
 -- what is left to do: each cell that is not seen is opened and settled, and each open one settled
 abbrev pub work_left : List CellState → List Frame → ℕ
@@ -61,13 +51,13 @@ closed_state Unseen = Unseen
 closed_state Open = Known (value.Error Circ)
 closed_state (Known value) = Known value
 
--- each known value is what evaluation settles at, within a budget of as many steps as values are known;
--- the open cells are those of the frames, and each frame waits for the next one's cell
+-- each known value is that of the sheet; the open cells are those of the frames, and each frame waits for the next one's
+-- cell
 pub record IsWalkOf (sheet : SheetValue) (states : List CellState) (frames : List Frame) : Type 0 where
+  pub is_sheet : IsSheet sheet
   pub count : length states ≡ cell_count sheet.sizes
   pub settled : (cell : Position) (v : Value) → IsTrue (is_inside sheet.sizes cell)
-      → slice_get states (place_of sheet.sizes cell) ≡ Some (Known v)
-      → SettlesAt (value.Error Circ) (step sheet) (known_count states) cell v
+      → slice_get states (place_of sheet.sizes cell) ≡ Some (Known v) → value_of sheet cell ≡ v
   pub listed : (p : ℕ) → slice_get states p ≡ Some Open → (i : ℕ) × (frame : Frame) × (slice_get frames i ≡ Some frame) × (place_of sheet.sizes frame.cell ≡ p)
   pub inside : (i : ℕ) (frame : Frame) → slice_get frames i ≡ Some frame → IsTrue (is_inside sheet.sizes frame.cell)
   pub opened : (i : ℕ) (frame : Frame) → slice_get frames i ≡ Some frame → slice_get states (place_of sheet.sizes frame.cell) ≡ Some Open

@@ -5,8 +5,8 @@ ghost use Rattle.sheet_model.specs.Words.{AreWords, IsCodeWord, known_code, valu
 ghost use Rattle.std.proofs.Props.{props};
 
 use crate::words::{OPEN, UNSEEN};
-use formula_eval::Inputs;
-use sheet_refs::{Cell, Sizes};
+use formula_eval::{Block, Inputs};
+use sheet_refs::{Cell, Range, Sizes};
 
 /// The values that a walk knows, as an evaluation takes them.
 #[derive(Clone, Copy)]
@@ -46,6 +46,13 @@ impl<'a> Inputs for Known<'a> {
 
     fn get(&self, cell: Cell) -> Option<u64> {
         code_of_word(self.words[self.sizes.place(cell)])
+    }
+
+    fn block(&self, range: Range) -> Option<Block<'_>> {
+        let head = self.sizes.place(range.head());
+        let words = &self.words[head..];
+        let step = self.sizes.cols as usize;
+        Some(Block { words, step })
     }
 }
 

@@ -9,26 +9,22 @@
 //! What the value of a cell is, `specs/Values.antt` says by a budget of steps of evaluation: with
 //! none every cell is circular, and with one more a formula has its value over the values with the
 //! rest. `all_values` gives the codes of these values by a walk over the cells that formulas name,
-//! with a list of open cells. `value_laws` says what is true of values, however they are computed.
+//! with a list of open cells; `KeptValues` gives the value of one cell after the other by the same walk, and keeps
+//! through edits what they leave. `value_laws` says what is true of values, however they are computed.
 //!
 //! Below stand `sheet_refs`, `value_core`, `formula_syntax`, `formula_eval`, `mark_core` and the kit's `indexmap` and
 //! `arrayvec`; above, `csv_sheet`, `window_text`, `edit_log`, `edit_script`, `play_machine`, `sheet_cli`.
 #![tactic(auto)]
 
 mod board;
-#[cfg(test)]
-mod board_tests;
 mod cell_laws;
 mod change;
 mod content;
 mod edit;
-#[cfg(test)]
-mod edit_tests;
 mod entry;
 mod eval;
-#[cfg(test)]
-mod field_tests;
 mod fields;
+mod kept_values;
 mod known;
 mod labels;
 mod laws;
@@ -36,8 +32,6 @@ mod parts;
 mod report;
 mod sheet;
 mod subject;
-#[cfg(test)]
-mod value_tests;
 mod walk;
 mod words;
 
@@ -49,6 +43,7 @@ pub use edit::{Edit, MOST_CHANGES};
 pub use entry::{Entry, MOST_ENTRIES};
 pub use eval::add_content;
 pub use fields::{ContentRefused, read_content};
+pub use kept_values::KeptValues;
 pub use labels::Labels;
 pub use laws::value_laws;
 pub use parts::Part;

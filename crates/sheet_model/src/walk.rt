@@ -27,15 +27,16 @@ pub(crate) struct Frame {
 /// one above it; and what is left to look at of the ranges that they name, that of the newest cell
 /// last.
 #[derive(Drop)]
-struct Walk {
-    words: Vec<u64>,
-    frames: Vec<Frame>,
-    parts: Vec<Part>,
+pub(crate) struct Walk {
+    pub(crate) words: Vec<u64>,
+    pub(crate) frames: Vec<Frame>,
+    pub(crate) parts: Vec<Part>,
     stack: Stack,
 }
 
 impl Walk {
-    fn new(alloc: Global, sheet: &Sheet) -> Result<Walk, Memory>
+    /// A walk that knows the constants of a sheet.
+    pub(crate) fn new(alloc: Global, sheet: &Sheet) -> Result<Walk, Memory>
         ensures walk { IfOk result (λ walk. IsStoredWalk sheet.now walk) }
         ensures idle { IfOk result (λ walk. IsIdle walk) }
     {
@@ -133,7 +134,7 @@ impl Walk {
     }
 
     /// Settles the cell at a place, and every cell that it leads to.
-    fn settle(&mut self, sheet: &Sheet, place: usize) -> Result<(), AllocError>
+    pub(crate) fn settle(&mut self, sheet: &Sheet, place: usize) -> Result<(), AllocError>
         requires sound { IsStoredWalk sheet.now self.old }
         requires idle { IsIdle self.old }
         requires place { place < cell_count sheet.now.sizes }
@@ -172,7 +173,8 @@ impl Walk {
 ///
 /// Each formula is evaluated once, over values that are known; before that the walk looks once at
 /// each cell that the formula names, for each time that it names it, whatever was not known yet,
-/// and once more at each cell for which it waited. Cells past the rectangle take no time. The time
+/// or twice where others than numbers lie beside it, and once more at each cell for which it waited,
+/// with a few that lie behind it. Cells past the rectangle take no time. The time
 /// is in proportion to the cells, the formulas and the cells that they name. It takes 8 bytes for
 /// each cell, and 40 bytes or a few more for each open one; no recursion goes by the depth of the
 /// sheet.

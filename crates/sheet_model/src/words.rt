@@ -1,7 +1,8 @@
-ghost use Rattle.std.specs.Prelude.{◌≡◌, ◌<◌, ◌≤◌, ℕ, length, slice_get, Some, IsTrue, IsFalse};
-ghost use Rattle.std.specs.Prelude.{MatchOption};
+ghost use Rattle.std.specs.Prelude.{◌≡◌, ◌<◌, ◌≤◌, ◌*◌, ℕ, length, slice_get, Some};
+ghost use Rattle.std.specs.Prelude.{IsTrue, IsFalse, MatchOption};
 ghost use Rattle.sheet_refs.specs.Cells.{Position, IsIn, cells_of};
-ghost use Rattle.sheet_refs.specs.Sizes.{is_inside, cell_count};
+ghost use Rattle.sheet_refs.specs.Sizes.{cell_count};
+ghost use Rattle.sheet_model.specs.Lines.{AreRowsWithin, HasNumbers, IsWithin, StopsAfter, StopsInRows};
 ghost use Rattle.sheet_model.specs.Parts.{AreParts, IsPartOfRectangle, IsStopInParts, LooksOn, part_at};
 ghost use Rattle.sheet_model.specs.Words.{AreWords, IsCodeWord, is_plain as plain, is_plain_state};
 ghost use Rattle.sheet_model.specs.Words.{cell_state, states_of};
@@ -26,14 +27,132 @@ fn is_plain_word(word: u64) -> bool
     word != CIRCULAR
 }
 
-/// Whether evaluation can read past a cell: its value is known, and isn't `#CIRC!`.
-fn is_plain(sizes: Sizes, words: &[u64], cell: Cell) -> bool
-    requires count { length words.now ≡ cell_count sizes }
-    requires words { AreWords words.now }
-    requires inside { IsTrue (is_inside sizes cell) }
-    ensures { result ≡ plain sizes (states_of words.now) cell }
+/// How many words of a line are tried together at first. Later it is as many as were read already, so that few are
+/// tried in vain behind a stop.
+const FIRST_BATCH: usize = 16;
+
+/// How many words are tried together at most: where others than numbers are among them, each is looked at once more.
+const BATCH: usize = 512;
+
+// Whether the words of a line are all those of numbers, which evaluation can read past. It adds up what each word's
+// kind is off from that of a number, so that no word decides which way the loop goes, and it takes several words at
+// once.
+fn are_numbers(words: &[u64], first: usize, step: usize, count: usize) -> bool
+    requires within { IsWithin words.now first step count }
+    requires few { count ≤ 512 }
+    ensures { IsTrue result → HasNumbers words.now first step count }
 {
-    is_plain_word(words[sizes.place(cell)])
+    let mut others = 0;
+    for k in 0..count {
+        others += (words[first + k * step] % 8 + 7) % 8;
+    }
+    others == 0
+}
+
+// How many words of a line evaluation can read past, up to the first other one, with a look at each.
+fn plain_words(words: &[u64], first: usize, step: usize, count: usize) -> usize
+    requires within { IsWithin words.now first step count }
+    requires words { AreWords words.now }
+    ensures { StopsAfter words.now first step count result }
+{
+    for k in 0..count {
+        if !is_plain_word(words[first + k * step]) {
+            return k;
+        }
+    }
+    count
+}
+
+// The same, with a look at each only where they aren't all numbers.
+fn batch_to_stop(words: &[u64], first: usize, step: usize, count: usize) -> usize
+    requires within { IsWithin words.now first step count }
+    requires few { count ≤ 512 }
+    requires words { AreWords words.now }
+    ensures { StopsAfter words.now first step count result }
+{
+    if are_numbers(words, first, step, count) {
+        return count;
+    }
+    plain_words(words, first, step, count)
+}
+
+// The same, batch by batch.
+fn words_to_stop(words: &[u64], first: usize, step: usize, count: usize) -> usize
+    requires within { IsWithin words.now first step count }
+    requires words { AreWords words.now }
+    ensures { StopsAfter words.now first step count result }
+{
+    let mut read = 0;
+    while read < count {
+        let next = read.clamp(FIRST_BATCH, BATCH).min(count - read);
+        let plain = batch_to_stop(words, first + read * step, step, next);
+        if plain < next {
+            return read + plain;
+        }
+        read += next;
+    }
+    count
+}
+
+// The place among the words of some rows, row by row and from a place on, of the first that evaluation can't read past;
+// the number of these words where there is none. Each row is a step behind the one above it.
+fn stop_in_rows(
+    words: &[u64],
+    first: usize,
+    step: usize,
+    rows: usize,
+    cols: usize,
+    next: usize,
+) -> usize
+    requires within { AreRowsWithin words.now first step rows cols }
+    requires words { AreWords words.now }
+    requires small { rows * cols ≤ 17179869184 }
+    requires next { next < rows * cols }
+    ensures { StopsInRows words.now first step rows cols next result }
+{
+    let mut row = next / cols;
+    let mut col = next % cols;
+    while row < rows {
+        let read = words_to_stop(words, first + row * step + col, 1, cols - col);
+        if read < cols - col {
+            return row * cols + col + read;
+        }
+        row += 1;
+        col = 0;
+    }
+    rows * cols
+}
+
+// The same of rows of one word, which are a line.
+fn stop_in_column(words: &[u64], first: usize, step: usize, rows: usize, next: usize) -> usize
+    requires within { AreRowsWithin words.now first step rows 1 }
+    requires words { AreWords words.now }
+    requires next { next < rows }
+    ensures { StopsInRows words.now first step rows 1 next result }
+{
+    let read = words_to_stop(words, first + next * step, step, rows - next);
+    next + read
+}
+
+// The same of rows of any number of words.
+fn stop_in_block(
+    words: &[u64],
+    first: usize,
+    step: usize,
+    rows: usize,
+    cols: usize,
+    next: usize,
+) -> usize
+    requires within { AreRowsWithin words.now first step rows cols }
+    requires words { AreWords words.now }
+    requires small { rows * cols ≤ 17179869184 }
+    requires next { next < rows * cols }
+    ensures { StopsInRows words.now first step rows cols next result }
+{
+    if cols == 1 {
+        return stop_in_column(words, first, step, rows, next);
+    }
+    stop_in_rows(words, first, step, rows, cols, next)
 }
 
 /// The place of the first cell of a part, from its next one on, that evaluation can't read past;
@@ -47,19 +166,23 @@ fn first_stop(sizes: Sizes, words: &[u64], part: Part) -> u64
         → IsFalse (plain sizes (states_of words.now) cell) }
 {
     let cells = part.range.cells();
-    let mut place = part.next;
+    let place = part.next;
     if place >= cells {
         return place;
     }
-    let mut cell = part.range.cell_at(place);
-    while place < cells {
-        if !is_plain(sizes, words, cell) {
-            return place;
-        }
-        place += 1;
-        cell = part.range.cell_behind(cell);
-    }
-    place
+    let head = part.range.head();
+    let tail = part.range.tail();
+    let rows = (tail.row() - head.row() + 1) as usize;
+    let cols = (tail.col() - head.col() + 1) as usize;
+    let first = sizes.place(head);
+    stop_in_block(
+        words,
+        first,
+        sizes.cols as usize,
+        rows,
+        cols,
+        place as usize,
+    ) as u64
 }
 
 /// Looks on at the parts from a place on, the last first, up to the first cell that evaluation

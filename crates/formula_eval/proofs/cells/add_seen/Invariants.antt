@@ -5,7 +5,7 @@ use Rattle.formula_eval.specs.Inputs.{seen_values}
 use Rattle.formula_eval.specs.Items.{items_of_cells}
 use Rattle.formula_eval.specs.Tallies.{AddsItems}
 use Rattle.formula_eval.specs.Views.{looked}
-use Rattle.formula_eval.proofs.cells.add_cells.Given as goal
+use Rattle.formula_eval.proofs.cells.add_seen.Given as goal
 
 abbrev pub invariant-loop-place : goal.invariant-loop-place
 invariant-loop-place g l =

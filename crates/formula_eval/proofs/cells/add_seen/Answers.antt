@@ -11,7 +11,7 @@ use Rattle.formula_eval.proofs.ViewLemmas.{looked_empty, view_at}
 use Rattle.formula_eval.proofs.ClipLemmas.{part_shows, past_shows, items_step, items_split, items_length}
 use Rattle.formula_eval.proofs.NodeLemmas.{take-all}
 use Rattle.formula_eval.proofs.TallyLemmas.{adds_nothing, adds_same, adds_both, append_err, first_err}
-use Rattle.formula_eval.proofs.cells.add_cells.Goals as goal
+use Rattle.formula_eval.proofs.cells.add_seen.Goals as goal
 
 pub returns-in_default-clause-ok : goal.returns-in_default-clause-ok
 returns-in_default-clause-ok g c =

@@ -1,0 +1,31 @@
+use Rattle.std.proofs.Common.{◌≡◌, slice_get, Some, sym, ◌∙◌, ap, rules}
+use Rattle.std.proofs.lemmas.Option.{slice_get_read}
+use Rattle.sheet_refs.specs.Sizes.{cell_count}
+use Rattle.value_core.specs.Values.{code_of}
+use Rattle.sheet_model.specs.Values.{value_of}
+use Rattle.sheet_model.proofs.ResultLemmas.{word_known}
+use Rattle.sheet_model.proofs.StepLemmas.{words_count}
+use Rattle.sheet_model.proofs.WordLemmas.{decoded_code}
+use Rattle.sheet_model.proofs.kept_values.KeptValues.value.Goals as goal
+use Rattle.sheet_model.proofs.kept_values.KeptValues.value.Goals.{After-decode}
+
+-- the word that is read is the code of the cell's value
+shown : (c : After-decode) → c.decode.result ≡ Some (value_of c.args.sheet.now c.args.cell)
+shown c =
+    let sheet = c.args.sheet.now in
+    let walk = c.settle.new.self in
+    let state = rw c.in_ok-settle.ensures.idle at c.in_ok-settle.ensures.sound in
+    let known = word_known sheet walk.words.items state.coded state.walk c.args.cell c.requires.inside
+    (rw c.place-place.ensures.place at c.in_ok-settle.ensures.known) in
+    let count = words_count sheet walk.words.items _ _ state in
+    let at = slice_get_read walk.words.items (cell_count sheet.sizes) c.place-place.result c.index.result.now (sym count)
+    c.place-place.ensures.within c.index.ensures in
+    let here : Some c.index.result.now ≡ Some (code_of (value_of sheet c.args.cell)) =
+    sym at ∙ ap (slice_get walk.words.items) c.place-place.ensures.place ∙ known.1 in
+    decoded_code c.index.result.now c.decode.result (value_of sheet c.args.cell) c.decode.ensures known.0 (cc)
+
+pub unwrap-requires : goal.unwrap-requires
+unwrap-requires c = let is = shown (goal.at.unwrap-requires c).After-decode in rw is (search rules)
+
+pub returns-clause-value : goal.returns-clause-value
+returns-clause-value c = let is = shown (goal.at.returns-clause-value c).After-decode in search (rules, is)

@@ -1,0 +1,23 @@
+-- Values of a sheet's cells that are kept from one question to the next, and through edits of the sheet.
+use Rattle.std.specs.Prelude.{◌≡◌, IsTrue, List, Contains}
+use Rattle.sheet_refs.specs.Cells.{Position}
+use Rattle.sheet_refs.specs.Sizes.{is_inside}
+use Rattle.sheet_model.specs.Sheets.{SheetValue, IsSheet}
+use Rattle.sheet_model.specs.Values.{value_of}
+use Rattle.sheet_model.specs.Walks.{IsStoredWalk, IsIdle}
+use Rattle.sheet_model.specs.declared.kept_values.KeptValues.{KeptValues}
+
+-- each value that is kept of a cell is the one that the sheet gives it, and no cell waits for another
+pub record KeepsValuesOf (sheet : SheetValue) (kept : KeptValues) : Type 0 where
+  pub walk : IsStoredWalk sheet kept.walk
+  pub idle : IsIdle kept.walk
+
+-- another sheet of the same sizes gives the cells that aren't listed the same values
+pub record HasSameValuesBeside (sheet : SheetValue) (cells : List Position) (other : SheetValue) : Type 0 where
+  pub is_sheet : IsSheet other
+  pub sizes : other.sizes ≡ sheet.sizes
+  pub same : (cell : Position) → IsTrue (is_inside sheet.sizes cell) → ¬ Contains cells cell → value_of other cell ≡ value_of sheet cell
+
+-- what is kept are values of each such sheet
+abbrev pub ForgetsValues : SheetValue → List Position → KeptValues → Type 0
+ForgetsValues sheet cells kept = (other : SheetValue) → HasSameValuesBeside sheet cells other → KeepsValuesOf other kept
