@@ -1,5 +1,6 @@
 mod FieldLemmas
 mod FillLemmas
+mod LineLemmas
 mod LoadLemmas
 mod MarkLemmas
 mod RecordLemmas

@@ -1,7 +1,9 @@
 -- Records and their fields.
-use Rattle.std.proofs.Common.{◌≡◌, ◌≢◌, ℕ, zero, suc, ◌<◌, Bool, true, false, List, [], ◌∷◌, ◌++◌, length, get_or, Some}
+use Rattle.std.proofs.Common.{◌≡◌, ◌≢◌, ℕ, zero, suc, ◌+◌, ◌-◌, ◌<◌, ◌≤◌, Bool, true, false, List, [], ◌∷◌, ◌++◌, length, take, drop, get_or, Some}
 use Rattle.std.proofs.Common.{None, Option, IsSome, Result, Ok, Err, inl, refl, sym, ◌∙◌, ap, subst, arith}
-use Rattle.std.proofs.Common.{if◌then◌else◌, length-append}
+use Rattle.std.proofs.Common.{if◌then◌else◌, length-append, length-take, length-drop, get_or-drop}
+use Rattle.std.specs.Str.{IsAscii}
+use Rattle.std.proofs.lemmas.Str.{IsUtf8-from_ascii}
 use Rattle.std.specs.Prelude.{IsUtf8, option_map, MatchBool, MatchResult, IfErr}
 use Rattle.std.specs.Result.{IsErrAnd}
 use Rattle.std.proofs.lemmas.List.{append-nil}
@@ -13,7 +15,7 @@ use Rattle.csv.specs.Reading.{AreRecords, Reached, ReadRecord, default_config}
 use Rattle.csv.specs.declared.reader.Reader.{Reader}
 use Rattle.csv.specs.declared.parser.State.TheVariants.{StartRecord}
 use Rattle.csv.proofs.ReadFacts.{rows-end, rows-more}
-use Rattle.csv.specs.Records.{AllText, field_at}
+use Rattle.csv.specs.Records.{AllText, cut_from, field_at}
 use Rattle.csv.specs.declared.parser.Config.{Config}
 use Rattle.csv.specs.declared.parser.State.{State}
 use Rattle.csv_sheet.specs.Reading.{HasReadRecords}
@@ -46,6 +48,30 @@ unfolding AllText
 text_at [] text k within = absurd (omega (arith, within))
 text_at (f ∷ fs) text zero within = text.0
 text_at (f ∷ fs) text (suc k) within = text_at fs text.1 k (omega (arith, within))
+
+-- a record all of whose bytes are ASCII is text
+ascii_front : (n : ℕ) (bytes : List ℕ) → IsAscii bytes → IsAscii (take n bytes)
+ascii_front zero bytes all i = omega arith
+ascii_front (suc n) [] all i = omega arith
+ascii_front (suc n) (b ∷ bs) all zero = all 0
+ascii_front (suc n) (b ∷ bs) all (suc i) = ascii_front n bs (λ j. all (suc j)) i
+
+pub ascii_text : (start : ℕ) (ends bytes : List ℕ) → IsAscii bytes → AllText (cut_from start ends bytes)
+unfolding AllText cut_from
+ascii_text start [] bytes all = tt
+ascii_text start (end ∷ ends) bytes all =
+    let behind : IsAscii (drop start bytes) = λ i. rw (get_or-drop start bytes i 0) (all (start + i)) in
+    (IsUtf8-from_ascii _ (ascii_front (end - start) _ behind), ascii_text end ends bytes all)
+
+-- no field is longer than the bytes of all
+pub no_longer : (start : ℕ) (ends bytes : List ℕ) (col : ℕ) → length (get_or (cut_from start ends bytes) col []) ≤ length bytes
+unfolding cut_from
+no_longer start [] bytes col = omega arith
+no_longer start (end ∷ ends) bytes zero =
+    let behind = length-drop start bytes in
+    let front = length-take (end - start) (drop start bytes) in
+    omega (arith, behind, front)
+no_longer start (end ∷ ends) bytes (suc col) = no_longer end ends bytes col
 
 no_read : (o : Option Read) (p : Read) → o ≡ None → o ≡ Some p → ⊥
 no_read o p a b = cc

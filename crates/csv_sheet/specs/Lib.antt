@@ -1,5 +1,6 @@
 pub mod Filling
 pub mod Headings
+pub mod Lines
 pub mod Reading
 pub mod Records
 pub mod Results

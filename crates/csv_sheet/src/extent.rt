@@ -8,6 +8,7 @@ ghost use Rattle.csv_sheet.specs.Reading.{Measures, AreShort, IsFirstLong};
 ghost use Rattle.csv_sheet.specs.Records.{Rows, cell_there, without_marks};
 ghost use Rattle.csv_sheet.specs.Results.{AreText, IsFirstNotText, IsFirstField, NoField, IsLong};
 
+use crate::lines::measure_lines;
 use crate::records::{field, read_next, reader_of};
 use csv::ByteRecord;
 use formula_syntax::MAX_FIELD;
@@ -34,6 +35,9 @@ pub(crate) struct Extent {
 fn is_text(fields: &ByteRecord) -> bool
     ensures { IsTrue result ↔ AllText (fields_of fields.now) }
 {
+    if fields.as_slice().is_ascii() {
+        return true;
+    }
     for col in 0..fields.len() {
         let Ok(_) = str::from_utf8(field(fields, col)) else {
             return false;
@@ -47,6 +51,9 @@ fn first_long(fields: &ByteRecord) -> Option<usize>
     ensures { MatchOption result (AreShort (fields_of fields.now))
         (IsFirstLong (fields_of fields.now)) }
 {
+    if fields.as_slice().len() <= MAX_FIELD {
+        return None;
+    }
     for col in 0..fields.len() {
         if field(fields, col).len() > MAX_FIELD {
             return Some(col);
@@ -111,6 +118,19 @@ impl Extent {
 
 /// The extent of all records of a text, in time proportional to its length; none of the fields is kept.
 pub(crate) fn measure(alloc: Global, text: &[u8]) -> Result<Extent, Memory>
+    requires no_marks { without_marks text.now ≡ text.now }
+    requires short { length text.now ≤ 16777216 }
+    ensures { IfOk result (λ extent. (rows : Rows)
+        × AreRecords default_config StartRecord text.now rows × Measures rows extent) }
+{
+    match measure_lines(text) {
+        Some(extent) => Ok(extent),
+        None => measure_records(alloc, text),
+    }
+}
+
+// The same, by reading each record.
+fn measure_records(alloc: Global, text: &[u8]) -> Result<Extent, Memory>
     requires no_marks { without_marks text.now ≡ text.now }
     requires short { length text.now ≤ 16777216 }
     ensures { IfOk result (λ extent. (rows : Rows)

@@ -11,14 +11,13 @@
 #![tactic(auto)]
 
 mod extent;
-mod filling;
 mod heading;
 mod laws;
+mod lines;
 mod loading;
 mod records;
 mod refused;
-#[cfg(test)]
-mod tests;
+mod rows;
 
 pub use laws::load_laws;
 pub use loading::load;

@@ -6,10 +6,10 @@ ghost use Rattle.csv_sheet.specs.declared.refused.SheetRefused.{SheetRefused as 
 ghost use Rattle.csv_sheet.specs.declared.refused.SheetRefused.TheVariants as refused;
 
 use crate::extent::measure;
-use crate::filling::fill;
 use crate::heading::read_heading;
 use crate::records::behind_marks;
 use crate::refused::SheetRefused;
+use crate::rows::fill;
 use formula_syntax::Edition;
 use sheet_model::Sheet;
 use sheet_refs::Cell;

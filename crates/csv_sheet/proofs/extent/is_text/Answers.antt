@@ -2,8 +2,11 @@ use Rattle.std.proofs.Common.{◌<◌, length, get_or, [], inl, inr, refl, sym, 
 use Rattle.std.specs.Prelude.{IsUtf8}
 use Rattle.std.proofs.lemmas.Bool.{cases_eq}
 use Rattle.csv.specs.Records.{fields_of}
-use Rattle.csv_sheet.proofs.RecordLemmas.{text_from, text_at, told_err}
+use Rattle.csv_sheet.proofs.RecordLemmas.{ascii_text, text_from, text_at, told_err}
 use Rattle.csv_sheet.proofs.extent.is_text.Goals as goal
+
+pub returns-then-is_ascii : goal.returns-then-is_ascii
+returns-then-is_ascii c = (λ e. ascii_text 0 _ _ (rw c.as_slice.ensures at c.if-is_ascii.ensures.cases), λ text. refl)
 
 pub returns-in_default : goal.returns-in_default
 returns-in_default c =

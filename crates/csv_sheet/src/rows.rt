@@ -1,6 +1,6 @@
 ghost use Rattle.std.specs.Prelude.{◌≡◌, ◌≢◌, ◌<◌, ◌≤◌, ◌+◌, ◌-◌};
 ghost use Rattle.std.specs.Prelude.{◌*◌, ◌^◌, [], ◌∷◌, ◌++◌, length};
-ghost use Rattle.std.specs.Prelude.{IfErr, OnOk, Err, IsTrue, IsUtf8};
+ghost use Rattle.std.specs.Prelude.{IfErr, OnOk, Err, IsTrue};
 ghost use Rattle.csv.specs.Reading.{AreRecords, default_config};
 ghost use Rattle.csv.specs.Records.{fields_of};
 ghost use Rattle.csv.specs.declared.parser.State.TheVariants.{StartRecord};
@@ -12,26 +12,22 @@ ghost use Rattle.csv_sheet.specs.Records.{Rows, sizes_of, without_marks};
 ghost use Rattle.csv_sheet.specs.Results.{AreReadable, IsGivenByRecords, IsSheetOf};
 ghost use Rattle.csv_sheet.specs.declared.refused.SheetRefused.TheVariants as refused;
 
-use crate::records::{field, read_next, reader_of};
+use crate::records::{read_text, reader_of, text_field};
 use crate::refused::SheetRefused;
-use csv::ByteRecord;
+use csv::StringRecord;
 use sheet_model::{Change, ContentRefused, Sheet};
 use sheet_refs::Cell;
 use std::alloc::Global;
 
 // Puts what a field writes into a cell.
-fn fill_cell(sheet: &mut Sheet, cell: Cell, field: &[u8]) -> Result<(), SheetRefused>
+fn fill_cell(sheet: &mut Sheet, cell: Cell, field: &str) -> Result<(), SheetRefused>
     requires inside { IsTrue (is_inside sheet.old.sizes cell) }
-    requires text { IsUtf8 field.now }
     requires short { length field.now ≤ 8192 }
     requires room { length sheet.old.labels < 2 ^ 32 - 1 }
     ensures put { OnOk result (PutsField field.now cell sheet.old sheet.new) }
     ensures why { IfErr result (IsFieldRefusal sheet.old.edition field.now cell) }
 {
-    let Ok(text) = str::from_utf8(field) else {
-        unreachable!();
-    };
-    match sheet.read(text) {
+    match sheet.read(field) {
         Ok(content) => {
             let _ = sheet.put(Change { cell, content });
             Ok(())
@@ -43,7 +39,7 @@ fn fill_cell(sheet: &mut Sheet, cell: Cell, field: &[u8]) -> Result<(), SheetRef
 }
 
 // Puts what the fields of a record write into a row, counted from 0.
-fn fill_row(sheet: &mut Sheet, row: u32, fields: &ByteRecord) -> Result<(), SheetRefused>
+fn fill_row(sheet: &mut Sheet, row: u32, fields: &StringRecord) -> Result<(), SheetRefused>
     requires { IsRecordFor sheet.old row (fields_of fields.now) }
     ensures filled { OnOk result ((rows : Rows) → length rows ≡ row
         → HoldsRecords rows sheet.old → HoldsRecords (rows ++ fields_of fields.now ∷ []) sheet.new) }
@@ -54,7 +50,7 @@ fn fill_row(sheet: &mut Sheet, row: u32, fields: &ByteRecord) -> Result<(), Shee
 {
     for col in 0..fields.len() {
         let cell = Cell::new(row + 1, col as u32 + 1).unwrap();
-        fill_cell(sheet, cell, field(fields, col))?;
+        fill_cell(sheet, cell, text_field(fields, col))?;
     }
     Ok(())
 }
@@ -70,9 +66,9 @@ pub(crate) fn fill(alloc: Global, text: &[u8], sheet: &mut Sheet) -> Result<(), 
         × AreRecords default_config StartRecord text.now rows × IsGivenByRecords sheet.old.edition rows (Err e)) }
 {
     let mut reader = reader_of(alloc, text);
-    let mut fields = ByteRecord::new(alloc);
+    let mut fields = StringRecord::new(alloc);
     for row in 0..sheet.rows() {
-        if !read_next(&mut reader, &mut fields)? {
+        if !read_text(&mut reader, &mut fields)? {
             unreachable!();
         }
         fill_row(sheet, row, &fields)?;

@@ -1,4 +1,4 @@
-use Rattle.csv_sheet.proofs.extent.measure.Goals as goal
+use Rattle.csv_sheet.proofs.extent.measure_records.Goals as goal
 
 pub returns-then-not-branch : goal.returns-then-not-branch
 returns-then-not-branch c =

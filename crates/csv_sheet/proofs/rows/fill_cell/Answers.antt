@@ -1,8 +1,7 @@
-use Rattle.std.proofs.Common.{refl, ap, subst, Err}
-use Rattle.sheet_model.specs.Fields.{IsDeepFormula}
-use Rattle.csv_sheet.proofs.filling.fill_cell.Goals as goal
+use Rattle.std.proofs.Common.{refl, ap, Err}
+use Rattle.csv_sheet.proofs.rows.fill_cell.Goals as goal
 
 pub returns-in-Err-TooDeep-clause-why : goal.returns-in-Err-TooDeep-clause-why
 returns-in-Err-TooDeep-clause-why c =
     let deep = (c.in-Err-TooDeep.ensures.too_deep (λ e. cc)).0 (ap (λ k. Err k) c.in-Err-TooDeep.field-0-is) in
-    (refl, subst IsDeepFormula c.in-Ok.ensures.cases.0 deep)
+    (refl, deep)

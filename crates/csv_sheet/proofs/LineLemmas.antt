@@ -1,0 +1,295 @@
+-- The record that csv reads where a line without quotes stands.
+use Rattle.std.proofs.Common.{◌≡◌, ℕ, zero, suc, ◌+◌, ◌<◌, ◌≤◌, ◌⊎◌, Bool, true, false, List, [], ◌∷◌, ◌++◌, length, take, drop, get_or, Some}
+use Rattle.std.proofs.Common.{None, inl, inr, refl, sym, ◌∙◌, ap, subst, arith, if◌then◌else◌, append_assoc, length-drop, length-append, get_or-drop}
+use Rattle.std.specs.Prelude.{◌==◌, ◌||◌, not, cond, count_by, max}
+use Rattle.std.specs.List.{prefix_len}
+use Rattle.std.specs.Str.{IsAscii}
+use Rattle.std.proofs.lemmas.Bool.Decides.{nat_tests}
+use Rattle.std.proofs.lemmas.List.Sums.{sum_by-cons}
+use Rattle.std.proofs.lemmas.Str.{IsUtf8-from_ascii}
+use Rattle.csv.specs.Machine.{Read, next_record, step, after_end}
+use Rattle.csv.specs.Reading.{AreRecords, Reached, default_config}
+use Rattle.csv.specs.Records.{AllText}
+use Rattle.csv.specs.declared.parser.Action.TheVariants as act
+use Rattle.csv.specs.declared.parser.State.{State}
+use Rattle.csv.specs.declared.parser.State.TheVariants as st
+use Rattle.csv.specs.declared.parser.Terminator.TheVariants as term
+use Rattle.csv.proofs.ReadFacts.{reached-more}
+use Rattle.csv_sheet.specs.Records.{Rows}
+use Rattle.csv_sheet.specs.Results.{IsLong}
+use Rattle.csv_sheet.specs.Lines.{AreCounted, HasCounted, goes_on, has_quote, is_comma, line_fields, with_line}
+use Rattle.csv_sheet.specs.declared.lines.Lines.{Lines}
+use Rattle.csv_sheet.proofs.RowLemmas.{length-more, longest-more, none_more, text_more}
+
+-- within a record, outside quotes
+abbrev Inside : State → Type 0
+Inside s = (s ≡ st.StartField) ⊎ (s ≡ st.InField)
+
+not_false : (x : Bool) → not x ≡ true → x ≡ false
+not_false true e = cc e
+not_false false e = refl
+
+not_true : (x y : Bool) → not (x || y) ≡ false → (x ≡ true) ⊎ (y ≡ true)
+not_true true y e = inl refl
+not_true false true e = inr refl
+not_true false false e = cc e
+
+or_false : (x y : Bool) → (x || y) ≡ false → (x ≡ false) × (y ≡ false)
+or_false true y e = cc e
+or_false false y e = (refl, e)
+
+pub is_byte : (b c : ℕ) → (b == c) ≡ true → b ≡ c
+is_byte b c e = grind (arith, nat_tests)
+
+-- what the bytes of a line do there, and the byte that ends it
+comma_step : (s : State) (b : ℕ) → Inside s → (b == 34) ≡ false → (b == 44) ≡ true
+    → step default_config s b ≡ (st.StartField, act.EndField)
+comma_step s b (inl e) quote is = rw (e, is_byte b 44 is) refl
+comma_step s b (inr e) quote is = rw (e, is_byte b 44 is) refl
+
+copy_step : (s : State) (b : ℕ) → Inside s → (b == 34) ≡ false → (b == 44) ≡ false → goes_on b ≡ true
+    → step default_config s b ≡ (st.InField, act.Copy)
+copy_step s b (inl e) quote comma on = rw (e, quote, comma, not_false ((b == 13) || (b == 10)) on) refl
+copy_step s b (inr e) quote comma on = rw (e, comma, not_false ((b == 13) || (b == 10)) on) refl
+
+end_step : (s : State) (b : ℕ) → Inside s → goes_on b ≡ false → step default_config s b ≡ (after_end term.CRLF b, act.EndRecord)
+end_step s b inside ends = by inside (not_true (b == 13) (b == 10) ends)
+  where
+    by : Inside s → ((b == 13) ≡ true) ⊎ ((b == 10) ≡ true) → step default_config s b ≡ (after_end term.CRLF b, act.EndRecord)
+    by (inl e) (inl is) = rw (e, is_byte b 13 is) refl
+    by (inl e) (inr is) = rw (e, is_byte b 10 is) refl
+    by (inr e) (inl is) = rw (e, is_byte b 13 is) refl
+    by (inr e) (inr is) = rw (e, is_byte b 10 is) refl
+
+-- at the start of a record a line's end is passed over, and any other byte does as at the start of a field
+skip_step : (b : ℕ) → goes_on b ≡ false → step default_config st.StartRecord b ≡ (st.StartRecord, act.Skip)
+skip_step b ends = by (not_true (b == 13) (b == 10) ends)
+  where
+    by : ((b == 13) ≡ true) ⊎ ((b == 10) ≡ true) → step default_config st.StartRecord b ≡ (st.StartRecord, act.Skip)
+    by (inl is) = rw (is_byte b 13 is) refl
+    by (inr is) = rw (is_byte b 10 is) refl
+
+first_step : (b : ℕ) → goes_on b ≡ true → step default_config st.StartRecord b ≡ step default_config st.StartField b
+first_step b on = rw (not_false ((b == 13) || (b == 10)) on) refl
+
+-- behind a CR an LF is passed over too
+return_step : (b : ℕ) → step default_config st.AfterCr b ≡ step default_config st.StartRecord b
+return_step b = by (b == 10) refl
+  where
+    by : (x : Bool) → (b == 10) ≡ x → step default_config st.AfterCr b ≡ step default_config st.StartRecord b
+    by true is = rw (is_byte b 10 is) refl
+    by false is = rw is refl
+
+-- a record that ends with a line, and what is behind its end
+abbrev ended : List (List ℕ) → List ℕ → Read
+ended fields [] = (fields, st.StartRecord, [])
+ended fields (b ∷ bs) = (fields, after_end term.CRLF b, bs)
+
+-- a record that is read up to a place of what is left
+abbrev ReadsTo : List ℕ → State → List (List ℕ) → List ℕ → ℕ → Type 0
+ReadsTo left s fields field n = next_record default_config s fields field left ≡ Some (ended (fields ++ line_fields field (take n left)) (drop n left))
+
+-- the length of a line by its first byte
+prefix_one : (b : ℕ) (bs : List ℕ) → prefix_len goes_on (b ∷ bs) ≡ cond (goes_on b) (suc (prefix_len goes_on bs)) 0
+prefix_one b bs = by (goes_on b)
+  where
+    by : (x : Bool) → cond x (1 + prefix_len goes_on bs) 0 ≡ cond x (suc (prefix_len goes_on bs)) 0
+    by true = omega arith
+    by false = refl
+
+line_read : (left : List ℕ) (s : State) (fields : List (List ℕ)) (field : List ℕ) → Inside s → has_quote left ≡ false
+    → ReadsTo left s fields field (prefix_len goes_on left)
+unfolding next_record line_fields
+line_read [] s fields field (inl e) unquoted = rw e refl
+line_read [] s fields field (inr e) unquoted = rw e refl
+line_read (b ∷ bs) s fields field inside unquoted =
+    let plain = or_false (b == 34) (has_quote bs) unquoted in
+    subst (λ n. ReadsTo (b ∷ bs) s fields field n) (sym (prefix_one b bs))
+    (by plain.0 (goes_on b) refl (b == 44) refl (line_read bs st.StartField (fields ++ field ∷ []) [] (inl refl) plain.1)
+    (line_read bs st.InField fields (field ++ b ∷ []) (inr refl) plain.1))
+  where
+    by : (b == 34) ≡ false → (on : Bool) → goes_on b ≡ on → (comma : Bool) → (b == 44) ≡ comma
+        → ReadsTo bs st.StartField (fields ++ field ∷ []) [] (prefix_len goes_on bs)
+        → ReadsTo bs st.InField fields (field ++ b ∷ []) (prefix_len goes_on bs)
+        → ReadsTo (b ∷ bs) s fields field (cond on (suc (prefix_len goes_on bs)) 0)
+    by quote false ends comma is next same = rw (end_step s b inside ends) refl
+    by quote true on true is next same =
+        rw (comma_step s b inside quote is, is)
+        (next ∙ ap (λ all. Some (ended all (drop (prefix_len goes_on bs) bs)))
+        (append_assoc fields (field ∷ []) (line_fields [] (take (prefix_len goes_on bs) bs))))
+    by quote true on false is next same = rw (copy_step s b inside quote is on, is) same
+
+first_read : (b : ℕ) (bs : List ℕ) → goes_on b ≡ true
+    → next_record default_config st.StartRecord [] [] (b ∷ bs) ≡ next_record default_config st.StartField [] [] (b ∷ bs)
+unfolding next_record
+first_read b bs on = rw (first_step b on) refl
+
+skip_read : (b : ℕ) (bs : List ℕ) → goes_on b ≡ false
+    → next_record default_config st.StartRecord [] [] (b ∷ bs) ≡ next_record default_config st.StartRecord [] [] bs
+unfolding next_record
+skip_read b bs ends = rw (skip_step b ends) refl
+
+return_read : (left : List ℕ) → next_record default_config st.AfterCr [] [] left ≡ next_record default_config st.StartRecord [] [] left
+unfolding next_record
+return_read [] = refl
+return_read (b ∷ bs) = rw (return_step b) refl
+
+-- behind a line's end a record starts
+ended_read : (fields : List (List ℕ)) (left : List ℕ) → next_record default_config (ended fields left).1 [] [] (ended fields left).2
+    ≡ next_record default_config st.StartRecord [] [] (drop 1 left)
+ended_read fields [] = refl
+ended_read fields (b ∷ bs) = by (b == 13) refl
+  where
+    by : (x : Bool) → (b == 13) ≡ x → next_record default_config (after_end term.CRLF b) [] [] bs ≡ next_record default_config st.StartRecord [] [] bs
+    by true is = rw is (return_read bs)
+    by false is = rw is refl
+
+-- the fields of a line: how many they are, that they are text, and that none is longer than the line
+pub many_fields : (field line : List ℕ) → length (line_fields field line) ≡ count_by is_comma line + 1
+unfolding line_fields
+many_fields field [] = refl
+many_fields field (b ∷ bs) =
+    by (b == 44) (many_fields [] bs) (many_fields (field ++ b ∷ []) bs) ∙ ap (λ n. n + 1) (sym (sum_by-cons (λ c. cond (is_comma c) 1 0) b bs))
+  where
+    by : (x : Bool) → length (line_fields [] bs) ≡ count_by is_comma bs + 1 → length (line_fields (field ++ b ∷ []) bs) ≡ count_by is_comma bs + 1
+        → length (if x then field ∷ line_fields [] bs else line_fields (field ++ b ∷ []) bs) ≡ (cond x 1 0 + count_by is_comma bs) + 1
+    by true next same = omega (arith, next)
+    by false next same = omega (arith, same)
+
+ascii_more : (bytes : List ℕ) (b : ℕ) → IsAscii bytes → b < 128 → IsAscii (bytes ++ b ∷ [])
+ascii_more [] b all small zero = small
+ascii_more [] b all small (suc i) = omega arith
+ascii_more (x ∷ xs) b all small zero = all 0
+ascii_more (x ∷ xs) b all small (suc i) = ascii_more xs b (λ j. all (suc j)) small i
+
+pub line_text : (field line : List ℕ) → IsAscii field → IsAscii line → AllText (line_fields field line)
+unfolding line_fields AllText
+line_text field [] first all = (IsUtf8-from_ascii field first, tt)
+line_text field (b ∷ bs) first all =
+    by (b == 44) (line_text [] bs none (λ i. all (suc i))) (line_text (field ++ b ∷ []) bs (ascii_more field b first (all 0)) (λ i. all (suc i)))
+  where
+    none : IsAscii []
+    none i = omega arith
+
+    by : (x : Bool) → AllText (line_fields [] bs) → AllText (line_fields (field ++ b ∷ []) bs)
+        → AllText (if x then field ∷ line_fields [] bs else line_fields (field ++ b ∷ []) bs)
+    by true next same = (IsUtf8-from_ascii field first, next)
+    by false next same = same
+
+pub line_short : (field line : List ℕ) (col : ℕ) → length (get_or (line_fields field line) col []) ≤ length field + length line
+unfolding line_fields
+line_short field [] zero = omega arith
+line_short field [] (suc col) = omega arith
+line_short field (b ∷ bs) col = by (b == 44) col (λ k. let more = line_short [] bs k in omega (arith, more)) (λ k. line_short (field ++ b ∷ []) bs k)
+  where
+    by : (x : Bool) (col : ℕ) → ((k : ℕ) → length (get_or (line_fields [] bs) k []) ≤ length bs)
+        → ((k : ℕ) → length (get_or (line_fields (field ++ b ∷ []) bs) k []) ≤ length (field ++ b ∷ []) + length bs)
+        → length (get_or (if x then field ∷ line_fields [] bs else line_fields (field ++ b ∷ []) bs) col []) ≤ length field + suc (length bs)
+    by true zero next same = omega arith
+    by true (suc col) next same = let more = next col in omega (arith, more)
+    by false col next same = let more = same col in let grown = length-append field (b ∷ []) in omega (arith, more, grown)
+
+-- one line more is counted
+pub counted_more : (rows : Rows) (line : List ℕ) (lines more : Lines) (some : 0 < length line) → IsAscii line → length line ≤ 8192
+    → more.rows ≡ lines.rows + 1 → more.cols ≡ max lines.cols (length (line_fields [] line))
+    → AreCounted rows lines → AreCounted (with_line rows line) more
+counted_more rows [] lines more some ascii short count cols is = absurd (omega (arith, some))
+counted_more rows (b ∷ bs) lines more some ascii short count cols is =
+    let fields = line_fields [] (b ∷ bs) in
+    let one = length-more rows fields in
+    let widest = longest-more rows fields in
+    record {
+      count = (let e = is.count in omega (arith, count, e, one));
+      cols = cols ∙ ap (λ most. max most (length fields)) is.cols ∙ sym widest;
+      text = text_more rows fields is.text (line_text [] (b ∷ bs) (λ i. omega arith) ascii);
+      short = none_more rows fields IsLong is.short (λ col within long. let most = line_short [] (b ∷ bs) col in omega (arith, most, long, short));
+    }
+
+-- the whole text is left to be counted
+pub counting_begins : (text : List ℕ) (lines : Lines) → IsAscii text → has_quote text ≡ false → lines.rows ≡ 0 → lines.cols ≡ 0 → HasCounted text text lines
+unfolding Reached
+counting_begins text lines ascii unquoted rows cols = record {
+  rows = [];
+  state = st.StartRecord;
+  rest = text;
+  reached = (refl, refl);
+  goes = refl;
+  counted = record { count = rows; cols = cols; text = λ k d within. absurd (omega (arith, within)); short = λ row col within long. omega (arith, within) };
+  ascii = ascii;
+  unquoted = unquoted;
+  few = omega (arith, rows);
+}
+
+-- and less of it, once a line was
+pub counting_goes : (text left : List ℕ) (lines more : Lines) → HasCounted text left lines → 0 < length left
+    → ((rows : Rows) → AreCounted rows lines → AreCounted (with_line rows (take (prefix_len goes_on left) left)) more)
+    → more.rows ≤ lines.rows + 1 → HasCounted text (drop 1 (drop (prefix_len goes_on left) left)) more
+counting_goes text [] lines more has some counts few = absurd (omega (arith, some))
+counting_goes text (b ∷ bs) lines more has some counts few =
+    subst (λ n. HasCounted text (drop 1 (drop n (b ∷ bs))) more) (sym (prefix_one b bs)) (by (goes_on b) refl
+    (subst (λ n. (rows : Rows) → AreCounted rows lines → AreCounted (with_line rows (take n (b ∷ bs))) more) (prefix_one b bs) counts))
+  where
+    quote_behind : (n : ℕ) (l : List ℕ) → has_quote l ≡ false → has_quote (drop n l) ≡ false
+    quote_behind zero l none = none
+    quote_behind (suc n) [] none = refl
+    quote_behind (suc n) (x ∷ xs) none = quote_behind n xs (or_false (x == 34) (has_quote xs) none).1
+
+    ascii_behind : (n : ℕ) (l : List ℕ) → IsAscii l → IsAscii (drop n l)
+    ascii_behind n l all i = rw (get_or-drop n l i 0) (all (n + i))
+
+    by : (on : Bool) → goes_on b ≡ on
+        → ((rows : Rows) → AreCounted rows lines → AreCounted (with_line rows (take (cond on (suc (prefix_len goes_on bs)) 0) (b ∷ bs))) more)
+        → HasCounted text (drop 1 (drop (cond on (suc (prefix_len goes_on bs)) 0) (b ∷ bs))) more
+    by false ends counts = record {
+      rows = has.rows;
+      state = has.state;
+      rest = has.rest;
+      reached = has.reached;
+      goes = has.goes ∙ skip_read b bs ends;
+      counted = counts has.rows has.counted;
+      ascii = λ i. has.ascii (suc i);
+      unquoted = (or_false (b == 34) (has_quote bs) has.unquoted).1;
+      few = (let f = has.few in omega (arith, f, few));
+    }
+    by true on counts =
+        let n = prefix_len goes_on bs in
+        let fields = line_fields [] (b ∷ take n bs) in
+        let whole : next_record default_config st.StartField [] [] (b ∷ bs) ≡ Some (ended fields (drop n bs)) =
+        line_read (b ∷ bs) st.StartField [] [] (inl refl) has.unquoted ∙ ap (λ k. Some (ended (line_fields [] (take k (b ∷ bs))) (drop k (b ∷ bs)))) (one on) in
+        let read : next_record default_config has.state [] [] has.rest ≡ Some (ended fields (drop n bs)) = has.goes ∙ first_read b bs on ∙ whole in
+        record {
+          rows = has.rows ++ fields ∷ [];
+          state = (ended fields (drop n bs)).1;
+          rest = (ended fields (drop n bs)).2;
+          reached = subst (λ (f : List (List ℕ)). Reached default_config st.StartRecord text (has.rows ++ f ∷ [])
+              (ended fields (drop n bs)).1 (ended fields (drop n bs)).2)
+              (ended_fields fields (drop n bs))
+              (reached-more default_config st.StartRecord has.state text has.rest has.rows (ended fields (drop n bs)) has.reached read);
+          goes = ended_read fields (drop n bs);
+          counted = counts has.rows has.counted;
+          ascii = ascii_behind 1 (drop n bs) (ascii_behind n bs (λ i. has.ascii (suc i)));
+          unquoted = quote_behind 1 (drop n bs) (quote_behind n bs (or_false (b == 34) (has_quote bs) has.unquoted).1);
+          few = (let f = has.few in let behind = length-drop n bs in let last = length-drop 1 (drop n bs) in omega (arith, f, few, behind, last));
+        }
+      where
+        one : goes_on b ≡ true → prefix_len goes_on (b ∷ bs) ≡ suc (prefix_len goes_on bs)
+        one on = prefix_one b bs ∙ rw on refl
+
+        ended_fields : (fs : List (List ℕ)) (l : List ℕ) → (ended fs l).0 ≡ fs
+        ended_fields fs [] = refl
+        ended_fields fs (x ∷ xs) = refl
+
+-- where nothing is left, all records were
+pub counting_ends : (text left : List ℕ) (lines : Lines) → HasCounted text left lines → length left ≡ 0
+    → (rows : Rows) × AreRecords default_config st.StartRecord text rows × AreCounted rows lines
+unfolding next_record
+counting_ends text left lines has none =
+    let last = has.goes ∙ ap (λ l. next_record default_config st.StartRecord [] [] l) (empty left none) ∙ nothing in
+    (has.rows, (has.state, has.rest, has.reached, last), has.counted)
+  where
+    nothing : next_record default_config st.StartRecord [] [] [] ≡ None
+    nothing = refl
+
+    empty : (l : List ℕ) → length l ≡ 0 → l ≡ []
+    empty [] e = refl
+    empty (x ∷ xs) e = absurd (omega (arith, e))
