@@ -1,5 +1,5 @@
 -- The mark of a cell before and after marks are set.
-use Rattle.std.proofs.Common.{◌≡◌, ◌≢◌, ◌⊎◌, inl, inr, ℕ, zero, suc, Bool, true, false, cond, List, [], ◌∷◌, ◌++◌}
+use Rattle.std.proofs.Common.{◌≡◌, ◌≢◌, ◌≤◌, ◌⊎◌, inl, inr, ℕ, Bool, true, false, cond, List, [], ◌∷◌, ◌++◌}
 use Rattle.std.proofs.Common.{length, get_or, set, IsTrue, IsFalse, Contains, arith, refl, sym, ap, subst, ◌∙◌}
 use Rattle.std.specs.Prelude.{nat_lt}
 use Rattle.std.proofs.lemmas.Bool.Decides.{nat_tests}
@@ -10,12 +10,16 @@ use Rattle.sheet_refs.specs.Sizes.{is_inside, cell_count, place_of}
 use Rattle.sheet_refs.specs.declared.sizes.Sizes.{Sizes}
 use Rattle.sheet_refs.proofs.Places.{place-lt, place_same}
 use Rattle.sheet_model.proofs.EditLemmas.{one_or_two}
+use Rattle.sheet_model.proofs.ListMembers.{first_member, only_member}
 use Rattle.play_machine.specs.Machine.{mark_of}
 use Rattle.play_machine.specs.Marking.{SetsMarks}
 
 -- a number as a mark
 pub marked_from : (mark : ℕ) → mark ≢ 0 → IsTrue (nat_lt 0 mark)
 marked_from mark some = grind (arith, nat_tests, some)
+
+pub mark_some : (mark : ℕ) → IsTrue (nat_lt 0 mark) → 1 ≤ mark
+mark_some mark some = grind (arith, nat_tests, some)
 
 pub unmarked_from : (mark : ℕ) → mark ≡ 0 → IsFalse (nat_lt 0 mark)
 unmarked_from mark none = grind (arith, nat_tests, none)
@@ -54,13 +58,6 @@ set_elsewhere sizes marks cell other number inside differs = go (is_inside sizes
         ∙ sym (mark_inside sizes marks other there)
     go false outside = mark_outside sizes (set marks (place_of sizes cell) number) other outside ∙ sym (mark_outside sizes marks other outside)
 
-pub only_member : {A : Type 0} (x y : A) → Contains (x ∷ []) y → y ≡ x
-only_member x y (zero, below, is) = sym is
-only_member x y (suc k, below, is) = absurd (omega (arith, below))
-
-first_member : {A : Type 0} (x : A) → Contains (x ∷ []) x
-first_member x = (0, omega arith, refl)
-
 -- no cell is marked by none
 pub marks_none : (sizes : Sizes) (number : ℕ) (marks : List ℕ) → SetsMarks sizes [] number marks marks
 marks_none sizes number marks = record {
@@ -81,7 +78,7 @@ module _ (sizes : Sizes) (cell : Position) (number : ℕ) (old : List ℕ) where
         (sym (only_member cell c listed)) (set_here sizes old cell number count inside);
     others =
         λ c not. set_elsewhere sizes old cell c number inside
-        (λ same. not (subst (λ (p : Position). Contains (cell ∷ []) p) (sym same) (first_member cell)));
+        (λ same. not (subst (λ (p : Position). Contains (cell ∷ []) p) (sym same) (first_member cell [])));
   }
 
   pub marks_skip : IsFalse (is_inside sizes cell) → SetsMarks sizes (cell ∷ []) number old old
@@ -105,7 +102,7 @@ marks_more sizes done cell number old mid new first second = record {
 }
   where
     listed_at : (c : Position) → IsTrue (is_inside sizes c) → Contains (done ++ cell ∷ []) c → (c ≡ cell) ⊎ (c ≢ cell) → mark_of sizes new c ≡ number
-    listed_at c there listed (inl same) = second.listed c there (subst (λ (p : Position). Contains (cell ∷ []) p) (sym same) (first_member cell))
+    listed_at c there listed (inl same) = second.listed c there (subst (λ (p : Position). Contains (cell ∷ []) p) (sym same) (first_member cell []))
     listed_at c there listed (inr differs) = second.others c (λ last. differs (only_member cell c last))
         ∙ first.listed c there (before (Contains-append_cases done (cell ∷ []) c listed))
       where

@@ -2,7 +2,7 @@
 use Rattle.std.proofs.Common.{◌≡◌, ℕ, zero, suc, ◌+◌, ◌<◌, ◌≤◌, Bool, true, false, cond, List, [], ◌∷◌, ◌++◌, length}
 use Rattle.std.proofs.Common.{length-append, get_or, take, map, replicate, count_by, IsTrue, All, arith, refl, sym, ap}
 use Rattle.std.proofs.Common.{subst, ◌∙◌}
-use Rattle.std.specs.Prelude.{IfSome, None, Some, slice_get}
+use Rattle.std.specs.Prelude.{Some, slice_get}
 use Rattle.sheet_refs.specs.Cells.{Position, Corners, cells_of}
 use Rattle.sheet_refs.specs.Sizes.{cell_count, is_inside}
 use Rattle.sheet_refs.specs.declared.sizes.Sizes.{Sizes}
@@ -32,9 +32,7 @@ use Rattle.play_machine.specs.Machine.{AreTurns, FollowsCommand, IsMarked, IsNow
 use Rattle.play_machine.specs.Machine.{machine_after, opening, report_of, shown_of, with_marks}
 use Rattle.play_machine.specs.Machine.FollowsCommand.{puts, looks, settles, works}
 use Rattle.play_machine.specs.Machine.Plays.{more, none as no_steps}
-use Rattle.play_machine.specs.Marking.{SetsMarks, marked_count}
-use Rattle.play_machine.specs.Waiting.{AreKept, IsQueue, nothing}
-use Rattle.play_machine.specs.declared.marked_cells.MarkedCells.{MarkedCells}
+use Rattle.play_machine.specs.Marking.{SetsMarks}
 use Rattle.play_machine.specs.Playing.{IsCommandOfSheet, TellsReports, is_put}
 
 -- cells that an entry touches, marked with a number
@@ -86,19 +84,6 @@ put_machine sheet edited kept log before after entry client edit old marks kept_
     ∙ ap (λ (e : Entry). after_edit sheet e.edit) entry_is in
     let number : length after ≡ length log + 1 = ap length after_is ∙ length-append before (entry ∷ []) ∙ ap (λ (l : List Entry). length l + 1) before_is in
     λ i. record { sheet = sheets i; number = number i; marks = marks }
-
--- what is kept of marks after an edit, which leaves the sizes
-pub put_kept : (sheet edited kept : SheetValue) (edit : EditValue) (sizes : Sizes) (old new : MarkedCells)
-    (cells : List Position) (number : ℕ) → kept ≡ sheet → edited ≡ after_edit kept edit → sizes ≡ sheet.sizes
-    → length old.marks.items ≡ cell_count sheet.sizes
-    → SetsMarks sizes cells number old.marks.items new.marks.items → new.left ≡ marked_count new.marks.items → new.queue ≡ None → AreKept edited new
-put_kept sheet edited kept edit sizes old new cells number kept_is edited_is sizes_is count marks left queue =
-    let same : edited.sizes ≡ sheet.sizes = ap (λ (s : SheetValue). s.sizes) edited_is ∙ edit-sizes kept edit ∙ ap (λ (s : SheetValue). s.sizes) kept_is in
-    record {
-      count = marks.count ∙ count ∙ sym (ap cell_count same);
-      left = left;
-      queue = subst (λ q. IfSome q (IsQueue edited new.marks.items nothing)) (sym queue) tt;
-    }
 
 -- one cell more is shown
 abbrev pub board_of : Machine → Corners → ℕ → BoardValue

@@ -17,15 +17,17 @@ use Rattle.sheet_refs.proofs.Places.{place-lt, place_same}
 use Rattle.sheet_refs.proofs.RunLemmas.{not_at}
 use Rattle.sheet_model.specs.Sheets.{SheetValue}
 use Rattle.sheet_model.proofs.EditLemmas.{one_or_two}
+use Rattle.sheet_model.proofs.ListMembers.{only_member}
 use Rattle.play_machine.specs.Machine.{IsFirstCell, IsMarked, IsNowhere, IsReady, is_marked, mark_of, without_mark}
 use Rattle.play_machine.specs.Marking.{SetsMarks}
 use Rattle.play_machine.specs.Waiting.{AddsWaiter, AreWaiters, HasNoMarkedInput, IsKeptAt, IsMarkedInput, HasWaiter}
-use Rattle.play_machine.specs.Waiting.{IsQueue, IsUnplaced, IsWaiter, NoneMarked, Places, TakesWaiters, Unplaced}
+use Rattle.play_machine.specs.Waiting.{IsQueue, IsUnplaced, IsWaiter, MayWait, NoneMarked, Places, PlacesWaiter}
+use Rattle.play_machine.specs.Waiting.{TakesWaiters, Unplaced}
 use Rattle.play_machine.specs.Waiting.{WaitAt, Waits, WaitsOn}
 use Rattle.play_machine.specs.Waiting.Unplaced.{nothing, one, waiting, from}
 use Rattle.play_machine.specs.declared.queue.Queue.{Queue}
 use Rattle.play_machine.specs.declared.waiter.Waiter.{Waiter}
-use Rattle.play_machine.proofs.MarkLemmas.{marks_one, not_both, only_member, set_here, unmarked_from}
+use Rattle.play_machine.proofs.MarkLemmas.{marks_one, not_both, set_here, unmarked_from}
 use Rattle.play_machine.proofs.ReadyLemmas.{outside_unmarked}
 use Rattle.play_machine.proofs.TurnLemmas.{true_or_false}
 
@@ -59,7 +61,7 @@ module _ (sheet : SheetValue) (marks : List ℕ) where
       → IsTrue (is_inside sheet.sizes cell) → IsReady sheet marks cell → Holds queue cell
   ready_held queue are cell inside ready = go (are.each cell inside ready.marked)
     where
-      go : Holds queue cell ⊎ WaitsOn sheet marks queue.waits cell ⊎ IsUnplaced sheet.sizes nothing cell → Holds queue cell
+      go : Holds queue cell ⊎ WaitsOn sheet marks queue.waits cell ⊎ IsUnplaced sheet.sizes marks nothing cell → Holds queue cell
       go (inl held) = held
       go (inr (inl on)) = absurd (waiting_unready queue.waits cell on ready)
       go (inr (inr none)) = absurd none
@@ -83,12 +85,13 @@ module _ (sheet : SheetValue) (marks : List ℕ) where
 
   -- a cell that is no longer held as a ready one is to be placed
   pub popped : (old new : Queue) (place : ℕ) (cell : Position) → IsQueue sheet marks nothing old
-      → Updates nat_cmp old.ready new.ready place false → new.waits ≡ old.waits → new.first ≡ old.first
+      → Updates nat_cmp old.ready new.ready place false → new.waits ≡ old.waits → new.first ≡ old.first → new.last ≡ old.last
       → IsTrue (is_inside sheet.sizes cell) → place_of sheet.sizes cell ≡ place → IsQueue sheet marks (one cell) new
-  popped old new place cell are updates waits_are first_is inside here = record {
+  popped old new place cell are updates waits_are first_is last_is inside here = record {
     within = λ p held. are.within p (earlier p held);
     ready = λ c there held. are.ready c there (earlier (place_of sheet.sizes c) held);
-    waiters = λ p list waiter kept listed. are.waiters p list waiter (sym (ap (λ w. get nat_cmp w p) waits_are) ∙ kept) listed;
+    waiters = λ p list waiter kept listed. subst (λ n. MayWait sheet marks n waiter) (sym last_is)
+        (are.waiters p list waiter (sym (ap (λ w. get nat_cmp w p) waits_are) ∙ kept) listed);
     each = λ c there marked. each c there (are.each c there marked) (cases_eq (place_of sheet.sizes c) place);
     first = subst (NoneMarked sheet.sizes marks) (sym first_is) are.first;
   }
@@ -104,8 +107,8 @@ module _ (sheet : SheetValue) (marks : List ℕ) where
           go (inr differs) = sym (apart p differs) ∙ held
 
       each : (c : Position) → IsTrue (is_inside sheet.sizes c) → Holds old c ⊎ WaitsOn sheet marks old.waits c
-          ⊎ IsUnplaced sheet.sizes nothing c → (place_of sheet.sizes c ≡ place) ⊎ (place_of sheet.sizes c ≡ place → ⊥)
-          → Holds new c ⊎ WaitsOn sheet marks new.waits c ⊎ IsUnplaced sheet.sizes (one cell) c
+          ⊎ IsUnplaced sheet.sizes marks nothing c → (place_of sheet.sizes c ≡ place) ⊎ (place_of sheet.sizes c ≡ place → ⊥)
+          → Holds new c ⊎ WaitsOn sheet marks new.waits c ⊎ IsUnplaced sheet.sizes marks (one cell) c
       each c there (inl held) (inl same) = inr (inr (place_same sheet.sizes c cell there inside (same ∙ sym here)))
       each c there (inl held) (inr differs) = inl (apart (place_of sheet.sizes c) differs ∙ held)
       each c there (inr (inl on)) known = inr (inl (subst (λ w. WaitsOn sheet marks w c) (sym waits_are) on))
@@ -117,7 +120,7 @@ module _ (sheet : SheetValue) (marks : List ℕ) where
 
   -- what is to be placed, seen otherwise
   pub more_unplaced : (left rest : Unplaced) (queue : Queue) → ((cell : Position) → IsTrue (is_inside sheet.sizes cell)
-      → IsMarked sheet.sizes marks cell → IsUnplaced sheet.sizes left cell → IsUnplaced sheet.sizes rest cell)
+      → IsMarked sheet.sizes marks cell → IsUnplaced sheet.sizes marks left cell → IsUnplaced sheet.sizes marks rest cell)
       → IsQueue sheet marks left queue → IsQueue sheet marks rest queue
   more_unplaced left rest queue weaker are = record {
     within = are.within;
@@ -128,8 +131,8 @@ module _ (sheet : SheetValue) (marks : List ℕ) where
   }
     where
       go : (cell : Position) → IsTrue (is_inside sheet.sizes cell) → IsMarked sheet.sizes marks cell → Holds queue cell
-          ⊎ WaitsOn sheet marks queue.waits cell ⊎ IsUnplaced sheet.sizes left cell → Holds queue cell
-          ⊎ WaitsOn sheet marks queue.waits cell ⊎ IsUnplaced sheet.sizes rest cell
+          ⊎ WaitsOn sheet marks queue.waits cell ⊎ IsUnplaced sheet.sizes marks left cell → Holds queue cell
+          ⊎ WaitsOn sheet marks queue.waits cell ⊎ IsUnplaced sheet.sizes marks rest cell
       go cell inside marked (inl held) = inl held
       go cell inside marked (inr (inl on)) = inr (inl on)
       go cell inside marked (inr (inr open_still)) = inr (inr (weaker cell inside marked open_still))
@@ -157,7 +160,7 @@ module _ (sheet : SheetValue) (marks : List ℕ) where
   pub list_placed : (list : List Waiter) (queue : Queue) → list ≡ [] → IsQueue sheet marks (waiting list) queue → IsQueue sheet marks nothing queue
   list_placed list queue none are = more_unplaced (waiting list) nothing queue (λ cell inside marked listed. empty cell listed) are
     where
-      empty : (cell : Position) → HasWaiter list cell → ⊥
+      empty : (cell : Position) → HasWaiter list cell (mark_of sheet.sizes marks cell) → ⊥
       empty cell is = (let there = subst (λ l. Contains l is.waiter) none is.listed in absurd (omega (arith, there)))
 
   -- the one at the place is placed; those from the next place on aren't yet
@@ -173,18 +176,25 @@ module _ (sheet : SheetValue) (marks : List ℕ) where
           go (inl same) = inr (place_same sheet.sizes c cell there inside (sym same ∙ sym here))
           go (inr past) = inl (omega (arith, past))
 
-  -- the last of the list is placed
+  -- the last of the list is placed, if its cell still has the mark
   pub last_placed : (list whole : List Waiter) (waiter : Waiter) (old new : Queue) → whole ≡ list ++ waiter ∷ []
-      → Places sheet marks waiter.cell old new → IsQueue sheet marks (waiting whole) old
+      → PlacesWaiter sheet marks waiter old new → IsQueue sheet marks (waiting whole) old
       → IsQueue sheet marks (waiting list) new
   last_placed list whole waiter old new is places are = places (waiting whole) (waiting list) split are
     where
-      split : (cell : Position) → IsTrue (is_inside sheet.sizes cell) → HasWaiter whole cell → HasWaiter list cell ⊎ (cell ≡ waiter.cell)
+      Now : List Waiter → Position → Type 0
+      Now waiters cell = HasWaiter waiters cell (mark_of sheet.sizes marks cell)
+
+      split : (cell : Position) → IsTrue (is_inside sheet.sizes cell) → Now whole cell
+          → Now list cell ⊎ ((cell ≡ waiter.cell) × (mark_of sheet.sizes marks cell ≡ waiter.mark))
       split cell inside there = go (Contains-append_cases list (waiter ∷ []) there.waiter (subst (λ l. Contains l there.waiter) is there.listed))
         where
-          go : Contains list there.waiter ⊎ Contains (waiter ∷ []) there.waiter → HasWaiter list cell ⊎ (cell ≡ waiter.cell)
-          go (inl before) = inl (record { waiter = there.waiter; listed = before; cell_is = there.cell_is })
-          go (inr last) = inr (sym there.cell_is ∙ ap (λ (w : Waiter). w.cell) (only_member waiter there.waiter last))
+          go : Contains list there.waiter ⊎ Contains (waiter ∷ []) there.waiter
+              → Now list cell ⊎ ((cell ≡ waiter.cell) × (mark_of sheet.sizes marks cell ≡ waiter.mark))
+          go (inl before) = inl (record { waiter = there.waiter; listed = before; cell_is = there.cell_is; mark_is = there.mark_is })
+          go (inr last) =
+              let same = only_member waiter there.waiter last in
+              inr (sym there.cell_is ∙ ap (λ (w : Waiter). w.cell) same, sym there.mark_is ∙ ap (λ (w : Waiter). w.mark) same)
 
   -- a cell that isn't marked needs no place
   pub needs_no_place : (cell : Position) (queue : Queue) → IsFalse (is_marked sheet.sizes marks cell) → Places sheet marks cell queue queue
@@ -197,25 +207,61 @@ module _ (sheet : SheetValue) (marks : List ℕ) where
   }
     where
       go : (c : Position) → IsTrue (is_inside sheet.sizes c) → IsMarked sheet.sizes marks c → Holds queue c
-          ⊎ WaitsOn sheet marks queue.waits c ⊎ IsUnplaced sheet.sizes left c → Holds queue c
-          ⊎ WaitsOn sheet marks queue.waits c ⊎ IsUnplaced sheet.sizes rest c
+          ⊎ WaitsOn sheet marks queue.waits c ⊎ IsUnplaced sheet.sizes marks left c → Holds queue c
+          ⊎ WaitsOn sheet marks queue.waits c ⊎ IsUnplaced sheet.sizes marks rest c
       go c inside marked (inl held) = inl held
       go c inside marked (inr (inl on)) = inr (inl on)
       go c inside marked (inr (inr still)) = at (split c inside still)
         where
-          at : IsUnplaced sheet.sizes rest c ⊎ (c ≡ cell) → Holds queue c ⊎ WaitsOn sheet marks queue.waits c ⊎ IsUnplaced sheet.sizes rest c
+          at : IsUnplaced sheet.sizes marks rest c ⊎ (c ≡ cell) → Holds queue c ⊎ WaitsOn sheet marks queue.waits c ⊎ IsUnplaced sheet.sizes marks rest c
           at (inl open_still) = inr (inr open_still)
           at (inr same) = absurd (not_both (is_marked sheet.sizes marks cell) (subst (λ p. IsMarked sheet.sizes marks p) same marked) unmarked)
+
+  -- nor does one that waited with another mark than it has; and what places the cell places the one that waits
+  pub waits_no_more : (waiter : Waiter) (queue : Queue) → mark_of sheet.sizes marks waiter.cell ≢ waiter.mark
+      → PlacesWaiter sheet marks waiter queue queue
+  waits_no_more waiter queue differs left rest split are =
+      more_unplaced left rest queue (λ cell inside marked still. elim (split cell inside still) [
+        | inl open_still ↦ open_still
+        | inr here ↦ absurd (differs (ap (mark_of sheet.sizes marks) (sym here.0) ∙ here.1))
+      ]) are
+
+  pub waiter_placed : (waiter : Waiter) (old new : Queue) → Places sheet marks waiter.cell old new → PlacesWaiter sheet marks waiter old new
+  waiter_placed waiter old new places left rest split = places left rest (λ cell inside still. elim (split cell inside still) [
+    | inl open_still ↦ inl open_still
+    | inr here ↦ inr here.0
+  ])
+
+  -- a greater last mark changes nothing
+  pub later_last : (left : Unplaced) (old new : Queue) → new.ready ≡ old.ready → new.waits ≡ old.waits → new.first ≡ old.first
+      → old.last ≤ new.last → IsQueue sheet marks left old → IsQueue sheet marks left new
+  later_last left old new ready_are waits_are first_is later are = record {
+    within = λ place held. are.within place (subst (λ r. IsTrue (contains nat_cmp r place)) ready_are held);
+    ready = λ c there held. are.ready c there (subst (λ r. IsTrue (contains nat_cmp r (place_of sheet.sizes c))) ready_are held);
+    waiters = λ p list waiter kept listed.
+        let may = are.waiters p list waiter (sym (ap (λ w. get nat_cmp w p) waits_are) ∙ kept) listed in
+        let known = may.known in
+        record { some = may.some; known = omega (arith, known, later); looked = may.looked };
+    each = λ c there marked. each c (are.each c there marked);
+    first = subst (NoneMarked sheet.sizes marks) (sym first_is) are.first;
+  }
+    where
+      each : (c : Position) → Holds old c ⊎ WaitsOn sheet marks old.waits c ⊎ IsUnplaced sheet.sizes marks left c
+          → Holds new c ⊎ WaitsOn sheet marks new.waits c ⊎ IsUnplaced sheet.sizes marks left c
+      each c (inl held) = inl (subst (λ r. IsTrue (contains nat_cmp r (place_of sheet.sizes c))) (sym ready_are) held)
+      each c (inr (inl on)) = inr (inl (subst (λ w. WaitsOn sheet marks w c) (sym waits_are) on))
+      each c (inr (inr still)) = inr (inr still)
 
   -- a marked cell that refers to no marked one is put among the ready ones
   pub placed_ready : (cell : Position) (old new : Queue) → IsTrue (is_inside sheet.sizes cell)
       → IsMarked sheet.sizes marks cell → HasNoMarkedInput sheet marks cell
       → Updates nat_cmp old.ready new.ready (place_of sheet.sizes cell) true → new.waits ≡ old.waits
-      → new.first ≡ old.first → Places sheet marks cell old new
-  placed_ready cell old new inside marked no_input updates waits_are first_is left rest split are = record {
+      → new.first ≡ old.first → new.last ≡ old.last → Places sheet marks cell old new
+  placed_ready cell old new inside marked no_input updates waits_are first_is last_is left rest split are = record {
     within = λ place held. within place held (cases_eq place (place_of sheet.sizes cell));
     ready = λ c there held. ready c there held (one_or_two c cell);
-    waiters = λ p list waiter kept listed. are.waiters p list waiter (sym (ap (λ w. get nat_cmp w p) waits_are) ∙ kept) listed;
+    waiters = λ p list waiter kept listed. subst (λ n. MayWait sheet marks n waiter) (sym last_is)
+        (are.waiters p list waiter (sym (ap (λ w. get nat_cmp w p) waits_are) ∙ kept) listed);
     each = λ c there is. each c there (are.each c there is);
     first = subst (NoneMarked sheet.sizes marks) (sym first_is) are.first;
   }
@@ -243,17 +289,17 @@ module _ (sheet : SheetValue) (marks : List ℕ) where
           go (inr differs) = apart (place_of sheet.sizes c) differs ∙ held
 
       each : (c : Position) → IsTrue (is_inside sheet.sizes c) → Holds old c ⊎ WaitsOn sheet marks old.waits c
-          ⊎ IsUnplaced sheet.sizes left c → Holds new c ⊎ WaitsOn sheet marks new.waits c
-          ⊎ IsUnplaced sheet.sizes rest c
+          ⊎ IsUnplaced sheet.sizes marks left c → Holds new c ⊎ WaitsOn sheet marks new.waits c
+          ⊎ IsUnplaced sheet.sizes marks rest c
       each c there (inl held) = inl (kept c held)
       each c there (inr (inl on)) = inr (inl (subst (λ w. WaitsOn sheet marks w c) (sym waits_are) on))
       each c there (inr (inr still)) = at (split c there still)
         where
-          at : IsUnplaced sheet.sizes rest c ⊎ (c ≡ cell) → Holds new c ⊎ WaitsOn sheet marks new.waits c ⊎ IsUnplaced sheet.sizes rest c
+          at : IsUnplaced sheet.sizes marks rest c ⊎ (c ≡ cell) → Holds new c ⊎ WaitsOn sheet marks new.waits c ⊎ IsUnplaced sheet.sizes marks rest c
           at (inl open_still) = inr (inr open_still)
           at (inr same) = inl (ap (λ p. contains nat_cmp new.ready (place_of sheet.sizes p)) same ∙ updates.1)
 
-some_same : {A : Type 0} {a b : A} → Some a ≡ Some b → a ≡ b
+pub some_same : {A : Type 0} {a b : A} → Some a ≡ Some b → a ≡ b
 some_same h = cc
 
 -- those that wait on the cell at a place, taken out and put back with one more
@@ -278,26 +324,26 @@ added_waiter old mid new place before list waiter takes items updates = record {
 }
 
 -- the last of a list, and those before it
-pub last_waiter : (sheet : SheetValue) (marks : List ℕ) (list whole : List Waiter) (waiter : Waiter) → whole ≡ list
-    ++ waiter ∷ [] → AreWaiters sheet marks whole → IsWaiter sheet marks waiter
-last_waiter sheet marks list whole waiter is are =
+pub last_waiter : (sheet : SheetValue) (marks : List ℕ) (last : ℕ) (list whole : List Waiter) (waiter : Waiter) → whole ≡ list
+    ++ waiter ∷ [] → AreWaiters sheet marks last whole → MayWait sheet marks last waiter
+last_waiter sheet marks last list whole waiter is are =
     are waiter (subst (λ l. Contains l waiter) (sym is) (Contains-append_right list (waiter ∷ []) waiter (
       0,
       omega arith,
       refl,
     )))
 
-pub other_waiters : (sheet : SheetValue) (marks : List ℕ) (list whole : List Waiter) (waiter : Waiter) → whole ≡ list
-    ++ waiter ∷ [] → AreWaiters sheet marks whole → AreWaiters sheet marks list
-other_waiters sheet marks list whole waiter is are other listed =
+pub other_waiters : (sheet : SheetValue) (marks : List ℕ) (last : ℕ) (list whole : List Waiter) (waiter : Waiter) → whole ≡ list
+    ++ waiter ∷ [] → AreWaiters sheet marks last whole → AreWaiters sheet marks last list
+other_waiters sheet marks last list whole waiter is are other listed =
     are other (subst (λ l. Contains l other) (sym is) (Contains-append_left list (waiter ∷ []) other listed))
 
 -- those that wait on the cell at a place, and one more
 module _ (old new : Waits) (place : ℕ) (waiter : Waiter) (adds : AddsWaiter old new place waiter) where
-  pub still_waits : (other : ℕ) (cell : Position) → IsKeptAt old other cell → IsKeptAt new other cell
-  still_waits other cell at = go (cases_eq other place)
+  pub still_waits : (other : ℕ) (cell : Position) (mark : ℕ) → IsKeptAt old other cell mark → IsKeptAt new other cell mark
+  still_waits other cell mark at = go (cases_eq other place)
     where
-      go : (other ≡ place) ⊎ (other ≡ place → ⊥) → IsKeptAt new other cell
+      go : (other ≡ place) ⊎ (other ≡ place → ⊥) → IsKeptAt new other cell mark
       go (inl same) = record {
         list = adds.list;
         kept = ap (get nat_cmp new) same ∙ adds.kept;
@@ -307,11 +353,12 @@ module _ (old new : Waits) (place : ℕ) (waiter : Waiter) (adds : AddsWaiter ol
               (Contains-append_left adds.before (waiter ∷ []) at.listed.waiter (subst (λ l. Contains l at.listed.waiter)
               (adds.was.all at.list (sym (ap (get nat_cmp old) same) ∙ at.kept)) at.listed.listed));
           cell_is = at.listed.cell_is;
+          mark_is = at.listed.mark_is;
         };
       }
       go (inr differs) = record { list = at.list; kept = adds.others other differs ∙ at.kept; listed = at.listed }
 
-  pub waits_too : IsKeptAt new place waiter.cell
+  pub waits_too : IsKeptAt new place waiter.cell waiter.mark
   waits_too = record {
     list = adds.list;
     kept = adds.kept;
@@ -321,6 +368,7 @@ module _ (old new : Waits) (place : ℕ) (waiter : Waiter) (adds : AddsWaiter ol
           listed = subst (λ l. Contains l waiter) (sym adds.items) (Contains-append_right adds.before (waiter
               ∷ []) waiter (0, omega arith, refl));
           cell_is = refl;
+          mark_is = refl;
         };
   }
 
@@ -345,20 +393,24 @@ module _ (old new : Waits) (place : ℕ) (waiter : Waiter) (adds : AddsWaiter ol
 
 -- a cell waits on a marked one to which it refers
 pub placed_waiting : (sheet : SheetValue) (marks : List ℕ) (input : Position) (waiter : Waiter) (old new : Queue)
-    → IsWaiter sheet marks waiter → IsMarkedInput sheet marks waiter.cell input
+    → IsWaiter sheet marks waiter → 1 ≤ waiter.mark → waiter.mark ≤ old.last → mark_of sheet.sizes marks waiter.cell ≡ waiter.mark
+    → IsMarkedInput sheet marks waiter.cell input
     → AddsWaiter old.waits new.waits (place_of sheet.sizes input) waiter → new.ready ≡ old.ready → new.first ≡ old.first
-    → Places sheet marks waiter.cell old new
-placed_waiting sheet marks input waiter old new is on adds ready_are first_is left rest split are = record {
+    → new.last ≡ old.last → Places sheet marks waiter.cell old new
+placed_waiting sheet marks input waiter old new is some known current on adds ready_are first_is last_is left rest split are = record {
   within = λ place held. are.within place (subst (λ r. IsTrue (contains nat_cmp r place)) ready_are held);
   ready = λ c there held. are.ready c there (subst (λ r. IsTrue (contains nat_cmp r (place_of sheet.sizes c))) ready_are held);
-  waiters = waited old.waits new.waits (place_of sheet.sizes input) waiter adds (IsWaiter sheet marks) is are.waiters;
+  waiters = subst (λ n. (p : ℕ) (list : Vec Waiter Global) (w : Waiter) → get nat_cmp new.waits p ≡ Some list
+      → Contains list.items w → MayWait sheet marks n w) (sym last_is)
+      (waited old.waits new.waits (place_of sheet.sizes input) waiter adds (MayWait sheet marks old.last)
+      (record { some = some; known = known; looked = λ still. is }) are.waiters);
   each = λ c there marked. each c there (are.each c there marked);
   first = subst (NoneMarked sheet.sizes marks) (sym first_is) are.first;
 }
   where
     each : (c : Position) → IsTrue (is_inside sheet.sizes c) → Holds sheet marks old c ⊎ WaitsOn sheet marks old.waits c
-        ⊎ IsUnplaced sheet.sizes left c → Holds sheet marks new c ⊎ WaitsOn sheet marks new.waits c
-        ⊎ IsUnplaced sheet.sizes rest c
+        ⊎ IsUnplaced sheet.sizes marks left c → Holds sheet marks new c ⊎ WaitsOn sheet marks new.waits c
+        ⊎ IsUnplaced sheet.sizes marks rest c
     each c there (inl held) = inl (subst (λ r. IsTrue (contains nat_cmp r (place_of sheet.sizes c))) (sym ready_are) held)
     each c there (inr (inl other)) =
         inr
@@ -366,18 +418,20 @@ placed_waiting sheet marks input waiter old new is on adds ready_are first_is le
           input = other.input;
           is = other.is;
           at = still_waits old.waits new.waits (place_of sheet.sizes input) waiter adds (place_of sheet.sizes other.input)
-              c other.at;
+              c (mark_of sheet.sizes marks c) other.at;
         }))
     each c there (inr (inr still)) = at (split c there still)
       where
-        at : IsUnplaced sheet.sizes rest c ⊎ (c ≡ waiter.cell) → Holds sheet marks new c ⊎ WaitsOn sheet marks new.waits c ⊎ IsUnplaced sheet.sizes rest c
+        at : IsUnplaced sheet.sizes marks rest c ⊎ (c ≡ waiter.cell) → Holds sheet marks new c
+            ⊎ WaitsOn sheet marks new.waits c ⊎ IsUnplaced sheet.sizes marks rest c
         at (inl open_still) = inr (inr open_still)
         at (inr same) =
             inr
             (inl (subst (WaitsOn sheet marks new.waits) (sym same) (record {
               input = input;
               is = on;
-              at = waits_too old.waits new.waits (place_of sheet.sizes input) waiter adds;
+              at = subst (IsKeptAt new.waits (place_of sheet.sizes input) waiter.cell) (sym current)
+                  (waits_too old.waits new.waits (place_of sheet.sizes input) waiter adds);
             })))
 
 -- the mark of one cell is taken away
@@ -386,10 +440,13 @@ module _ (sheet : SheetValue) (old : List ℕ) (cell : Position) (count : length
   abbrev pub new_marks : List ℕ
   new_marks = without_mark sheet.sizes old cell
 
-  same_mark : (other : Position) → other ≢ cell → is_marked sheet.sizes new_marks other ≡ is_marked sheet.sizes old other
-  same_mark other differs =
+  same_number : (other : Position) → other ≢ cell → mark_of sheet.sizes new_marks other ≡ mark_of sheet.sizes old other
+  same_number other differs =
       let both : SetsMarks sheet.sizes (cell ∷ []) 0 old new_marks = marks_one sheet.sizes cell 0 old count inside in
-      ap (nat_lt 0) (both.others other (λ there. differs (only_member cell other there)))
+      both.others other (λ there. differs (only_member cell other there))
+
+  same_mark : (other : Position) → other ≢ cell → is_marked sheet.sizes new_marks other ≡ is_marked sheet.sizes old other
+  same_mark other differs = ap (nat_lt 0) (same_number other differs)
 
   no_mark : IsFalse (is_marked sheet.sizes new_marks cell)
   no_mark = unmarked_from (mark_of sheet.sizes new_marks cell) (set_here sheet.sizes old cell 0 count inside)
@@ -408,20 +465,31 @@ module _ (sheet : SheetValue) (old : List ℕ) (cell : Position) (count : length
       go (inl same) = absurd (not_both (is_marked sheet.sizes new_marks cell) (subst (λ p. IsMarked sheet.sizes new_marks p) same marked) no_mark)
       go (inr differs) = (differs, sym (same_mark other differs) ∙ marked)
 
-  pub still_waiter : (waiter : Waiter) → IsWaiter sheet old waiter → IsWaiter sheet new_marks waiter
+  still_waiter : (waiter : Waiter) → IsWaiter sheet old waiter → IsWaiter sheet new_marks waiter
   still_waiter waiter is = record {
     inside = is.inside;
     refs = is.refs;
     before = λ range listed other there. still_unmarked other (is.before range listed other there);
-    part = λ range at k other below here. still_unmarked other (is.part range at k other below here);
+    part = λ range at k other below there here. still_unmarked other (is.part range at k other below there here);
   }
+
+  -- the cell itself has no mark, and so not that with which it waited
+  may_still : (last : ℕ) (waiter : Waiter) → MayWait sheet old last waiter → MayWait sheet new_marks last waiter
+  may_still last waiter may = record { some = may.some; known = may.known; looked = λ current. looked current (one_or_two waiter.cell cell) }
+    where
+      looked : mark_of sheet.sizes new_marks waiter.cell ≡ waiter.mark → (waiter.cell ≡ cell) ⊎ (waiter.cell ≢ cell) → IsWaiter sheet new_marks waiter
+      looked current (inl same) =
+          let none : mark_of sheet.sizes new_marks waiter.cell ≡ 0 = ap (mark_of sheet.sizes new_marks) same ∙ set_here sheet.sizes old cell 0 count inside in
+          let some = may.some in
+          absurd (omega (arith, none, current, some))
+      looked current (inr differs) = still_waiter waiter (may.looked (sym (same_number waiter.cell differs) ∙ current))
 
   -- those that waited on it are to be placed
   pub woken : (queue next : Queue) (list : List Waiter) → IsQueue sheet old (one cell) queue
       → contains nat_cmp queue.ready (place_of sheet.sizes cell) ≡ false
       → TakesWaiters queue.waits next.waits (place_of sheet.sizes cell) list → next.ready ≡ queue.ready
-      → next.first ≡ queue.first → IsQueue sheet new_marks (waiting list) next
-  woken queue next list are taken takes ready_are first_is = record {
+      → next.first ≡ queue.first → next.last ≡ queue.last → IsQueue sheet new_marks (waiting list) next
+  woken queue next list are taken takes ready_are first_is last_is = record {
     within = λ place held. are.within place (subst (λ r. IsTrue (contains nat_cmp r place)) ready_are held);
     ready = λ c there held. ready c there (subst (λ r. IsTrue (contains nat_cmp r (place_of sheet.sizes c))) ready_are held);
     waiters = λ p kept waiter at listed. waiters p kept waiter at listed (cases_eq p (place_of sheet.sizes cell));
@@ -439,21 +507,24 @@ module _ (sheet : SheetValue) (old : List ℕ) (cell : Position) (count : length
 
       waiters : (p : ℕ) (kept : Vec Waiter Global) (waiter : Waiter) → get nat_cmp next.waits p ≡ Some kept
           → Contains kept.items waiter → (p ≡ place_of sheet.sizes cell) ⊎ (p ≡ place_of sheet.sizes cell → ⊥)
-          → IsWaiter sheet new_marks waiter
+          → MayWait sheet new_marks next.last waiter
       waiters p kept waiter at listed (inl same) = absurd (conflict (sym takes.gone ∙ sym (ap (get nat_cmp next.waits) same) ∙ at))
         where
           conflict : {A : Type 0} {a : A} → None ≡ Some a → ⊥
           conflict h = cc
-      waiters p kept waiter at listed (inr differs) = still_waiter waiter (are.waiters p kept waiter (sym (takes.others p differs) ∙ at) listed)
+      waiters p kept waiter at listed (inr differs) =
+          subst (λ n. MayWait sheet new_marks n waiter) (sym last_is)
+          (may_still queue.last waiter (are.waiters p kept waiter (sym (takes.others p differs) ∙ at) listed))
 
       each : (c : Position) → IsTrue (is_inside sheet.sizes c) → c ≢ cell → Holds sheet old queue c
           ⊎ WaitsOn sheet old queue.waits c ⊎ (c ≡ cell) → Holds sheet new_marks next c
-          ⊎ WaitsOn sheet new_marks next.waits c ⊎ HasWaiter list c
+          ⊎ WaitsOn sheet new_marks next.waits c ⊎ HasWaiter list c (mark_of sheet.sizes new_marks c)
       each c there differs (inl held) = inl (subst (λ r. IsTrue (contains nat_cmp r (place_of sheet.sizes c))) (sym ready_are) held)
       each c there differs (inr (inr same)) = absurd (differs same)
       each c there differs (inr (inl on)) = go (one_or_two on.input cell)
         where
-          go : (on.input ≡ cell) ⊎ (on.input ≢ cell) → Holds sheet new_marks next c ⊎ WaitsOn sheet new_marks next.waits c ⊎ HasWaiter list c
+          go : (on.input ≡ cell) ⊎ (on.input ≢ cell) → Holds sheet new_marks next c ⊎ WaitsOn sheet new_marks next.waits c
+              ⊎ HasWaiter list c (mark_of sheet.sizes new_marks c)
           go (inl same) =
               let whole = takes.taken.all on.at.list (sym (ap (λ p. get nat_cmp queue.waits (place_of sheet.sizes p)) same) ∙ on.at.kept) in
               inr
@@ -461,6 +532,7 @@ module _ (sheet : SheetValue) (old : List ℕ) (cell : Position) (count : length
                 waiter = on.at.listed.waiter;
                 listed = subst (λ l. Contains l on.at.listed.waiter) whole on.at.listed.listed;
                 cell_is = on.at.listed.cell_is;
+                mark_is = on.at.listed.mark_is ∙ sym (same_number c differs);
               }))
           go (inr other) =
               let input_there = marked_inside sheet.sizes old on.input on.is.marked in
@@ -469,12 +541,16 @@ module _ (sheet : SheetValue) (old : List ℕ) (cell : Position) (count : length
               inr (inl (record {
                 input = on.input;
                 is = record { marked = same_mark on.input other ∙ on.is.marked; step = on.is.step };
-                at = record { list = on.at.list; kept = takes.others (place_of sheet.sizes on.input) apart ∙ on.at.kept; listed = on.at.listed };
+                at = record {
+                  list = on.at.list;
+                  kept = takes.others (place_of sheet.sizes on.input) apart ∙ on.at.kept;
+                  listed = subst (HasWaiter on.at.list.items c) (sym (same_number c differs)) on.at.listed;
+                };
               }))
 
   -- and each of them looks as before
   pub woken_waiters : (queue : Queue) (list : List Waiter) (left : Unplaced) → IsQueue sheet old left queue
-      → WaitAt queue.waits (place_of sheet.sizes cell) list → AreWaiters sheet new_marks list
+      → WaitAt queue.waits (place_of sheet.sizes cell) list → AreWaiters sheet new_marks queue.last list
   woken_waiters queue list left are taken waiter listed =
       let had = taken.each waiter listed in
-      still_waiter waiter (are.waiters (place_of sheet.sizes cell) had.0 waiter had.1 had.2)
+      may_still queue.last waiter (are.waiters (place_of sheet.sizes cell) had.0 waiter had.1 had.2)

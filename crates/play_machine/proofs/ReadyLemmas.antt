@@ -5,7 +5,7 @@ use Rattle.std.specs.Prelude.{slice_get, Some}
 use Rattle.std.proofs.Math.Nat.{eq-or-lt_of_le}
 use Rattle.std.proofs.lemmas.List.Elements.{Contains-append_cases}
 use Rattle.std.proofs.lemmas.Option.{slice_get-get_or}
-use Rattle.sheet_refs.specs.Cells.{Position, Corners, ListsCells, cells_of}
+use Rattle.sheet_refs.specs.Cells.{Position, Corners, IsIn, ListsCells, cells_of}
 use Rattle.sheet_refs.specs.Sizes.{HoldsPart, MissesRange, is_inside, cell_count, place_of}
 use Rattle.sheet_refs.specs.declared.sizes.Sizes.{Sizes}
 use Rattle.sheet_refs.proofs.Places.{place-lt, place_same}
@@ -15,7 +15,8 @@ use Rattle.sheet_model.specs.Sheets.{SheetValue, content_of}
 use Rattle.sheet_model.specs.Ranges.{ranges_in}
 use Rattle.play_machine.specs.Machine.{IsFirstCell, IsNowhere, IsReady, is_marked, mark_of}
 use Rattle.play_machine.specs.Marking.{HasNoMark, NoneHasMark}
-use Rattle.play_machine.proofs.MarkLemmas.{mark_outside, not_both, only_member, unmarked_from}
+use Rattle.sheet_model.proofs.ListMembers.{only_member}
+use Rattle.play_machine.proofs.MarkLemmas.{mark_outside, not_both, unmarked_from}
 
 -- a cell past the rectangle isn't marked
 pub outside_unmarked : (sizes : Sizes) (marks : List ℕ) (cell : Position) → IsFalse (is_inside sizes cell) → IsFalse (is_marked sizes marks cell)
@@ -23,7 +24,7 @@ outside_unmarked sizes marks cell outside = unmarked_from (mark_of sizes marks c
 
 -- no cell of a range is marked where none of its part in the rectangle is
 pub part_unmarked : (sizes : Sizes) (marks : List ℕ) (range part : Corners) (place : ℕ) → HoldsPart sizes range part
-    → ListsCells (cells_of part) part → length (cells_of part) ≤ place → ((k : ℕ) (cell : Position) → k < place
+    → ListsCells (cells_of part) part → length (cells_of part) ≤ place → ((k : ℕ) (cell : Position) → k < place → IsIn cell range
     → slice_get (cells_of part) k ≡ Some cell → IsFalse (is_marked sizes marks cell)) → HasNoMark sizes marks range
 part_unmarked sizes marks range part place holds lists past unmarked cell there = go (is_inside sizes cell) refl
   where
@@ -33,7 +34,7 @@ part_unmarked sizes marks range part place holds lists past unmarked cell there 
         let listed = (lists cell).1 ((holds cell).1 (there, inside)) in
         let k = listed.0 in
         let below : k < length (cells_of part) = listed.1 in
-        unmarked k cell (omega (arith, below, past)) (slice_get-get_or (cells_of part) k cell below ∙ ap Some listed.2)
+        unmarked k cell (omega (arith, below, past)) there (slice_get-get_or (cells_of part) k cell below ∙ ap Some listed.2)
 
 pub missed_unmarked : (sizes : Sizes) (marks : List ℕ) (range : Corners) → MissesRange sizes range → HasNoMark sizes marks range
 missed_unmarked sizes marks range misses cell there = outside_unmarked sizes marks cell (misses cell there)

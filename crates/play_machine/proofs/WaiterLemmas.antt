@@ -25,13 +25,13 @@ module _ (sizes : Sizes) (marks : List ℕ) (range part : Corners) (is : part �
   pub seen_more : (place : ℕ) (cell : Position) → IsSeen sizes marks range place
       → slice_get (cells_of part) place ≡ Some cell → mark_of sizes marks cell ≡ 0
       → IsSeen sizes marks range (place + 1)
-  seen_more place cell seen here none k other below at = go (eq-or-lt_of_le up_to)
+  seen_more place cell seen here none k other below there at = go (eq-or-lt_of_le up_to)
     where
       up_to : k ≤ place
       up_to = omega (arith, below)
 
       go : (k ≡ place) ⊎ (k < place) → IsFalse (is_marked sizes marks other)
-      go (inr before) = seen k other before at
+      go (inr before) = seen k other before there at
       go (inl same) = unmarked_from (mark_of sizes marks other) (ap (mark_of sizes marks) same_cell ∙ none)
         where
           same_cell : other ≡ cell
@@ -49,14 +49,14 @@ module _ (sizes : Sizes) (marks : List ℕ) (range part : Corners) (is : part �
       → ListsCells (cells_of part) part → length (cells_of part) ≤ place → HasNoMark sizes marks range
   all_seen place seen holds lists past =
       part_unmarked sizes marks range part place holds lists past
-      (λ k cell below at. seen k cell below (sym (ap (λ (p : Corners). slice_get (cells_of p) k) is) ∙ at))
+      (λ k cell below there at. seen k cell below there (sym (ap (λ (p : Corners). slice_get (cells_of p) k) is) ∙ at))
 
 some_same : {A : Type 0} {a b : A} → Some a ≡ Some b → a ≡ b
 some_same h = cc
 
 -- at first nothing is seen
 pub nothing_seen : (sizes : Sizes) (marks : List ℕ) (range : Corners) → IsSeen sizes marks range 0
-nothing_seen sizes marks range k cell below at = absurd (omega (arith, below))
+nothing_seen sizes marks range k cell below there at = absurd (omega (arith, below))
 
 module _ (sheet : SheetValue) (marks : List ℕ) (waiter : Waiter) (is : IsWaiter sheet marks waiter) where
   -- a range more is looked at

@@ -1,5 +1,6 @@
 -- What the code does to marks.
-use Rattle.std.specs.Prelude.{◌≡◌, ℕ, nat_lt, count_by, IsTrue, IsFalse, List, length, Contains}
+use Rattle.std.specs.Prelude.{◌≡◌, ◌++◌, ℕ, nat_lt, count_by, IsTrue, IsFalse, List, length, Contains, Option, Some, Vec, IfSome}
+use Rattle.std.specs.declared.alloc.Global.{Global}
 use Rattle.sheet_refs.specs.Cells.{Position, Corners, IsIn}
 use Rattle.sheet_refs.specs.Sizes.{is_inside}
 use Rattle.sheet_refs.specs.declared.sizes.Sizes.{Sizes}
@@ -10,6 +11,14 @@ pub record SetsMarks (sizes : Sizes) (cells : List Position) (number : ℕ) (old
   pub count : length new ≡ length old
   pub listed : (cell : Position) → IsTrue (is_inside sizes cell) → Contains cells cell → mark_of sizes new cell ≡ number
   pub others : (cell : Position) → ¬ Contains cells cell → mark_of sizes new cell ≡ mark_of sizes old cell
+
+-- no cell of the rectangle is marked, but for some of a list
+abbrev pub OnlyThese : Sizes → List ℕ → List Position → Type 0
+OnlyThese sizes marks cells = (cell : Position) → IsTrue (is_inside sizes cell) → ¬ Contains cells cell → mark_of sizes marks cell ≡ 0
+
+-- where there is a list, it is an old one with cells added
+abbrev pub AddsCells : Option (Vec Position Global) → List Position → Option (Vec Position Global) → Type 0
+AddsCells old cells new = IfSome new (λ list. (before : Vec Position Global) × (old ≡ Some before) × (list.items ≡ before.items ++ cells))
 
 -- how many cells are marked
 abbrev pub marked_count : List ℕ → ℕ

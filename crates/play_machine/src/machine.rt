@@ -1,7 +1,9 @@
-ghost use Rattle.std.specs.Prelude.{◌≡◌, ◌+◌, ◌<◌, ◌≤◌, [], length, IfOk, IfSome, IsTrue, OnOk};
+ghost use Rattle.std.specs.Prelude.{◌≡◌, ◌+◌, ◌<◌, ◌≤◌, [], length, All, IfOk, IfSome, IsTrue};
+ghost use Rattle.std.specs.Prelude.{OnOk};
 ghost use Rattle.sheet_refs.specs.Sizes.{is_inside};
 ghost use Rattle.sheet_model.specs.Edits.{IsFor};
-ghost use Rattle.sheet_model.specs.Values.{AreValues, value_of};
+ghost use Rattle.sheet_model.specs.KeptValues.{ForgetsValues, KeepsValuesOf};
+ghost use Rattle.sheet_model.specs.Values.{value_of};
 ghost use Rattle.edit_log.specs.Books.{IsPreparedFor, IsUnchanged, client_entry};
 ghost use Rattle.play_machine.specs.Machine.{MarksTouched, machine_after, opening, report_of, shown_of};
 ghost use Rattle.play_machine.specs.Playing.{IsWindow, machine_of};
@@ -11,18 +13,18 @@ use crate::marked_cells::MarkedCells;
 use crate::marks::mark_at;
 use edit_log::{Book, PrepareRefused, Prepared};
 use graph_walk::Graph;
-use sheet_model::{Board, Edit, Report, Sheet, Shown, all_values};
+use sheet_model::{Board, Edit, KeptValues, Report, Sheet, Shown};
 use sheet_refs::{Cell, Memory, Range};
 use std::alloc::Global;
-use value_core::{Value, decode};
+use std::snapshot::Snapshot;
+use value_core::Value;
 
-/// The play machine of a book: the marks of its cells, and the values of the cells where they were computed since the
-/// last edit.
+/// The play machine of a book: the marks of its cells, and the values of the cells, where one was shown.
 #[derive(Drop)]
 pub(crate) struct Player<G: Graph> {
     pub(crate) book: Book<G>,
     pub(crate) cells: MarkedCells,
-    pub(crate) values: Option<Vec<u64>>,
+    pub(crate) values: Option<KeptValues>,
     pub(crate) alloc: Global,
 }
 
@@ -43,13 +45,36 @@ fn prepare_edit<G: Graph>(book: &mut Book<G>, client: u32, edit: &Edit) -> Resul
     }
 }
 
-// The value of a cell, from the codes of all values.
-fn value_in(sheet: &Sheet, values: &[u64], cell: Cell) -> Value
-    requires values { AreValues sheet.now values.now }
-    requires inside { IsTrue (is_inside sheet.now.sizes cell) }
-    ensures { result ≡ value_of sheet.now cell }
+// Forgets the values of cells, where values are kept.
+fn forget(values: &mut Option<KeptValues>, sheet: &Sheet, cells: &[Cell])
+    requires kept { IfSome values.old (KeepsValuesOf sheet.now) }
+    requires inside { All (λ cell. IsTrue (is_inside sheet.now.sizes cell)) cells.now }
+    ensures { IfSome values.new (ForgetsValues sheet.now cells.now) }
 {
-    decode(values[sheet.place(cell)]).unwrap()
+    if let Some(values) = values {
+        values.forget(sheet, cells);
+    }
+}
+
+// The value of a cell, by the values that are kept, or else by new ones.
+fn value_at(
+    alloc: Global,
+    sheet: &Sheet,
+    kept: &mut Option<KeptValues>,
+    cell: Cell,
+) -> Result<Value, Memory>
+    requires kept { IfSome kept.old (KeepsValuesOf sheet.now) }
+    requires inside { IsTrue (is_inside sheet.now.sizes cell) }
+    ensures value { IfOk result (λ value. value ≡ value_of sheet.now cell) }
+    ensures kept { OnOk result (IfSome kept.new (KeepsValuesOf sheet.now)) }
+{
+    if let Some(values) = kept {
+        return values.value(sheet, cell);
+    }
+    let mut values = KeptValues::new(alloc, sheet)?;
+    let value = values.value(sheet, cell)?;
+    *kept = Some(values);
+    Ok(value)
 }
 
 impl<G: Graph> Player<G> {
@@ -62,7 +87,7 @@ impl<G: Graph> Player<G> {
             (λ player. machine_of player.book player.cells.marks.items ≡ opening book.sheet) }
         ensures kept { IfOk result (λ player. AreKept player.book.sheet player.cells) }
         ensures values { IfOk result
-            (λ player. IfSome player.values (λ v. AreValues player.book.sheet v.items)) }
+            (λ player. IfSome player.values (KeepsValuesOf player.book.sheet)) }
     {
         let cells = MarkedCells::new(alloc, book.sheet())?;
         Ok(Player {
@@ -78,46 +103,39 @@ impl<G: Graph> Player<G> {
         requires fits { IsFor self.old.book.sheet edit.now }
         requires few { length self.old.book.log < 1048576 }
         requires kept { AreKept self.old.book.sheet self.old.cells }
+        requires values { IfSome self.old.values (KeepsValuesOf self.old.book.sheet) }
         ensures marks { OnOk result (MarksTouched self.old.book.sheet client edit.now
             (length self.old.book.log + 1) self.old.cells.marks.items self.new.cells.marks.items) }
         ensures machine { OnOk result (machine_of self.new.book self.new.cells.marks.items
             ≡ machine_after (machine_of self.old.book self.old.cells.marks.items)
             edit.now self.new.cells.marks.items) }
         ensures kept { OnOk result (AreKept self.new.book.sheet self.new.cells) }
-        ensures values { OnOk result
-            (IfSome self.new.values (λ v. AreValues self.new.book.sheet v.items)) }
+        ensures values { OnOk result (IfSome self.new.values (KeepsValuesOf self.new.book.sheet)) }
     {
-        let sizes = self.book.sheet().sizes();
         let ready = prepare_edit(&mut self.book, client, edit)?;
+        let before = Snapshot::of(self.book.sheet());
+        forget(&mut self.values, self.book.sheet(), ready.touched());
         let applied = self.book.apply(ready);
-        self.cells.mark(sizes, &applied.touched, applied.number);
-        self.values = None;
-        Ok(())
+        self.cells.mark(before, self.book.sheet(), &applied.touched, applied.number)
     }
 
-    // What is shown of a cell. The values are computed where the first cell since the last edit wants one.
+    // What is shown of a cell.
     fn shown(&mut self, cell: Cell) -> Result<Shown, Memory>
         requires inside { IsTrue (is_inside self.old.book.sheet.sizes cell) }
         requires kept { AreKept self.old.book.sheet self.old.cells }
-        requires values { IfSome self.old.values (λ v. AreValues self.old.book.sheet v.items) }
+        requires values { IfSome self.old.values (KeepsValuesOf self.old.book.sheet) }
         ensures shown { IfOk result
             (λ shown. shown ≡ shown_of (machine_of self.old.book self.old.cells.marks.items) cell) }
         ensures same_book { self.new.book ≡ self.old.book }
         ensures same_cells { self.new.cells ≡ self.old.cells }
-        ensures values { OnOk result
-            (IfSome self.new.values (λ v. AreValues self.new.book.sheet v.items)) }
+        ensures values { OnOk result (IfSome self.new.values (KeepsValuesOf self.new.book.sheet)) }
     {
         let sheet = self.book.sheet();
         let mark = mark_at(sheet.sizes(), &self.cells.marks, cell);
         if mark != 0 {
             return Ok(Shown::Stale(mark));
         }
-        if let Some(values) = &self.values {
-            return Ok(Shown::Value(value_in(sheet, values, cell)));
-        }
-        let values = all_values(self.alloc, sheet)?;
-        let value = value_in(sheet, &values, cell);
-        self.values = Some(values);
+        let value = value_at(self.alloc, sheet, &mut self.values, cell)?;
         Ok(Shown::Value(value))
     }
 
@@ -125,13 +143,12 @@ impl<G: Graph> Player<G> {
     pub(crate) fn look(&mut self, firm: bool, window: Range) -> Result<Report, Memory>
         requires window { IsWindow self.old.book.sheet window }
         requires kept { AreKept self.old.book.sheet self.old.cells }
-        requires values { IfSome self.old.values (λ v. AreValues self.old.book.sheet v.items) }
+        requires values { IfSome self.old.values (KeepsValuesOf self.old.book.sheet) }
         ensures report { IfOk result (λ report. report
             ≡ report_of (machine_of self.old.book self.old.cells.marks.items) firm window) }
         ensures same_book { self.new.book ≡ self.old.book }
         ensures same_cells { self.new.cells ≡ self.old.cells }
-        ensures values { OnOk result
-            (IfSome self.new.values (λ v. AreValues self.new.book.sheet v.items)) }
+        ensures values { OnOk result (IfSome self.new.values (KeepsValuesOf self.new.book.sheet)) }
     {
         let cells = window.cells() as u32;
         let mut board = Board::new(self.alloc, cells)?;

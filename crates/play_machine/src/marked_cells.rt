@@ -1,24 +1,49 @@
 ghost use Rattle.std.specs.Prelude.{◌≡◌, ◌≤◌, None, length, replicate, IfOk, IfSome, OnOk};
 ghost use Rattle.sheet_refs.specs.Sizes.{cell_count};
 ghost use Rattle.play_machine.specs.Machine.{AreTurns};
-ghost use Rattle.play_machine.specs.Marking.{SetsMarks, marked_count};
-ghost use Rattle.play_machine.specs.Waiting.{AreKept, IsQueue};
+ghost use Rattle.play_machine.specs.Marking.{AddsCells, OnlyThese, SetsMarks, marked_count};
+ghost use Rattle.play_machine.specs.Waiting.{AreKept, IsQueue, TouchesAtMost};
 ghost use Rattle.play_machine.specs.Waiting.Unplaced.{nothing};
 
-use crate::marks::{mark_all, no_marks};
+use crate::marks::{clear_all, mark_all, no_marks};
 use crate::queue::Queue;
 use sheet_model::Sheet;
 use sheet_refs::{Cell, Memory, Sizes};
 use std::alloc::Global;
+use std::snapshot::Snapshot;
 
-/// The marks of a sheet's cells, row by row, 0 for none; how many are other than 0; and what turns go by, where some
-/// were made since the last edit.
+/// To walk over a list of touched cells takes more time a cell than to walk over all marks, so no list is kept that has
+/// more than one cell of so many.
+const SHARE: usize = 16;
+
+/// The marks of a sheet's cells, row by row, 0 for none; how many are other than 0; the cells that were touched since
+/// all marks were taken away, where these are few; and what turns go by, where some were made since then.
 #[derive(Drop)]
 pub(crate) struct MarkedCells {
     pub(crate) marks: Vec<u64>,
     pub(crate) left: usize,
+    pub(crate) touched: Option<Vec<Cell>>,
     pub(crate) queue: Option<Queue>,
     pub(crate) alloc: Global,
+}
+
+// Adds cells to a list of touched ones, or lets it go where it or what is added is long beside a number of cells.
+fn with_more(
+    touched: Option<Vec<Cell>>,
+    cells: &[Cell],
+    all: usize,
+) -> Result<Option<Vec<Cell>>, Memory>
+    ensures { IfOk result (AddsCells touched cells.now) }
+{
+    let few = all / SHARE;
+    let Some(mut list) = touched else {
+        return Ok(None);
+    };
+    if list.len() > few || cells.len() > few {
+        return Ok(None);
+    }
+    list.extend_from_slice(cells)?;
+    Ok(Some(list))
 }
 
 // The queue that was kept, or else a new one.
@@ -50,41 +75,88 @@ impl MarkedCells {
         Ok(MarkedCells {
             marks,
             left: 0,
+            touched: Some(Vec::new(alloc)),
             queue: None,
             alloc,
         })
     }
 
-    /// Marks cells with a number, in a sheet that is edited.
-    pub(crate) fn mark(&mut self, sizes: Sizes, cells: &[Cell], number: u64)
+    // Gives cells a number as their mark, and lists them as touched.
+    fn set(&mut self, sizes: Sizes, cells: &[Cell], number: u64) -> Result<(), Memory>
         requires count { length self.old.marks.items ≡ cell_count sizes }
         requires left { self.old.left ≡ marked_count self.old.marks.items }
+        requires touched { IfSome self.old.touched
+            (λ list. OnlyThese sizes self.old.marks.items list.items) }
         requires number { 1 ≤ number }
-        ensures marks { SetsMarks sizes cells.now number self.old.marks.items self.new.marks.items }
-        ensures left { self.new.left ≡ marked_count self.new.marks.items }
-        ensures queue { self.new.queue ≡ None }
+        ensures marks { OnOk result
+            (SetsMarks sizes cells.now number self.old.marks.items self.new.marks.items) }
+        ensures left { OnOk result (self.new.left ≡ marked_count self.new.marks.items) }
+        ensures touched { OnOk result (IfSome self.new.touched
+            (λ list. OnlyThese sizes self.new.marks.items list.items)) }
+        ensures queue { self.new.queue ≡ self.old.queue }
     {
+        let touched = self.touched.take();
+        self.touched = with_more(touched, cells, self.marks.len())?;
         self.left += mark_all(sizes, cells, number, &mut self.marks);
-        self.queue = None;
+        Ok(())
     }
 
-    /// Takes all marks away. It looks at each cell, or at none where no mark is left.
-    pub(crate) fn clear(&mut self)
+    /// Marks the cells that an edit touches with its number, in the sheet after it; clauses alone read the one before.
+    /// What turns go by is kept, unless edits have touched more cells since it was made than the sheet has.
+    pub(crate) fn mark(
+        &mut self,
+        before: Snapshot<Sheet>,
+        sheet: &Sheet,
+        cells: &[Cell],
+        number: u64,
+    ) -> Result<(), Memory>
+        requires kept { AreKept before.value self.old }
+        requires edit { TouchesAtMost before.value sheet.now cells.now }
+        requires number { 1 ≤ number }
+        ensures marks { OnOk result
+            (SetsMarks sheet.now.sizes cells.now number self.old.marks.items self.new.marks.items) }
+        ensures kept { OnOk result (AreKept sheet.now self.new) }
+    {
+        let sizes = sheet.sizes();
+        let kept = self.queue.take();
+        self.set(sizes, cells, number)?;
+        let Some(mut queue) = kept else {
+            return Ok(());
+        };
+        if !queue.outlasts(cells.len(), number, self.marks.len()) {
+            return Ok(());
+        }
+        queue.set_aside(sizes, cells, number);
+        queue.place(self.alloc, sheet, &self.marks, cells)?;
+        self.queue = Some(queue);
+        Ok(())
+    }
+
+    /// Takes all marks away: those of the touched cells where these are few, else all in one pass, and at once where no
+    /// mark is left.
+    pub(crate) fn clear(&mut self, sizes: Sizes)
+        requires count { length self.old.marks.items ≡ cell_count sizes }
         requires left { self.old.left ≡ marked_count self.old.marks.items }
+        requires touched { IfSome self.old.touched
+            (λ list. OnlyThese sizes self.old.marks.items list.items) }
         ensures marks { self.new.marks.items ≡ replicate (length self.old.marks.items) 0 }
         ensures left { self.new.left ≡ marked_count self.new.marks.items }
+        ensures touched { IfSome self.new.touched
+            (λ list. OnlyThese sizes self.new.marks.items list.items) }
         ensures queue { self.new.queue ≡ None }
     {
         self.queue = None;
+        let touched = self.touched.take();
+        self.touched = Some(Vec::new(self.alloc));
         if self.left == 0 {
             return;
         }
-        self.marks.fill(0);
+        clear_all(sizes, touched, &mut self.marks);
         self.left = 0;
     }
 
     /// Makes so many turns. As many as there are marks take all of them away in one pass. Before the first of fewer
-    /// turns since an edit it looks once at each cell.
+    /// turns since all marks were taken away it looks once at each cell.
     pub(crate) fn work(&mut self, sheet: &Sheet, turns: u32) -> Result<(), Memory>
         requires kept { AreKept sheet.now self.old }
         ensures turns { OnOk result
@@ -92,7 +164,7 @@ impl MarkedCells {
         ensures kept { OnOk result (AreKept sheet.now self.new) }
     {
         if turns as usize >= self.left {
-            self.clear();
+            self.clear(sheet.sizes());
             return Ok(());
         }
         let kept = self.queue.take();

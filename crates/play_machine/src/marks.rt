@@ -1,7 +1,7 @@
-ghost use Rattle.std.specs.Prelude.{◌≡◌, ◌∷◌, [], ◌+◌, ◌≤◌, length, replicate, IfOk};
+ghost use Rattle.std.specs.Prelude.{◌≡◌, ◌∷◌, [], ◌+◌, ◌≤◌, length, replicate, IfOk, IfSome};
 ghost use Rattle.sheet_refs.specs.Sizes.{cell_count};
 ghost use Rattle.play_machine.specs.Machine.{mark_of};
-ghost use Rattle.play_machine.specs.Marking.{SetsMarks, marked_count};
+ghost use Rattle.play_machine.specs.Marking.{OnlyThese, SetsMarks, marked_count};
 
 use sheet_refs::{Cell, Memory, Sizes};
 use std::alloc::Global;
@@ -58,4 +58,39 @@ pub(crate) fn mark_all(sizes: Sizes, cells: &[Cell], number: u64, marks: &mut Ve
         added += mark_cell(sizes, *cell, number, marks);
     }
     added
+}
+
+// Takes the mark of a cell away, where it is in the rectangle.
+fn unmark_cell(sizes: Sizes, cell: Cell, marks: &mut Vec<u64>)
+    requires { length marks.old.items ≡ cell_count sizes }
+    ensures { SetsMarks sizes (cell ∷ []) 0 marks.old.items marks.new.items }
+{
+    if !sizes.holds(cell) {
+        return;
+    }
+    marks[sizes.place(cell)] = 0;
+}
+
+// Takes the marks of cells away.
+fn unmark_all(sizes: Sizes, cells: &[Cell], marks: &mut Vec<u64>)
+    requires { length marks.old.items ≡ cell_count sizes }
+    ensures { SetsMarks sizes cells.now 0 marks.old.items marks.new.items }
+{
+    for cell in cells {
+        unmark_cell(sizes, *cell, marks);
+    }
+}
+
+/// Takes all marks away: those of a list of cells, where there is one and no other cell is marked, or else all in one
+/// pass.
+pub(crate) fn clear_all(sizes: Sizes, only: Option<Vec<Cell>>, marks: &mut Vec<u64>)
+    requires count { length marks.old.items ≡ cell_count sizes }
+    requires only { IfSome only (λ list. OnlyThese sizes marks.old.items list.items) }
+    ensures { marks.new.items ≡ replicate (length marks.old.items) 0 }
+{
+    let Some(cells) = only else {
+        marks.fill(0);
+        return;
+    };
+    unmark_all(sizes, &cells, marks);
 }

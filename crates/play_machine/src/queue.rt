@@ -1,26 +1,31 @@
-ghost use Rattle.std.specs.Prelude.{◌≡◌, length, false, IfOk, OnOk, MatchOption, IsTrue};
+ghost use Rattle.std.specs.Prelude.{◌≡◌, ◌<◌, ◌≤◌, length, false, All, IfOk, OnOk, MatchOption, IsTrue};
 ghost use Rattle.std.specs.BTreeSet.{IsEmpty, contains};
 ghost use Rattle.std.specs.Ordering.{nat_cmp};
 ghost use Rattle.sheet_refs.specs.Sizes.{cell_count, is_inside, place_of};
-ghost use Rattle.play_machine.specs.Machine.{IsFirstCell, IsMarked, IsNowhere, IsTurn, without_mark};
-ghost use Rattle.play_machine.specs.Waiting.{AddsWaiter, AreWaiters, IsQueue, IsWaiter};
-ghost use Rattle.play_machine.specs.Waiting.{NoneMarked, Places, TakesWaiters};
-ghost use Rattle.play_machine.specs.Waiting.Unplaced.{nothing, one, waiting};
+ghost use Rattle.play_machine.specs.Machine.{IsFirstCell, IsMarked, IsNowhere, IsTurn, mark_of, without_mark};
+ghost use Rattle.play_machine.specs.Waiting.{AddsWaiter, AreWaiters, IsQueue, IsWaiter, MayWait};
+ghost use Rattle.play_machine.specs.Waiting.{NoneMarked, Places, PlacesWaiter, SetsAside, TakesWaiters};
+ghost use Rattle.play_machine.specs.Waiting.Unplaced.{listed, nothing, one, waiting};
 
 use crate::marks::mark_at;
 use crate::waiter::Waiter;
 use sheet_model::Sheet;
-use sheet_refs::{Cell, Memory};
+use sheet_refs::{Cell, Memory, Sizes};
 use std::alloc::Global;
 use std::collections::{BTreeMap, BTreeSet};
 
 /// What turns of work go by: the places of the ready cells, and for each other marked cell one marked cell in its
 /// references, on which it waits. No cell at a place below `first` is marked.
+///
+/// A cell that an edit touches is placed anew, and stays where it waited before; there it is passed over, since its
+/// mark is another one. No cell waits with a mark above `last`, and `touched` counts the cells that edits have touched.
 #[derive(Drop)]
 pub(crate) struct Queue {
     pub(crate) ready: BTreeSet<usize>,
     pub(crate) waits: BTreeMap<usize, Vec<Waiter>>,
     pub(crate) first: usize,
+    pub(crate) last: u64,
+    pub(crate) touched: usize,
 }
 
 // Takes out those that wait on the cell at a place; where none does, a list with room for so many.
@@ -83,6 +88,8 @@ impl Queue {
             ready: BTreeSet::new(alloc),
             waits: BTreeMap::new(alloc),
             first: 0,
+            last: 0,
+            touched: 0,
         };
         for place in 0..marks.len() {
             queue.add(alloc, sheet, marks, sizes.cell_at(place))?;
@@ -96,10 +103,12 @@ impl Queue {
         requires inside { IsTrue (is_inside sheet.now.sizes cell) }
         ensures { OnOk result (Places sheet.now marks.now cell self.old self.new) }
     {
-        if mark_at(sheet.sizes(), marks, cell) == 0 {
+        let mark = mark_at(sheet.sizes(), marks, cell);
+        if mark == 0 {
             return Ok(());
         }
-        let waiter = Waiter::new(alloc, sheet, marks, cell)?;
+        let waiter = Waiter::new(alloc, sheet, marks, cell, mark)?;
+        self.last = self.last.max(mark);
         self.keep(alloc, sheet, marks, waiter)
     }
 
@@ -114,7 +123,10 @@ impl Queue {
         requires count { length marks.now ≡ cell_count sheet.now.sizes }
         requires waiter { IsWaiter sheet.now marks.now waiter }
         requires marked { IsMarked sheet.now.sizes marks.now waiter.cell }
-        ensures { OnOk result (Places sheet.now marks.now waiter.cell self.old self.new) }
+        requires mark { mark_of sheet.now.sizes marks.now waiter.cell ≡ waiter.mark }
+        requires known { waiter.mark ≤ self.old.last }
+        ensures places { OnOk result (Places sheet.now marks.now waiter.cell self.old self.new) }
+        ensures last { OnOk result (self.new.last ≡ self.old.last) }
     {
         let mut waiter = waiter;
         match waiter.look_on(sheet, marks) {
@@ -136,7 +148,7 @@ impl Queue {
     ) -> Result<(), Memory>
         requires count { length marks.now ≡ cell_count sheet.now.sizes }
         requires queue { IsQueue sheet.now marks.now (waiting woken.items) self.old }
-        requires waiters { AreWaiters sheet.now marks.now woken.items }
+        requires waiters { AreWaiters sheet.now marks.now self.old.last woken.items }
         ensures { OnOk result (IsQueue sheet.now marks.now nothing self.new) }
     {
         let mut woken = woken;
@@ -146,7 +158,7 @@ impl Queue {
         Ok(())
     }
 
-    // Lets a cell look on, if it is still marked.
+    // Lets a cell look on, if it still has the mark with which it waited.
     fn wake_one(
         &mut self,
         alloc: Global,
@@ -155,13 +167,55 @@ impl Queue {
         waiter: Waiter,
     ) -> Result<(), Memory>
         requires count { length marks.now ≡ cell_count sheet.now.sizes }
-        requires waiter { IsWaiter sheet.now marks.now waiter }
-        ensures { OnOk result (Places sheet.now marks.now waiter.cell self.old self.new) }
+        requires waiter { MayWait sheet.now marks.now self.old.last waiter }
+        ensures places { OnOk result (PlacesWaiter sheet.now marks.now waiter self.old self.new) }
+        ensures last { OnOk result (self.new.last ≡ self.old.last) }
     {
-        if mark_at(sheet.sizes(), marks, waiter.cell) == 0 {
+        if mark_at(sheet.sizes(), marks, waiter.cell) != waiter.mark {
             return Ok(());
         }
         self.keep(alloc, sheet, marks, waiter)
+    }
+
+    /// Whether the queue is to be kept through an edit that touches so many cells and has a number. Edits may leave as
+    /// many waiting cells behind as the sheet has cells.
+    pub(crate) fn outlasts(&self, touched: usize, number: u64, cells: usize) -> bool
+        ensures { IsTrue result → self.now.last < number }
+    {
+        self.last < number && self.touched.saturating_add(touched) <= cells
+    }
+
+    /// Takes cells that an edit touches from the ready ones.
+    pub(crate) fn set_aside(&mut self, sizes: Sizes, cells: &[Cell], number: u64)
+        requires inside { All (λ cell. IsTrue (is_inside sizes cell)) cells.now }
+        ensures { SetsAside sizes cells.now number self.old self.new }
+    {
+        self.last = number;
+        self.touched = self.touched.saturating_add(cells.len());
+        for cell in cells {
+            let place = sizes.place(*cell);
+            self.ready.remove(&place);
+            self.first = self.first.min(place);
+        }
+    }
+
+    /// Puts listed cells where they belong.
+    pub(crate) fn place(
+        &mut self,
+        alloc: Global,
+        sheet: &Sheet,
+        marks: &[u64],
+        cells: &[Cell],
+    ) -> Result<(), Memory>
+        requires count { length marks.now ≡ cell_count sheet.now.sizes }
+        requires inside { All (λ cell. IsTrue (is_inside sheet.now.sizes cell)) cells.now }
+        requires queue { IsQueue sheet.now marks.now (listed cells.now 0) self.old }
+        ensures { OnOk result (IsQueue sheet.now marks.now nothing self.new) }
+    {
+        for cell in cells {
+            self.add(alloc, sheet, marks, *cell)?;
+        }
+        Ok(())
     }
 
     // Takes the mark of a cell away, which alone is not placed.

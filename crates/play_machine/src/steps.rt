@@ -1,5 +1,5 @@
 ghost use Rattle.std.specs.Prelude.{◌≡◌, ◌<◌, [], length, All, IfOk, IfSome, IsTrue, OnOk};
-ghost use Rattle.sheet_model.specs.Values.{AreValues};
+ghost use Rattle.sheet_model.specs.KeptValues.{KeepsValuesOf};
 ghost use Rattle.sheet_model.specs.Boards.{IsFull};
 ghost use Rattle.play_machine.specs.Machine.{ArePlayed};
 ghost use Rattle.play_machine.specs.Playing.{AreFit, IsCommandOfSheet, TellsReports, is_put, machine_of};
@@ -19,13 +19,12 @@ impl<G: Graph> Player<G> {
         requires fit { IsCommandOfSheet self.old.book.sheet step.now.command }
         requires few { IsTrue (is_put step.now.command) → length self.old.book.log < 1048576 }
         requires kept { AreKept self.old.book.sheet self.old.cells }
-        requires values { IfSome self.old.values (λ v. AreValues self.old.book.sheet v.items) }
+        requires values { IfSome self.old.values (KeepsValuesOf self.old.book.sheet) }
         ensures follows { OnOk result (TellsReports (machine_of self.old.book self.old.cells.marks.items)
             (machine_of self.new.book self.new.cells.marks.items) step.now
             reports.old.items reports.new.items) }
         ensures kept { OnOk result (AreKept self.new.book.sheet self.new.cells) }
-        ensures values { OnOk result
-            (IfSome self.new.values (λ v. AreValues self.new.book.sheet v.items)) }
+        ensures values { OnOk result (IfSome self.new.values (KeepsValuesOf self.new.book.sheet)) }
     {
         match &step.command {
             Command::Put(edit) => {
@@ -38,7 +37,7 @@ impl<G: Graph> Player<G> {
                 Ok(())
             }
             Command::Firm(window) => {
-                self.cells.clear();
+                self.cells.clear(self.book.sheet().sizes());
                 let report = self.look(true, *window)?;
                 reports.push(report)?;
                 Ok(())
@@ -53,11 +52,16 @@ impl<G: Graph> Player<G> {
 
 /// Plays steps over a book without entries: the reports of their looks, in order.
 ///
-/// An edit takes the time of the walk of the graph over the dependents of its cells. Values are computed once at most
-/// between two edits, and only where a look shows one. A firm look, and work of as many turns as there are marks,
-/// take all marks away in one pass, or at once where there is none. The first shorter work since an edit looks at each
-/// cell of the sheet; its turns, and all up to the next edit, look at the cells in the references of marked ones twice
-/// at most. For these a list of the ranges of each waiting formula is kept.
+/// An edit takes the time of the walk of the graph over the dependents of its cells. A look computes the values that it
+/// shows and those to which they lead, as far as none was computed since the last edit that touched its cell; the first
+/// one that shows a value looks once at each cell of the sheet. A firm look, and work of as many turns as there are
+/// marks, take all marks away: cell by cell where few cells were touched since this was done, and else in one pass over
+/// the sheet.
+///
+/// The first shorter work since then looks at each cell of the sheet, and so does the first one since edits have
+/// touched more cells than the sheet has. Between these, turns look at the cells in the references of a marked cell
+/// twice at most, and at those of one that an edit touches twice more. For these a list of the ranges of each waiting
+/// formula is kept.
 pub fn play<G: Graph>(
     alloc: Global,
     book: Book<G>,

@@ -9,10 +9,12 @@ use sheet_refs::{Cell, Memory, Range, Refs, Sizes};
 use std::alloc::Global;
 
 /// A cell that waits until no cell in its references is marked, and how far it has looked at these: no cell is marked
-/// in the first `range` ranges, nor among the first `place` cells of the next range's part in the rectangle.
+/// in the first `range` ranges, nor among the first `place` cells of the next range's part in the rectangle. It waits
+/// as long as it has the mark with which it began.
 #[derive(Drop)]
 pub(crate) struct Waiter {
     pub(crate) cell: Cell,
+    pub(crate) mark: u64,
     pub(crate) refs: Refs,
     pub(crate) range: usize,
     pub(crate) place: u64,
@@ -38,20 +40,23 @@ fn next_marked(sizes: Sizes, marks: &[u64], range: Range, from: u64) -> Option<(
 }
 
 impl Waiter {
-    /// A cell that hasn't looked yet.
+    /// A cell with a mark that hasn't looked yet.
     pub(crate) fn new(
         alloc: Global,
         sheet: &Sheet,
         marks: &[u64],
         cell: Cell,
+        mark: u64,
     ) -> Result<Waiter, Memory>
         requires inside { IsTrue (is_inside sheet.now.sizes cell) }
         ensures cell { IfOk result (λ waiter. waiter.cell ≡ cell) }
+        ensures mark { IfOk result (λ waiter. waiter.mark ≡ mark) }
         ensures waiter { IfOk result (IsWaiter sheet.now marks.now) }
     {
         let refs = sheet.content(cell).refs(alloc)?;
         Ok(Waiter {
             cell,
+            mark,
             refs,
             range: 0,
             place: 0,
@@ -64,6 +69,7 @@ impl Waiter {
         requires count { length marks.now ≡ cell_count sheet.now.sizes }
         requires waiter { IsWaiter sheet.now marks.now self.old }
         ensures cell { self.new.cell ≡ self.old.cell }
+        ensures mark { self.new.mark ≡ self.old.mark }
         ensures waiter { IsWaiter sheet.now marks.now self.new }
         ensures found { MatchOption result
             (HasNoMarkedInput sheet.now marks.now self.old.cell)

@@ -26,5 +26,5 @@ returns-in_ok-push-in-Firm-clause-follows g c =
 pub returns-in_ok-work-in-Work-clause-follows : goal.returns-in_ok-work-in-Work-clause-follows
 returns-in_ok-work-in-Work-clause-follows g c =
     let turns = subst (λ s. AreTurns s c.in-Work.turns c.args.self.now.cells.marks.items c.work.new.self.marks.items)
-    c.sheet.ensures.sheet c.in_ok-work-in-Work.ensures.turns in
+    c.sheet-in-Work.ensures.sheet c.in_ok-work-in-Work.ensures.turns in
     tells_work _ _ c.args.step.now _ _ c.in-Work.turns c.work.new.self.marks.items c.in-Work.is turns refl refl

@@ -1,9 +1,13 @@
 use Rattle.std.proofs.Common.{◌≡◌, ◌+◌, arith, refl, sym, subst, ◌∙◌}
+use Rattle.std.specs.Prelude.{IfSome}
+use Rattle.std.proofs.lemmas.Option.{IfSome_then}
 use Rattle.play_machine.specs.Machine.{AreTurns}
 use Rattle.play_machine.specs.Machine.AreTurns.{none as no_turns, more as more_turns}
+use Rattle.play_machine.specs.Marking.{OnlyThese}
 use Rattle.play_machine.specs.Waiting.{IsQueue}
 use Rattle.play_machine.specs.Waiting.Unplaced.{nothing}
 use Rattle.play_machine.proofs.CountLemmas.{turns_counted}
+use Rattle.play_machine.proofs.TouchedLemmas.{turns_only}
 use Rattle.play_machine.proofs.TurnLemmas.{turn_length, turns_clear}
 use Rattle.play_machine.proofs.marked_cells.MarkedCells.work.Goals as goal
 
@@ -18,6 +22,7 @@ loop-init c = (
   refl,
   subst (λ ms. IsQueue c.args.sheet.now ms nothing c.in_ok-queue.queue) c.deref.ensures.value c.in_ok-queue.ensures,
   refl,
+  refl,
 )
 
 pub loop-preserved : goal.loop-preserved
@@ -28,6 +33,7 @@ loop-preserved c =
       turn_length c.args.sheet.now c.loop.self.marks.items c.turn.new.marks.items turn ∙ before.1,
       c.in_ok-turn.ensures.queue,
       before.3,
+      before.4,
     )
 
 pub returns-clause-kept : goal.returns-clause-kept
@@ -45,5 +51,8 @@ returns-clause-kept c =
     record {
       count = before.1 ∙ kept.count;
       left = omega (arith, counted, left, same, all);
+      touched = subst (λ touched. IfSome touched (λ list. OnlyThese c.args.sheet.now.sizes c.loop.self.marks.items list.items)) (sym before.4)
+          (IfSome_then c.args.self.now.touched kept.touched
+          (λ list. turns_only c.args.sheet.now list.items c.loop.counter c.args.self.now.marks.items c.loop.self.marks.items kept.count before.0));
       queue = before.2;
     }

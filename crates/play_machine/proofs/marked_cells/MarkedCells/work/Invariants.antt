@@ -9,4 +9,4 @@ invariant-loop l =
     AreTurns l.sheet l.counter l.fn.self.marks.items l.self.marks.items
     × (length l.self.marks.items ≡ length l.fn.self.marks.items)
     × IsQueue l.sheet l.self.marks.items nothing l.queue
-    × (l.self.left ≡ l.fn.self.left)
+    × (l.self.left ≡ l.fn.self.left) × (l.self.touched ≡ l.fn.self.touched)

@@ -12,7 +12,7 @@ clear-requires-clause-queue c =
     let inside = subst (λ (s : Sizes). IsTrue (is_inside s c.cell_at-cell.result)) c.sizes.ensures.sizes c.cell_at-cell.ensures.inside in
     let here = subst (λ (s : Sizes). place_of s c.cell_at-cell.result ≡ c.in-Some.place) c.sizes.ensures.sizes c.cell_at-cell.ensures.place in
     popped c.args.sheet.now c.args.marks.now.items c.args.self.now _ c.in-Some.place c.cell_at-cell.result
-    c.requires.queue c.in-Some.ensures.updates refl refl inside here
+    c.requires.queue c.in-Some.ensures.updates refl refl refl inside here
 
 pub returns-in-Some-clause-turn : goal.returns-in-Some-clause-turn
 returns-in-Some-clause-turn c =

@@ -39,6 +39,7 @@ loop-self-preserved c =
       looked_more c.args.sheet.now c.args.marks.now c.loop-self.self c.loop-self.invariant.0 c.index-ranges-self.result _
           below here none refl refl refl refl,
       c.loop-self.invariant.1,
+      c.loop-self.invariant.2,
     )
 
 pub returns-clause-found : goal.returns-clause-found
