@@ -16,9 +16,9 @@ mod laws;
 mod levels;
 mod opens;
 mod planner;
-mod planning;
+mod scheduling;
 mod waiter;
 
 pub use laws::plan_laws;
 pub use levels::Plan;
-pub use planning::plan;
+pub use scheduling::plan;

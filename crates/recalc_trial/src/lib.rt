@@ -1,5 +1,5 @@
-//! Trials of recalculation across crates: plans over a graph, turns of a desk over a book of edits, and the settling of
-//! levels.
+//! Trials of recalculation across crates: the hands of the queue of jobs, plans over a graph, turns of a desk over a
+//! book of edits, and the settling of levels.
 //!
 //! No crate stands on it. `BookOffice` is the plainest office: it owns a book and the editor's seat, with no lock. What
 //! was done before a turn brings about its answer: which cells are to be computed, which jobs are offered, what another
@@ -8,6 +8,8 @@
 #![tactic(auto)]
 
 mod crossing;
+#[cfg(test)]
+mod hand_tests;
 mod lending;
 mod office;
 mod opening;

@@ -37,7 +37,7 @@ fn stands_alone(sheet: &Sheet, cell: Cell) -> bool
 
 /// A sheet of one column of so many rows, with TRUE in each cell.
 fn column(alloc: Global, rows: u32) -> Result<Sheet, Fail> {
-    if rows == 0 || rows > 1_000 {
+    if rows == 0 || rows > 5_000 {
         return Err(Fail::from("a sheet of no such size"));
     }
     let mut sheet = Sheet::blank(alloc, rows, 1, Edition::One)?;
@@ -220,6 +220,7 @@ fn one_desk_settles_a_level(rt: HostRuntime) -> Result<(), Fail> {
 #[test]
 fn many_desks_settle_a_level(rt: HostRuntime) -> Result<(), Fail> {
     assert_eq!(rt; settled(&rt, rt.alloc(), 3, 4)?, 3);
-    assert_eq!(rt; settled(&rt, rt.alloc(), 999, 4)?, 999);
+    assert_eq!(rt; settled(&rt, rt.alloc(), 2_049, 4)?, 2_049);
+    assert_eq!(rt; settled(&rt, rt.alloc(), 4_999, 4)?, 4_999);
     Ok(())
 }

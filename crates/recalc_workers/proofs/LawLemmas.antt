@@ -42,5 +42,13 @@ pub fits_by_numbers : FitsByNumbers
 fits_by_numbers sizes job = search (rules, arith)
 
 pub is_refused_by_many : IsRefusedByMany
-is_refused_by_many sizes old new job refused =
-    (refused.refused, refused.put, refused.taken, (refused.full.held, refused.full.counted, λ place other at. (refused.full.fit place other at).1))
+is_refused_by_many sizes old new job refused = (
+  refused.refused,
+  refused.put,
+  refused.taken,
+  (
+    refused.full.held,
+    refused.full.counted,
+    λ place other at. (fits_by_numbers sizes other).0 (refused.full.fit place other at),
+  ),
+)

@@ -12,6 +12,7 @@ pub mod SeatLemmas
 mod SettleLawLemmas
 pub mod SettlingLemmas
 pub mod SharingLemmas
+mod SideLemmas
 mod TurnLawLemmas
 mod WorkLemmas
 mod WorthLemmas

@@ -67,6 +67,8 @@ module _ {S E : Type 0} {G : Ghosts S E} (marks : Marks S E) (seat : Seat S E G)
     still _ _ kept.keeps.known,
     still _ _ kept.keeps.reads,
     still _ _ kept.keeps.sees,
+    still _ _ kept.keeps.steps,
+    kept.keeps.subject,
   )
 
   pub desks_stand : DesksStand marks seat

@@ -26,7 +26,7 @@ use Rattle.recalc_workers.specs.declared.turns.Turn.TheVariants.{Done, Idle, Not
 use Rattle.recalc_workers.specs.Again.{HasTakenOne, comes_again}
 use Rattle.recalc_workers.specs.Hands.{put_of, refused_of, taken_of}
 use Rattle.recalc_workers.specs.TurnLaws.{StandsLater, WasReadSo, SawNoMore, EndsWithWork, DoneIsOneFinish}
-use Rattle.recalc_workers.specs.TurnLaws.{OthersFinishNothing, HoldsStay, NothingWasClean, LaterIsPast, StaleHasAnInput}
+use Rattle.recalc_workers.specs.TurnLaws.{OthersFinishNothing, OthersLoseNothing, HoldsStay, NothingWasClean, LaterIsPast, StaleHasAnInput}
 use Rattle.recalc_workers.specs.TurnLaws.{BusyFoundAnother, IdleTakesNone, TakesOneAndOffersNone, TakesOneAndOffersIt}
 use Rattle.recalc_workers.specs.Turns.{WasAdded, HasReadOf, HasMetAt, IsBusy, IsDone}
 
@@ -86,6 +86,15 @@ module _ {S : Type 0} {G : Ghosts S Entry} (opening : SheetValue) (old : Seat S 
   others_finish_nothing new (Stale cell input met) cause other = cause.idle.done
   others_finish_nothing new (Busy cell seen found) cause other = (busy_holds old new (place_of opening.sizes cell) seen found cause).0
   others_finish_nothing new (Memory cell) cause other = cause.done
+
+  pub others_lose_nothing : OthersLoseNothing opening old
+  others_lose_nothing new (Done cell) cause other = cause.lost
+  others_lose_nothing new Idle cause other = cause.lost
+  others_lose_nothing new (Nothing cell) cause other = cause.idle.lost
+  others_lose_nothing new (Later cell mark met) cause other = cause.idle.lost
+  others_lose_nothing new (Stale cell input met) cause other = cause.idle.lost
+  others_lose_nothing new (Busy cell seen found) cause other = absurd (other cell seen found refl)
+  others_lose_nothing new (Memory cell) cause other = cause.lost
 
   pub holds_stay : HoldsStay opening old
   holds_stay new (Done cell) cause = cause.holds

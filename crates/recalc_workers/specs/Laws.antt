@@ -26,15 +26,17 @@ IsRefusedAtRoom = (sizes : Sizes) (old new : Hand) (job : Job) → is_sole old �
 abbrev pub CountsHeld : Type 0
 CountsHeld = (sizes : Sizes) (n : ℕ) (hand : Hand) → is_sole hand ≡ true → HasHeld sizes n hand → length (put_of hand) ≡ length (taken_of hand) + n
 
--- a job is one of the sheet exactly where its cell has a row and a column of the sheet, and it has at most 16 tries
+-- the job's cell has a row and a column of the sheet, and the job has at most 16 tries
+abbrev pub IsWithin : Sizes → Job → Type 0
+IsWithin sizes job = (1 ≤ job.cell.row) × (job.cell.row ≤ sizes.rows) × (1 ≤ job.cell.col) × (job.cell.col ≤ sizes.cols) × (job.tries ≤ 16)
+
+-- a job is one of the sheet exactly where this is so
 abbrev pub FitsByNumbers : Type 0
-FitsByNumbers =
-    (sizes : Sizes) (job : Job)
-    → FitsSheet sizes job ↔ ((1 ≤ job.cell.row) × (job.cell.row ≤ sizes.rows) × (1 ≤ job.cell.col) × (job.cell.col ≤ sizes.cols) × (job.tries ≤ 16))
+FitsByNumbers = (sizes : Sizes) (job : Job) → FitsSheet sizes job ↔ IsWithin sizes job
 
 -- a refused job joins the refused ones and no other list, and there were 65,536 jobs, each of the sheet, that filled the queue
 abbrev pub IsRefusedByMany : Type 0
 IsRefusedByMany =
     (sizes : Sizes) (old new : Hand) (job : Job) → HasRefused sizes old new job
     → (refused_of new ≡ refused_of old ++ job ∷ []) × (put_of new ≡ put_of old) × (taken_of new ≡ taken_of old)
-    × ((held : List Job) × (length held ≡ 65536) × ((place : ℕ) (other : Job) → get_elem? held place ≡ some other → other.tries ≤ 16))
+    × ((held : List Job) × (length held ≡ 65536) × ((place : ℕ) (other : Job) → get_elem? held place ≡ some other → IsWithin sizes other))

@@ -8,6 +8,7 @@ pub mod Rule
 pub mod Seats
 pub mod SettleLaws
 pub mod Settling
+pub mod Sides
 pub mod TurnLaws
 pub mod Turns
 pub mod Work

@@ -8,7 +8,7 @@ use Rattle.mark_core.specs.declared.subjects.Subject.{Ghosts}
 use Rattle.mark_core.specs.Marks.{IsTouched}
 use Rattle.mark_words.specs.declared.marks.Marks.{Marks}
 use Rattle.mark_words.specs.declared.seats.Seat.{Seat}
-use Rattle.mark_words.specs.Tokens.{seat_table, table_of, view_of, log_of, seen_of, edits_of, is_editor}
+use Rattle.mark_words.specs.Tokens.{seat_table, table_of, doing_of, own_steps, view_of, log_of, seen_of, edits_of, is_editor}
 use Rattle.sheet_model.specs.declared.entry.Entry.{Entry}
 use Rattle.sheet_model.specs.Sheets.{SheetValue}
 use Rattle.sheet_model.specs.Values.{IsInput}
@@ -51,7 +51,8 @@ module _ {S E : Type 0} {G : Ghosts S E} (marks : Marks S E) (seat : Seat S E G)
       (old new : Seat S E G) (sizes : Sizes) (cells : List Position) → KeepsEditor old new
       → KnowsCells touches sizes (view_of old) cells → KnowsCells touches sizes (view_of new) cells
 
-  -- it has the same log, the same pending entry, the same places in hand, and all that it knew, had seen and had read
+  -- it has the same table and subject, the same log, the same pending entry, the same places in hand, and all that it knew, had seen, had read and
+  -- had done
   abbrev pub EditorStands : Type 0
   EditorStands =
       (old new : Seat S E G) → KeepsEditor old new
@@ -60,6 +61,7 @@ module _ {S E : Type 0} {G : Ghosts S E} (marks : Marks S E) (seat : Seat S E G)
       × ((view_of new).done ≡ (view_of old).done) × ((view_of new).lost ≡ (view_of old).lost)
       × (seen_of old ≤ seen_of new) × StandsStill (view_of old).known (view_of new).known
       × StandsStill (view_of old).reads (view_of new).reads × StandsStill (view_of old).sees (view_of new).sees
+      × StandsStill (own_steps old) (own_steps new) × ((doing_of new).subject ≡ (doing_of old).subject)
 
   -- what a desk's seat knew, had read and had done stands, it holds no place, and its hand is the same
   pub record DeskStands (old new : Desk S E G) : Type 0 where

@@ -64,11 +64,17 @@ module _ {S : Type 0} {G : Ghosts S Entry} (opening : SheetValue) (old : Seat S 
       × EndsWithWork (own_steps old) (own_steps new) (place_of opening.sizes cell) read.clean read.mark))
       × ((view_of new).lost ≡ (view_of old).lost)
 
-  -- no other answer comes with a finish, and after each the seat holds what it held
+  -- no other answer comes with a finish,
   abbrev pub OthersFinishNothing : Type 0
   OthersFinishNothing = (new : Seat S Entry G) (turn : Turn) → HasCause opening old new turn
       → ((cell : Position) → turn ≢ Done cell) → (view_of new).done ≡ (view_of old).done
 
+  -- none but Busy comes with a refused claim,
+  abbrev pub OthersLoseNothing : Type 0
+  OthersLoseNothing = (new : Seat S Entry G) (turn : Turn) → HasCause opening old new turn
+      → ((cell : Position) (seen found : Clean) → turn ≢ Busy cell seen found) → (view_of new).lost ≡ (view_of old).lost
+
+  -- and after each the seat holds what it held
   abbrev pub HoldsStay : Type 0
   HoldsStay = (new : Seat S Entry G) (turn : Turn) → HasCause opening old new turn → (view_of new).holds ≡ (view_of old).holds
 

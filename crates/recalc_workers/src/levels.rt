@@ -11,14 +11,16 @@ use crate::desk::Desk;
 use crate::gates::Gate;
 use crate::settle_cells::{Level, settle_share};
 use crate::sharing::{gather_all, lend_all};
+use crate::side_by_side::side_by_side;
 use mark_words::{Marks, Seat};
 use sheet_model::SheetSubject;
 use sheet_refs::{Cell, Memory, Sizes};
 use std::sync::Wait;
-use std::thread::{Threads, for_each_mut};
+use std::thread::Threads;
 
-/// The fewest cells of a level for which one more thread is worth its start.
-const CELLS_OF_A_THREAD: usize = 64;
+/// The fewest cells of a level for which one more thread is worth its start: about as many cells are cleared while a
+/// thread is started and waited for.
+const CELLS_OF_A_THREAD: usize = 1_024;
 
 /// How many of the desks work on a level with so many cells: as many as it has parts that are worth a thread, so one
 /// on a level of few cells, and all on a level of many.
@@ -48,11 +50,8 @@ fn settle_shares<R: Threads + Wait + Sync, S: SheetSubject, W: CellWords + Sync,
     ensures shares { AllSettledShares marks.now (S.touches (subject_of marks.now))
         level.entry.sizes level.entry.cells.now size desks.old desks.new }
 {
-    let threads = desks.len();
-    for_each_mut(
+    side_by_side(
         rt,
-        desks,
-        threads,
         &|number: usize, desk: &mut Desk<S>|
             requires { IsSync R.row
                 × IsLevelOf (S.opening (subject_of marks.now)) level.sizes level.cells.now
@@ -62,6 +61,7 @@ fn settle_shares<R: Threads + Wait + Sync, S: SheetSubject, W: CellWords + Sync,
                 level.entry.sizes level.entry.cells.now size number
                 desk.entry.now desk.exit.now }
         { settle_share(rt, marks, words, level, size, number, desk, gate) },
+        desks,
     );
 }
 

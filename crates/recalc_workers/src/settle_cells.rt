@@ -13,7 +13,7 @@ use crate::desk::Desk;
 use crate::evaluating::evaluate;
 use crate::gates::Gate;
 use crate::gathering::place_of_cell;
-use crate::rereading::read_all;
+use crate::read_again::read_all;
 use crate::working::is_of_sheet;
 use mark_words::Marks;
 use sheet_model::{SheetSubject, log_laws};

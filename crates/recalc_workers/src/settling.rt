@@ -25,8 +25,8 @@ fn may_be_shared<T: Sync>()
 /// afterwards. The sheet is that of the editor's log.
 ///
 /// The desks share the level in contiguous parts and work side by side, each in a thread of its own; on a level of
-/// fewer than 128 cells one desk works, and no thread is started. A cell that another seat holds is waited for, and so
-/// is an input or a cell that a later entry marked. `Memory` only where a desk wants room for the words of a cell's
+/// fewer than 2,048 cells one desk works, and no thread is started. A cell that another seat holds is waited for, and
+/// so is an input or a cell that a later entry marked. `Memory` only where a desk wants room for the words of a cell's
 /// inputs; cells may have been computed then. Whatever is answered, the editor's seat keeps its log and loses nothing
 /// that it knew, no place is held by a desk, and the hands are as they were.
 pub fn settle_level<R: Threads + Wait + Sync, S: SheetSubject, G: Gate + Sync>(

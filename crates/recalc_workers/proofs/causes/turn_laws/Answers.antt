@@ -1,5 +1,5 @@
 use Rattle.mark_words.specs.Tokens.{subject_of}
-use Rattle.recalc_workers.proofs.TurnLawLemmas.{done_is_one, others_finish_nothing, holds_stay, nothing_was_clean}
+use Rattle.recalc_workers.proofs.TurnLawLemmas.{done_is_one, others_finish_nothing, others_lose_nothing, holds_stay, nothing_was_clean}
 use Rattle.recalc_workers.proofs.TurnLawLemmas.{later_is_past, stale_has_an_input, busy_found_another, idle_takes_none}
 use Rattle.recalc_workers.proofs.TurnLawLemmas.{takes_one_and_offers_none, takes_one_and_offers_it}
 use Rattle.recalc_workers.proofs.causes.turn_laws.Goals as goal
@@ -9,6 +9,9 @@ returns-clause-done g c = done_is_one (g.S.SheetSubject.opening (subject_of c.ar
 
 pub returns-clause-others : goal.returns-clause-others
 returns-clause-others g c = others_finish_nothing (g.S.SheetSubject.opening (subject_of c.args._marks.now)) c.args._seat.now
+
+pub returns-clause-lost : goal.returns-clause-lost
+returns-clause-lost g c = others_lose_nothing (g.S.SheetSubject.opening (subject_of c.args._marks.now)) c.args._seat.now
 
 pub returns-clause-holds : goal.returns-clause-holds
 returns-clause-holds g c = holds_stay (g.S.SheetSubject.opening (subject_of c.args._marks.now)) c.args._seat.now

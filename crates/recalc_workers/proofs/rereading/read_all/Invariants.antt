@@ -1,6 +1,0 @@
-use Rattle.mark_words.specs.Tokens.{IsSeatOf}
-use Rattle.recalc_workers.specs.Seats.{HasOnlyRead}
-use Rattle.recalc_workers.proofs.rereading.read_all.Given as goal
-
-abbrev pub invariant-loop : goal.invariant-loop
-invariant-loop g l = IsSeatOf l.marks l.seat × HasOnlyRead l.fn.seat l.seat
