@@ -61,12 +61,13 @@ module _ {N : Type 0} {G : Ghosts N} where
     pub steps : own_steps new.seat ≡ own_steps old.seat
     pub kept : KeepsOffice old new
 
-  -- the pass has met the editor's seat, and knows a full log
+  -- the pass has met the editor's seat, and knows a full log; it has lost nothing that it knew, had seen and had read
   pub record KnowsFull (old new : Pass N G) : Type 0 where
     pub goes_on : IsPrefix (pass_log old) (pass_log new)
     pub full : length (pass_log new) ≡ 1048576
     pub kept : KeepsOffice old new
     pub accepted : accepted_of new ≡ accepted_of old
+    pub met : HasLearned old.seat new.seat new.seat
 
   -- Why an edit is refused, and what stands then: a changed cell is outside, and this is the first one; or all are inside and
   -- the log is full; or there was no memory.
@@ -81,6 +82,7 @@ module _ {N : Type 0} {G : Ghosts N} where
     pub log_is : pass_log new ≡ log
     pub kept : KeepsOffice old new
     pub accepted : accepted_of new ≡ accepted_of old
+    pub met : HasLearned old.seat new.seat new.seat
 
   -- an edit that the book refuses is refused in the same way; where its log is full, the pass knows that log
   abbrev pub IsRefusedAs : List Entry → Pass N G → Pass N G → PrepareRefused → EditRefused → Type 0

@@ -13,9 +13,9 @@ use crate::crossing::{entries_cross, subject_crosses};
 use crate::firm_cells::show_window;
 use crate::live::Live;
 use crate::locked::Locked;
+use crate::meeting::{hear, learn};
 use crate::naming::Naming;
 use crate::pass::Pass;
-use crate::telling::{hear, tell};
 use crate::window::{opening_sizes, settle_window};
 use edit_log::{Book, OverSheet};
 use graph_walk::Graph;
@@ -66,7 +66,7 @@ fn firm_for<R: Threads + Wait + Sync, G: Graph, T: Gate + Sync>(
     settle_window(rt, alloc, book, marks, editor, window, desks, gate)?;
     let sizes = opening_sizes(book);
     show_window(marks, editor, sizes, book.length(), window, board);
-    tell(marks, seat, editor);
+    learn(marks, seat, editor);
     Ok(())
 }
 

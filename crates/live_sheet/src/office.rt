@@ -9,8 +9,8 @@ ghost use Rattle.live_sheet.specs.Worked.{AreWordsNamed};
 use crate::crossing::{entries_cross, subject_crosses};
 use crate::live::Live;
 use crate::locked::Locked;
+use crate::meeting::{hear, learn};
 use crate::naming::Naming;
-use crate::telling::{hear, tell};
 use edit_log::{OverSheet, pair_laws};
 use graph_walk::on_cycle;
 use mark_words::{Marks, Seat};
@@ -33,7 +33,7 @@ impl<N: Naming> Locked<N> {
         entries_cross();
         subject_crosses();
         hear(marks, &mut self.editor, seat);
-        tell(marks, seat, &mut self.editor);
+        learn(marks, seat, &mut self.editor);
     }
 
     /// What stands in the cell, after the log, which the seat knows then.

@@ -9,7 +9,7 @@ ghost use Rattle.live_sheet.specs.Ranges.{KnowsAll};
 ghost use Rattle.live_sheet.specs.Stale.{IsFree};
 
 use crate::crossing::{entries_cross, subject_crosses};
-use crate::settling::settle_ranges;
+use crate::settle_ranges::settle_ranges;
 use edit_log::{Book, OverSheet};
 use graph_walk::Graph;
 use mark_words::{Marks, Seat};

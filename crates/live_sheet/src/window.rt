@@ -13,7 +13,7 @@ ghost use Rattle.live_sheet.specs.Ranges.{AreCutTo, PushesPart};
 ghost use Rattle.live_sheet.specs.Stale.{IsFree, KnowsCell};
 
 use crate::crossing::{entries_cross, subject_crosses};
-use crate::settling::settle_ranges;
+use crate::settle_ranges::settle_ranges;
 use edit_log::{Book, OverSheet};
 use graph_walk::{Graph, back_laws, precedents};
 use mark_words::{Marks, Seat};

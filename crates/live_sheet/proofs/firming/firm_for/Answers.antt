@@ -29,7 +29,7 @@ show_window-requires-clause-known g c κs = rw (c.requires.subject, c.opening_si
 pub returns-clause-firm : goal.returns-clause-firm
 returns-clause-firm g c =
     is_firm c.args.book.now.opening (subject_of c.args.marks.now) _ c.args.window _ c.show_window.new.board
-    c.args.seat.now c.hear.new.editor c.settle_window.new.editor c.show_window.new.editor c.tell.new.seat
+    c.args.seat.now c.hear.new.editor c.settle_window.new.editor c.show_window.new.editor c.learn.new.seat
     c.requires.subject (c.length.ensures.length ∙ ap length (sym (c.hear.ensures.editor.log ∙ c.requires.log)))
     c.hear.ensures.seen (c.hear.new.editor.knows_all.seen (c.hear.ensures.editor.editor ∙ c.requires.free.editor))
-    c.settle_window.ensures.editor c.show_window.ensures.editor c.tell.ensures.knows c.in_ok-settle_window.ensures.clean c.show_window.ensures.shows
+    c.settle_window.ensures.editor c.show_window.ensures.editor c.learn.ensures.knows c.in_ok-settle_window.ensures.clean c.show_window.ensures.shows

@@ -3,6 +3,7 @@ use Rattle.std.proofs.Common.{refl, sym, ◌∙◌, subst}
 use Rattle.mark_core.specs.Marks.{IsPrefix}
 use Rattle.mark_words.specs.Tokens.{log_of}
 use Rattle.live_sheet.proofs.AcceptedLemmas.{accepted_still, same_accepted}
+use Rattle.live_sheet.proofs.PassEdits.{learned_itself}
 use Rattle.live_sheet.proofs.locked.Locked.tell.Goals as goal
 
 pub returns-clause-told : goal.returns-clause-told
@@ -15,6 +16,7 @@ returns-clause-told g c =
       log_is = log;
       kept = record { client = refl; numbers = refl; hand = refl };
       accepted = same_accepted pass.client (log_of pass.seat) (log_of c.learn.new.seat) pass.numbers.items goes_on pass.accepted.each;
+      met = learned_itself pass.seat c.args.self.now.editor c.learn.new.seat c.learn.ensures.learned;
     }
 
 pub invariant_of-pass-clause-accepted : goal.invariant_of-pass-clause-accepted

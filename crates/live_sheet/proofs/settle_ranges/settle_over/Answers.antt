@@ -4,7 +4,7 @@ use Rattle.live_sheet.specs.Stale.{KnowsCell}
 use Rattle.live_sheet.proofs.LevelLemmas.{desks_themselves, on_ok_both}
 use Rattle.live_sheet.proofs.PlanLemmas.{all_known, circular_inside, circular_leads, inputs_first, plan_inside}
 use Rattle.live_sheet.proofs.StaleLemmas.{cell_still}
-use Rattle.live_sheet.proofs.settling.settle_over.Goals as goal
+use Rattle.live_sheet.proofs.settle_ranges.settle_over.Goals as goal
 
 pub returns-in_err-stale-clause-desks : goal.returns-in_err-stale-clause-desks
 returns-in_err-stale-clause-desks g c = desks_themselves c.args.marks.now c.args.desks.now c.requires.desks

@@ -19,6 +19,7 @@ ghost use Rattle.live_sheet.specs.Passes.{client_of};
 ghost use Rattle.live_sheet.specs.Steps.{StepsAre, saw, committed};
 
 use crate::committed::EditRefused;
+use crate::crossing::{entries_cross, subject_crosses};
 use crate::entering::enter;
 use crate::locked::Locked;
 use crate::meeting::{hear, learn};
@@ -43,6 +44,8 @@ impl<N: Naming> Locked<N> {
         ensures seen { seen_of pass.new.seat ≤ length self.new.book.log }
         ensures room { vec_capacity pass.new.numbers ≡ vec_capacity pass.old.numbers }
     {
+        entries_cross();
+        subject_crosses();
         hear(marks, &mut self.editor, &mut pass.seat);
     }
 
@@ -95,6 +98,8 @@ impl<N: Naming> Locked<N> {
             desks: _,
             rest: _,
         } = self;
+        entries_cross();
+        subject_crosses();
         let applied = enter(marks, editor, book, sizes, prepared);
         counted.add(&mut pass.share, 1);
         learn(marks, &mut pass.seat, editor);
@@ -113,6 +118,8 @@ impl<N: Naming> Locked<N> {
         ensures steps { own_steps self.new.editor ≡ own_steps self.old.editor }
         ensures told { IsToldLog self.old.book.log pass.old pass.new }
     {
+        entries_cross();
+        subject_crosses();
         learn(marks, &mut pass.seat, &mut self.editor);
     }
 

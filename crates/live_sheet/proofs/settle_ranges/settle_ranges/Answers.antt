@@ -2,7 +2,7 @@ use Rattle.std.proofs.Common.{◌≡◌, ap, sym, ◌∙◌}
 use Rattle.sheet_refs.specs.Sizes.{cell_count}
 use Rattle.sheet_model.specs.Sheets.{SheetValue}
 use Rattle.sheet_model.proofs.LogLemmas.{after-sizes}
-use Rattle.live_sheet.proofs.settling.settle_ranges.Goals as goal
+use Rattle.live_sheet.proofs.settle_ranges.settle_ranges.Goals as goal
 
 pub settle_over-requires-clause-places : goal.settle_over-requires-clause-places
 settle_over-requires-clause-places g c κs within =

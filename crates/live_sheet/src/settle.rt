@@ -10,9 +10,9 @@ ghost use Rattle.live_sheet.specs.Worked.{AreWordsNamed};
 use crate::crossing::{entries_cross, subject_crosses};
 use crate::live::Live;
 use crate::locked::Locked;
+use crate::meeting::{hear, learn};
 use crate::naming::Naming;
 use crate::pass::Pass;
-use crate::telling::{hear, tell};
 use crate::whole::settle_whole;
 use edit_log::{Book, OverSheet};
 use graph_walk::Graph;
@@ -53,7 +53,7 @@ fn settle_for<R: Threads + Wait + Sync, G: Graph, T: Gate + Sync>(
     subject_crosses();
     hear(marks, editor, seat);
     settle_whole(rt, alloc, book, marks, editor, desks, gate)?;
-    tell(marks, seat, editor);
+    learn(marks, seat, editor);
     let _ = book.length();
     Ok(())
 }

@@ -1,6 +1,0 @@
-use Rattle.mark_words.specs.Tokens.{doing_of}
-use Rattle.live_sheet.proofs.MeetingLemmas.{knows_the_longer}
-use Rattle.live_sheet.proofs.telling.tell.Goals as goal
-
-pub returns-clause-knows : goal.returns-clause-knows
-returns-clause-knows g c = knows_the_longer (doing_of c.args.seat.now) (doing_of c.args.editor.now) (doing_of c.meet.new.seat) c.meet.ensures.met c.requires.log
