@@ -8,6 +8,7 @@ mod GrowLemmas
 mod NumberLemmas
 mod OrderLemmas
 mod PartLemmas
+mod PlainLemmas
 mod ReadsLemmas
 mod RoomLemmas
 mod RunLemmas

@@ -3,6 +3,7 @@ pub mod Laws
 pub mod Legal
 pub mod Orders
 pub mod Parts
+pub mod Plain
 pub mod Runs
 pub mod Tasks
 pub mod Told

@@ -5,8 +5,8 @@ ghost use Rattle.live_run.specs.Runs.{AreCommandsFor, AreReportsFor};
 
 use crate::answering::follow;
 use crate::cut::Cut;
+use crate::look_orders::orders_of;
 use crate::order::Order;
-use crate::ordering::orders_of;
 use edit_script::Command;
 use live_sheet::{Live, Naming, Pass};
 use recalc_workers::Gate;

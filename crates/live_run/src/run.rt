@@ -3,9 +3,9 @@ ghost use Rattle.window_text.specs.Transcripts.{IsWhole, transcript_value};
 ghost use Rattle.live_run.specs.Legal.{IsLegalTranscript};
 ghost use Rattle.live_run.specs.Runs.{IsRunnable};
 
-use crate::parting::parts_of;
 use crate::ran::Ran;
 use crate::session::session;
+use crate::split::parts_of;
 use edit_script::Script;
 use live_sheet::{Closed, Setup};
 use recalc_workers::Gate;

@@ -1,5 +1,5 @@
 use Rattle.live_run.proofs.PartLemmas.{parts_more}
-use Rattle.live_run.proofs.parting.parts_of.Goals as goal
+use Rattle.live_run.proofs.split.parts_of.Goals as goal
 
 pub loop-client-preserved : goal.loop-client-preserved
 loop-client-preserved c =

@@ -4,7 +4,7 @@ use Rattle.std.proofs.lemmas.Slice.Zip.{AllZip-long}
 use Rattle.live_run.specs.Legal.{looks_asked}
 use Rattle.live_run.specs.Runs.{IsReportFor}
 use Rattle.live_run.proofs.OrderLemmas.{can_take, orders_go_on}
-use Rattle.live_run.proofs.ordering.orders_of.Goals as goal
+use Rattle.live_run.proofs.look_orders.orders_of.Goals as goal
 
 pub order_of-order-requires : goal.order_of-order-requires
 order_of-order-requires g c =

@@ -1,5 +1,5 @@
 use Rattle.live_run.proofs.PartLemmas.{report_more}
-use Rattle.live_run.proofs.parting.reports_for.Goals as goal
+use Rattle.live_run.proofs.split.reports_for.Goals as goal
 
 pub loop-place-preserved : goal.loop-place-preserved
 loop-place-preserved c =

@@ -1,6 +1,6 @@
 use Rattle.std.proofs.Common.{◌≡◌, vec_len, vec_capacity}
 use Rattle.live_run.proofs.OrderLemmas.{OrdersSoFar}
-use Rattle.live_run.proofs.ordering.orders_of.Given as goal
+use Rattle.live_run.proofs.look_orders.orders_of.Given as goal
 
 abbrev pub invariant-loop-command : goal.invariant-loop-command
 invariant-loop-command g l =
