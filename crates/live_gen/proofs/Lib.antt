@@ -1,6 +1,7 @@
 mod DrawLemmas
 pub mod FillLemmas
 mod OrderLemmas
+mod RowLemmas
 pub mod RunLemmas
 mod ScriptLemmas
 mod SumLemmas

@@ -1,4 +1,5 @@
 ghost use Rattle.live_gen.specs.Apart.{LegalRunsComeToTheirScript, OrderOfClientsIsFree, SameEditsAreAsMany};
+ghost use Rattle.live_gen.specs.Laws.{DrawsOfOne, EditsOfOne, FieldsOfOne, GeneratedIsAsDrawn};
 ghost use Rattle.live_gen.specs.Laws.{GeneratedClientsAreApart, GeneratedRunsComeToOne, NumbersGiveOneSheet};
 
 /// What holds of the logs of clients that change no cell of one another: in whatever order their edits stand, as long
@@ -16,4 +17,14 @@ pub fn generated_laws()
     ensures one_sheet { NumbersGiveOneSheet }
     ensures apart { GeneratedClientsAreApart }
     ensures one_run { GeneratedRunsComeToOne }
+{}
+
+/// What is drawn from a number: each cell of the sheet holds what its field writes, and the script has four clients and
+/// 104 steps. And rows that another program worked out for the number 1: what the generator holds after the first
+/// draws; what the cells of the second row write; and the first and the last edit, 225 into A581 and 233 into A748.
+pub fn drawn_laws()
+    ensures drawn { GeneratedIsAsDrawn }
+    ensures draws { DrawsOfOne }
+    ensures fields { FieldsOfOne }
+    ensures edits { EditsOfOne }
 {}

@@ -20,5 +20,5 @@ mod sheeting;
 mod summing;
 
 pub use generating::generate;
-pub use laws::{generated_laws, order_laws};
+pub use laws::{drawn_laws, generated_laws, order_laws};
 pub use summing::sum_of_numbers;
