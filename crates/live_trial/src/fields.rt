@@ -9,9 +9,8 @@ pub(crate) fn cell(name: &str) -> Result<Cell, Fail> {
     Ok(cell_of(name.as_bytes()).ok_or("no cell")?)
 }
 
-// Puts what a field says into a cell.
-fn put(sheet: &mut Sheet, name: &str, field: &str) -> Result<(), Fail> {
-    let cell = cell(name)?;
+/// Puts what a field says into a cell.
+pub(crate) fn put(sheet: &mut Sheet, cell: Cell, field: &str) -> Result<(), Fail> {
     if field.len() > 8_192 || !sheet.holds(cell) || sheet.labels().length() == u32::MAX {
         return Err(Fail::from("a field that has no place"));
     }
@@ -34,7 +33,13 @@ pub(crate) fn sheet_of(
     }
     let mut sheet = Sheet::blank(alloc, rows, cols, Edition::One)?;
     for (name, field) in fields {
-        put(&mut sheet, name, field)?;
+        put(&mut sheet, cell(name)?, field)?;
     }
     Ok(sheet)
+}
+
+/// A sheet of two rows and two columns. B1 adds one to A1, and B2 adds A2 and B1; the values are 1, 2, 2 and 4.
+pub(crate) fn four_cells(alloc: Global) -> Result<Sheet, Fail> {
+    let fields = [("A1", "1"), ("B1", "=A1+1"), ("A2", "2"), ("B2", "=A2+B1")];
+    sheet_of(alloc, 2, 2, &fields)
 }

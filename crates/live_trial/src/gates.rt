@@ -73,6 +73,17 @@ pub(crate) struct UntilAnswered {
     pub(crate) late: AtomicU64,
 }
 
+impl UntilAnswered {
+    /// A gate at which nobody has been.
+    pub(crate) fn new() -> UntilAnswered {
+        UntilAnswered {
+            claims: AtomicU64::new(0),
+            answers: AtomicU64::new(0),
+            late: AtomicU64::new(0),
+        }
+    }
+}
+
 impl Gate for UntilAnswered {
     fn between(&self, _: Cell) {
         let _ = self.claims.fetch_add(1, Ordering::SeqCst);
@@ -80,4 +91,46 @@ impl Gate for UntilAnswered {
     }
 
     fn before(&self, _: u32, _: u32) {}
+}
+
+/// Lets two clients run their commands in one order. A client is held ahead of a command until those before it in the
+/// order are done, and ahead of one that is not in the order until all are.
+#[derive(Drop)]
+pub(crate) struct InOrder {
+    /// Whose command comes next, the second client's where true.
+    pub(crate) order: Order,
+    pub(crate) done: AtomicU64,
+    pub(crate) late: AtomicU64,
+}
+
+/// The commands of two clients in one order, the second client's where true.
+pub(crate) type Order = [bool; 12];
+
+/// The place of a client's command of this number, from 1, in an order; 12 where there is none.
+fn place_of(order: &Order, client: u32, number: u32) -> u64 {
+    let mut place = 0_u64;
+    let mut left = number;
+    for is_second in order {
+        if *is_second == (client == 1) {
+            left = left.saturating_sub(1);
+            if left == 0 {
+                return place;
+            }
+        }
+        place = place.wrapping_add(1);
+    }
+    place
+}
+
+impl Gate for InOrder {
+    fn between(&self, _: Cell) {}
+
+    fn before(&self, client: u32, number: u32) {
+        // Its command before this one is done.
+        if number > 1 {
+            let _ = self.done.fetch_add(1, Ordering::SeqCst);
+        }
+        let place = place_of(&self.order, client, number);
+        hold(&self.done, place, &self.late);
+    }
 }

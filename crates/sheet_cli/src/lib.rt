@@ -15,8 +15,9 @@
 //! read sheets and scripts, `sheet_model`, which computes values, `edit_log`, `taco_graph` with `edge_patterns`,
 //! `graph_walk` and `dep_path`, by which edges, dependents, precedents and chains are found, `sheet_undo` and
 //! `sheet_fill`, which give the edits that undo one and fill a range, `play_machine`,
-//! which plays scripts, `live_run`, which runs them by threads, `window_text`, which prints, and `sheet_io`,
-//! through which all input and output goes; above stands the program's `main`.
+//! which plays scripts, `live_run`, which runs them by threads, `live_gen`, which draws both from a number,
+//! `window_text`, which prints, `sink_buffer`, which hands on in full buffers, and `sheet_io`, through which all input
+//! and output goes; above stands the program's `main`.
 #![tactic(auto)]
 
 mod cells;
@@ -33,8 +34,6 @@ mod positions;
 mod reply;
 mod script;
 mod sure;
-#[cfg(test)]
-mod tests;
 mod texts;
 mod top;
 mod undo;

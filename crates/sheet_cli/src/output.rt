@@ -25,6 +25,7 @@ use sheet_refs::{Cell, Memory, Range};
 use sink_buffer::SinkBuffer;
 use std::alloc::Global;
 use std::marker::Model;
+use std::mem;
 use taco_graph::{SheetGraph, pair_count};
 use text_pieces::send;
 use window_text::{Printer, Transcript};
@@ -191,14 +192,18 @@ impl Output {
         Output::of_parts(alloc, Parts::Batch { sheet, edit })
     }
 
-    /// Writes the text to a sink, in pieces of 65,536 bytes and a last one of at most that many. It takes no memory.
+    /// Writes the text to a sink, in pieces of 65,536 bytes and a last one of at most that many. It takes no memory,
+    /// and gives none back: a command has nothing left to do then, and to take a large sheet apart cell by cell would
+    /// be a good part of its time.
     pub(crate) fn write<K: Sink>(self, out: &mut K) -> Result<(), Failed>
         ensures taken { Puts (K.written out.old) (K.written out.new) self result }
         ensures counted { K.faults out.old ≤ K.faults out.new }
         ensures cause { OnErr result (Rose (K.faults out.old) (K.faults out.new)) }
     {
         let Output { parts, buffer } = self;
-        write_parts(&parts, buffer, out)
+        let written = write_parts(&parts, buffer, out);
+        mem::forget(parts);
+        written
     }
 }
 

@@ -3,7 +3,7 @@ ghost use Rattle.std.specs.Thread.{IsSync};
 ghost use Rattle.sheet_model.specs.Edits.{HaveLabels};
 ghost use Rattle.live_sheet.specs.Setups.{IsNamedBy};
 
-use crate::fields::{cell, sheet_of};
+use crate::fields::{cell, four_cells};
 use crate::gates::{UntilAnswered, hold};
 use crate::sheets::edits::sets;
 use crate::sheets::stories::{edit, look};
@@ -14,7 +14,7 @@ use sheet_refs::{Range, Sizes};
 use std::alloc::Global;
 use std::marker::Brand;
 use std::sync::Wait;
-use std::sync::atomic::{AtomicU64, Ordering};
+use std::sync::atomic::Ordering;
 use std::test::Fail;
 use std::thread::{Threads, join};
 
@@ -113,13 +113,8 @@ fn edited_beside<R: Threads + Wait + Sync>(
 #[test]
 fn looks_and_edits_are_answered_while_a_worker_computes(rt: HostRuntime) -> Result<(), Fail> {
     let alloc = rt.alloc();
-    let gate = UntilAnswered {
-        claims: AtomicU64::new(0),
-        answers: AtomicU64::new(0),
-        late: AtomicU64::new(0),
-    };
-    let fields = [("A1", "1"), ("B1", "=A1+1"), ("A2", "2"), ("B2", "=A2+B1")];
-    let mut sheet = sheet_of(alloc, 2, 2, &fields)?;
+    let gate = UntilAnswered::new();
+    let mut sheet = four_cells(alloc)?;
     let first = sets(alloc, &mut sheet, "A1", "5")?;
     let second = sets(alloc, &mut sheet, "A2", "7")?;
     let range = Range::of(cell("A1")?, cell("B2")?);

@@ -1,7 +1,7 @@
 ghost use Rattle.std.specs.Prelude.{◌≤◌};
 ghost use Rattle.live_sheet.specs.Setups.{IsNamedBy};
 
-use crate::fields::sheet_of;
+use crate::fields::{four_cells, sheet_of};
 use crate::sheets::texts::write_codes;
 use live_sheet::{Live, Naming, Opened, Setup};
 use recalc_workers::OpenGate;
@@ -54,8 +54,7 @@ fn closed<R: Threads + Wait + Sync>(
 #[test]
 fn a_sheet_at_whose_desks_nobody_worked_is_closed(rt: HostRuntime) -> Result<(), Fail> {
     let alloc = rt.alloc();
-    let fields = [("A1", "1"), ("B1", "=A1+1"), ("A2", "2"), ("B2", "=A2+B1")];
-    let text = closed(&rt, alloc, sheet_of(alloc, 2, 2, &fields)?, 2, 4)?;
+    let text = closed(&rt, alloc, four_cells(alloc)?, 2, 4)?;
     assert_eq!(rt; text.as_str(), "0: 1 2 2 4");
     Ok(())
 }

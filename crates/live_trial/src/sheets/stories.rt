@@ -1,5 +1,6 @@
-ghost use Rattle.std.specs.Prelude.{◌≡◌, ℕ};
+ghost use Rattle.std.specs.Prelude.{◌≡◌, ℕ, OnOk};
 ghost use Rattle.sheet_model.specs.Edits.{HaveLabels};
+ghost use Rattle.live_sheet.specs.Passes.{client_of};
 
 use crate::sheets::texts::write_board;
 use live_sheet::{Desk, Live, Naming, Pass};
@@ -9,6 +10,28 @@ use sheet_refs::{Range, Sizes};
 use std::fmt::Write;
 use std::sync::Wait;
 use std::test::Fail;
+use std::thread::Threads;
+
+/// Looks at what of the range is in the sheet; false where there is nothing of it, or no room for it.
+pub(crate) fn looks<N: Naming>(
+    live: &Live<N>,
+    pass: &mut Pass<N>,
+    sizes: Sizes,
+    range: Range,
+    board: &mut Board,
+) -> bool
+    requires { sizes ≡ N.opening.sizes }
+    ensures { client_of pass.new ≡ client_of pass.old }
+{
+    let Some(window) = sizes.clip(range) else {
+        return false;
+    };
+    if window.cells() > u64::from(board.room()) {
+        return false;
+    }
+    live.look(pass, window, board);
+    true
+}
 
 /// Looks at what of the range is in the sheet, and writes what is shown.
 pub(crate) fn look<N: Naming>(
@@ -20,14 +43,50 @@ pub(crate) fn look<N: Naming>(
     text: &mut String,
 ) -> Result<(), Fail>
     requires { sizes ≡ N.opening.sizes }
+    ensures { client_of pass.new ≡ client_of pass.old }
+{
+    if !looks(live, pass, sizes, range, board) {
+        return Err(Fail::from("no cells, or too many"));
+    }
+    write_board(text, board)
+}
+
+/// Takes a firm look at what of the range is in the sheet; false where there is nothing of it, or no room.
+pub(crate) fn firms<N: Naming, R: Threads + Wait + Sync>(
+    rt: &R,
+    live: &Live<N>,
+    pass: &mut Pass<N>,
+    sizes: Sizes,
+    range: Range,
+    board: &mut Board,
+) -> bool
+    requires { sizes ≡ N.opening.sizes }
 {
     let Some(window) = sizes.clip(range) else {
-        return Err(Fail::from("no cells"));
+        return false;
     };
     if window.cells() > u64::from(board.room()) {
-        return Err(Fail::from("too many cells"));
+        return false;
     }
-    live.look(pass, window, board);
+    live.firm(rt, pass, window, board, &OpenGate).is_ok()
+}
+
+/// Takes a firm look at what of the range is in the sheet, and writes what is shown.
+pub(crate) fn firm<N: Naming, R: Threads + Wait + Sync>(
+    rt: &R,
+    live: &Live<N>,
+    pass: &mut Pass<N>,
+    sizes: Sizes,
+    range: Range,
+    board: &mut Board,
+    text: &mut String,
+) -> Result<(), Fail>
+    requires { sizes ≡ N.opening.sizes }
+{
+    if !firms(rt, live, pass, sizes, range, board) {
+        return Err(Fail::from("no firm look"));
+    }
+    text.push_str(" firm ")?;
     write_board(text, board)
 }
 
@@ -40,6 +99,7 @@ pub(crate) fn edit<N: Naming, R: Wait>(
     text: &mut String,
 ) -> Result<(), Fail>
     requires { (labels : ℕ) → HaveLabels labels edit }
+    ensures { OnOk result (client_of pass.new ≡ client_of pass.old) }
 {
     let Ok(done) = live.edit(rt, pass, edit) else {
         return Err(Fail::from("an edit that is refused"));

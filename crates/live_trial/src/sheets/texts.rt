@@ -1,3 +1,4 @@
+use recalc_workers::Turn;
 use sheet_model::{Board, Shown};
 use std::fmt::Write;
 use std::test::Fail;
@@ -34,6 +35,20 @@ pub(crate) fn write_codes(text: &mut String, codes: &[u64]) -> Result<(), Fail> 
             return Err(Fail::from("no code"));
         };
         write_value(text, &value)?;
+    }
+    Ok(())
+}
+
+/// Writes what a turn came to.
+pub(crate) fn write_turn(text: &mut String, turn: &Turn) -> Result<(), Fail> {
+    match turn {
+        Turn::Done(cell) => write!(text, " {cell} is done")?,
+        Turn::Idle => text.push_str(" idle")?,
+        Turn::Stale { cell, input, met } => write!(text, " {cell} waits for {input} at {met}")?,
+        Turn::Busy { cell, seen, found } if seen.held && seen == found => {
+            write!(text, " {cell} is held")?
+        }
+        _ => text.push_str(" other")?,
     }
     Ok(())
 }

@@ -5,7 +5,7 @@ ghost use Rattle.sheet_undo.specs.Undoing.{AreFor};
 ghost use Rattle.live_sheet.specs.Passes.{client_of};
 ghost use Rattle.live_sheet.specs.Setups.{IsNamedBy};
 
-use crate::fields::sheet_of;
+use crate::fields::four_cells;
 use crate::sheets::edits::{is_plain, sets};
 use crate::sheets::texts::write_codes;
 use live_sheet::{Closed, Live, Naming, Opened, Pass, Setup};
@@ -150,8 +150,7 @@ fn edited_and_undone<R: Threads + Wait + Sync>(
 #[test]
 fn the_last_edit_of_a_closed_sheet_is_undone(rt: HostRuntime) -> Result<(), Fail> {
     let alloc = rt.alloc();
-    let fields = [("A1", "1"), ("B1", "=A1+1"), ("A2", "2"), ("B2", "=A2+B1")];
-    let mut sheet = sheet_of(alloc, 2, 2, &fields)?;
+    let mut sheet = four_cells(alloc)?;
     let first = sets(alloc, &mut sheet, "A1", "5")?;
     let second = sets(alloc, &mut sheet, "A2", "=A1*2")?;
     let text = edited_and_undone(&rt, alloc, sheet, first, second)?;

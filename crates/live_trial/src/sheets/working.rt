@@ -2,7 +2,7 @@ ghost use Rattle.std.specs.Prelude.{◌≡◌, ℕ};
 ghost use Rattle.sheet_model.specs.Edits.{HaveLabels};
 ghost use Rattle.live_sheet.specs.Setups.{IsNamedBy};
 
-use crate::fields::{cell, sheet_of};
+use crate::fields::{cell, four_cells, sheet_of};
 use crate::sheets::edits::sets;
 use crate::sheets::stories::{edit, look, work};
 use live_sheet::{Live, Naming, Opened, Setup};
@@ -63,16 +63,10 @@ fn worked<R: Wait>(
     edits_and_works::<Brand, _>(rt, alloc, setup, sizes, range, change, turns)
 }
 
-// A sheet of two rows and columns, with two formulas.
-fn two_formulas(alloc: Global) -> Result<Sheet, Fail> {
-    let fields = [("A1", "1"), ("B1", "=A1+1"), ("A2", "2"), ("B2", "=A2+B1")];
-    sheet_of(alloc, 2, 2, &fields)
-}
-
 #[test]
 fn an_edit_leaves_its_cells_stale_where_no_desk_works(rt: HostRuntime) -> Result<(), Fail> {
     let alloc = rt.alloc();
-    let mut sheet = two_formulas(alloc)?;
+    let mut sheet = four_cells(alloc)?;
     let change = sets(alloc, &mut sheet, "A1", "5")?;
     let range = Range::of(cell("A1")?, cell("B2")?);
     let text = worked(&rt, alloc, sheet, range, change, 0)?;
@@ -149,7 +143,7 @@ fn settled<R: Threads + Wait + Sync>(
 #[test]
 fn settling_computes_all_cells(rt: HostRuntime) -> Result<(), Fail> {
     let alloc = rt.alloc();
-    let mut sheet = two_formulas(alloc)?;
+    let mut sheet = four_cells(alloc)?;
     let first = sets(alloc, &mut sheet, "A1", "5")?;
     let second = sets(alloc, &mut sheet, "A2", "=a1 * 2")?;
     let range = Range::of(cell("A1")?, cell("B2")?);

@@ -1,8 +1,7 @@
 // `play` and `live`.
-use super::{Ended, WORKED, failing, failing_at, one_text, split_words};
-use crate::reply::USAGE;
-use crate::top::run;
+use super::{Ended, USAGE, WORKED, failing, failing_at, one_text, split_words};
 use recalc_workers::OpenGate;
+use sheet_cli::run;
 use sheet_io::{MemoryShelf, MemorySink, SureShelf};
 use std::alloc::{AllocError, Global};
 use std::sync::Wait;

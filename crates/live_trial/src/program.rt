@@ -1,15 +1,19 @@
-// What no clause says: that calls succeed with ample memory, and that the statuses and lines are those meant.
+// The program's one call: what no clause says, that it succeeds where memory is ample, and that the statuses and lines
+// are those meant.
 mod paths;
 mod scripts;
 
-use crate::reply::USAGE;
-use crate::top::run;
 use recalc_workers::OpenGate;
+use sheet_cli::run;
 use sheet_io::{Fetch, MemoryShelf, MemorySink, Shelf, SureShelf, SureSink};
 use std::alloc::{AllocError, Global};
 use std::sync::Wait;
 use std::test::Fail;
 use std::thread::Threads;
+
+const USAGE: &str = "antifreeze: usage: antifreeze show|deps|precs SHEET RANGE; check SHEET; \
+    play|live SHEET SCRIPT; gen NUMBER; fill SHEET CELL RANGE; undo SHEET SCRIPT NUMBER; path SHEET CELL CELL; \
+    --workers N with live, gen\n";
 
 const WORKED: &str = "1,=A1+1\n2,=A2+B1\n";
 

@@ -1,0 +1,229 @@
+ghost use Rattle.std.specs.Prelude.{◌≡◌, ℕ, IfOk, OnOk};
+ghost use Rattle.sheet_model.specs.Edits.{HaveLabels};
+ghost use Rattle.live_sheet.specs.Passes.{client_of};
+ghost use Rattle.live_sheet.specs.Setups.{IsNamedBy};
+
+use crate::fields::{cell, four_cells, sheet_of};
+use crate::sheets::edits::sets;
+use crate::sheets::stories::{edit, look};
+use crate::sheets::texts::{write_codes, write_turn};
+use live_sheet::{Desk, Live, Naming, Opened, Pass, Setup};
+use recalc_workers::OpenGate;
+use sheet_model::{Board, Edit, Sheet};
+use sheet_refs::{Range, Sizes};
+use std::alloc::Global;
+use std::fmt::Write;
+use std::marker::Brand;
+use std::sync::Wait;
+use std::test::Fail;
+use std::thread::Threads;
+
+// A live sheet of one client and one desk.
+#[derive(Drop)]
+struct Single<N: Naming> {
+    live: Live<N>,
+    pass: Pass<N>,
+    desk: Desk<N>,
+}
+
+// Opens a live sheet.
+fn opens<N: Naming>(alloc: Global, setup: Setup) -> Result<Single<N>, Fail>
+    requires named { IsNamedBy N.name N.parts N.words N.queue N.opening N.clients setup }
+    requires alone { N.clients ≡ 1 }
+    ensures { IfOk result (λ single. client_of single.pass ≡ 0) }
+{
+    let Opened {
+        live,
+        mut passes,
+        mut desks,
+    } = Live::<N>::open(alloc, setup)?;
+    let (Some(pass), Some(desk)) = (passes.pop(), desks.pop()) else {
+        return Err(Fail::from("no pass or no desk"));
+    };
+    Ok(Single { live, pass, desk })
+}
+
+// Looks, at a board for this alone.
+fn shows<N: Naming>(
+    alloc: Global,
+    single: &mut Single<N>,
+    sizes: Sizes,
+    range: Range,
+    text: &mut String,
+) -> Result<(), Fail>
+    requires { sizes ≡ N.opening.sizes }
+    ensures { client_of single.new.pass ≡ client_of single.old.pass }
+{
+    let mut board = Board::new(alloc, 4)?;
+    let Single { live, pass, .. } = single;
+    look(live, pass, sizes, range, &mut board, text)
+}
+
+// Edits.
+fn makes<N: Naming, R: Wait>(
+    rt: &R,
+    single: &mut Single<N>,
+    change: Edit,
+    text: &mut String,
+) -> Result<(), Fail>
+    requires { (labels : ℕ) → HaveLabels labels change }
+    ensures { OnOk result (client_of single.new.pass ≡ client_of single.old.pass) }
+{
+    let Single { live, pass, .. } = single;
+    edit(rt, live, pass, change, text)
+}
+
+// Takes a turn.
+fn works<N: Naming, R: Wait>(rt: &R, single: &mut Single<N>, text: &mut String) -> Result<(), Fail>
+    ensures { client_of single.new.pass ≡ client_of single.old.pass }
+{
+    let Single { live, desk, .. } = single;
+    write_turn(text, &live.work(rt, desk, &OpenGate))
+}
+
+// Closes, and writes how many entries there are, and the values.
+fn closes<N: Naming, R: Threads + Wait + Sync>(
+    rt: &R,
+    alloc: Global,
+    single: Single<N>,
+    text: &mut String,
+) -> Result<(), Fail>
+    requires alone { N.clients ≡ 1 }
+    requires first { client_of single.pass ≡ 0 }
+{
+    let Single { live, pass, desk } = single;
+    let mut passes = Vec::new(alloc);
+    passes.push(pass)?;
+    let mut desks = Vec::new(alloc);
+    desks.push(desk)?;
+    let Ok(closed) = live.close(rt, passes, desks, &OpenGate) else {
+        return Err(Fail::from("a sheet that is not closed"));
+    };
+    write!(text, " closed {}:", closed.log.len())?;
+    write_codes(text, &closed.values)
+}
+
+// Edits each of two live sheets, and looks at both after each step.
+fn goes<N: Naming, M: Naming, R: Threads + Wait + Sync>(
+    rt: &R,
+    alloc: Global,
+    one: Single<N>,
+    other: Single<M>,
+    one_sizes: Sizes,
+    other_sizes: Sizes,
+    range: Range,
+    first: Edit,
+    second: Edit,
+) -> Result<String, Fail>
+    requires one_alone { N.clients ≡ 1 }
+    requires other_alone { M.clients ≡ 1 }
+    requires one_first { client_of one.pass ≡ 0 }
+    requires other_first { client_of other.pass ≡ 0 }
+    requires one_sizes { one_sizes ≡ N.opening.sizes }
+    requires other_sizes { other_sizes ≡ M.opening.sizes }
+    requires first { (labels : ℕ) → HaveLabels labels first }
+    requires second { (labels : ℕ) → HaveLabels labels second }
+{
+    let mut one = one;
+    let mut other = other;
+    let mut text = String::new(alloc);
+    makes(rt, &mut one, first, &mut text)?;
+    shows(alloc, &mut other, other_sizes, range, &mut text)?;
+    makes(rt, &mut other, second, &mut text)?;
+    shows(alloc, &mut one, one_sizes, range, &mut text)?;
+    works(rt, &mut one, &mut text)?;
+    text.push_str(", ")?;
+    shows(alloc, &mut other, other_sizes, range, &mut text)?;
+    closes(rt, alloc, one, &mut text)?;
+    closes(rt, alloc, other, &mut text)?;
+    Ok(text)
+}
+
+// Opens both and goes on.
+fn opens_both<N: Naming, M: Naming, R: Threads + Wait + Sync>(
+    rt: &R,
+    alloc: Global,
+    left: Setup,
+    right: Setup,
+    one_sizes: Sizes,
+    other_sizes: Sizes,
+    range: Range,
+    first: Edit,
+    second: Edit,
+) -> Result<String, Fail>
+    requires one { IsNamedBy N.name N.parts N.words N.queue N.opening N.clients left }
+    requires other { IsNamedBy M.name M.parts M.words M.queue M.opening M.clients right }
+    requires one_alone { N.clients ≡ 1 }
+    requires other_alone { M.clients ≡ 1 }
+    requires one_sizes { one_sizes ≡ N.opening.sizes }
+    requires other_sizes { other_sizes ≡ M.opening.sizes }
+    requires first { (labels : ℕ) → HaveLabels labels first }
+    requires second { (labels : ℕ) → HaveLabels labels second }
+{
+    let one = opens::<N>(alloc, left)?;
+    let other = opens::<M>(alloc, right)?;
+    goes(
+        rt,
+        alloc,
+        one,
+        other,
+        one_sizes,
+        other_sizes,
+        range,
+        first,
+        second,
+    )
+}
+
+// The same over two sheets.
+fn both<R: Threads + Wait + Sync>(
+    rt: &R,
+    alloc: Global,
+    one: Sheet,
+    other: Sheet,
+    range: Range,
+    first: Edit,
+    second: Edit,
+) -> Result<String, Fail>
+    requires first { (labels : ℕ) → HaveLabels labels first }
+    requires second { (labels : ℕ) → HaveLabels labels second }
+{
+    let one_sizes = one.sizes();
+    let other_sizes = other.sizes();
+    let left = Setup::new(alloc, one, 1, 1)?;
+    let right = Setup::new(alloc, other, 1, 1)?;
+    opens_both::<Brand, Brand, _>(
+        rt,
+        alloc,
+        left,
+        right,
+        one_sizes,
+        other_sizes,
+        range,
+        first,
+        second,
+    )
+}
+
+// Two live sheets are open at once. Neither shows, counts or computes what was done to the other.
+#[test]
+fn two_live_sheets_are_apart(rt: HostRuntime) -> Result<(), Fail> {
+    let alloc = rt.alloc();
+    let mut one = four_cells(alloc)?;
+    let fields = [
+        ("A1", "10"),
+        ("B1", "=A1+1"),
+        ("A2", "20"),
+        ("B2", "=A2+B1"),
+    ];
+    let mut other = sheet_of(alloc, 2, 2, &fields)?;
+    let first = sets(alloc, &mut one, "A1", "5")?;
+    let second = sets(alloc, &mut other, "A2", "7")?;
+    let range = Range::of(cell("A1")?, cell("B2")?);
+    let text = both(&rt, alloc, one, other, range, first, second)?;
+    assert_eq!(rt;
+        text.as_str(),
+        " #1 0: 10 ~0 20 ~0 #1 1: ~1 ~1 2 ~1 A1 is done, 1: 10 ~0 ~1 ~1 closed 1: 5 6 2 8 closed 1: 10 11 7 18"
+    );
+    Ok(())
+}
