@@ -15,8 +15,6 @@ mod laws;
 mod outward;
 mod paths;
 mod steps;
-#[cfg(test)]
-mod tests;
 
 pub use chains::is_chain;
 pub use laws::chain_laws;

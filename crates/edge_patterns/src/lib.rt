@@ -15,13 +15,7 @@ mod edge;
 mod joins;
 mod laws;
 mod queries;
-#[cfg(test)]
-mod small_edges;
-#[cfg(test)]
-mod small_grid;
 mod splits;
-#[cfg(test)]
-mod tests;
 
 pub use edge::{Edge, Pattern};
 pub use joins::join;

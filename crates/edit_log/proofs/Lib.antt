@@ -1,6 +1,6 @@
 mod BookLemmas
 pub mod InputLemmas
-pub mod PairLemmas
+mod PairLemmas
 pub mod PlaceLemmas
 mod RefusalLemmas
 mod ReplaceLemmas

@@ -14,8 +14,6 @@
 #![tactic(auto)]
 
 mod book;
-#[cfg(test)]
-mod book_tests;
 mod crossing;
 mod graphs;
 mod laws;
@@ -25,10 +23,6 @@ mod preparing;
 mod refused;
 mod replacing;
 mod rows;
-#[cfg(test)]
-mod tests;
-#[cfg(test)]
-mod thread_tests;
 
 pub use book::Book;
 pub use crossing::book_crosses;

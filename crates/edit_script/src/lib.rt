@@ -19,8 +19,6 @@ mod progress;
 mod reading;
 mod refused;
 mod script;
-#[cfg(test)]
-mod tests;
 
 pub use laws::script_laws;
 pub use reading::read_script;

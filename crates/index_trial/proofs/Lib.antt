@@ -1,1 +1,2 @@
+mod ListedLemmas
 mod TrialLemmas

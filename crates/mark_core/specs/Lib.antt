@@ -13,4 +13,3 @@ pub mod Growth
 pub mod Laws
 pub mod Kept
 pub mod Cores
-pub mod Tests

@@ -20,7 +20,6 @@ mod laws;
 mod machine;
 mod protocol;
 mod subjects;
-mod test_cells;
 mod views;
 mod words;
 
@@ -33,8 +32,4 @@ pub use laws::{
 };
 pub use protocol::Core;
 pub use subjects::{Judge, Subject};
-pub use test_cells::TwoTestCells;
 pub use words::{Clean, Finished, Half, Held, Known, Lost, Memory, Place};
-
-#[cfg(test)]
-mod tests;

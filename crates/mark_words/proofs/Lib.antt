@@ -11,8 +11,7 @@ mod WorkSteps
 mod SeatSteps
 mod EditSteps
 mod EditorMarkLemmas
-mod TokenLemmas
+pub mod TokenLemmas
 mod Meets
 mod OpeningLemmas
 pub mod CloseLemmas
-mod TestLemmas

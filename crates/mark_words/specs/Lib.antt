@@ -12,4 +12,3 @@ pub mod Meets
 pub mod Tokens
 pub mod Opened
 pub mod Closed
-pub mod Tests

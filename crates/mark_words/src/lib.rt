@@ -8,18 +8,18 @@
 //! specs/Doing.antt. Below stand `mark_core` and the kit's `atomic_table`.
 #![tactic(auto)]
 
-mod closes;
 mod closing;
 mod codes;
 mod laws;
 mod listed;
 mod marks;
-mod opens;
+mod opening;
 mod plays;
 mod reads;
 mod seats;
 mod steps;
 mod tables;
+mod unshared;
 mod work;
 
 pub use closing::{Kept, Words};
@@ -28,6 +28,3 @@ pub use listed::Codes;
 pub use marks::Marks;
 pub use seats::Seat;
 pub use tables::{Doing, History, Keeps, Made, OwnStep, Past, Topic};
-
-#[cfg(test)]
-mod tests;

@@ -4,12 +4,10 @@
 //! at each pair once, and adds one range for each pair that it finds. A change looks at all pairs too, and takes no
 //! memory: `reserve` makes room for the 255 pairs that a cell can have, for each change.
 //!
-//! Below stand `sheet_refs`, and `graph_walk` with the trait and the walks over it. Above it stand the tests of books
-//! of edits; the program keeps its pairs as edges, in `taco_graph`.
+//! Below stand `sheet_refs`, and `graph_walk` with the trait and the walks over it. Above it stand tests, of graphs
+//! and of books of edits; the program keeps its pairs as edges, in `taco_graph`.
 #![tactic(auto)]
 
 mod plain;
-#[cfg(test)]
-mod tests;
 
 pub use plain::PlainGraph;

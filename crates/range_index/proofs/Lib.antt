@@ -5,7 +5,6 @@ pub mod EntryLemmas
 mod FoundLemmas
 mod GridLemmas
 mod LawLemmas
-pub mod ListedLemmas
 mod NearLemmas
 mod SlotLemmas
 pub mod TableLemmas

@@ -14,8 +14,6 @@ mod item;
 mod laws;
 mod list;
 mod tables;
-#[cfg(test)]
-mod tests;
 mod tiles;
 
 pub use grid::GridIndex;

@@ -1,7 +1,12 @@
+mod EdgeRowLemmas
 mod EndLemmas
 mod FillLemmas
+mod FillRowLemmas
 pub mod FillTextLemmas
+mod FilledPairs
+mod FormulaLemmas
 mod LineTexts
+mod MovedLemmas
 mod OtherLemmas
 mod PairLemmas
 mod RunLemmas

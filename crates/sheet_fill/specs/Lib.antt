@@ -1,5 +1,7 @@
+pub mod FillLaws
+pub mod FillRows
 pub mod FilledRuns
 pub mod FilledTexts
-pub mod FillLaws
 pub mod Filling
+pub mod MovedReferences
 pub mod Singles

@@ -67,12 +67,13 @@ fn copies(alloc: Global, sheet: &Sheet, from: Cell, to: &Range) -> Result<Vec<Ch
     Ok(changes)
 }
 
-/// The edit that fills a range of the sheet from one of its cells: each other cell of the range, row by row, gets what
-/// that cell holds, a formula with its references shifted by the way from it. The source itself may stand in the range
-/// or outside it, and doesn't change.
+/// The edit that fills a range of the sheet from one of its cells: each other cell of the range, row by row, gets a
+/// copy of what that cell holds, a formula as `shift` gives it for the way there, and anything else as it is. The
+/// source itself may stand in the range or outside it, and is none of the changes.
 ///
-/// It is refused with `Nothing` exactly where the range is that cell alone, and with `TooMany` exactly where more than
-/// 1,024 cells would change, before any is copied. Each change takes one shift of the formula.
+/// It is refused with `Nothing` exactly where the range is that cell alone, and with `TooMany` exactly where it has
+/// more than 1,024 other cells; any other refusal is want of memory. These cells are counted by the corners of the
+/// range, and each change takes one shift of the formula.
 pub fn fill(alloc: Global, sheet: &Sheet, from: Cell, to: Range) -> Result<Edit, FillRefused>
     requires from { IsTrue (is_inside sheet.now.sizes from) }
     requires to { (cell : Position) → IsIn cell to → IsTrue (is_inside sheet.now.sizes cell) }

@@ -22,13 +22,7 @@ mod pieces;
 mod range;
 mod rect_set;
 mod refs;
-#[cfg(test)]
-mod set_tests;
-#[cfg(test)]
-mod size_tests;
 mod sizes;
-#[cfg(test)]
-mod tests;
 
 pub use cell::{Cell, MAX_COLS, MAX_ROWS};
 pub use end_names::ref_of;

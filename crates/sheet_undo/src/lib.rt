@@ -7,7 +7,7 @@
 //! is undone by what the entry did. `undo_laws` says what holds of undoing twice, and of undoing several entries one
 //! after the other.
 //!
-//! Below stand `sheet_refs` and `sheet_model`; above, `live_trial`.
+//! Below stand `sheet_refs` and `sheet_model`; above, the program.
 #![tactic(auto)]
 
 mod entry_cells;

@@ -22,12 +22,8 @@ mod counting;
 mod laws;
 mod neighbours;
 mod order;
-#[cfg(test)]
-mod random;
 mod store;
 mod taco;
-#[cfg(test)]
-mod tests;
 
 pub use counting::pair_count;
 pub use laws::{join_laws, order_laws, taco_laws};

@@ -21,8 +21,6 @@ mod notes;
 mod rectangles;
 mod splits;
 mod steps;
-#[cfg(test)]
-mod tests;
 mod tree;
 mod ways;
 

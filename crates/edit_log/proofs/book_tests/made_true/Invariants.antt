@@ -1,6 +1,0 @@
-use Rattle.std.proofs.Common.{ℕ}
-use Rattle.sheet_model.specs.Edits.{HaveLabels}
-use Rattle.edit_log.proofs.book_tests.made_true.Given as goal
-
-abbrev pub invariant-loop-name : goal.invariant-loop-name
-invariant-loop-name l = (labels : ℕ) → HaveLabels labels l.changes.items

@@ -1,0 +1,52 @@
+// What no clause says: that threads share a book under a lock.
+use crate::books::clears;
+use edit_log::{Book, PrepareRefused, book_crosses};
+use formula_syntax::Edition;
+use graph_walk::Graph;
+use plain_graph::PlainGraph;
+use sheet_model::Sheet;
+use sheet_refs::{Cell, cell_of};
+use std::alloc::Global;
+use std::sync::{Mutex, Wait};
+use std::test::Fail;
+use std::thread::{Threads, join};
+
+// Empties a cell of a book that other threads share.
+fn clears_shared<R: Wait, G: Graph>(
+    rt: &R,
+    alloc: Global,
+    book: &Mutex<Book<G>>,
+    cell: Cell,
+) -> Result<u64, PrepareRefused> {
+    let mut held = book.lock(rt);
+    clears(alloc, &mut *held, cell)
+}
+
+// Two edits, each in a thread of its own.
+fn clears_both<R: Threads + Wait + Sync, G: Graph + Send>(
+    rt: &R,
+    alloc: Global,
+    book: &Mutex<Book<G>>,
+    cell: Cell,
+) -> (Result<u64, PrepareRefused>, Result<u64, PrepareRefused>) {
+    book_crosses::<G>();
+    join(
+        rt,
+        || clears_shared(rt, alloc, book, cell),
+        || clears_shared(rt, alloc, book, cell),
+    )
+}
+
+#[test]
+fn threads_share_a_book(rt: HostRuntime) -> Result<(), Fail> {
+    let alloc = rt.alloc();
+    let sheet = Sheet::blank(alloc, 1, 1, Edition::One)?;
+    let cell = cell_of(b"A1").ok_or("no cell")?;
+    let book = Mutex::new(Book::open(alloc, sheet, PlainGraph::new(alloc))?);
+    let (Ok(one), Ok(other)) = clears_both(&rt, alloc, &book, cell) else {
+        return Err(Fail::from("an edit that is refused"));
+    };
+    assert_eq!(rt; (one.min(other), one.max(other)), (1, 2));
+    assert_eq!(rt; book.into_inner().length(), 2);
+    Ok(())
+}

@@ -1,0 +1,100 @@
+// What ranges have in common and what sets of them hold, on small cases that were worked out by hand.
+use sheet_refs::{Range, RectSet, Refs, cell_of, range_of};
+use std::alloc::Global;
+use std::fmt::Write;
+use std::test::Fail;
+
+#[test]
+fn ranges_share_cells(rt: HostRuntime) -> Result<(), Fail> {
+    for (a, b, shared) in [
+        ("A1:C3", "B2:D4", "B2:C3"),
+        ("A1:C3", "C3:D4", "C3:C3"),
+        ("B1:B9", "A5:C5", "B5:B5"),
+        ("A1:C3", "B2:B2", "B2:B2"),
+        ("A1:C3", "A1:C3", "A1:C3"),
+        ("A1:C3", "D1:D3", ""),
+        ("A1:C3", "A4:C4", ""),
+        ("A1:A1", "B2:B2", ""),
+    ] {
+        let (a, b) = (range(a)?, range(b)?);
+        let shared = range_of(shared.as_bytes());
+        assert_eq!(rt; a.meet(&b), shared);
+        assert_eq!(rt; b.meet(&a), shared);
+        assert_eq!(rt; a.overlaps(&b), shared.is_some());
+    }
+    Ok(())
+}
+
+#[test]
+fn pieces_are_left(rt: HostRuntime) -> Result<(), Fail> {
+    for (a, b, left) in [
+        ("A1:C3", "B2:B2", "A1:C1 A3:C3 A2:A2 C2:C2"),
+        ("A1:C3", "D1:D3", "A1:C3"),
+        ("A1:C3", "A1:C3", ""),
+        ("A1:C3", "A2:C9", "A1:C1"),
+        ("B1:B9", "A5:C5", "B1:B4 B6:B9"),
+        ("A1:C1", "B1:Z9", "A1:A1"),
+    ] {
+        let pieces = range(a)?.subtract(&range(b)?);
+        assert_eq!(rt; joined(rt.alloc(), pieces.ranges())?.as_str(), left);
+    }
+    Ok(())
+}
+
+#[test]
+fn formulas_have_references(rt: HostRuntime) -> Result<(), Fail> {
+    let refs = Refs::of(rt.alloc(), &[range("A1:A3")?])?;
+    assert_eq!(rt; joined(rt.alloc(), refs.ranges())?.as_str(), "A1:A3");
+    let none = Refs::of(rt.alloc(), &[])?;
+    assert_eq!(rt; none.ranges().len(), 0);
+    Ok(())
+}
+
+#[test]
+fn a_set_gains_ranges(rt: HostRuntime) -> Result<(), Fail> {
+    let mut set = RectSet::new(rt.alloc());
+    for (added, new, runs) in [
+        ("B2:B3", "B2:B3", "B2:B3"),
+        ("B5", "B5:B5", "B2:B3 B5:B5"),
+        ("B4", "B4:B4", "B2:B5"),
+        ("A3:C4", "A3:A4 C3:C4", "A3:A4 B2:B5 C3:C4"),
+        ("A3:C4", "", "A3:A4 B2:B5 C3:C4"),
+        (
+            "A1:C6",
+            "A1:A2 A5:A6 B1:B1 B6:B6 C1:C2 C5:C6",
+            "A1:A6 B1:B6 C1:C6",
+        ),
+        ("A1:E7", "A7:C7 D1:E7", "A1:A7 B1:B7 C1:C7 D1:D7 E1:E7"),
+        (
+            "XFD1048576",
+            "XFD1048576:XFD1048576",
+            "A1:A7 B1:B7 C1:C7 D1:D7 E1:E7 XFD1048576:XFD1048576",
+        ),
+    ] {
+        let added = range(added)?;
+        assert_eq!(rt; joined(rt.alloc(), &set.new_part(added)?)?.as_str(), new);
+        set.add(added)?;
+        assert_eq!(rt; joined(rt.alloc(), &set.columns()?)?.as_str(), runs);
+        assert!(rt; set.contains(added.head()) && set.contains(added.tail()));
+    }
+    for (cell, inside) in [("A7", true), ("E7", true), ("A8", false), ("F7", false)] {
+        let cell = cell_of(cell.as_bytes()).ok_or("no cell")?;
+        assert_eq!(rt; set.contains(cell), inside);
+    }
+    Ok(())
+}
+
+fn range(name: &str) -> Result<Range, Fail> {
+    Ok(range_of(name.as_bytes()).ok_or("no range")?)
+}
+
+fn joined(alloc: Global, ranges: &[Range]) -> Result<String, Fail> {
+    let mut text = String::new(alloc);
+    for range in ranges {
+        if !text.is_empty() {
+            text.push(' ')?;
+        }
+        write!(text, "{range}")?;
+    }
+    Ok(text)
+}

@@ -1,0 +1,385 @@
+// The edges of a small grid, held against plain lists of pairs: what an edge says of itself, the three queries, `split`
+// and `join`. What an edge stands for is read off its three parts, by the table of patterns and by no code under test.
+use crate::small_grid::{
+    Area, Drawn, Pair, all_dependents, all_precedents, are_regular, cells_of, count_of, dependents,
+    drawn_from, follow, grid_areas, pair_at, pairs_of, precedents, stepped,
+};
+use edge_patterns::{Edge, Pattern, back, direct, join, split, spread};
+use sheet_refs::{Cell, Range, range_of};
+use std::alloc::Global;
+use std::test::Fail;
+
+// An edge with the pairs that it has to stand for.
+#[derive(Drop)]
+struct Small {
+    drawn: Drawn,
+    pairs: Vec<Pair>,
+    edge: Edge,
+}
+
+// The tail of the first range of an edge whose tail moves: that of its rectangle moved back over the run.
+fn first_tail(edge: &Edge, down: bool) -> Option<Cell> {
+    let tail = edge.prec().tail();
+    let run = edge.dep();
+    let rows = run.tail().row().checked_sub(run.head().row())?;
+    let cols = run.tail().col().checked_sub(run.head().col())?;
+    if down {
+        Cell::new(tail.row().checked_sub(rows)?, tail.col())
+    } else {
+        Cell::new(tail.row(), tail.col().checked_sub(cols)?)
+    }
+}
+
+// What an edge stands for, by its run, its rectangle and its pattern.
+fn drawing_of(edge: &Edge) -> Option<Drawn> {
+    let first = edge.dep().head();
+    let down = first.col() == edge.dep().tail().col();
+    let (head, tail) = match edge.pattern() {
+        Pattern::Single | Pattern::Ff => (false, false),
+        Pattern::Rr | Pattern::Chain => (true, true),
+        Pattern::Rf => (true, false),
+        Pattern::Fr => (false, true),
+    };
+    let first_tail = if tail {
+        first_tail(edge, down)?
+    } else {
+        edge.prec().tail()
+    };
+    let range = Range::of(edge.prec().head(), first_tail);
+    Some(Drawn {
+        first,
+        range,
+        down,
+        head,
+        tail,
+        count: 0,
+    })
+}
+
+// Whether the cells of a run all refer to the ones before them alone, or all to the next ones.
+fn are_neighbours(drawn: &Drawn, pairs: &[Pair]) -> bool {
+    let mut before = true;
+    let mut behind = true;
+    for pair in pairs {
+        let head = pair.area.range.head();
+        let alone = pair.area.range.cells() == 1;
+        before = before && alone && stepped(head, drawn.down, 1) == Some(pair.cell);
+        behind = behind && alone && stepped(pair.cell, drawn.down, 1) == Some(head);
+    }
+    before || behind
+}
+
+// The cells of some pairs, and those of their ranges.
+fn extent_of(pairs: &[Pair]) -> (u32, u32) {
+    let mut run = 0;
+    let mut rectangle = 0;
+    for pair in pairs {
+        run |= pair.at;
+        rectangle |= pair.area.cells;
+    }
+    (run, rectangle)
+}
+
+// Whether an edge stands for exactly the pairs of two parts, one behind the other, has the run and the rectangle that
+// hold them, and is called a Single and a Chain where it has to be.
+fn stands_for(edge: &Edge, front: &[Pair], rear: &[Pair]) -> bool {
+    let Some(drawn) = drawing_of(edge) else {
+        return false;
+    };
+    let (front_run, front_cells) = extent_of(front);
+    let (rear_run, rear_cells) = extent_of(rear);
+    let single = front.len() == 1 && rear.is_empty();
+    let chain = !single && are_neighbours(&drawn, front) && are_neighbours(&drawn, rear);
+    follow(&drawn, 0, front)
+        && follow(&drawn, count_of(front), rear)
+        && cells_of(edge.dep()) == front_run | rear_run
+        && cells_of(edge.prec()) == front_cells | rear_cells
+        && (edge.pattern() == Pattern::Single) == single
+        && (edge.pattern() == Pattern::Chain) == chain
+}
+
+// Whether there is an edge that stands for these pairs, and none exactly where there are no pairs.
+fn finds(edge: &Option<Edge>, pairs: &[Pair]) -> bool {
+    match edge {
+        None => pairs.is_empty(),
+        Some(edge) => stands_for(edge, pairs, &[]),
+    }
+}
+
+// The edge with these pairs, by joining them one after the other.
+fn edge_of(pairs: &[Pair]) -> Option<Edge> {
+    let mut joined: Option<Edge> = None;
+    for pair in pairs {
+        let single = pair.single();
+        joined = match &joined {
+            None => Some(single),
+            Some(front) => Some(join(front, &single)?),
+        };
+    }
+    joined
+}
+
+fn cells_in(range: Option<Range>) -> u32 {
+    range.map_or(0, cells_of)
+}
+
+// Whether an edge answers a query as its pairs do.
+fn agrees(edge: &Edge, pairs: &[Pair], query: &Area) -> bool {
+    let asked = query.cells;
+    let chain = edge.pattern() == Pattern::Chain;
+    let onward = if chain {
+        all_dependents(pairs, asked)
+    } else {
+        dependents(pairs, asked)
+    };
+    let behind = if chain {
+        all_precedents(pairs, asked)
+    } else {
+        precedents(pairs, asked)
+    };
+    cells_in(direct(edge, query.range)) == dependents(pairs, asked)
+        && cells_in(spread(edge, query.range)) == onward
+        && cells_in(back(edge, query.range)) == behind
+}
+
+// Whether each cell can be taken out of an edge, so that the parts stand for the pairs before it and for
+// those after it.
+fn splits(edge: &Edge, pairs: &[Pair]) -> bool {
+    for (index, pair) in pairs.iter().enumerate() {
+        if !edge.dep().contains(pair.cell) {
+            return false;
+        }
+        let (before, after) = split(edge, pair.cell);
+        let (front, rear) = (&pairs[..index], &pairs[index + 1..]);
+        if !finds(&before, front)
+            || !finds(&after, rear)
+            || !joins_again(edge, before, pair, after)
+        {
+            return false;
+        }
+    }
+    true
+}
+
+// Whether the cell that was taken out can be put between the parts again.
+fn joins_again(edge: &Edge, before: Option<Edge>, pair: &Pair, after: Option<Edge>) -> bool {
+    let single = pair.single();
+    let front = before.map_or(Some(single), |before| join(&before, &single));
+    let whole = match (front, &after) {
+        (Some(front), Some(after)) => join(&front, after),
+        (front, _) => front,
+    };
+    whole == Some(*edge)
+}
+
+// Whether an edge goes on with a range at the next cell; one cell goes on whatever moves.
+fn continues(drawn: &Drawn, area: &Area) -> bool {
+    let next = |head: bool, tail: bool| {
+        let onward = Drawn {
+            head,
+            tail,
+            ..*drawn
+        };
+        pair_at(&onward, drawn.count).map(|pair| pair.area) == Some(*area)
+    };
+    if drawn.count > 1 {
+        return next(drawn.head, drawn.tail);
+    }
+    next(true, true) || next(true, false) || next(false, true) || next(false, false)
+}
+
+// Whether one more pair next to the last can be joined exactly where it goes on as the edge does, in either order.
+fn goes_on(small: &Small, areas: &[Area]) -> bool {
+    let Some(at) = stepped(small.drawn.first, small.drawn.down, small.drawn.count) else {
+        return true;
+    };
+    areas.iter().all(|area| {
+        let single = Edge::single(at, area.range);
+        let joined = join(&small.edge, &single);
+        joined.is_some() == continues(&small.drawn, area) && join(&single, &small.edge) == joined
+    })
+}
+
+// Whether two edges are joined exactly where one edge can stand for the pairs of both, into one that does.
+fn joins(a: &Small, b: &Small) -> bool {
+    match join(&a.edge, &b.edge) {
+        None => !are_regular(&a.pairs, &b.pairs) && !are_regular(&b.pairs, &a.pairs),
+        Some(joined) => {
+            (are_regular(&a.pairs, &b.pairs) && stands_for(&joined, &a.pairs, &b.pairs))
+                || (are_regular(&b.pairs, &a.pairs) && stands_for(&joined, &b.pairs, &a.pairs))
+        }
+    }
+}
+
+// Which edges of a grid are drawn: how many rows and columns it has, and how many cells they have at least and at most.
+#[derive(Clone, Copy)]
+struct Kind {
+    side: u32,
+    least: u32,
+    most: u32,
+}
+
+// Whether a cell and a range stand in a grid with so many rows and columns.
+fn fits(pair: &Pair, side: u32) -> bool {
+    let tail = pair.area.range.tail();
+    pair.cell.row() <= side && pair.cell.col() <= side && tail.row() <= side && tail.col() <= side
+}
+
+// The edges that are drawn from a cell and a range, each with its pairs.
+fn edges_from(alloc: Global, first: Cell, range: Range, kind: Kind) -> Result<Vec<Small>, Fail> {
+    let mut edges = Vec::new(alloc);
+    for choice in 0..32u32 {
+        let Some(drawn) = drawn_from(first, range, choice) else {
+            continue;
+        };
+        if drawn.count < kind.least || drawn.count > kind.most {
+            continue;
+        }
+        let Some(pairs) = pairs_of(alloc, &drawn)? else {
+            continue;
+        };
+        if pairs.iter().all(|pair| fits(pair, kind.side)) {
+            let edge = edge_of(&pairs).ok_or("not joined")?;
+            edges.push(Small { drawn, pairs, edge })?;
+        }
+    }
+    Ok(edges)
+}
+
+// All edges of a kind.
+fn grid_edges(alloc: Global, kind: Kind) -> Result<Vec<Small>, Fail> {
+    let areas = grid_areas(alloc, kind.side)?;
+    let mut edges = Vec::new(alloc);
+    for first in areas.iter().filter(|area| area.range.cells() == 1) {
+        for area in &areas {
+            for small in edges_from(alloc, first.range.head(), area.range, kind)? {
+                edges.push(small)?;
+            }
+        }
+    }
+    Ok(edges)
+}
+
+#[test]
+fn small_edges_answer_as_their_pairs_do(rt: HostRuntime) -> Result<(), Fail> {
+    let alloc = rt.alloc();
+    let areas = grid_areas(alloc, 5)?;
+    let kind = Kind {
+        side: 5,
+        least: 1,
+        most: 4,
+    };
+    for first in areas.iter().filter(|area| area.range.cells() == 1) {
+        for area in &areas {
+            for small in &edges_from(alloc, first.range.head(), area.range, kind)? {
+                let (edge, pairs) = (&small.edge, &small.pairs);
+                assert!(rt; stands_for(edge, pairs, &[]));
+                assert!(rt; areas.iter().all(|query| agrees(edge, pairs, query)));
+                assert!(rt; splits(edge, pairs));
+                assert!(rt; goes_on(small, &areas));
+            }
+        }
+    }
+    Ok(())
+}
+
+// All edges of a grid of 3 by 3 with all, so those that cross, overlap, leave a gap or run beside one another too.
+#[test]
+fn small_edges_are_joined_where_one_edge_has_their_pairs(rt: HostRuntime) -> Result<(), Fail> {
+    let kind = Kind {
+        side: 3,
+        least: 1,
+        most: 3,
+    };
+    let edges = grid_edges(rt.alloc(), kind)?;
+    for a in &edges {
+        for b in &edges {
+            assert!(rt; joins(a, b));
+        }
+    }
+    Ok(())
+}
+
+// The runs of two cells in a grid of 4 by 4, each with all that go on where it ends.
+#[test]
+fn pairs_of_small_runs_are_joined_where_one_edge_has_their_pairs(
+    rt: HostRuntime,
+) -> Result<(), Fail> {
+    let kind = Kind {
+        side: 4,
+        least: 2,
+        most: 2,
+    };
+    let edges = grid_edges(rt.alloc(), kind)?;
+    for a in &edges {
+        let next = stepped(a.edge.dep().tail(), a.drawn.down, 1);
+        for b in edges.iter().filter(|b| next == Some(b.drawn.first)) {
+            assert!(rt; joins(a, b) && joins(b, a));
+        }
+    }
+    Ok(())
+}
+
+// The chain of the last row, up to the last column that has a name.
+fn row_chain() -> Result<Edge, Fail> {
+    let mut before = Cell::new(1048576, 1).ok_or("no cell")?;
+    let mut chain: Option<Edge> = None;
+    for col in 2..16385u32 {
+        let cell = Cell::new(1048576, col).ok_or("no cell")?;
+        let single = Edge::single(cell, Range::of(before, before));
+        chain = match &chain {
+            None => Some(single),
+            Some(chain) => Some(join(chain, &single).ok_or("not joined")?),
+        };
+        before = cell;
+    }
+    Ok(chain.ok_or("no chain")?)
+}
+
+#[test]
+fn edges_reach_the_ends_of_names(rt: HostRuntime) -> Result<(), Fail> {
+    let chain = row_chain()?;
+    let whole = range("A1:XFD1048576")?;
+    assert_eq!(rt; chain.pattern(), Pattern::Chain);
+    assert_eq!(rt; chain.dep(), range("B1048576:XFD1048576")?);
+    assert_eq!(rt; chain.prec(), range("A1048576:XFC1048576")?);
+    assert_eq!(rt; direct(&chain, whole), Some(chain.dep()));
+    assert_eq!(rt;
+        spread(&chain, range("XFC1048576")?),
+        Some(range("XFD1048576")?)
+    );
+    assert_eq!(rt; spread(&chain, range("XFD1048576")?), None);
+    assert_eq!(rt; back(&chain, range("XFD1048576")?), Some(chain.prec()));
+    assert_eq!(rt; back(&chain, range("A1048576")?), None);
+    let last = Cell::new(1048576, 16384).ok_or("no cell")?;
+    if !chain.dep().contains(last) {
+        return Err(Fail::from("not in the run"));
+    }
+    let (before, after) = split(&chain, last);
+    assert_eq!(rt;
+        before.map(|edge| edge.dep()),
+        Some(range("B1048576:XFC1048576")?)
+    );
+    assert_eq!(rt; after, None);
+    Ok(())
+}
+
+#[test]
+fn edges_refer_to_the_whole_space_of_names(rt: HostRuntime) -> Result<(), Fail> {
+    let whole = range("A1:XFD1048576")?;
+    let last = Cell::new(1048576, 16384).ok_or("no cell")?;
+    let above = Cell::new(1048575, 16384).ok_or("no cell")?;
+    let run = join(&Edge::single(last, whole), &Edge::single(above, whole)).ok_or("not joined")?;
+    assert_eq!(rt; run.pattern(), Pattern::Ff);
+    assert_eq!(rt; back(&run, range("XFD1048575")?), Some(whole));
+    assert_eq!(rt;
+        direct(&run, range("A1")?),
+        Some(range("XFD1048575:XFD1048576")?)
+    );
+    assert_eq!(rt; spread(&run, whole), Some(range("XFD1048575:XFD1048576")?));
+    Ok(())
+}
+
+fn range(text: &str) -> Result<Range, Fail> {
+    Ok(range_of(text.as_bytes()).ok_or("no range")?)
+}

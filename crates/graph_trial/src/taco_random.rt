@@ -1,0 +1,245 @@
+// Thousands of changes of a small grid in no order, over an index that answers and over one that never does: after each
+// of them no two edges can be joined, by a look at all two, and the pairs are those of a plain list.
+use edge_patterns::{Edge, Pattern, back, join};
+use graph_walk::Graph;
+use range_index::{ListIndex, RangeIndex};
+use sheet_refs::{Cell, Memory, Range, Refs};
+use std::alloc::Global;
+use std::test::Fail;
+use taco_graph::Taco;
+use tree_index::TreeIndex;
+
+// An index whose queries want memory, always, after they have answered.
+#[derive(Drop)]
+struct Refusing {
+    list: ListIndex,
+}
+
+impl RangeIndex for Refusing {
+    ghost entries = { λ i. i.list.entries };
+
+    ghost spare = { λ i. i.list.spare };
+
+    fn empty(alloc: Global) -> Refusing {
+        Refusing {
+            list: ListIndex::empty(alloc),
+        }
+    }
+
+    fn reserve(&mut self, inserts: u32) -> Result<(), Memory> {
+        self.list.reserve(inserts)
+    }
+
+    fn insert(&mut self, id: usize, range: Range) {
+        self.list.insert(id, range);
+    }
+
+    fn remove(&mut self, id: usize, range: Range) {
+        self.list.remove(id, range);
+    }
+
+    fn change(&mut self, id: usize, from: Range, to: Range) {
+        self.list.change(id, from, to);
+    }
+
+    fn overlapping(&self, q: Range, out: &mut Vec<usize>) -> Result<(), Memory> {
+        let _ = self.list.overlapping(q, out);
+        Err(Memory)
+    }
+}
+
+// The rows and columns of the grid.
+const SIZE: u32 = 6;
+
+// A cell of the grid.
+fn cell_at(place: u32) -> Result<Cell, Fail> {
+    Ok(Cell::new(place / SIZE % SIZE + 1, place % SIZE + 1).ok_or("no cell")?)
+}
+
+// A range of a cell by a number below four: none, the cell above it, what lies between A1 and the cell, or A1.
+fn range_by(cell: Cell, kind: u32) -> Result<Option<Range>, Fail> {
+    let corner = Cell::new(1, 1).ok_or("no cell")?;
+    Ok(match kind {
+        1 => Cell::new(cell.row() - 1, cell.col()).map(|above| Range::of(above, above)),
+        2 => Some(Range::of(corner, cell)),
+        3 => Some(Range::of(corner, corner)),
+        _ => None,
+    })
+}
+
+// None, one or two ranges.
+fn refs_of(alloc: Global, one: Option<Range>, other: Option<Range>) -> Result<Refs, Fail> {
+    let Some(first) = one else {
+        return refs_of_one(alloc, other);
+    };
+    let Some(second) = other else {
+        return refs_of_one(alloc, one);
+    };
+    if first == second {
+        return refs_of_one(alloc, one);
+    }
+    Ok(Refs::of(alloc, &[first, second])?)
+}
+
+fn refs_of_one(alloc: Global, one: Option<Range>) -> Result<Refs, Fail> {
+    let Some(range) = one else {
+        return Ok(Refs::of(alloc, &[])?);
+    };
+    Ok(Refs::of(alloc, &[range])?)
+}
+
+// The range that an edge gives a cell.
+fn range_in(edge: &Edge, cell: Cell) -> Option<Range> {
+    if !edge.dep().contains(cell) {
+        return None;
+    }
+    if edge.pattern() != Pattern::Chain {
+        return back(edge, Range::of(cell, cell));
+    }
+    let (from, to) = (edge.dep().head(), edge.prec().head());
+    let row = (cell.row() + to.row()).saturating_sub(from.row());
+    let col = (cell.col() + to.col()).saturating_sub(from.col());
+    let Some(there) = Cell::new(row, col) else {
+        return None;
+    };
+    Some(Range::of(there, there))
+}
+
+// Whether one of the edges gives a cell this range.
+fn gives(edges: &[Edge], cell: Cell, range: Range) -> bool {
+    for edge in edges {
+        if range_in(edge, cell) == Some(range) {
+            return true;
+        }
+    }
+    false
+}
+
+// Whether two of the edges can be joined.
+fn joins_two(edges: &[Edge]) -> bool {
+    for later in 0..edges.len() {
+        for earlier in 0..later {
+            if join(&edges[later], &edges[earlier]).is_some() {
+                return true;
+            }
+        }
+    }
+    false
+}
+
+// The next of some numbers that look random, below 2,147,483,648.
+fn next(seed: u32) -> u32 {
+    ((u64::from(seed) * 1103515245 + 12345) % 2147483648) as u32
+}
+
+// A cell and a range to which it refers.
+#[derive(Clone, Copy)]
+struct Pair {
+    cell: Cell,
+    range: Range,
+}
+
+// The pairs of a list without those of a cell, and with these ranges of it.
+fn replaced(
+    alloc: Global,
+    pairs: &[Pair],
+    cell: Cell,
+    ranges: &[Range],
+) -> Result<Vec<Pair>, Fail> {
+    let mut now = Vec::new(alloc);
+    for pair in pairs {
+        if pair.cell != cell {
+            now.push(*pair)?;
+        }
+    }
+    for range in ranges {
+        now.push(Pair {
+            cell,
+            range: *range,
+        })?;
+    }
+    Ok(now)
+}
+
+// Whether the edges have the pairs of a list, and no more.
+fn has_pairs(edges: &[Edge], pairs: &[Pair]) -> bool {
+    let mut count = 0u64;
+    for edge in edges {
+        count = count.saturating_add(edge.dep().cells());
+    }
+    for pair in pairs {
+        if !gives(edges, pair.cell, pair.range) {
+            return false;
+        }
+    }
+    count == pairs.len() as u64
+}
+
+// Makes a change of a graph and of a list of pairs, and tells whether the edges are right afterwards.
+fn change<I: RangeIndex>(
+    alloc: Global,
+    graph: &mut Taco<I>,
+    pairs: &mut Vec<Pair>,
+    seed: u32,
+) -> Result<bool, Fail> {
+    let cell = cell_at(seed / 65536 % 36)?;
+    let one = range_by(cell, seed / 8388608 % 4)?;
+    let other = range_by(cell, seed / 33554432 % 4)?;
+    let refs = refs_of(alloc, one, other)?;
+    graph.reserve(1)?;
+    graph.replace(cell, &refs);
+    *pairs = replaced(alloc, pairs, cell, refs.ranges())?;
+    let edges = graph.edges()?;
+    Ok(has_pairs(&edges, pairs) && !joins_two(&edges))
+}
+
+// Makes so many changes, drawn from a number, and tells whether the edges were right after each.
+fn walk<I: RangeIndex + Drop>(alloc: Global, changes: u32, first: u32) -> Result<bool, Fail> {
+    let mut graph = Taco::<I>::new(alloc);
+    let mut pairs = Vec::new(alloc);
+    let mut seed = first;
+    for _ in 0..changes {
+        seed = next(seed);
+        if !change(alloc, &mut graph, &mut pairs, seed)? {
+            return Ok(false);
+        }
+    }
+    Ok(true)
+}
+
+#[test]
+fn no_two_edges_can_be_joined(rt: HostRuntime) -> Result<(), Fail> {
+    assert!(rt; walk::<TreeIndex>(rt.alloc(), 5000, 1)?);
+    Ok(())
+}
+
+// The same where all edges are looked at, which takes longer, in five parts.
+#[test]
+fn nor_where_the_index_wants_memory(rt: HostRuntime) -> Result<(), Fail> {
+    assert!(rt; walk::<Refusing>(rt.alloc(), 1000, 1)?);
+    Ok(())
+}
+
+#[test]
+fn nor_where_it_wants_memory_in_a_second_part(rt: HostRuntime) -> Result<(), Fail> {
+    assert!(rt; walk::<Refusing>(rt.alloc(), 1000, 2)?);
+    Ok(())
+}
+
+#[test]
+fn nor_where_it_wants_memory_in_a_third_part(rt: HostRuntime) -> Result<(), Fail> {
+    assert!(rt; walk::<Refusing>(rt.alloc(), 1000, 3)?);
+    Ok(())
+}
+
+#[test]
+fn nor_where_it_wants_memory_in_a_fourth_part(rt: HostRuntime) -> Result<(), Fail> {
+    assert!(rt; walk::<Refusing>(rt.alloc(), 1000, 4)?);
+    Ok(())
+}
+
+#[test]
+fn nor_where_it_wants_memory_in_a_fifth_part(rt: HostRuntime) -> Result<(), Fail> {
+    assert!(rt; walk::<Refusing>(rt.alloc(), 1000, 5)?);
+    Ok(())
+}

@@ -1,0 +1,3 @@
+pub mod TwoTestCells
+pub mod EightTestCells
+pub mod Threads

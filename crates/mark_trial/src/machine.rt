@@ -1,0 +1,264 @@
+// The machine event by event: what no clause says, that each event has the outcome that a person expects, or isn't
+// allowed. The expected outcomes were worked out by hand.
+use crate::two_cells::TwoTestCells;
+use mark_core::{Clean, Core, Event, Memory, Outcome, Seen, shown};
+use std::alloc::Global;
+use std::process::Abort;
+use std::test::Fail;
+
+/// Events, each with the outcome that is wanted, or `None` where it isn't to be allowed.
+type Steps = Vec<(Event<u32>, Option<Outcome>)>;
+
+/// The views: the editor, a worker and a viewer.
+const EDITOR: u32 = 0;
+
+const WORKER: u32 = 1;
+
+const VIEWER: u32 = 2;
+
+/// Does the event and answers its outcome, or `None` where it isn't allowed.
+fn act(core: &mut Core<TwoTestCells>, event: Event<u32>) -> Result<Option<Outcome>, Memory> {
+    if !core.has_room(&event) || !core.allows(&event)? {
+        return Ok(None);
+    }
+    Ok(Some(core.step(event)?))
+}
+
+/// Does each event and compares its outcome with the one beside it.
+fn run(rt: &impl Abort, core: &mut Core<TwoTestCells>, steps: Steps) -> Result<(), Memory> {
+    for (event, wanted) in steps {
+        assert_eq!(rt; act(core, event)?, wanted);
+    }
+    Ok(())
+}
+
+fn free(upto: u64) -> Clean {
+    Clean { upto, held: false }
+}
+
+fn held(upto: u64) -> Clean {
+    Clean { upto, held: true }
+}
+
+fn done() -> Option<Outcome> {
+    Some(Outcome::Done)
+}
+
+fn count(number: u64) -> Option<Outcome> {
+    Some(Outcome::Count(number))
+}
+
+fn claimed(taken: bool) -> Option<Outcome> {
+    Some(Outcome::Claimed(taken))
+}
+
+fn see(view: u32) -> Event<u32> {
+    Event::See { view }
+}
+
+fn split(view: u32) -> Event<u32> {
+    Event::Split { view }
+}
+
+fn join(view: u32, other: u32) -> Event<u32> {
+    Event::Join { view, other }
+}
+
+fn mark(entry: u32, place: u32) -> Event<u32> {
+    let view = EDITOR;
+    Event::Mark { view, entry, place }
+}
+
+fn commit(entry: u32) -> Event<u32> {
+    let view = EDITOR;
+    Event::Commit { view, entry }
+}
+
+fn claim(view: u32, place: u32, upto: u64) -> Event<u32> {
+    let seen = free(upto);
+    Event::Claim { view, place, seen }
+}
+
+fn put(view: u32, place: u32, number: u32) -> Event<u32> {
+    let word = TwoTestCells::code(u64::from(number));
+    Event::Put { view, place, word }
+}
+
+fn finish(view: u32, place: u32, mark: u64) -> Event<u32> {
+    Event::Finish { view, place, mark }
+}
+
+/// The view reads the three words of the place: this clean word, this value and this mark.
+fn reading(
+    alloc: Global,
+    view: u32,
+    place: u32,
+    clean: Clean,
+    word: u64,
+    mark: u64,
+) -> Result<Steps, Memory> {
+    Ok(vec![in alloc;
+        (
+            Event::ReadClean { view, place },
+            Some(Outcome::Clean(clean))
+        ),
+        (Event::ReadValue { view, place }, Some(Outcome::Word(word))),
+        (Event::ReadMark { view, place }, Some(Outcome::Mark(mark))),
+    ]?)
+}
+
+/// The worker reads the place as stale, claims it, puts the number and finishes for the mark.
+fn compute(
+    rt: &impl Abort,
+    alloc: Global,
+    core: &mut Core<TwoTestCells>,
+    place: u32,
+    old: (u64, u64),
+    number: u32,
+    mark: u64,
+) -> Result<(), Memory> {
+    run(
+        rt,
+        core,
+        reading(alloc, WORKER, place, free(old.0), old.1, mark)?,
+    )?;
+    let work = vec![in alloc;
+        (claim(WORKER, place, old.0), claimed(true)),
+        (put(WORKER, place, number), done()),
+        (finish(WORKER, place, mark), done()),
+    ]?;
+    run(rt, core, work)
+}
+
+/// The first cell opens with the number 1, and the second has a formula. The worker and the viewer come
+/// to be, the editor sets the first cell to 5, and the worker learns of it.
+fn set_to_5(rt: &impl Abort, alloc: Global) -> Result<Core<TwoTestCells>, Memory> {
+    let mut core = Core::open(alloc, TwoTestCells, &[Some(TwoTestCells::code(1)), None])?;
+    let steps = vec![in alloc;
+        (split(EDITOR), Some(Outcome::Seat(WORKER))),
+        (split(EDITOR), Some(Outcome::Seat(VIEWER))),
+        (mark(5, 0), done()),
+        (mark(5, 1), done()),
+        (commit(5), count(1)),
+        (split(EDITOR), Some(Outcome::Seat(3))),
+        (join(WORKER, 3), done()),
+    ]?;
+    run(rt, &mut core, steps)?;
+    Ok(core)
+}
+
+/// The same, and both cells were computed for it.
+fn computed_5(rt: &impl Abort, alloc: Global) -> Result<Core<TwoTestCells>, Memory> {
+    let mut core = set_to_5(rt, alloc)?;
+    compute(rt, alloc, &mut core, 0, (1, TwoTestCells::code(1)), 5, 1)?;
+    compute(rt, alloc, &mut core, 1, (0, 0), 6, 1)?;
+    Ok(core)
+}
+
+#[test]
+fn a_value_computed_for_a_later_edit_is_shown_as_newer(rt: HostRuntime) -> Result<(), Fail> {
+    let alloc = rt.alloc();
+    let mut core = computed_5(&rt, alloc)?;
+    let editing = vec![in alloc;
+        (see(VIEWER), count(1)),
+        (mark(6, 0), done()),
+        (mark(6, 1), done()),
+        (commit(6), count(2)),
+        (split(EDITOR), Some(Outcome::Seat(4))),
+        (join(WORKER, 4), done()),
+    ]?;
+    run(&rt, &mut core, editing)?;
+    compute(&rt, alloc, &mut core, 0, (2, TwoTestCells::code(5)), 6, 2)?;
+    let steps = reading(alloc, VIEWER, 0, free(3), 72057594037927985, 2)?;
+    run(&rt, &mut core, steps)?;
+    assert_eq!(rt; shown(1, free(3), 72057594037927985, 2), Seen::Newer(2));
+    Ok(())
+}
+
+#[test]
+fn a_marked_place_is_shown_as_stale_before_the_commit(rt: HostRuntime) -> Result<(), Fail> {
+    let alloc = rt.alloc();
+    let mut core = computed_5(&rt, alloc)?;
+    let editing = vec![in alloc;
+        (see(VIEWER), count(1)),
+        (mark(6, 0), done()),
+        (commit(6), None),
+    ]?;
+    run(&rt, &mut core, editing)?;
+    let steps = reading(alloc, VIEWER, 0, free(2), TwoTestCells::code(5), 2)?;
+    run(&rt, &mut core, steps)?;
+    assert_eq!(rt; shown(1, free(2), TwoTestCells::code(5), 2), Seen::Stale(2));
+    let steps = reading(alloc, VIEWER, 1, free(2), TwoTestCells::code(6), 1)?;
+    run(&rt, &mut core, steps)?;
+    assert_eq!(rt;
+        shown(1, free(2), TwoTestCells::code(6), 1),
+        Seen::Value(TwoTestCells::code(6))
+    );
+    Ok(())
+}
+
+/// Two views read the place as stale, and the slower one claims it in vain, before and after the finish.
+#[test]
+fn a_stale_worker_is_refused_its_claim(rt: HostRuntime) -> Result<(), Fail> {
+    let alloc = rt.alloc();
+    let mut core = set_to_5(&rt, alloc)?;
+    for view in [VIEWER, WORKER] {
+        run(
+            &rt,
+            &mut core,
+            reading(alloc, view, 0, free(1), TwoTestCells::code(1), 1)?,
+        )?;
+    }
+    let (view, place) = (VIEWER, 0);
+    let racing = vec![in alloc;
+        (claim(WORKER, 0, 1), claimed(true)),
+        (claim(VIEWER, 0, 1), claimed(false)),
+        (
+            Event::ReadClean { view, place },
+            Some(Outcome::Clean(held(1)))
+        ),
+        (put(VIEWER, 0, 5), None),
+        (put(WORKER, 0, 5), done()),
+        (finish(WORKER, 0, 0), None),
+        (finish(WORKER, 0, 1), done()),
+        (claim(VIEWER, 0, 1), claimed(false)),
+        (claim(VIEWER, 0, 2), None),
+        (join(VIEWER, EDITOR), None),
+        (join(EDITOR, VIEWER), done()),
+        (see(VIEWER), None),
+    ]?;
+    run(&rt, &mut core, racing)?;
+    Ok(())
+}
+
+/// The worker finishes for the edit that it computed for, and the place stays stale.
+#[test]
+fn an_edit_between_a_claim_and_its_put_leaves_the_place_stale(rt: HostRuntime) -> Result<(), Fail> {
+    let alloc = rt.alloc();
+    let mut core = set_to_5(&rt, alloc)?;
+    run(
+        &rt,
+        &mut core,
+        reading(alloc, WORKER, 0, free(1), TwoTestCells::code(1), 1)?,
+    )?;
+    let working = vec![in alloc;
+        (claim(WORKER, 0, 1), claimed(true)),
+        (mark(7, 0), done()),
+        (mark(8, 1), None),
+        (mark(7, 1), done()),
+        (commit(7), count(2)),
+        (put(WORKER, 0, 7), None),
+        (put(WORKER, 0, 5), done()),
+        (finish(WORKER, 0, 2), None),
+        (finish(WORKER, 0, 1), done()),
+        (see(VIEWER), count(2)),
+    ]?;
+    run(&rt, &mut core, working)?;
+    run(
+        &rt,
+        &mut core,
+        reading(alloc, VIEWER, 0, free(2), TwoTestCells::code(5), 2)?,
+    )?;
+    assert_eq!(rt; shown(2, free(2), TwoTestCells::code(5), 2), Seen::Stale(2));
+    Ok(())
+}

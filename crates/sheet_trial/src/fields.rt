@@ -1,0 +1,124 @@
+use formula_syntax::Edition;
+use sheet_model::{Change, Content, Labels, Sheet};
+use sheet_refs::Cell;
+use std::alloc::Global;
+use std::fmt::Write;
+use std::mem;
+use std::test::Fail;
+
+/// Appends what a field holds, as a word, the content and a semicolon.
+fn push_content(text: &mut String, sheet: &Sheet, content: &Content) -> Result<(), Fail> {
+    match content {
+        Content::Empty => write!(text, "empty;")?,
+        Content::Number(number) => write!(text, "number {number};")?,
+        Content::Truth(truth) => write!(text, "truth {truth};")?,
+        Content::Error(kind) => write!(text, "error {kind};")?,
+        Content::Label(place) => {
+            if *place >= sheet.labels().length() {
+                return Err(Fail::from("no such label"));
+            }
+            let label = sheet.labels().text(*place);
+            write!(text, "label {place} {label};")?;
+        }
+        Content::Formula(_) => write!(text, "formula;")?,
+    }
+    Ok(())
+}
+
+/// What fields hold, read one after the other into one table.
+fn contents_of(alloc: Global, fields: &[&str]) -> Result<String, Fail> {
+    let mut sheet = Sheet::blank(alloc, 1, 1, Edition::One)?;
+    let mut text = String::new(alloc);
+    for field in fields {
+        if field.len() > 8192 || sheet.labels().length() > 1000 {
+            return Err(Fail::from("too much for a test"));
+        }
+        match sheet.read(field) {
+            Ok(content) => push_content(&mut text, &sheet, &content)?,
+            Err(_) => text.push_str("refused;")?,
+        }
+    }
+    Ok(text)
+}
+
+#[test]
+fn numbers_have_digits_and_a_sign_within_the_range(rt: HostRuntime) -> Result<(), Fail> {
+    let fields = [
+        "",
+        "12",
+        "+12",
+        "-0012",
+        "9007199254740991",
+        "-9007199254740991",
+    ];
+    let text = contents_of(rt.alloc(), &fields)?;
+    assert_eq!(&rt;
+        text.as_str(),
+        "empty;number 12;number 12;number -12;number 9007199254740991;number -9007199254740991;"
+    );
+    let fields = ["9007199254740992", "-9007199254740992", "+", "+-1", " 1"];
+    let text = contents_of(rt.alloc(), &fields)?;
+    assert_eq!(&rt;
+        text.as_str(),
+        "label 0 9007199254740992;label 1 -9007199254740992;label 2 +;label 3 +-1;label 4  1;"
+    );
+    Ok(())
+}
+
+#[test]
+fn words_are_truths_errors_formulas_or_labels(rt: HostRuntime) -> Result<(), Fail> {
+    let fields = [
+        "TRUE", "fAlSe", "#DIV/0!", "#N/A", "TRUE1", "#CIRC!", "#num!",
+    ];
+    let text = contents_of(rt.alloc(), &fields)?;
+    assert_eq!(&rt;
+        text.as_str(),
+        "truth true;truth false;error #DIV/0!;error #N/A;label 0 TRUE1;label 1 #CIRC!;label 2 #num!;"
+    );
+    let fields = ["=1+A1", "of:=1", "OF:=1", "=FOO(1)", "=", "x=1", "OF:=1"];
+    let text = contents_of(rt.alloc(), &fields)?;
+    assert_eq!(&rt;
+        text.as_str(),
+        "formula;formula;label 0 OF:=1;error #NAME?;error #NAME?;label 1 x=1;label 0 OF:=1;"
+    );
+    Ok(())
+}
+
+#[test]
+fn a_change_gives_back_what_the_cell_held(rt: HostRuntime) -> Result<(), Fail> {
+    let mut sheet = Sheet::blank(rt.alloc(), 2, 2, Edition::One)?;
+    let cell = Cell::new(2, 1).ok_or("no such cell")?;
+    let mut text = String::new(rt.alloc());
+    for field in ["7", "x"] {
+        if field.len() > 8192 || sheet.labels().length() > 1000 || !sheet.holds(cell) {
+            return Err(Fail::from("too much for a test"));
+        }
+        let content = sheet.read(field)?;
+        let before = sheet.put(Change { cell, content });
+        push_content(&mut text, &sheet, &before)?;
+    }
+    push_content(&mut text, &sheet, sheet.content(cell))?;
+    assert_eq!(&rt; text.as_str(), "empty;number 7;label 0 x;");
+    Ok(())
+}
+
+#[test]
+fn a_table_keeps_each_text_once(rt: HostRuntime) -> Result<(), Fail> {
+    let mut labels = Labels::new(rt.alloc());
+    let mut places = String::new(rt.alloc());
+    for text in ["x", "y", "x", "", "y"] {
+        if labels.length() > 100 {
+            return Err(Fail::from("too much for a test"));
+        }
+        let place = labels.intern(text)?;
+        write!(places, "{place};")?;
+    }
+    assert_eq!(&rt; places.as_str(), "0;1;0;2;1;");
+    assert_eq!(&rt; labels.length(), 3);
+    Ok(())
+}
+
+#[test]
+fn a_content_takes_sixteen_bytes(rt: HostRuntime) {
+    assert_eq!(&rt; mem::size_of::<Content>(), 16);
+}

@@ -1,0 +1,170 @@
+use csv_sheet::{SheetRefused, load};
+use sheet_model::{Content, Sheet};
+use sheet_refs::Cell;
+use std::alloc::Global;
+use std::fmt::Write;
+use std::test::Fail;
+
+// Appends what a cell holds, a label by its text.
+fn push_content(text: &mut String, sheet: &Sheet, content: &Content) -> Result<(), Fail> {
+    match content {
+        Content::Empty => text.push('_')?,
+        Content::Number(number) => write!(text, "{number}")?,
+        Content::Truth(truth) => write!(text, "{truth}")?,
+        Content::Error(kind) => write!(text, "{kind}")?,
+        Content::Label(place) => {
+            if *place >= sheet.labels().length() {
+                return Err(Fail::from("no such label"));
+            }
+            let label = sheet.labels().text(*place);
+            write!(text, "{place}<{label}>")?;
+        }
+        Content::Formula(_) => text.push('f')?,
+    }
+    Ok(())
+}
+
+// The sizes of a sheet and what its cells hold, row by row.
+fn push_sheet(text: &mut String, sheet: &Sheet) -> Result<(), Fail> {
+    let rows = sheet.rows();
+    let cols = sheet.cols();
+    write!(text, "{rows}x{cols}:")?;
+    for row in 0..rows {
+        for col in 0..cols {
+            let cell = Cell::new(row + 1, col + 1).ok_or("no such cell")?;
+            push_content(text, sheet, sheet.content(cell))?;
+            text.push(' ')?;
+        }
+    }
+    Ok(())
+}
+
+// What a text gives.
+fn told(alloc: Global, text: &[u8]) -> Result<String, Fail> {
+    if text.len() > 16_777_216 {
+        return Err(Fail::from("a text that is too long"));
+    }
+    let mut answer = String::new(alloc);
+    match load(alloc, text) {
+        Ok(sheet) => push_sheet(&mut answer, &sheet)?,
+        Err(refused) => write!(answer, "{refused}")?,
+    }
+    Ok(answer)
+}
+
+#[test]
+fn texts_have_their_sheets(rt: HostRuntime) -> Result<(), Fail> {
+    let rows: [(&[u8], &str); 22] = [
+        (b"", "0x0:"),
+        (b"\n\r\n", "0x0:"),
+        (b"1,=A1+1\n2,=A2+B1", "2x2:1 f 2 f "),
+        (b"1\r\n2\r\n", "2x1:1 2 "),
+        (b"1\r2", "2x1:1 2 "),
+        (b"x,y,x\n1", "2x3:0<x> 1<y> 0<x> 1 _ _ "),
+        (
+            b"\"a,b\",\"c\"\"d\"\n\"e\nf\"",
+            "2x2:0<a,b> 1<c\"d> 2<e\nf> _ ",
+        ),
+        (b"a\"b,\"c", "1x2:0<a\"b> 1<c> "),
+        (b"1\n\n\"\"\n3", "3x1:1 _ 3 "),
+        (b"\xEF\xBB\xBF\xEF\xBB\xBF1,TRUE", "1x2:1 true "),
+        (b"1,\xEF\xBB\xBF2", "1x2:1 0<\u{FEFF}2> "),
+        (b",", "1x2:_ _ "),
+        (b"#edition 1\n1,=MATCH(1;A1;0)", "1x2:1 #NAME? "),
+        (b"#edition 2\r\n1,=MATCH(1;A1;0)", "1x2:1 f "),
+        (b"#edition 2", "0x0:"),
+        (b"\xEF\xBB\xBF#edition 2\n\xEF\xBB\xBF7", "1x1:7 "),
+        (b"#edition 2\n#edition 2\n1", "2x1:0<#edition 2> 1 "),
+        (b"1\n#edition 2", "2x1:1 0<#edition 2> "),
+        (b"#edition", "1x1:0<#edition> "),
+        (b"#Edition 2\n1", "2x1:0<#Edition 2> 1 "),
+        (b"\"#edition 2\"\n1", "2x1:0<#edition 2> 1 "),
+        (b"=COUNTIF(A1;1)", "1x1:#NAME? "),
+    ];
+    for (text, sheet) in rows {
+        let answer = told(rt.alloc(), text)?;
+        assert_eq!(&rt; answer.as_str(), sheet);
+    }
+    Ok(())
+}
+
+// A text of some bytes many times, between two others.
+fn long_text(
+    alloc: Global,
+    front: &[u8],
+    many: &[u8],
+    times: usize,
+    back: &[u8],
+) -> Result<Vec<u8>, Fail> {
+    let mut text = Vec::new(alloc);
+    text.extend_from_slice(front)?;
+    for _ in 0..times {
+        text.extend_from_slice(many)?;
+    }
+    text.extend_from_slice(back)?;
+    Ok(text)
+}
+
+#[test]
+fn the_first_cause_is_told(rt: HostRuntime) -> Result<(), Fail> {
+    let rows: [(&[u8], &[u8], usize, &[u8], &str); 14] = [
+        (b"1\n", b"\xFF", 1, b"", "sheet: record 2 is not UTF-8"),
+        (b"", b"x", 8193, b"", "sheet: field too long at A1"),
+        (
+            b"1\n2,",
+            b"x",
+            8193,
+            b"\n\xFF",
+            "sheet: record 3 is not UTF-8",
+        ),
+        (b"", b",", 16384, b"", "sheet: too many cells"),
+        (b"", b"1,1\n", 524289, b"", "sheet: too many cells"),
+        (b"=", b"(", 65, b",=A1", "sheet: formula too deep at A1"),
+        (
+            b"1,=A2",
+            b"+A2",
+            255,
+            b"",
+            "sheet: too many references at B1",
+        ),
+        (
+            b"=A2",
+            b"+A2",
+            255,
+            b",=((((((((((((((((((((((((((((((((((((((((((((((((((((((((((((((((((1",
+            "sheet: too many references at A1",
+        ),
+        (b"=", b"(", 65, b",\xFF", "sheet: record 1 is not UTF-8"),
+        (b"#edition 3", b"\n\xFF", 1, b"", "sheet: unknown edition"),
+        (b"#edition ", b"2", 2, b"\n1", "sheet: unknown edition"),
+        (b"#edition 2", b" ", 1, b"\n1", "sheet: unknown edition"),
+        (b"#edition 2", b"\r", 1, b"", "sheet: unknown edition"),
+        (
+            b"#edition 2\n",
+            b"\xFF",
+            1,
+            b"",
+            "sheet: record 1 is not UTF-8",
+        ),
+    ];
+    for (front, many, times, back, line) in rows {
+        let text = long_text(rt.alloc(), front, many, times, back)?;
+        let answer = told(rt.alloc(), text.as_slice())?;
+        assert_eq!(&rt; answer.as_str(), line);
+    }
+    Ok(())
+}
+
+#[test]
+fn the_widest_record_that_fits_is_read(rt: HostRuntime) -> Result<(), Fail> {
+    let text = long_text(rt.alloc(), b"", b",", 16383, b"")?;
+    if text.len() > 16_777_216 {
+        return Err(Fail::from("a text that is too long"));
+    }
+    match load(rt.alloc(), text.as_slice()) {
+        Ok(sheet) => assert_eq!(&rt; sheet.cols(), 16384),
+        Err(SheetRefused::Memory) => return Err(Fail::from("no memory")),
+        Err(_) => return Err(Fail::from("refused")),
+    }
+    Ok(())
+}

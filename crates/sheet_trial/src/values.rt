@@ -1,0 +1,206 @@
+// What no clause says: that values mean what a person expects of them. They were worked out by
+// hand.
+ghost use Rattle.std.specs.Prelude.{◌≡◌, OnOk};
+ghost use Rattle.sheet_model.specs.KeptValues.{KeepsValuesOf};
+ghost use Rattle.sheet_model.specs.Sheets.{IsSheetSize};
+
+use formula_syntax::Edition;
+use sheet_model::{Change, KeptValues, Sheet, all_values};
+use sheet_refs::Cell;
+use std::alloc::Global;
+use std::fmt::Write;
+use std::test::Fail;
+use value_core::{Value, decode};
+
+// Puts what a field says into a cell.
+fn put(sheet: &mut Sheet, row: u32, col: u32, field: &str) -> Result<(), Fail> {
+    let Some(cell) = Cell::new(row, col) else {
+        return Err(Fail::from("no such cell"));
+    };
+    if field.len() > 8_192 || !sheet.holds(cell) || sheet.labels().length() == u32::MAX {
+        return Err(Fail::from("a field that has no place"));
+    }
+    let Ok(content) = sheet.read(field) else {
+        return Err(Fail::from("a field that is not read"));
+    };
+    let _ = sheet.put(Change { cell, content });
+    Ok(())
+}
+
+// Writes a value with a comma after it; a label by its place.
+fn write_value(value: Value, text: &mut String) -> Result<(), Fail> {
+    match value {
+        Value::Empty => text.push(',')?,
+        Value::Number(number) => write!(text, "{number},")?,
+        Value::Truth(true) => text.push_str("TRUE,")?,
+        Value::Truth(false) => text.push_str("FALSE,")?,
+        Value::Error(kind) => write!(text, "{kind},")?,
+        Value::Label(place) => write!(text, "label {place},")?,
+    }
+    Ok(())
+}
+
+// The first values, as many as asked for.
+fn shown(alloc: Global, sheet: &Sheet, count: usize) -> Result<String, Fail> {
+    let mut text = String::new(alloc);
+    for code in all_values(alloc, sheet)?.iter().take(count) {
+        write_value(decode(*code).ok_or("no value has this code")?, &mut text)?;
+    }
+    Ok(text)
+}
+
+// Asks for the value of a cell of the first column, and writes it.
+fn ask(kept: &mut KeptValues, sheet: &Sheet, row: u32, text: &mut String) -> Result<(), Fail>
+    requires { KeepsValuesOf sheet.now kept.old }
+    ensures { OnOk result (KeepsValuesOf sheet.now kept.new) }
+{
+    let Some(cell) = Cell::new(row, 1) else {
+        return Err(Fail::from("no such cell"));
+    };
+    if !sheet.holds(cell) {
+        return Err(Fail::from("a cell outside"));
+    }
+    let value = kept.value(sheet, cell)?;
+    write_value(value, text)
+}
+
+// The values of a sheet of three columns and three rows with these fields, row by row.
+fn values_of(alloc: Global, fields: &[&str]) -> Result<String, Fail> {
+    let mut sheet = Sheet::blank(alloc, 3, 3, Edition::One)?;
+    for (place, field) in fields.iter().enumerate() {
+        if place >= 9 {
+            return Err(Fail::from("more fields than cells"));
+        }
+        let place = place as u32;
+        put(&mut sheet, place / 3 + 1, place % 3 + 1, *field)?;
+    }
+    shown(alloc, &sheet, fields.len())
+}
+
+// Gives the sheets whose values are other than wanted.
+fn unlike(alloc: Global, table: &[(&[&str], &str)]) -> Result<String, Fail> {
+    let mut others = String::new(alloc);
+    for (fields, wanted) in table {
+        let values = values_of(alloc, *fields)?;
+        if values.as_str() != *wanted {
+            write!(others, "{values} in place of {wanted}; ")?;
+        }
+    }
+    Ok(others)
+}
+
+#[test]
+fn values_of_small_sheets(rt: HostRuntime) -> Result<(), Fail> {
+    let others = unlike(
+        rt.alloc(),
+        &[
+            (&["", "=A1", "=Z9"], ",0,0,"),
+            (&["=B1+C1", "=C1*2", "5"], "15,10,5,"),
+            (&["x", "=A1", "=ISTEXT(A1:A1)"], "label 0,label 0,TRUE,"),
+            (
+                &["=SUM(A2:C3)", "true", "#N/A", "3", "4", "y", "=A2-10"],
+                "0,TRUE,#N/A,3,4,label 0,-7,",
+            ),
+            (
+                &[
+                    "=SUM(A2:XFD1048576)",
+                    "=COUNTBLANK(A1:C9)",
+                    "",
+                    "1",
+                    "2",
+                    "3",
+                ],
+                "6,#CIRC!,,1,2,3,",
+            ),
+            (
+                &[
+                    "=MAX(B1:C3)",
+                    "=MIN(C1:C3)",
+                    "7",
+                    "",
+                    "",
+                    "-2",
+                    "",
+                    "",
+                    "=C1+C2",
+                ],
+                "7,-2,7,,,-2,,,5,",
+            ),
+        ],
+    )?;
+    assert_eq!(rt; others.as_str(), "");
+    Ok(())
+}
+
+#[test]
+fn circular_references(rt: HostRuntime) -> Result<(), Fail> {
+    let others = unlike(
+        rt.alloc(),
+        &[
+            (&["=B1+C1", "=A1+2", "4"], "#CIRC!,#CIRC!,4,"),
+            (
+                &["=IF(TRUE();1;A1)", "=ISERROR(A1)", "=IFERROR(B1;2)"],
+                "#CIRC!,#CIRC!,#CIRC!,",
+            ),
+            (
+                &["=IF(TRUE;1;B1)", "=IF(FALSE;A1;2)", "=NA()"],
+                "#CIRC!,#CIRC!,#N/A,",
+            ),
+            (&["=C1", "=C1", "=COUNT(B1:B2)"], "#CIRC!,#CIRC!,#CIRC!,"),
+            (&["=SUM(A1:C3)", "1", "=COUNTA(B1)"], "#CIRC!,1,1,"),
+            (
+                &[
+                    "=B1",
+                    "=SUM(C1:C2)",
+                    "=SUM(A2:C2)",
+                    "1",
+                    "2",
+                    "=A3",
+                    "=B3",
+                    "=ISERROR(A1)",
+                ],
+                "#CIRC!,#CIRC!,#CIRC!,1,2,#CIRC!,#CIRC!,#CIRC!,",
+            ),
+        ],
+    )?;
+    assert_eq!(rt; others.as_str(), "");
+    Ok(())
+}
+
+// A column in which each cell names all cells below it.
+#[test]
+fn sums_of_columns_that_wait(rt: HostRuntime) -> Result<(), Fail> {
+    let alloc = rt.alloc();
+    let mut sheet = Sheet::blank(alloc, 50, 1, Edition::One)?;
+    put(&mut sheet, 50, 1, "1")?;
+    for row in 1..50 {
+        let below = row + 1;
+        put(
+            &mut sheet,
+            row,
+            1,
+            format!(in alloc; "=SUM(A{below}:A50)")?.as_str(),
+        )?;
+    }
+    assert_eq!(rt; shown(alloc, &sheet, 1)?.as_str(), "281474976710656,");
+    Ok(())
+}
+
+// Each value is that of the sheet, whichever was asked for before.
+#[test]
+fn values_one_after_the_other(rt: HostRuntime) -> Result<(), Fail> {
+    let alloc = rt.alloc();
+    let mut sheet = Sheet::blank(alloc, 4, 1, Edition::One)?;
+    put(&mut sheet, 1, 1, "=A2+A3")?;
+    put(&mut sheet, 2, 1, "=A3*2")?;
+    put(&mut sheet, 3, 1, "5")?;
+    put(&mut sheet, 4, 1, "=A4")?;
+    let mut kept = KeptValues::new(alloc, &sheet)?;
+    let mut text = String::new(alloc);
+    ask(&mut kept, &sheet, 2, &mut text)?;
+    ask(&mut kept, &sheet, 4, &mut text)?;
+    ask(&mut kept, &sheet, 1, &mut text)?;
+    ask(&mut kept, &sheet, 2, &mut text)?;
+    assert_eq!(rt; text.as_str(), "10,#CIRC!,15,10,");
+    Ok(())
+}
