@@ -17,8 +17,6 @@ compiles them anew each time. Refused is what `malloc` and its like are asked fo
 """
 
 import argparse
-import importlib.machinery
-import importlib.util
 import mmap
 import os
 import pathlib
@@ -27,14 +25,12 @@ import subprocess
 import sys
 import tempfile
 
-ROOT = pathlib.Path(__file__).resolve().parent.parent
-PROGRAM = ROOT / "crates" / "antifreeze" / "out" / "antifreeze"
+from measuring import PROGRAM, ROOT, build, judge
+
 SECONDS = 60
 NO_MEMORY = b"antifreeze: out of memory\n"
 
-LOADER = importlib.machinery.SourceFileLoader("judge", str(ROOT / "tests" / "cli" / "judge_live.py"))
-JUDGE = importlib.util.module_from_spec(importlib.util.spec_from_loader("judge", LOADER))
-LOADER.exec_module(JUDGE)
+JUDGE = judge()
 
 # Two numbers in a file that is shared: how many allocations there were, and how many of them were refused.
 SHIM = r"""
@@ -103,6 +99,8 @@ COMMANDS = [
     ("deps in 1,000 totals", "deps s A500:A500", TOTALS, "", False),
     ("play of two formulas", "play s t", WORKED, "set A1 5\nlook A1:B2\nwork 2\nlook A1:B2\n", False),
     ("undo of a batch", "undo s t 1", HOUSEHOLD, BATCH, False),
+    ("fill of a sum in a household", "fill s D2 D2:D5", HOUSEHOLD, "", False),
+    ("fill of a growing sum", "fill s B1 B1:B100", TOTALS, "", False),
     ("live of one client, 1 worker", "live s t --workers 1", WORKED, STORED, False),
     ("live of one client, 4 workers", "live s t --workers 4", WORKED, STORED, False),
     ("live of two clients, 1 worker", "live s t --workers 1", WORKED, TWO, True),
@@ -165,10 +163,7 @@ def main():
     parser.add_argument("--program", metavar="FILE", help="run this program in place of the launcher's")
     given = parser.parse_args()
     if not given.program:
-        # (the launcher builds what isn't built)
-        first = [ROOT / "antifreeze", "show", ROOT / "examples" / "first.csv", "A1:B2"]
-        if subprocess.run(first, stdout=subprocess.DEVNULL).returncode:
-            sys.exit("bench/faults.py: the program could not be built")
+        build()
     program = os.path.abspath(given.program) if given.program else PROGRAM
     failed = False
     with tempfile.TemporaryDirectory(prefix="antifreeze-faults-") as room:

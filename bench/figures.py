@@ -7,8 +7,8 @@ default), those of one line in turn; NAME draws the figures whose names contain 
 it is, with its processors, its load and the day.
 
     commands    show of one cell, deps of A1 and check, over the number of cells: a chain, a fan, a ledger
-    peers       show of one cell of a ledger, over its cells, beside the programs that are installed: ssconvert of Gnumeric,
-                LibreOffice, and a program over libixion (ixion-parser reads another format: left out with a word)
+    peers       show of one cell of a ledger, over its cells, beside the programs that are installed, as bench/peers.py finds
+                them: ssconvert of Gnumeric, LibreOffice, and a small program over libixion
     edges       the edges of check beside its pairs, over the number of cells
     workers     live over the number of workers: a ledger that is computed from nothing
 
@@ -17,21 +17,16 @@ It needs nothing but Python's own modules.
 
 import math
 import pathlib
-import shutil
 import sys
 import tempfile
 
-from measuring import ROOT, STARTER, build, chain, ledger, lines, machine, started, told
+from measuring import ROOT, STARTER, build, called_with, chain, ledger, lines, machine, started, told
+from peers import others
 
 FIGURES = ROOT / "docs" / "figures"
 WIDTH, HEIGHT, LEFT, TOP, RIGHT, BOTTOM = 760, 440, 80, 50, 190, 70
 COLOURS = ("#1b6ca8", "#c8553d", "#3a7d44", "#8d6a9f", "#b8860b", "#444444")
 SIZES = (1_000, 3_000, 10_000, 30_000, 100_000)
-# The other programs: what is looked for on the path, and the words that read sheet.csv and write its values.
-PEERS = {
-    "ssconvert": ("ssconvert", "sheet.csv", "output.csv"),
-    "LibreOffice": ("soffice", "--headless", "--convert-to", "csv", "--outdir", "converted", "sheet.csv"),
-}
 
 
 def fan(count):
@@ -125,11 +120,7 @@ def commands(folder, runs):
 
 def peers(folder, runs):
     """The time by the clock of a ledger beside other programs, each of which reads it and computes its values."""
-    found = {name: words for name, words in PEERS.items() if shutil.which(words[0])}
-    for name in PEERS.keys() - found.keys():
-        print(f"{name} isn't installed, and is left out")
-    print("a program over libixion is left out: none reads CSV")
-    series = {}
+    found, series = others(), {}
     for count in SIZES:
         (folder / "sheet.csv").write_text(of_rows(count))
         taken = {"antifreeze": [], **{name: [] for name in found}}
@@ -177,8 +168,7 @@ def workers(folder, runs):
 
 
 def main():
-    runs = int(sys.argv[1]) if len(sys.argv) > 1 else 3
-    name = sys.argv[2] if len(sys.argv) > 2 else ""
+    runs, name = called_with(__doc__, 3)
     build()
     print(f"{machine()}, least of {runs} runs each")
     for figure in (commands, peers, edges, workers):

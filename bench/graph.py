@@ -18,10 +18,9 @@ How it starts the program is that of bench/measuring.py.
 
 import pathlib
 import random
-import sys
 import tempfile
 
-from measuring import LETTERS, build, chain, head, lines, name, started
+from measuring import LETTERS, build, called_with, chain, head, lines, name, started
 
 
 def books(row):
@@ -124,8 +123,7 @@ def measure(folder, runs, cell, asked="A1"):
 
 
 def main():
-    runs = int(sys.argv[1]) if len(sys.argv) > 1 else 5
-    word = sys.argv[2] if len(sys.argv) > 2 else ""
+    runs, word = called_with(__doc__, 5)
     build()
     head(runs)
     print(f"{'show':>8} {'deps':>7} {'check':>7} {'us/pair':>8} {'B/pair':>8}  edges of pairs")

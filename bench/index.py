@@ -24,7 +24,7 @@ import sys
 import tempfile
 
 import proved
-from measuring import ROOT, STARTER, head, told
+from measuring import ROOT, STARTER, called_with, head, told
 
 SOURCES = ROOT / "bench" / "index"
 LIBRARIES = ["sheet_refs", "range_index", "tree_index", "slab", "arrayvec"]
@@ -90,8 +90,7 @@ def room(program, index):
 
 
 def main():
-    runs = int(sys.argv[1]) if len(sys.argv) > 1 else 3
-    word = sys.argv[2] if len(sys.argv) > 2 else ""
+    runs, word = called_with(__doc__, 3)
     program, has_peer = build()
     indexes = ["list", "grid", "tree"] + ["mdds"] * has_peer
     head(runs)

@@ -15,12 +15,11 @@ takes long where nothing of it is kept; `library` as WORD measures these alone, 
 """
 
 import pathlib
-import sys
 import tempfile
 
 import live_program
 import measuring
-from measuring import build, grid, head, lines, started, sums
+from measuring import build, called_with, grid, head, lines, started, sums
 
 LIVE = "live sheet.csv script.txt"
 FOUR = f"{LIVE} --workers 4"
@@ -118,8 +117,7 @@ def library(runs, word):
 
 
 def main():
-    runs = int(sys.argv[1]) if len(sys.argv) > 1 else 3
-    word = sys.argv[2] if len(sys.argv) > 2 else ""
+    runs, word = called_with(__doc__, 3)
     build()
     head(runs, "least of {runs} runs each, by the clock")
     print(f"{'one':>8} {'other':>8} {'ratio':>7} {'more':>7}")

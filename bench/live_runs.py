@@ -18,8 +18,6 @@ last `N passed, M failed`; the status is 1 where a run failed.
 import argparse
 import collections
 import concurrent.futures
-import importlib.machinery
-import importlib.util
 import os
 import pathlib
 import random
@@ -28,13 +26,11 @@ import subprocess
 import sys
 import tempfile
 
-ROOT = pathlib.Path(__file__).resolve().parent.parent
-PROGRAM = ROOT / "crates" / "antifreeze" / "out" / "antifreeze"
+from measuring import PROGRAM, build, judge
+
 SECONDS = 60
 
-LOADER = importlib.machinery.SourceFileLoader("judge", str(ROOT / "tests" / "cli" / "judge_live.py"))
-JUDGE = importlib.util.module_from_spec(importlib.util.spec_from_loader("judge", LOADER))
-LOADER.exec_module(JUDGE)
+JUDGE = judge()
 
 
 class Drawn:
@@ -127,10 +123,7 @@ def main():
     parser.add_argument("--keep", metavar="FOLDER", help="leave the files of the last run there, and make one at a time")
     given = parser.parse_args()
     if not given.program:
-        # (the launcher builds what isn't built)
-        first = [ROOT / "antifreeze", "show", ROOT / "examples" / "first.csv", "A1:B2"]
-        if subprocess.run(first, stdout=subprocess.DEVNULL).returncode:
-            sys.exit("bench/live_runs.py: the program could not be built")
+        build()
     program = os.path.abspath(given.program) if given.program else str(PROGRAM)
     numbers = range(given.first, given.first + given.runs)
     totals, failed = collections.Counter(), 0

@@ -1,8 +1,11 @@
-"""What the scripts of bench/ share: sheets of several shapes, how the built program is started and timed, and what a table says
-of the machine. They are run by hand, and import it from their own folder.
+"""What the scripts of bench/ share: sheets of several shapes, how the built program is started, timed and judged, what they are
+called with, and what a table says of the machine. They are run by hand, and import it from their own folder.
 """
 
+import argparse
 import datetime
+import importlib.machinery
+import importlib.util
 import json
 import os
 import pathlib
@@ -90,6 +93,23 @@ def build():
     shown = subprocess.run([ROOT / "antifreeze", "show", ROOT / "examples" / "first.csv", "A1:B2"], stdout=subprocess.DEVNULL)
     if shown.returncode:
         sys.exit(f"{script()}: the program could not be built")
+
+
+def judge():
+    """The module that judges live runs, which stands with the cases of the command line."""
+    loader = importlib.machinery.SourceFileLoader("judge", str(ROOT / "tests" / "cli" / "judge_live.py"))
+    module = importlib.util.module_from_spec(importlib.util.spec_from_loader("judge", loader))
+    loader.exec_module(module)
+    return module
+
+
+def called_with(text, runs):
+    """What a script is called with: how often it runs what it measures, and a word that the names of what it measures contain."""
+    parser = argparse.ArgumentParser(description=text, formatter_class=argparse.RawDescriptionHelpFormatter)
+    parser.add_argument("runs", nargs="?", type=int, default=runs, metavar="RUNS", help=f"how many runs each ({runs})")
+    parser.add_argument("word", nargs="?", default="", metavar="WORD", help="what has this in its name alone (all)")
+    given = parser.parse_args()
+    return given.runs, given.word
 
 
 def machine():

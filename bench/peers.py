@@ -16,10 +16,9 @@ program that isn't installed, or doesn't end with 0 within ten minutes, is left 
 import pathlib
 import shutil
 import subprocess
-import sys
 import tempfile
 
-from measuring import ROOT, STARTER, build, chain, head, ledger, lines, started, told
+from measuring import ROOT, STARTER, build, called_with, chain, head, ledger, lines, started, told
 
 IXION = pathlib.Path(tempfile.gettempdir()) / "antifreeze-ixion_bench"
 MINUTES = 10
@@ -91,8 +90,7 @@ def line(what, best):
 
 
 def main():
-    runs = int(sys.argv[1]) if len(sys.argv) > 1 else 3
-    word = sys.argv[2] if len(sys.argv) > 2 else ""
+    runs, word = called_with(__doc__, 3)
     build()
     head(runs)
     found = others()

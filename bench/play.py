@@ -12,10 +12,9 @@ How it starts the program is that of bench/measuring.py.
 """
 
 import pathlib
-import sys
 import tempfile
 
-from measuring import build, chain, head, lines, started
+from measuring import build, called_with, chain, head, lines, started
 
 
 def total_on_top(count):
@@ -28,6 +27,16 @@ def circles(count):
     return "1,\n" + lines(count, lambda r: f"=B{r + 1}+$A$1,=A{r + 1}")
 
 
+def doubled(count):
+    """So many rows of a number and its double."""
+    return lines(count, lambda r: f"{r},=A{r}*2")
+
+
+def growing_sums(count):
+    """So many rows of a number, the total of the numbers so far, and an empty cell."""
+    return lines(count, lambda r: f"{r},=SUM(A$1:A{r}),")
+
+
 # What is measured: the sheet's text, the cell that is shown, and the script's text.
 MEASURED = {
     "a chain of 100,000, all its turns": (lambda: chain(100_000), "A100000", lambda: "set A1 2\nlook A1\nwork 100000\nlook A100000\n"),
@@ -38,6 +47,16 @@ MEASURED = {
     "50,000 circles of two, half of their turns": (lambda: circles(50_000), "A1", lambda: "set A1 2\nwork 50000\nlook A2\n"),
     "100,000 lines of one turn over a chain of 100,000": (
         lambda: chain(100_000), "A100000", lambda: "set A1 2\n" + "work 1\n" * 100_000 + "look A100000\n"),
+    "100 edits and turns by turns beside a chain of 100,000": (
+        lambda: chain(100_000).replace("\n", ",\n"), "A100000", lambda: "set A1 2\n" + lines(100, lambda r: f"set B{r} {r}\nwork 1")),
+    "100 edits of 1,000,000 cells, a look at others behind each": (
+        lambda: doubled(500_000), "B1", lambda: lines(100, lambda r: f"set A{r} 7\nlook A{r + 1000}:B{r + 1000}")),
+    "100 edits of 1,000,000 cells, a firm look behind each": (
+        lambda: doubled(500_000), "B1", lambda: lines(100, lambda r: f"set A{r} 7\nfirm A{r}:B{r}")),
+    "200 edits beside 5,000 growing sums, a look at the last behind each": (
+        lambda: growing_sums(5_000), "B5000", lambda: lines(200, lambda r: f"set C1 {r}\nlook B5000:C5000")),
+    "200 edits of a number in 5,000 growing sums, a firm look at the first behind each": (
+        lambda: growing_sums(5_000), "B5000", lambda: lines(200, lambda r: f"set A1 {r}\nfirm A1:B1")),
     "1,048,576 lines that say nothing": (lambda: "1\n", "A1", lambda: "#\n" * 1_048_576),
     "1,048,576 edits of 1,000 cells": (
         lambda: "1\n" * 1_000, "A1", lambda: lines(1_048_576, lambda r: f"set A{r % 1_000 + 1} {r % 10}")),
@@ -54,8 +73,7 @@ def measure(folder, cell, runs):
 
 
 def main():
-    runs = int(sys.argv[1]) if len(sys.argv) > 1 else 3
-    word = sys.argv[2] if len(sys.argv) > 2 else ""
+    runs, word = called_with(__doc__, 3)
     build()
     head(runs)
     print(f"{'show':>8} {'play':>8} {'ratio':>7}")

@@ -17,7 +17,7 @@ import pathlib
 import sys
 import tempfile
 
-from measuring import LETTERS, build, grid, head, ledger, lines, name, started, sums, told
+from measuring import LETTERS, build, called_with, grid, head, ledger, lines, name, started, sums, told
 
 READER = """
 import csv, json, time
@@ -94,8 +94,7 @@ def measure_label(folder, runs):
 
 
 def main():
-    runs = int(sys.argv[1]) if len(sys.argv) > 1 else 3
-    word = sys.argv[2] if len(sys.argv) > 2 else ""
+    runs, word = called_with(__doc__, 3)
     build()
     head(runs)
     print(f"{'program':>8} {'csv':>8} {'ratio':>7} {'B/cell':>8}")
