@@ -47,7 +47,7 @@ tree_step (Node-F.Binary op left right) = binary op left.value right.value
 tree_step (Node-F.Call f parameters) = call f parameters
 
 abbrev pub trees_step : Nodes-F Tree Trees → Trees
-trees_step parameters = trees_from parameters.nodes.items
+trees_step parameters = trees_from parameters.nodes.value.items
 
 -- the tree that nodes in memory make
 abbrev pub tree_of : Node → Tree

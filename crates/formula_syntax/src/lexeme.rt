@@ -38,17 +38,18 @@ pub(crate) fn word_of(word: &[u8]) -> Option<Token>
         let number = Whole::new(number as i64).unwrap();
         return Some(Token::Number(number));
     }
+    // No word is two things, and most are references: they come before the table of functions is gone through.
+    if let Some(reference) = ref_of(false, word) {
+        return Some(Token::Reference(reference));
+    }
     if word.eq_ignore_ascii_case(b"TRUE") {
         return Some(Token::Truth(true));
     }
     if word.eq_ignore_ascii_case(b"FALSE") {
         return Some(Token::Truth(false));
     }
-    if let Some(function) = function_of(word) {
-        return Some(Token::Function(function));
-    }
-    let reference = ref_of(false, word)?;
-    Some(Token::Reference(reference))
+    let function = function_of(word)?;
+    Some(Token::Function(function))
 }
 
 // The function of this name, in either case.

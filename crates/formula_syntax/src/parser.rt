@@ -166,10 +166,18 @@ pub(crate) fn prefix_of(alloc: Global, op: PrefixOp, operand: Node) -> Result<No
     Ok(Node::Prefix(op, operand))
 }
 
-pub(crate) fn call_of(function: Function, nodes: Vec<Node>) -> Node
-    ensures { tree_of result ≡ tree.call function (trees_from (map tree_of nodes.items)) }
+/// A call of a function, whose list of parameters keeps no room to spare.
+pub(crate) fn call_of(
+    alloc: Global,
+    function: Function,
+    mut nodes: Vec<Node>,
+) -> Result<Node, AllocError>
+    ensures { IfOk result
+        (λ node. tree_of node ≡ tree.call function (trees_from (map tree_of nodes.items))) }
 {
-    Node::Call(function, Nodes { nodes })
+    nodes.shrink_to_fit();
+    let nodes = Box::new(alloc, nodes)?;
+    Ok(Node::Call(function, Nodes { nodes }))
 }
 
 // Whether the parameters are as the function's line of the table says.
@@ -359,7 +367,8 @@ fn call(alloc: Global, function: Function, tokens: &[Token]) -> Result<(Node, &[
     if !fits(function, &nodes) {
         return Err(Unread::NotFormula);
     }
-    Ok((call_of(function, nodes), rest))
+    let node = call_of(alloc, function, nodes)?;
+    Ok((node, rest))
 }
 
 // Reads the parameters behind an open parenthesis, up to the one that closes it.

@@ -195,13 +195,15 @@ fn take_last(alloc: Global, count: usize, done: &mut Vec<Node>) -> Result<Vec<No
 }
 
 // A call of a function, or the error where a parameter that has to be a reference is none.
-fn call_or_error(function: Function, nodes: Vec<Node>) -> Node
-    ensures { tree_of result ≡ call_or_lost function (trees_from (map tree_of nodes.items)) }
+fn call_or_error(alloc: Global, function: Function, nodes: Vec<Node>) -> Result<Node, AllocError>
+    ensures { IfOk result
+        (λ node. tree_of node ≡ call_or_lost function (trees_from (map tree_of nodes.items))) }
 {
     if references_at(function.references(), &nodes) {
-        call_of(function, nodes)
+        let call = call_of(alloc, function, nodes)?;
+        Ok(call)
     } else {
-        error_of(ErrorKind::Ref)
+        Ok(error_of(ErrorKind::Ref))
     }
 }
 
@@ -217,7 +219,8 @@ fn join_all(
         (stacked done.old.items [])) }
 {
     let nodes = take_last(alloc, count, done)?;
-    done.push(call_or_error(function, nodes))?;
+    let call = call_or_error(alloc, function, nodes)?;
+    done.push(call)?;
     Ok(())
 }
 

@@ -29,7 +29,8 @@ pub enum Node {
 #[cycle(tree)]
 #[derive(Drop)]
 pub struct Nodes {
-    pub(crate) nodes: Vec<Node>,
+    /// Behind a pointer, so that a call is no larger than the other nodes.
+    pub(crate) nodes: Box<Vec<Node>>,
 }
 
 /// Goes down the left operands by a loop, so that long sums and chains of signs need no deep stack. Right

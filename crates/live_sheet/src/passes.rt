@@ -9,7 +9,7 @@ ghost use Rattle.live_sheet.specs.Held.{IsFreeSeat, IsHandIn, queue_of};
 ghost use Rattle.live_sheet.specs.Opened.{IsNewPass, IsNewSeat, AreNewPasses};
 ghost use Rattle.live_sheet.specs.Starts.{IsStart};
 
-use crate::crossing::subject_crosses;
+use crate::crossing::{entries_cross, subject_crosses};
 use crate::naming::Naming;
 use crate::pass::Pass;
 use edit_log::OverSheet;
@@ -66,6 +66,7 @@ fn push_pass<N: Naming>(
         (λ _. AreNewPasses (length passes.old.items + 1) passes.new.items) }
 {
     subject_crosses();
+    entries_cross();
     let seat = marks.split(editor);
     let own = jobs.hand(alloc, hand)?;
     let client = passes.len() as u32;

@@ -50,6 +50,7 @@ fn settle_shares<R: Threads + Wait + Sync, S: SheetSubject, W: CellWords + Sync,
     ensures shares { AllSettledShares marks.now (S.touches (subject_of marks.now))
         level.entry.sizes level.entry.cells.now size desks.old desks.new }
 {
+    entries_cross();
     side_by_side(
         rt,
         &|number: usize, desk: &mut Desk<S>|

@@ -44,6 +44,14 @@ impl Cell {
         }
     }
 
+    // The cell of this row and column, which are known to have a name.
+    pub(crate) fn named(row: u32, col: u32) -> Cell
+        requires { IsNamed row col }
+        ensures { result ≡ record { row = row; col = col } }
+    {
+        Cell { row, col }
+    }
+
     /// The row, from 1 to 1,048,576.
     pub fn row(&self) -> u32
         ensures row { result ≡ self.now.row }

@@ -29,11 +29,64 @@ impl Model for End {
         record { cell = a.cell; col_fixed = a.col_fixed; row_fixed = a.row_fixed } };
 }
 
+/// An end as a reference keeps it, in 8 bytes: formulas have many references, and no column is past 16,384.
+#[derive(Clone, Copy, Debug, PartialEq, Eq)]
+struct KeptEnd {
+    row: u32,
+    col: u16,
+    col_fixed: bool,
+    row_fixed: bool,
+}
+
+impl Model for KeptEnd {
+    ghost use Rattle.sheet_refs.specs.Cells.{IsNamed};
+    ghost use Rattle.sheet_refs.specs.Ends.{Anchor};
+
+    ghost Value = { Anchor };
+
+    ghost view = { λ k.
+        record { cell = record { row = k.row; col = k.col }; col_fixed = k.col_fixed; row_fixed = k.row_fixed } };
+
+    ghost invariant = { λ k. IsNamed k.row k.col };
+
+    ghost inverse = { λ a.
+        record { row = a.cell.row; col = a.cell.col; col_fixed = a.col_fixed; row_fixed = a.row_fixed } };
+}
+
+impl KeptEnd {
+    fn of(end: End) -> KeptEnd
+        ensures { result ≡ end }
+    {
+        KeptEnd {
+            row: end.cell.row(),
+            col: end.cell.col() as u16,
+            col_fixed: end.col_fixed,
+            row_fixed: end.row_fixed,
+        }
+    }
+
+    fn cell(&self) -> Cell
+        ensures { result ≡ self.now.cell }
+    {
+        Cell::named(self.row, u32::from(self.col))
+    }
+
+    fn end(&self) -> End
+        ensures { result ≡ self.now }
+    {
+        End {
+            cell: self.cell(),
+            col_fixed: self.col_fixed,
+            row_fixed: self.row_fixed,
+        }
+    }
+}
+
 /// A reference as it is written: one end, or two whose rows and columns are in order.
 #[derive(Clone, Copy, Debug, PartialEq, Eq)]
 pub struct Ref {
-    head: End,
-    tail: End,
+    head: KeptEnd,
+    tail: KeptEnd,
     single: bool,
 }
 
@@ -56,9 +109,10 @@ impl Ref {
     pub fn one(a: End) -> Ref
         ensures { result ≡ one_end a }
     {
+        let end = KeptEnd::of(a);
         Ref {
-            head: a,
-            tail: a,
+            head: end,
+            tail: end,
             single: true,
         }
     }
@@ -69,8 +123,8 @@ impl Ref {
         ensures { result ≡ two_ends a b }
     {
         Ref {
-            head: lesser_end(a, b),
-            tail: greater_end(a, b),
+            head: KeptEnd::of(lesser_end(a, b)),
+            tail: KeptEnd::of(greater_end(a, b)),
             single: false,
         }
     }
@@ -80,7 +134,7 @@ impl Ref {
         ensures head { result ≡ self.now.head }
         ensures kept { IsReference self.now.head self.now.tail self.now.single }
     {
-        self.head
+        self.head.end()
     }
 
     /// The end at the bottom right.
@@ -88,7 +142,7 @@ impl Ref {
         ensures tail { result ≡ self.now.tail }
         ensures kept { IsReference self.now.head self.now.tail self.now.single }
     {
-        self.tail
+        self.tail.end()
     }
 
     /// Whether it is written as one end.
@@ -102,7 +156,7 @@ impl Ref {
     pub fn range(&self) -> Range
         ensures { result ≡ corners_of self.now }
     {
-        Range::of(self.head.cell, self.tail.cell)
+        Range::of(self.head.cell(), self.tail.cell())
     }
 }
 
@@ -179,11 +233,11 @@ impl fmt::Display for Ref {
     ghost output = { λ reference. Some (reference_text reference) };
 
     fn fmt<W: fmt::Write>(&self, f: &mut fmt::Formatter<W>) -> fmt::Result {
-        let head = self.head;
+        let head = self.head.end();
         if self.single {
             return write!(f, "{head}");
         }
-        let tail = self.tail;
+        let tail = self.tail.end();
         write!(f, "{head}:{tail}")
     }
 }

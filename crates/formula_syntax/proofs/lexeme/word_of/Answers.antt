@@ -19,13 +19,13 @@ returns-then-eq_ignore_ascii_case c = truth c.args.word.now true (search rules)
 pub returns-then-eq_ignore_ascii_case-2 : goal.returns-then-eq_ignore_ascii_case-2
 returns-then-eq_ignore_ascii_case-2 c = truth c.args.word.now false (search rules)
 
-pub returns-in-Some-function_of : goal.returns-in-Some-function_of
-returns-in-Some-function_of c = function c.args.word.now c.in-Some-function_of.function c.in-Some-function_of.ensures
+pub returns-in-Some-ref_of : goal.returns-in-Some-ref_of
+returns-in-Some-ref_of c = reference c.args.word.now c.in-Some-ref_of.reference c.in-Some-ref_of.ensures
 
-pub returns-in_err-reference : goal.returns-in_err-reference
-returns-in_err-reference c =
-    rw c.from_residual.ensures (no_word c.args.word.now (search rules) (search rules) (search rules) (search rules)
-    c.in_err-reference.ensures)
+pub returns-in_err-function : goal.returns-in_err-function
+returns-in_err-function c =
+    rw c.from_residual.ensures (no_word c.args.word.now (search rules) (search rules) (search rules)
+    c.in_err-function.ensures (search rules))
 
 pub returns : goal.returns
-returns c = reference c.args.word.now c.in_ok-reference.reference c.in_ok-reference.ensures
+returns c = function c.args.word.now c.in_ok-function.function c.in_ok-function.ensures

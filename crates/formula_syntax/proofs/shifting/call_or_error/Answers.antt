@@ -5,10 +5,10 @@ use Rattle.formula_syntax.specs.Tree.{tree_of}
 use Rattle.formula_syntax.proofs.Rebuildings.{call_kept, call_lost}
 use Rattle.formula_syntax.proofs.shifting.call_or_error.Goals as goal
 
-pub returns-then-references_at : goal.returns-then-references_at
-returns-then-references_at c =
+pub returns-in_ok-call : goal.returns-in_ok-call
+returns-in_ok-call c =
     let test : references_at (shape_of c.args.function).references (map tree_of c.args.nodes.items) ≡ true = search rules in
-    c.call_of.ensures ∙ call_kept c.args.function (map tree_of c.args.nodes.items) test
+    c.in_ok-call.ensures ∙ call_kept c.args.function (map tree_of c.args.nodes.items) test
 
 pub returns-else-references_at : goal.returns-else-references_at
 returns-else-references_at c =

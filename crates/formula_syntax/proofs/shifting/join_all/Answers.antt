@@ -7,7 +7,7 @@ use Rattle.formula_syntax.proofs.shifting.join_all.Goals as goal
 
 pub returns : goal.returns
 returns c =
-    let after : c.push.new.self.items ≡ c.take_last.new.done.items ++ (c.call_or_error.result ∷ []) = search rules in
+    let after : c.push.new.self.items ≡ c.take_last.new.done.items ++ (c.in_ok-call.call ∷ []) = search rules in
     all_joined (λ trees. call_or_lost c.args.function (trees_from trees)) c.args.count
     (stacked c.args.done.now.items []) c.take_last.new.done.items c.push.new.self.items c.in_ok-nodes.nodes.items
-    c.call_or_error.result after c.call_or_error.ensures (search rules) (search rules)
+    c.in_ok-call.call after c.in_ok-call.ensures (search rules) (search rules)
