@@ -15,9 +15,6 @@ use formula_syntax::MAX_FIELD;
 use sheet_refs::{MAX_CELLS, MAX_COLS, Memory};
 use std::alloc::Global;
 
-/// The most columns and the most cells of a sheet.
-const MOST_COLS: usize = MAX_COLS as usize;
-
 /// What is known of records before any of their fields is kept.
 #[derive(Clone, Copy)]
 pub(crate) struct Extent {
@@ -112,7 +109,7 @@ impl Extent {
         ensures { IsTrue result
             ↔ ((1048576 < self.now.rows * self.now.cols) ⊎ (16384 < self.now.cols)) }
     {
-        self.cols > MOST_COLS || u64::from(self.rows) * self.cols as u64 > MAX_CELLS
+        self.cols > MAX_COLS as usize || u64::from(self.rows) * self.cols as u64 > MAX_CELLS
     }
 }
 

@@ -14,7 +14,7 @@ use crate::prepared::Prepared;
 use crate::refused::PrepareRefused;
 use crate::rows::cells_by_row;
 use graph_walk::{Graph, dependents_of_all};
-use sheet_model::{Change, Edit, Entry, MOST_ENTRIES, Sheet};
+use sheet_model::{Change, Edit, Entry, MAX_ENTRIES, Sheet};
 use sheet_refs::{Cell, Memory, Range, Refs, Sizes};
 use std::alloc::Global;
 
@@ -87,7 +87,7 @@ impl<G: Graph> Book<G> {
             return Some(PrepareRefused::OutOfSheet { cell });
         }
         let length = self.log.len();
-        if length == MOST_ENTRIES {
+        if length == MAX_ENTRIES {
             return Some(PrepareRefused::LogFull {
                 length: length as u64,
             });

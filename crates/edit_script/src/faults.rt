@@ -14,13 +14,13 @@ use crate::clients::client_place;
 use crate::line::Line;
 use crate::progress::Progress;
 use crate::refused::ScriptRefused;
-use sheet_model::{MOST_CHANGES, MOST_ENTRIES, Sheet};
+use sheet_model::{MAX_CHANGES, MAX_ENTRIES, Sheet};
 use sheet_refs::{Cell, Range, Sizes};
 
 /// The most clients and the most edits of a script.
 const MAX_CLIENTS: usize = 32;
 
-const MAX_EDITS: u32 = MOST_ENTRIES as u32;
+const MAX_EDITS: u32 = MAX_ENTRIES as u32;
 
 /// The most cells of one window, and of all windows together.
 const MAX_WINDOW: u64 = 65_536;
@@ -151,7 +151,7 @@ fn batch_fault(batch: &Batch, cell: Cell, number: u32) -> Option<ScriptRefused>
     if batch.has(cell) {
         return Some(ScriptRefused::CellTwice(number));
     }
-    if batch.count() >= MOST_CHANGES {
+    if batch.count() >= MAX_CHANGES {
         return Some(ScriptRefused::BatchTooLarge(number));
     }
     None

@@ -3,13 +3,13 @@ ghost use Rattle.std.specs.Prelude.{◌≡◌, ◌<◌};
 ghost use Rattle.range_index.specs.Grids.{tile_height as height_of_tiles, tile_width as width_of_tiles};
 ghost use Rattle.range_index.specs.Grids.{home_of as home, FitsNames};
 
-use sheet_refs::Range;
+use sheet_refs::{MAX_COLS, MAX_ROWS, Range};
 
 /// The heights of tiles, from the least to that of all rows.
-pub(crate) const HEIGHTS: [u32; 4] = [8, 1024, 32_768, 1_048_576];
+pub(crate) const HEIGHTS: [u32; 4] = [8, 1024, 32_768, MAX_ROWS];
 
 /// The widths of tiles, from the least to that of all columns.
-pub(crate) const WIDTHS: [u32; 3] = [1, 64, 16_384];
+pub(crate) const WIDTHS: [u32; 3] = [1, 64, MAX_COLS];
 
 /// A tile: its height and width, and its row and column among the tiles of this kind, from 0.
 #[derive(Clone, Copy, Debug, PartialEq, Eq, Hash)]

@@ -5,7 +5,7 @@ ghost use Rattle.recalc_plan.specs.Opens.{NoneUpTo};
 ghost use Rattle.recalc_plan.specs.Opens.{name_place, place_at};
 
 use crate::waiter::Waiter;
-use sheet_refs::{Cell, Range};
+use sheet_refs::{Cell, MAX_ROWS, Range};
 use std::collections::BTreeMap;
 
 /// A stale cell that stands in no level yet, with those that wait on it.
@@ -21,7 +21,7 @@ pub(crate) fn place(col: u32, row: u32) -> u64
     requires row { 1 ≤ row }
     ensures { result ≡ place_at col row }
 {
-    u64::from(col - 1) * 1_048_576 + u64::from(row - 1)
+    u64::from(col - 1) * u64::from(MAX_ROWS) + u64::from(row - 1)
 }
 
 /// The place of a cell's name.
@@ -73,7 +73,7 @@ fn spread_row(first: u32, last: u32, number: usize) -> u32
     ensures from { first ≤ result }
     ensures to { result ≤ last }
 {
-    let spread = number as u64 % 4_294_967_296 * GOLDEN / 65_536 % 1_048_576;
+    let spread = number as u64 % 4_294_967_296 * GOLDEN / 65_536 % u64::from(MAX_ROWS);
     first + spread as u32 % (last - first + 1)
 }
 

@@ -7,7 +7,7 @@ use graph_walk::on_cycle;
 use mark_words::{Marks, Seat};
 use plain_graph::PlainGraph;
 use recalc_workers::{Office, Task};
-use sheet_model::{Entry, MOST_ENTRIES, log_laws};
+use sheet_model::{Entry, MAX_ENTRIES, log_laws};
 use sheet_refs::{Cell, Memory};
 use std::alloc::Global;
 use std::sync::Wait;
@@ -57,7 +57,7 @@ fn mark_first(
     }
     let first = &changes[0];
     let cell = first.cell;
-    if length == MOST_ENTRIES as u64 || !sizes.holds(cell) {
+    if length == MAX_ENTRIES as u64 || !sizes.holds(cell) {
         return;
     }
     let place = sizes.place(cell) as u32;

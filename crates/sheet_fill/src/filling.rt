@@ -8,7 +8,7 @@ ghost use Rattle.sheet_fill.specs.declared.refused.FillRefused.TheVariants as re
 
 use crate::refused::FillRefused;
 use formula_syntax::shift;
-use sheet_model::{Change, Content, Edit, MOST_CHANGES, Sheet};
+use sheet_model::{Change, Content, Edit, MAX_CHANGES, Sheet};
 use sheet_refs::{Cell, Memory, Range};
 use std::alloc::Global;
 use std::sync::Arc;
@@ -87,7 +87,7 @@ pub fn fill(alloc: Global, sheet: &Sheet, from: Cell, to: Range) -> Result<Edit,
         return Err(FillRefused::Nothing);
     }
     let cells = count_others(from, &to);
-    if cells > MOST_CHANGES as u64 {
+    if cells > MAX_CHANGES as u64 {
         return Err(FillRefused::TooMany { cells });
     }
     let changes = copies(alloc, sheet, from, &to)?;

@@ -10,7 +10,7 @@ use std::alloc::Global;
 use std::marker::Model;
 
 /// The most changes of an edit.
-pub const MOST_CHANGES: usize = 1_024;
+pub const MAX_CHANGES: usize = 1_024;
 
 /// What is done to a sheet in one step: a list of 1 to 1,024 changes, no two of them of one cell.
 #[derive(Drop)]
@@ -48,7 +48,7 @@ impl Edit {
         ensures { MatchOption result (¬ IsEdit changes.items) (λ edit. edit ≡ changes.items) }
     {
         let count = changes.len();
-        if count == 0 || count > MOST_CHANGES {
+        if count == 0 || count > MAX_CHANGES {
             return None;
         }
         if !are_of_distinct_cells(&changes) {
@@ -100,7 +100,7 @@ fn place_of_name(cell: Cell) -> usize
 }
 
 // The places of the cells that some changes change.
-fn changed_places(changes: &[Change]) -> ArrayVec<usize, MOST_CHANGES>
+fn changed_places(changes: &[Change]) -> ArrayVec<usize, MAX_CHANGES>
     requires { length changes.now ≤ 1024 }
     ensures places { result.items ≡ map (λ change. named_place change.cell) changes.now }
     ensures named { All (λ change. HasName change.cell) changes.now }

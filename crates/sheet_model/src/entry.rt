@@ -2,7 +2,7 @@ use crate::edit::Edit;
 use sheet_refs::Memory;
 
 /// The most entries of a log, and so the most edits of a script.
-pub const MOST_ENTRIES: usize = 1_048_576;
+pub const MAX_ENTRIES: usize = 1_048_576;
 
 /// An edit with the client that made it, as a log keeps it.
 #[derive(Drop)]

@@ -18,11 +18,11 @@ use std::marker::Model;
 use tree_index::TreeIndex;
 
 /// The most ranges to which one cell refers.
-const MOST_REFS: u32 = MAX_REFERENCES as u32;
+const MAX_REFS: u32 = MAX_REFERENCES as u32;
 
 /// The most edges that come in one change: the two parts that are left of each edge that holds the cell, and one
 /// for each new range.
-const MOST_EDGES: u32 = 3 * MOST_REFS;
+const MAX_EDGES: u32 = 3 * MAX_REFS;
 
 /// A dependency graph as edges, over two indexes. Between calls no two edges can be joined.
 #[derive(Drop)]
@@ -94,8 +94,8 @@ impl<I: RangeIndex> Taco<I> {
 // Makes room for the keys of the edges that can hold one cell.
 fn reserve_lists(held: &mut Vec<usize>, sides: &mut Sides) -> Result<(), Memory> {
     held.clear();
-    held.reserve(MOST_REFS as usize)?;
-    sides.reserve(MOST_REFS as usize)
+    held.reserve(MAX_REFS as usize)?;
+    sides.reserve(MAX_REFS as usize)
 }
 
 impl<I: RangeIndex> Graph for Taco<I> {
@@ -158,7 +158,7 @@ impl<I: RangeIndex> Graph for Taco<I> {
         ensures same { SamePairs (pairs_of self.old.edges) (pairs_of self.new.edges) }
         ensures same_edges { self.new.edges ≡ self.old.edges }
     {
-        self.store.reserve(changes * MOST_EDGES)?;
+        self.store.reserve(changes * MAX_EDGES)?;
         reserve_lists(&mut self.held, &mut self.sides)?;
         self.ready = self.ready.max(changes);
         Ok(())

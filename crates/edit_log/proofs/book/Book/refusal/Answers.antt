@@ -25,8 +25,8 @@ returns-in-Some-clause-log_full g c =
     c.in-Some.ensures) in
     λ inside full. absurd (none_outside c.args.self.now.sheet c.args.edit.now c.in-Some.cell inside found)
 
-pub returns-then-length-eq-MOST_ENTRIES-clause-out_of_sheet : goal.returns-then-length-eq-MOST_ENTRIES-clause-out_of_sheet
-returns-then-length-eq-MOST_ENTRIES-clause-out_of_sheet g c =
+pub returns-then-length-eq-MAX_ENTRIES-clause-out_of_sheet : goal.returns-then-length-eq-MAX_ENTRIES-clause-out_of_sheet
+returns-then-length-eq-MAX_ENTRIES-clause-out_of_sheet g c =
     let sheet_is : c.self.inside.sheet ≡ c.args.self.now.sheet = ap (λ (b : BookValue _). b.sheet) c.self.view_is in
     let inside : AreInSheet c.args.self.now.sheet c.args.edit.now =
     subst (λ (s : SheetValue). AreInSheet s c.args.edit.now) sheet_is (subst (AreInSheet c.self.inside.sheet) c.changes.ensures.changes c.in_default.ensures) in
