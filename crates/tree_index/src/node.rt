@@ -3,7 +3,7 @@ use arrayvec::ArrayVec;
 use std::marker::Model;
 
 /// How many children a node has at most.
-pub(crate) const MOST_CHILDREN: usize = 16;
+pub(crate) const MAX_CHILDREN: usize = 16;
 
 /// The highest level of a node.
 pub(crate) const TOP: u32 = 15;
@@ -14,7 +14,7 @@ pub(crate) const TOP: u32 = 15;
 pub(crate) struct Node {
     pub(crate) level: u32,
     pub(crate) parent: usize,
-    pub(crate) children: ArrayVec<Item, MOST_CHILDREN>,
+    pub(crate) children: ArrayVec<Item, MAX_CHILDREN>,
 }
 
 impl Model for Node {

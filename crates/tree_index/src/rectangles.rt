@@ -40,14 +40,3 @@ pub(crate) fn span_of_all(items: &[Item]) -> Option<Range>
     }
     Some(whole)
 }
-
-/// How many cells a rectangle has.
-pub(crate) fn area(range: Range) -> u64 {
-    range.cells()
-}
-
-/// How many rows and columns a rectangle has, added up.
-pub(crate) fn extent(range: Range) -> u64 {
-    let (head, tail) = (range.head(), range.tail());
-    u64::from(tail.row() - head.row()) + u64::from(tail.col() - head.col())
-}

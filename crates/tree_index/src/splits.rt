@@ -3,7 +3,7 @@ ghost use Rattle.tree_index.specs.Indexes.{HoldTree};
 ghost use Rattle.tree_index.specs.Changes.{Rearranges, MayShare, KeepsNode, KeepAllNodes};
 
 use crate::choices::{Halves, halves_of};
-use crate::node::MOST_CHILDREN;
+use crate::node::MAX_CHILDREN;
 use crate::nodes::Tree;
 use sheet_refs::Range;
 
@@ -54,7 +54,7 @@ impl Tree {
         ensures rest { Rearranges self.old self.new }
         ensures nodes { KeepAllNodes self.old self.new }
     {
-        for place in (0..MOST_CHILDREN).rev() {
+        for place in (0..MAX_CHILDREN).rev() {
             if halves[place] {
                 self.move_child(level, from, place, to);
             }

@@ -3,7 +3,7 @@ ghost use Rattle.std.specs.Prelude.{◌≡◌, ◌<◌, IsTrue, IfSome};
 ghost use Rattle.tree_index.specs.Indexes.{HoldTree, node_at};
 ghost use Rattle.tree_index.specs.Changes.{Rearranges, Admits, HasPlace, HasPlaceBelow, IsInner, TakesIn};
 
-use crate::choices::{grows_less, least_grown};
+use crate::choices::{grows_less, place_for};
 use crate::node::TOP;
 use crate::nodes::Tree;
 use crate::rectangles::span;
@@ -95,9 +95,7 @@ impl Tree {
         let Some(node) = self.nodes.get(key) else {
             return None;
         };
-        let Some(place) = least_grown(node.children.as_slice(), range) else {
-            return None;
-        };
+        let place = place_for(node.children.as_slice(), range);
         match self.place_if_room(key, place) {
             Some(place) => Some(place),
             None => self.place_after_split(key, place, range),
