@@ -27,6 +27,12 @@ fn book(alloc: Global, fields: &[(&str, &str)]) -> Result<Book<PlainGraph>, Fail
     Ok(Book::open(alloc, sheet, PlainGraph::new(alloc))?)
 }
 
+// A book of a sheet of one empty cell.
+pub(crate) fn blank_book(alloc: Global) -> Result<Book<PlainGraph>, Fail> {
+    let sheet = Sheet::blank(alloc, 1, 1, Edition::One)?;
+    Ok(Book::open(alloc, sheet, PlainGraph::new(alloc))?)
+}
+
 // An edit by which cells are to hold TRUE.
 fn made_true(alloc: Global, names: &[&str]) -> Result<Edit, Fail>
     ensures { IfOk result (λ edit. (labels : ℕ) → HaveLabels labels edit) }
@@ -58,9 +64,20 @@ fn touched<G: Graph>(alloc: Global, book: &mut Book<G>, names: &[&str]) -> Resul
     Ok(text)
 }
 
+// Makes such edits one after the other, and gives a line for each.
+fn told<G: Graph>(alloc: Global, book: &mut Book<G>, edits: &[&[&str]]) -> Result<String, Fail> {
+    let mut lines = String::new(alloc);
+    for names in edits {
+        let line = touched(alloc, book, *names)?;
+        writeln!(lines, "{line}")?;
+    }
+    Ok(lines)
+}
+
 #[test]
 fn edits_touch_their_dependents_row_by_row(rt: HostRuntime) -> Result<(), Fail> {
     let alloc = rt.alloc();
+    let b2 = cell("B2")?;
     let fields = [
         ("C1", "=B2"),
         ("B2", "=A1+SUM(A3:B3)"),
@@ -68,20 +85,14 @@ fn edits_touch_their_dependents_row_by_row(rt: HostRuntime) -> Result<(), Fail> 
         ("C3", "=A1"),
     ];
     let mut book = book(alloc, &fields)?;
-    for (name, wanted) in [
-        ("A1", "1 A1 C1 B2 A3 C3"),
-        ("B1", "2 B1"),
-        ("B3", "3 C1 B2 A3 B3"),
-        ("B2", "4 C1 B2 A3"),
-        ("A3", "5 A3"),
-        ("A1", "6 A1 C3"),
-    ] {
-        let told = touched(alloc, &mut book, &[name])?;
-        assert_eq!(rt; told.as_str(), wanted, "{name}");
-    }
-    assert_eq!(rt; book.length(), 6);
-    assert_eq!(rt; book.log().len(), 6);
-    assert!(rt; matches!(book.sheet().content(cell("B2")?), Content::Truth(true)));
+    let edits: [&[&str]; 6] = [&["A1"], &["B1"], &["B3"], &["B2"], &["A3"], &["A1"]];
+    let lines = told(alloc, &mut book, &edits)?;
+    let wanted = "1 A1 C1 B2 A3 C3\n2 B1\n3 C1 B2 A3 B3\n4 C1 B2 A3\n5 A3\n6 A1 C3\n";
+    let is_true = matches!(book.sheet().content(b2), Content::Truth(true));
+    assert_eq!(rt;
+        (lines.as_str(), book.length(), book.log().len(), is_true),
+        (wanted, 6, 6, true)
+    );
     Ok(())
 }
 
@@ -90,11 +101,10 @@ fn an_edit_of_two_cells_touches_the_dependents_of_both(rt: HostRuntime) -> Resul
     let alloc = rt.alloc();
     let fields = [("A1", "=B1"), ("C3", "=A2"), ("B3", "=A1+C3")];
     let mut book = book(alloc, &fields)?;
-    let told = touched(alloc, &mut book, &["B1", "A2"])?;
-    assert_eq!(rt; told.as_str(), "1 A1 B1 A2 B3 C3");
-    let told = touched(alloc, &mut book, &["A2", "A1"])?;
-    assert_eq!(rt; told.as_str(), "2 A1 A2 B3 C3");
-    assert_eq!(rt; book.length(), 2);
+    let edits: [&[&str]; 2] = [&["B1", "A2"], &["A2", "A1"]];
+    let lines = told(alloc, &mut book, &edits)?;
+    let wanted = "1 A1 B1 A2 B3 C3\n2 A1 A2 B3 C3\n";
+    assert_eq!(rt; (lines.as_str(), book.length()), (wanted, 2));
     Ok(())
 }
 
@@ -111,20 +121,31 @@ pub(crate) fn clears<G: Graph>(
     Ok(applied.number)
 }
 
-#[test]
-fn a_log_takes_a_million_entries(rt: HostRuntime) -> Result<(), Fail> {
-    let alloc = rt.alloc();
-    let sheet = Sheet::blank(alloc, 1, 1, Edition::One)?;
-    let mut book = Book::open(alloc, sheet, PlainGraph::new(alloc))?;
-    let first = cell("A1")?;
+// Makes as many edits of a book as its log takes.
+fn fill<G: Graph>(alloc: Global, book: &mut Book<G>, cell: Cell) -> Result<(), Fail> {
     for _ in 0..1_048_576 {
-        if clears(alloc, &mut book, first).is_err() {
+        if clears(alloc, book, cell).is_err() {
             return Err(Fail::from("an edit that is refused"));
         }
     }
-    let full = clears(alloc, &mut book, first);
-    assert!(rt; matches!(full, Err(PrepareRefused::LogFull { length: 1_048_576 })));
-    let outside = clears(alloc, &mut book, cell("A2")?);
-    assert!(rt; matches!(outside, Err(PrepareRefused::OutOfSheet { .. })));
+    Ok(())
+}
+
+#[test]
+fn a_log_takes_a_million_entries(rt: HostRuntime) -> Result<(), Fail> {
+    let alloc = rt.alloc();
+    let (first, outside) = (cell("A1")?, cell("A2")?);
+    let mut book = blank_book(alloc)?;
+    fill(alloc, &mut book, first)?;
+    let full = clears(alloc, &mut book, first).err();
+    let past = clears(alloc, &mut book, outside).err();
+    let length = 1_048_576;
+    assert_eq!(rt;
+        (full, past),
+        (
+            Some(PrepareRefused::LogFull { length }),
+            Some(PrepareRefused::OutOfSheet { cell: outside }),
+        )
+    );
     Ok(())
 }

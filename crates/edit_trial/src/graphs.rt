@@ -49,9 +49,17 @@ fn runs(alloc: Global, set: &RectSet) -> Result<String, Fail> {
     Ok(text)
 }
 
+// The runs of what depends on a range in such a graph, and of that on which it depends.
+fn walked(alloc: Global, fields: &[(&str, &str)], asked: &str) -> Result<(String, String), Fail> {
+    let asked = range(asked)?;
+    let graph = graph(alloc, fields)?;
+    let ahead = runs(alloc, &dependents(alloc, &graph, asked)?)?;
+    let behind = runs(alloc, &precedents(alloc, &graph, asked)?)?;
+    Ok((ahead, behind))
+}
+
 #[test]
 fn graphs_have_the_pairs_of_their_sheets(rt: HostRuntime) -> Result<(), Fail> {
-    let alloc = rt.alloc();
     let sums = [("A1", "1"), ("B1", "=A1+1"), ("A2", "2"), ("B2", "=A2+B1")];
     let two_references = [
         ("A1", "x"),
@@ -81,11 +89,12 @@ fn graphs_have_the_pairs_of_their_sheets(rt: HostRuntime) -> Result<(), Fail> {
             " A1:A3 B1:B1 C1:C1 D4:D4",
         ),
     ] {
-        let graph = graph(alloc, fields)?;
-        let found = runs(alloc, &dependents(alloc, &graph, range(asked)?)?)?;
-        assert_eq!(rt; found.as_str(), ahead, "{asked}");
-        let found = runs(alloc, &precedents(alloc, &graph, range(asked)?)?)?;
-        assert_eq!(rt; found.as_str(), behind, "{asked}");
+        let found = walked(rt.alloc(), fields, asked)?;
+        assert_eq!(rt;
+            (found.0.as_str(), found.1.as_str()),
+            (ahead, behind),
+            "{asked}"
+        );
     }
     Ok(())
 }

@@ -1,37 +1,69 @@
 // What no clause says: that scripts are read as a person expects. The expected values were worked out by hand.
-use edit_script::{Command, Mode, Script, ScriptRefused, read_script};
+use edit_script::{Command, Mode, Script, ScriptRefused, Step, read_script};
 use formula_syntax::Edition;
-use sheet_model::Sheet;
+use sheet_model::{Edit, Sheet};
 use std::alloc::Global;
 use std::fmt::Write;
 use std::test::Fail;
 
-// Each step of a script, in one letter a command behind the client's place, and the names.
+// Adds the cells of an edit.
+fn add_edit(text: &mut String, edit: &Edit) -> Result<(), Fail> {
+    text.push_str("put")?;
+    for change in edit.changes() {
+        write!(text, " {}", change.cell)?;
+    }
+    Ok(())
+}
+
+// Adds a step: its command behind the client's place.
+fn add_step(text: &mut String, step: &Step) -> Result<(), Fail> {
+    write!(text, "[{} ", step.client)?;
+    match &step.command {
+        Command::Put(edit) => add_edit(text, edit)?,
+        Command::Look(range) => write!(text, "look {range}")?,
+        Command::Firm(range) => write!(text, "firm {range}")?,
+        Command::Work(turns) => write!(text, "work {turns}")?,
+    }
+    text.push(']')?;
+    Ok(())
+}
+
+// The names of a script, and its steps.
 fn shown(alloc: Global, script: &Script) -> Result<String, Fail> {
     let mut text = String::new(alloc);
     for name in script.names() {
         write!(text, "{name} ")?;
     }
     for step in script.steps() {
-        match &step.command {
-            Command::Put(edit) => {
-                write!(text, "[{} put", step.client)?;
-                for change in edit.changes() {
-                    write!(text, " {}", change.cell)?;
-                }
-                text.push(']')?;
-            }
-            Command::Look(range) => write!(text, "[{} look {range}]", step.client)?,
-            Command::Firm(range) => write!(text, "[{} firm {range}]", step.client)?,
-            Command::Work(turns) => write!(text, "[{} work {turns}]", step.client)?,
-        }
+        add_step(&mut text, step)?;
     }
     Ok(text)
 }
 
+// Reads a script over a blank sheet of two rows and columns, and shows it.
+fn read(alloc: Global, text: &str) -> Result<String, Fail> {
+    let text = text.as_bytes();
+    if text.len() > 16_777_216 {
+        return Err(Fail::from("a longer text"));
+    }
+    let mut sheet = Sheet::blank(alloc, 2, 2, Edition::One)?;
+    let Ok(script) = read_script(alloc, text, Mode::Play, &mut sheet) else {
+        return Err(Fail::from("refused"));
+    };
+    shown(alloc, &script)
+}
+
+// Why a text is no script over such a sheet.
+fn refusal(alloc: Global, text: &[u8], mode: Mode) -> Result<Option<ScriptRefused>, Fail> {
+    if text.len() > 16_777_216 {
+        return Err(Fail::from("a longer text"));
+    }
+    let mut sheet = Sheet::blank(alloc, 2, 2, Edition::One)?;
+    Ok(read_script(alloc, text, mode, &mut sheet).err())
+}
+
 #[test]
 fn scripts_have_clients_and_steps(rt: HostRuntime) -> Result<(), Fail> {
-    let alloc = rt.alloc();
     for (text, wanted) in [
         ("", ""),
         ("\n# a note\r\n", ""),
@@ -53,18 +85,14 @@ fn scripts_have_clients_and_steps(rt: HostRuntime) -> Result<(), Fail> {
             "main [0 put A1][0 put A1]",
         ),
     ] {
-        let mut sheet = Sheet::blank(alloc, 2, 2, Edition::One)?;
-        let Ok(script) = read_script(alloc, text.as_bytes(), Mode::Play, &mut sheet) else {
-            return Err(Fail::from("refused"));
-        };
-        assert_eq!(rt; shown(alloc, &script)?.as_str(), wanted, "{text}");
+        let script = read(rt.alloc(), text)?;
+        assert_eq!(rt; script.as_str(), wanted, "{text}");
     }
     Ok(())
 }
 
 #[test]
 fn the_first_fault_decides(rt: HostRuntime) -> Result<(), Fail> {
-    let alloc = rt.alloc();
     for (text, mode, wanted) in [
         (
             &b"look A1\nloook A1"[..],
@@ -107,32 +135,36 @@ fn the_first_fault_decides(rt: HostRuntime) -> Result<(), Fail> {
             ScriptRefused::OutOfSheet(3),
         ),
     ] {
-        let mut sheet = Sheet::blank(alloc, 2, 2, Edition::One)?;
-        assert_eq!(rt;
-            read_script(alloc, text, mode, &mut sheet).err(),
-            Some(wanted)
-        );
+        let found = refusal(rt.alloc(), text, mode)?;
+        assert_eq!(rt; found, Some(wanted));
     }
     Ok(())
+}
+
+// The texts of labels of a sheet, each before a space.
+fn labels_of(alloc: Global, sheet: &Sheet) -> Result<String, Fail> {
+    let mut text = String::new(alloc);
+    for place in 0..sheet.labels().length() {
+        write!(text, "{} ", sheet.labels().text(place))?;
+    }
+    Ok(text)
 }
 
 #[test]
 fn a_refused_line_leaves_the_labels_of_the_lines_before_it(rt: HostRuntime) -> Result<(), Fail> {
     let alloc = rt.alloc();
     let mut sheet = Sheet::blank(alloc, 2, 2, Edition::One)?;
-    let first = read_script(alloc, b"set A1 old", Mode::Live, &mut sheet);
-    assert_eq!(rt; first.is_ok(), true);
+    let first = read_script(alloc, b"set A1 old", Mode::Live, &mut sheet).err();
     if sheet.labels().length() > 3_000_000_000 {
         return Err(Fail::from("a longer table"));
     }
     let text = b"set A1 new\nbatch\nset A2 old\nset B1 newer\nset B1 late\nend\nset B2 later";
-    let second = read_script(alloc, text, Mode::Live, &mut sheet);
-    assert_eq!(rt; second.err(), Some(ScriptRefused::CellTwice(5)));
-    let mut shown = String::new(alloc);
-    for place in 0..sheet.labels().length() {
-        write!(shown, "{} ", sheet.labels().text(place))?;
-    }
-    assert_eq!(rt; shown.as_str(), "old new newer ");
+    let second = read_script(alloc, text, Mode::Live, &mut sheet).err();
+    let labels = labels_of(alloc, &sheet)?;
+    assert_eq!(rt;
+        (first, second, labels.as_str()),
+        (None, Some(ScriptRefused::CellTwice(5)), "old new newer ")
+    );
     Ok(())
 }
 
@@ -148,14 +180,19 @@ fn naming(alloc: Global, clients: u32) -> Result<String, Fail> {
 #[test]
 fn limits_are_told_at_their_lines(rt: HostRuntime) -> Result<(), Fail> {
     let alloc = rt.alloc();
-    let mut sheet = Sheet::blank(alloc, 100_000, 1, Edition::One)?;
-    let window = read_script(alloc, b"look A1:A65537", Mode::Live, &mut sheet);
-    assert_eq!(rt; window.err(), Some(ScriptRefused::WindowTooLarge(1)));
     let named = naming(alloc, 33)?;
+    let mut sheet = Sheet::blank(alloc, 100_000, 1, Edition::One)?;
+    let window = read_script(alloc, b"look A1:A65537", Mode::Live, &mut sheet).err();
     if named.len() > 16_777_216 || sheet.labels().length() > 3_000_000_000 {
         return Err(Fail::from("a longer text"));
     }
-    let clients = read_script(alloc, named.as_bytes(), Mode::Live, &mut sheet);
-    assert_eq!(rt; clients.err(), Some(ScriptRefused::TooManyClients(33)));
+    let clients = read_script(alloc, named.as_bytes(), Mode::Live, &mut sheet).err();
+    assert_eq!(rt;
+        (window, clients),
+        (
+            Some(ScriptRefused::WindowTooLarge(1)),
+            Some(ScriptRefused::TooManyClients(33)),
+        )
+    );
     Ok(())
 }

@@ -1,10 +1,7 @@
 // What no clause says: that threads share a book under a lock.
-use crate::books::clears;
+use crate::books::{blank_book, clears};
 use edit_log::{Book, PrepareRefused, book_crosses};
-use formula_syntax::Edition;
 use graph_walk::Graph;
-use plain_graph::PlainGraph;
-use sheet_model::Sheet;
 use sheet_refs::{Cell, cell_of};
 use std::alloc::Global;
 use std::sync::{Mutex, Wait};
@@ -40,13 +37,12 @@ fn clears_both<R: Threads + Wait + Sync, G: Graph + Send>(
 #[test]
 fn threads_share_a_book(rt: HostRuntime) -> Result<(), Fail> {
     let alloc = rt.alloc();
-    let sheet = Sheet::blank(alloc, 1, 1, Edition::One)?;
     let cell = cell_of(b"A1").ok_or("no cell")?;
-    let book = Mutex::new(Book::open(alloc, sheet, PlainGraph::new(alloc))?);
+    let book = Mutex::new(blank_book(alloc)?);
     let (Ok(one), Ok(other)) = clears_both(&rt, alloc, &book, cell) else {
         return Err(Fail::from("an edit that is refused"));
     };
-    assert_eq!(rt; (one.min(other), one.max(other)), (1, 2));
-    assert_eq!(rt; book.into_inner().length(), 2);
+    let length = book.into_inner().length();
+    assert_eq!(rt; (one.min(other), one.max(other), length), (1, 2, 2));
     Ok(())
 }

@@ -85,6 +85,12 @@ fn shown(alloc: Global, answer: Result<Value, Missing>) -> Result<String, Fail> 
     })
 }
 
+// What evaluation answers to the formula that a text spells, as a text.
+fn answered(alloc: Global, text: &str, known: &Known, stack: &mut Stack) -> Result<String, Fail> {
+    let answer = eval(&formula(alloc, text)?, known, stack);
+    shown(alloc, answer)
+}
+
 // Evaluates each formula over values, and gives those that answer otherwise than wanted.
 pub(crate) fn unlike(
     alloc: Global,
@@ -96,8 +102,7 @@ pub(crate) fn unlike(
     let mut stack = Stack::new(alloc)?;
     let mut others = String::new(alloc);
     for (text, wanted) in table {
-        let answer = eval(&formula(alloc, text)?, &known, &mut stack);
-        let answer = shown(alloc, answer)?;
+        let answer = answered(alloc, text, &known, &mut stack)?;
         if answer.as_str() != *wanted {
             write!(others, "{text} gives {answer}, ")?;
         }
@@ -202,25 +207,26 @@ fn repeated(
 #[test]
 fn long_formulas_have_values(rt: HostRuntime) -> Result<(), Fail> {
     let alloc = rt.alloc();
-    let signs = repeated(alloc, "=", 8_190, "-", "1", "")?;
-    let odd = repeated(alloc, "=", 8_189, "-", "1", "")?;
-    let sum = repeated(alloc, "=", 4_000, "8+", "8", "")?;
-    let items = repeated(alloc, "=SUM(", 4_000, "8;", "8)", "")?;
-    let nested = repeated(alloc, "=", 64, "IF(1=0+1*1^", "1", ";2)")?;
-    let grouped = repeated(alloc, "=", 64, "1-(", "1", ")")?;
-    let others = unlike(
-        alloc,
-        Sizes { rows: 0, cols: 0 },
-        &[],
-        &[
-            (signs.as_str(), "1"),
-            (odd.as_str(), "-1"),
-            (sum.as_str(), "32008"),
-            (items.as_str(), "32008"),
-            (nested.as_str(), "2"),
-            (grouped.as_str(), "1"),
-        ],
-    )?;
-    assert_eq!(rt; others.as_str(), "");
+    let known = Known {
+        sizes: Sizes { rows: 0, cols: 0 },
+        values: &[],
+    };
+    let mut stack = Stack::new(alloc)?;
+    for (start, count, front, middle, end, wanted) in [
+        ("=", 8_190, "-", "1", "", "1"),
+        ("=", 8_189, "-", "1", "", "-1"),
+        ("=", 4_000, "8+", "8", "", "32008"),
+        ("=SUM(", 4_000, "8;", "8)", "", "32008"),
+        ("=", 64, "IF(1=0+1*1^", "1", ";2)", "2"),
+        ("=", 64, "1-(", "1", ")", "1"),
+    ] {
+        let text = repeated(alloc, start, count, front, middle, end)?;
+        let answer = answered(alloc, text.as_str(), &known, &mut stack)?;
+        assert_eq!(rt;
+            answer.as_str(),
+            wanted,
+            "{start} and {count} times {front}"
+        );
+    }
     Ok(())
 }

@@ -283,39 +283,55 @@ fn other_texts_are_no_formulas(rt: HostRuntime) {
 #[test]
 fn limits_hold(rt: HostRuntime) -> Result<(), Fail> {
     let alloc = rt.alloc();
-    let deepest = repeated(alloc, 64, "(", "1", ")")?;
-    assert_eq!(rt; reprinted(alloc, deepest.as_str())?.as_str(), "=1");
-    let deeper = repeated(alloc, 65, "(", "1", ")")?;
-    assert_eq!(rt; answer(alloc, deeper.as_str()), Some(ReadRefused::TooDeep));
-    let open = repeated(alloc, 65, "(", "", "")?;
-    assert_eq!(rt; answer(alloc, open.as_str()), Some(ReadRefused::TooDeep));
-    let most = repeated(alloc, 254, "A2+", "A2", "")?;
-    assert_eq!(rt; answer(alloc, most.as_str()), None);
-    let more = repeated(alloc, 255, "A2+", "A2", "")?;
-    assert_eq!(rt;
-        answer(alloc, more.as_str()),
-        Some(ReadRefused::TooManyRefs)
-    );
-    let no_formula = repeated(alloc, 256, "A2+", "", "")?;
-    assert_eq!(rt;
-        answer(alloc, no_formula.as_str()),
-        Some(ReadRefused::NotFormula)
-    );
+    for (count, front, middle, end, refused) in [
+        (64, "(", "1", ")", None),
+        (65, "(", "1", ")", Some(ReadRefused::TooDeep)),
+        (65, "(", "", "", Some(ReadRefused::TooDeep)),
+        (254, "A2+", "A2", "", None),
+        (255, "A2+", "A2", "", Some(ReadRefused::TooManyRefs)),
+        (256, "A2+", "", "", Some(ReadRefused::NotFormula)),
+    ] {
+        let text = repeated(alloc, count, front, middle, end)?;
+        assert_eq!(rt;
+            answer(alloc, text.as_str()),
+            refused,
+            "{count} times {front} before {middle:?}"
+        );
+    }
     Ok(())
+}
+
+#[test]
+fn the_deepest_groups_are_printed(rt: HostRuntime) -> Result<(), Fail> {
+    let text = repeated(rt.alloc(), 64, "(", "1", ")")?;
+    assert_eq!(rt; reprinted(rt.alloc(), text.as_str())?.as_str(), "=1");
+    Ok(())
+}
+
+// Whether a text is printed as it stands, whether it also is where it is shifted nowhere, and whether it has one
+// range at most, as ` A1:A1`.
+fn kept(alloc: Global, text: &str) -> Result<(bool, bool, bool), Fail> {
+    let is_printed = reprinted(alloc, text)?.as_str() == text;
+    let is_shifted = shifted(alloc, text, 0, 0)?.as_str() == text;
+    let has_few = ranges_of(alloc, text)?.len() <= 6;
+    Ok((is_printed, is_shifted, has_few))
 }
 
 #[test]
 fn long_formulas_need_no_deep_stack(rt: HostRuntime) -> Result<(), Fail> {
     let alloc = rt.alloc();
-    let signs = repeated(alloc, 8_190, "-", "1", "")?;
-    assert_eq!(rt; signs.len(), MAX_FIELD);
-    let sum = repeated(alloc, 4_000, "8+", "8", "")?;
-    let nested = repeated(alloc, 64, "IF(1=1+1*1^", "A1", ";2)")?;
-    let groups = repeated(alloc, 64, "1=-(", "A1+1", ")")?;
-    for text in [signs, sum, nested, groups] {
-        assert!(rt; reprinted(alloc, text.as_str())?.as_str() == text.as_str());
-        assert!(rt; shifted(alloc, text.as_str(), 0, 0)?.as_str() == text.as_str());
-        assert!(rt; ranges_of(alloc, text.as_str())?.len() <= 6);
+    for (count, front, middle, end, length) in [
+        (8_190, "-", "1", "", MAX_FIELD),
+        (4_000, "8+", "8", "", 8_002),
+        (64, "IF(1=1+1*1^", "A1", ";2)", 899),
+        (64, "1=-(", "A1+1", ")", 325),
+    ] {
+        let text = repeated(alloc, count, front, middle, end)?;
+        assert_eq!(rt;
+            (text.len(), kept(alloc, text.as_str())?),
+            (length, (true, true, true)),
+            "{count} times {front}"
+        );
     }
     Ok(())
 }

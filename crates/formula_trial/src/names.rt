@@ -1,6 +1,8 @@
 // What no clause says: that the definitions of names, digits and printed forms mean what a person who
 // knows spreadsheets expects. The expected values were worked out by hand.
 use sheet_refs::{Cell, cell_of, decimal_of, range_of, ref_of};
+use std::alloc::Global;
+use std::fmt::Write;
 use std::test::Fail;
 
 #[test]
@@ -74,8 +76,8 @@ fn ranges_have_names(rt: HostRuntime) -> Result<(), Fail> {
         ("XFD1048576:A1", "A1:XFD1048576", 17_179_869_184),
     ] {
         let range = range_of(name.as_bytes()).ok_or("no range")?;
-        assert_eq!(rt; format!(in rt.alloc(); "{range}")?.as_str(), printed);
-        assert_eq!(rt; range.cells(), cells, "{name}");
+        let text = format!(in rt.alloc(); "{range}")?;
+        assert_eq!(rt; (text.as_str(), range.cells()), (printed, cells), "{name}");
     }
     Ok(())
 }
@@ -110,15 +112,23 @@ fn digits_write_numbers(rt: HostRuntime) {
     ] {
         assert_eq!(rt; decimal_of(text.as_bytes(), u64::MAX - 1), number, "{text}");
     }
-    assert_eq!(rt; decimal_of(b"007", 7), Some(7));
-    assert_eq!(rt; decimal_of(b"008", 7), None);
-    assert_eq!(rt; decimal_of(b"0", 0), Some(0));
+    assert_eq!(rt;
+        (
+            decimal_of(b"007", 7),
+            decimal_of(b"008", 7),
+            decimal_of(b"0", 0)
+        ),
+        (Some(7), None, Some(0))
+    );
 }
 
 #[test]
 fn ranges_hold_cells(rt: HostRuntime) -> Result<(), Fail> {
     let range = range_of(b"C4:B3").ok_or("no range")?;
-    assert_eq!(rt; (range.head(), range.tail()), (named("B3")?, named("C4")?));
+    assert_eq!(rt;
+        (Some(range.head()), Some(range.tail())),
+        (cell_of(b"B3"), cell_of(b"C4"))
+    );
     for (name, inside) in [
         ("B3", true),
         ("C3", true),
@@ -138,6 +148,15 @@ fn named(name: &str) -> Result<Cell, Fail> {
     Ok(cell_of(name.as_bytes()).ok_or("no such cell")?)
 }
 
+// What is printed of the reference that a text spells; nothing where it spells none.
+fn reprinted(alloc: Global, dotted: bool, text: &str) -> Result<String, Fail> {
+    let mut shown = String::new(alloc);
+    if let Some(reference) = ref_of(dotted, text.as_bytes()) {
+        write!(shown, "{reference}")?;
+    }
+    Ok(shown)
+}
+
 #[test]
 fn references_are_read_and_printed(rt: HostRuntime) -> Result<(), Fail> {
     for (dotted, text, printed) in [
@@ -151,29 +170,21 @@ fn references_are_read_and_printed(rt: HostRuntime) -> Result<(), Fail> {
         (false, "$C1:A$3", "A1:$C$3"),
         (true, ".A1", "A1"),
         (true, ".$B$2:.A1", "A1:$B$2"),
+        (false, "A", ""),
+        (false, "$1", ""),
+        (false, "A$", ""),
+        (false, "$$A1", ""),
+        (false, "A1:", ""),
+        (false, ":A1", ""),
+        (false, "A1:B2:C3", ""),
+        (false, ".A1", ""),
+        (true, "A1", ""),
+        (true, ".A1:B2", ""),
+        (false, "A01", ""),
+        (false, "XFE1", ""),
     ] {
-        let reference = ref_of(dotted, text.as_bytes()).ok_or("no reference")?;
-        assert_eq!(rt;
-            format!(in rt.alloc(); "{reference}")?.as_str(),
-            printed,
-            "{text}"
-        );
-    }
-    for (dotted, text) in [
-        (false, "A"),
-        (false, "$1"),
-        (false, "A$"),
-        (false, "$$A1"),
-        (false, "A1:"),
-        (false, ":A1"),
-        (false, "A1:B2:C3"),
-        (false, ".A1"),
-        (true, "A1"),
-        (true, ".A1:B2"),
-        (false, "A01"),
-        (false, "XFE1"),
-    ] {
-        assert_eq!(rt; ref_of(dotted, text.as_bytes()), None, "{text}");
+        let shown = reprinted(rt.alloc(), dotted, text)?;
+        assert_eq!(rt; shown.as_str(), printed, "{text}");
     }
     Ok(())
 }

@@ -18,9 +18,11 @@ fn ranges_share_cells(rt: HostRuntime) -> Result<(), Fail> {
     ] {
         let (a, b) = (range(a)?, range(b)?);
         let shared = range_of(shared.as_bytes());
-        assert_eq!(rt; a.meet(&b), shared);
-        assert_eq!(rt; b.meet(&a), shared);
-        assert_eq!(rt; a.overlaps(&b), shared.is_some());
+        assert_eq!(rt;
+            (a.meet(&b), b.meet(&a), a.overlaps(&b)),
+            (shared, shared, shared.is_some()),
+            "{a} and {b}"
+        );
     }
     Ok(())
 }
@@ -50,6 +52,21 @@ fn formulas_have_references(rt: HostRuntime) -> Result<(), Fail> {
     Ok(())
 }
 
+// Adds a range to a set. The answer is what was new of it, the set's columns then, and whether the set has its corners.
+fn gained(alloc: Global, set: &mut RectSet, name: &str) -> Result<(String, String, bool), Fail> {
+    let added = range(name)?;
+    let new = joined(alloc, &set.new_part(added)?)?;
+    set.add(added)?;
+    let columns = joined(alloc, &set.columns()?)?;
+    let is_held = set.contains(added.head()) && set.contains(added.tail());
+    Ok((new, columns, is_held))
+}
+
+fn holds(set: &RectSet, name: &str) -> Result<bool, Fail> {
+    let cell = cell_of(name.as_bytes()).ok_or("no cell")?;
+    Ok(set.contains(cell))
+}
+
 #[test]
 fn a_set_gains_ranges(rt: HostRuntime) -> Result<(), Fail> {
     let mut set = RectSet::new(rt.alloc());
@@ -71,20 +88,20 @@ fn a_set_gains_ranges(rt: HostRuntime) -> Result<(), Fail> {
             "A1:A7 B1:B7 C1:C7 D1:D7 E1:E7 XFD1048576:XFD1048576",
         ),
     ] {
-        let added = range(added)?;
-        assert_eq!(rt; joined(rt.alloc(), &set.new_part(added)?)?.as_str(), new);
-        set.add(added)?;
-        assert_eq!(rt; joined(rt.alloc(), &set.columns()?)?.as_str(), runs);
-        assert!(rt; set.contains(added.head()) && set.contains(added.tail()));
+        let (part, columns, is_held) = gained(rt.alloc(), &mut set, added)?;
+        assert_eq!(rt;
+            (part.as_str(), columns.as_str(), is_held),
+            (new, runs, true),
+            "{added}"
+        );
     }
     for (cell, inside) in [("A7", true), ("E7", true), ("A8", false), ("F7", false)] {
-        let cell = cell_of(cell.as_bytes()).ok_or("no cell")?;
-        assert_eq!(rt; set.contains(cell), inside);
+        assert_eq!(rt; holds(&set, cell)?, inside, "{cell}");
     }
     Ok(())
 }
 
-fn range(name: &str) -> Result<Range, Fail> {
+pub(crate) fn range(name: &str) -> Result<Range, Fail> {
     Ok(range_of(name.as_bytes()).ok_or("no range")?)
 }
 

@@ -1,66 +1,103 @@
 // What no clause says: that places and parts of ranges are what a reader expects. The expected values were
 // worked out by hand.
-use sheet_refs::{Cell, Range, Sizes};
+use crate::sets::range;
+use sheet_refs::{Cell, Range, Sizes, range_of};
 use std::test::Fail;
 
 fn cell(row: u32, col: u32) -> Result<Cell, Fail> {
     Ok(Cell::new(row, col).ok_or("no such cell")?)
 }
 
-fn range(top: u32, left: u32, bottom: u32, right: u32) -> Result<Range, Fail> {
-    Ok(Range::of(cell(top, left)?, cell(bottom, right)?))
+// The place of a cell in three rows of four columns; None where they don't hold it, or have another cell there.
+fn place_of(cell: Cell) -> Option<usize> {
+    let sizes = Sizes { rows: 3, cols: 4 };
+    if !sizes.holds(cell) {
+        return None;
+    }
+    let place = sizes.place(cell);
+    if sizes.cell_at(place) == cell {
+        Some(place)
+    } else {
+        None
+    }
 }
 
 #[test]
 fn cells_have_places(rt: HostRuntime) -> Result<(), Fail> {
-    let sizes = Sizes { rows: 3, cols: 4 };
-    for (row, col, place) in [(1, 1, 0), (1, 4, 3), (2, 1, 4), (3, 4, 11)] {
-        let here = cell(row, col)?;
-        assert!(rt; sizes.holds(here));
-        if sizes.holds(here) {
-            assert_eq!(rt; sizes.place(here), place);
-        }
-        if place < 12 {
-            assert_eq!(rt; sizes.cell_at(place), here);
-        }
-    }
-    for (row, col) in [(4, 1), (1, 5), (1_048_576, 16_384)] {
-        assert!(rt; !sizes.holds(cell(row, col)?));
+    for (row, col, place) in [
+        (1, 1, Some(0)),
+        (1, 4, Some(3)),
+        (2, 1, Some(4)),
+        (3, 4, Some(11)),
+        (4, 1, None),
+        (1, 5, None),
+        (1_048_576, 16_384, None),
+    ] {
+        assert_eq!(rt; place_of(cell(row, col)?), place, "row {row}, column {col}");
     }
     Ok(())
 }
 
 #[test]
 fn ranges_are_clipped(rt: HostRuntime) -> Result<(), Fail> {
-    let sizes = Sizes { rows: 3, cols: 4 };
-    for (whole, part) in [
-        (range(1, 1, 1_048_576, 16_384)?, Some(range(1, 1, 3, 4)?)),
-        (range(2, 2, 3, 3)?, Some(range(2, 2, 3, 3)?)),
-        (range(3, 4, 9, 9)?, Some(range(3, 4, 3, 4)?)),
-        (range(4, 1, 9, 9)?, None),
-        (range(1, 5, 9, 9)?, None),
+    for (rows, cols, whole, part) in [
+        (3, 4, "A1:XFD1048576", "A1:D3"),
+        (3, 4, "B2:C3", "B2:C3"),
+        (3, 4, "D3:I9", "D3:D3"),
+        (3, 4, "A4:I9", ""),
+        (3, 4, "E1:I9", ""),
+        (0, 0, "A1:B2", ""),
     ] {
-        assert_eq!(rt; sizes.clip(whole), part);
+        let sizes = Sizes { rows, cols };
+        assert_eq!(rt;
+            sizes.clip(range(whole)?),
+            range_of(part.as_bytes()),
+            "{whole} in {rows} rows"
+        );
     }
-    let none = Sizes { rows: 0, cols: 0 };
-    assert_eq!(rt; none.clip(range(1, 1, 2, 2)?), None);
     Ok(())
+}
+
+// The cell at a place of a range; None where the range has fewer cells.
+fn cell_at(window: Range, place: u64) -> Option<Cell> {
+    if place < window.cells() {
+        Some(window.cell_at(place))
+    } else {
+        None
+    }
 }
 
 #[test]
 fn cells_of_a_range_have_places(rt: HostRuntime) -> Result<(), Fail> {
-    let window = range(2, 3, 4, 4)?;
+    let window = range("C2:D4")?;
     for (place, row, col) in [(0, 2, 3), (1, 2, 4), (2, 3, 3), (5, 4, 4)] {
-        if place < window.cells() {
-            assert_eq!(rt; window.cell_at(place), cell(row, col)?);
-        }
+        assert_eq!(rt;
+            (window.cells(), cell_at(window, place)),
+            (6, Cell::new(row, col)),
+            "place {place}"
+        );
     }
-    assert_eq!(rt; window.cells(), 6);
+    Ok(())
+}
+
+// The cell behind a cell of a range; None where the range doesn't have the cell.
+fn cell_behind(window: Range, cell: Cell) -> Option<Cell> {
+    if window.contains(cell) {
+        Some(window.cell_behind(cell))
+    } else {
+        None
+    }
+}
+
+#[test]
+fn cells_of_a_range_follow_one_another(rt: HostRuntime) -> Result<(), Fail> {
+    let window = range("C2:D4")?;
     for (row, col, next_row, next_col) in [(2, 3, 2, 4), (2, 4, 3, 3), (4, 3, 4, 4), (4, 4, 2, 3)] {
-        let here = cell(row, col)?;
-        if window.contains(here) {
-            assert_eq!(rt; window.cell_behind(here), cell(next_row, next_col)?);
-        }
+        assert_eq!(rt;
+            cell_behind(window, cell(row, col)?),
+            Cell::new(next_row, next_col),
+            "row {row}, column {col}"
+        );
     }
     Ok(())
 }

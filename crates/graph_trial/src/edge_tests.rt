@@ -1,16 +1,9 @@
 // What no clause says: that the definitions mean what they should. The table was worked out by hand.
-use edge_patterns::{Edge, Pattern, back, direct, join, split, spread};
-use sheet_refs::{Cell, Range, cell_of, range_of};
+use crate::edge_texts::{Ask, answer, cell, range, shown};
+use edge_patterns::{Edge, join};
+use sheet_refs::{Cell, Range};
 use std::alloc::Global;
 use std::test::Fail;
-
-fn range(text: &str) -> Result<Range, Fail> {
-    Ok(range_of(text.as_bytes()).ok_or("no range")?)
-}
-
-fn cell(text: &str) -> Result<Cell, Fail> {
-    Ok(cell_of(text.as_bytes()).ok_or("no cell")?)
-}
 
 // The edge of neighbouring cells with these ranges, written as `A2 A1:A1` and so on.
 fn edge(pairs: &[(&str, &str)]) -> Result<Edge, Fail> {
@@ -25,26 +18,20 @@ fn edge(pairs: &[(&str, &str)]) -> Result<Edge, Fail> {
     Ok(joined.ok_or("no pairs")?)
 }
 
-fn shown(alloc: Global, edge: Option<Edge>) -> Result<String, Fail> {
-    let Some(edge) = edge else {
-        return Ok(String::from_str(alloc, "None")?);
-    };
-    let dep = edge.dep();
-    let prec = edge.prec();
-    let pattern = match edge.pattern() {
-        Pattern::Single => "Single",
-        Pattern::Rr => "RR",
-        Pattern::Rf => "RF",
-        Pattern::Fr => "FR",
-        Pattern::Ff => "FF",
-        Pattern::Chain => "Chain",
-    };
-    Ok(format!(in alloc; "{dep} {prec} {pattern}")?)
+// What two edges are joined into, and what they are in the other order.
+fn both_ways(
+    alloc: Global,
+    front: &[(&str, &str)],
+    back: &[(&str, &str)],
+) -> Result<(String, String), Fail> {
+    let (front, back) = (edge(front)?, edge(back)?);
+    let onward = shown(alloc, join(&front, &back))?;
+    let backward = shown(alloc, join(&back, &front))?;
+    Ok((onward, backward))
 }
 
 #[test]
 fn neighbours_are_joined(rt: HostRuntime) -> Result<(), Fail> {
-    let alloc = rt.alloc();
     let cases: [(&[(&str, &str)], &[(&str, &str)], &str); 6] = [
         (&[("A2", "A1:A1")], &[("A3", "A2:A2")], "A2:A3 A1:A2 Chain"),
         (&[("B1", "A1:A3")], &[("B2", "A2:A3")], "B1:B2 A1:A3 RF"),
@@ -58,10 +45,8 @@ fn neighbours_are_joined(rt: HostRuntime) -> Result<(), Fail> {
         ),
     ];
     for (front, back, wanted) in cases {
-        let front = edge(front)?;
-        let back = edge(back)?;
-        assert_eq!(rt; shown(alloc, join(&front, &back))?.as_str(), wanted);
-        assert_eq!(rt; shown(alloc, join(&back, &front))?.as_str(), wanted);
+        let (onward, backward) = both_ways(rt.alloc(), front, back)?;
+        assert_eq!(rt; (onward.as_str(), backward.as_str()), (wanted, wanted));
     }
     Ok(())
 }
@@ -78,52 +63,112 @@ fn growing() -> Result<Edge, Fail> {
     Ok(joined)
 }
 
-// The parts of an edge before and after a cell.
-fn parts(alloc: Global, edge: &Edge, at: &str) -> Result<String, Fail> {
-    let at = cell(at)?;
-    if !edge.dep().contains(at) {
-        return Err(Fail::from("not in the run"));
+// The edges that are asked.
+#[derive(Clone, Copy)]
+enum Asked {
+    Chain,
+    Pair,
+    Growing,
+    Shrinking,
+}
+
+fn edge_of(asked: Asked) -> Result<Edge, Fail> {
+    match asked {
+        Asked::Chain => edge(&[
+            ("A2", "A1:A1"),
+            ("A3", "A2:A2"),
+            ("A4", "A3:A3"),
+            ("A5", "A4:A4"),
+            ("A6", "A5:A5"),
+        ]),
+        Asked::Pair => edge(&[("B1", "A1:A1"), ("B2", "A1:A2")]),
+        Asked::Growing => growing(),
+        Asked::Shrinking => edge(&[("B1", "A1:A3"), ("B2", "A2:A3"), ("B3", "A3:A3")]),
     }
-    let (before, after) = split(edge, at);
-    let before = shown(alloc, before)?;
-    let after = shown(alloc, after)?;
-    Ok(format!(in alloc; "{before}, {after}")?)
 }
 
 #[test]
 fn edges_are_split_and_asked(rt: HostRuntime) -> Result<(), Fail> {
-    let alloc = rt.alloc();
-    let chain = edge(&[
-        ("A2", "A1:A1"),
-        ("A3", "A2:A2"),
-        ("A4", "A3:A3"),
-        ("A5", "A4:A4"),
-        ("A6", "A5:A5"),
-    ])?;
-    assert_eq!(rt; shown(alloc, Some(chain))?.as_str(), "A2:A6 A1:A5 Chain");
-    assert_eq!(rt;
-        parts(alloc, &chain, "A3")?.as_str(),
-        "A2:A2 A1:A1 Single, A4:A6 A3:A5 Chain"
-    );
-    let pair = edge(&[("B1", "A1:A1"), ("B2", "A1:A2")])?;
-    assert_eq!(rt;
-        parts(alloc, &pair, "B2")?.as_str(),
-        "B1:B1 A1:A1 Single, None"
-    );
-    assert_eq!(rt; direct(&chain, range("A3:A3")?), Some(range("A4:A4")?));
-    assert_eq!(rt; spread(&chain, range("A3:A3")?), Some(range("A4:A6")?));
-    assert_eq!(rt; back(&chain, range("A4:A4")?), Some(range("A1:A3")?));
-    let growing = growing()?;
-    assert_eq!(rt;
-        shown(alloc, Some(growing))?.as_str(),
-        "B1:B1000 A1:A1000 FR"
-    );
-    assert_eq!(rt;
-        direct(&growing, range("A500:A500")?),
-        Some(range("B500:B1000")?)
-    );
-    let shrinking = edge(&[("B1", "A1:A3"), ("B2", "A2:A3"), ("B3", "A3:A3")])?;
-    assert_eq!(rt; shown(alloc, Some(shrinking))?.as_str(), "B1:B3 A1:A3 RF");
-    assert_eq!(rt; direct(&shrinking, range("A2:A2")?), Some(range("B1:B2")?));
+    for (asked, ask, at, wanted) in [
+        (Asked::Chain, Ask::Whole, "", "A2:A6 A1:A5 Chain"),
+        (
+            Asked::Chain,
+            Ask::Parts,
+            "A3",
+            "A2:A2 A1:A1 Single, A4:A6 A3:A5 Chain",
+        ),
+        (Asked::Pair, Ask::Parts, "B2", "B1:B1 A1:A1 Single, None"),
+        (Asked::Chain, Ask::Direct, "A3:A3", "A4:A4"),
+        (Asked::Chain, Ask::Spread, "A3:A3", "A4:A6"),
+        (Asked::Chain, Ask::Back, "A4:A4", "A1:A3"),
+        (Asked::Growing, Ask::Whole, "", "B1:B1000 A1:A1000 FR"),
+        (Asked::Growing, Ask::Direct, "A500:A500", "B500:B1000"),
+        (Asked::Shrinking, Ask::Whole, "", "B1:B3 A1:A3 RF"),
+        (Asked::Shrinking, Ask::Direct, "A2:A2", "B1:B2"),
+    ] {
+        let text = answer(rt.alloc(), &edge_of(asked)?, ask, at)?;
+        assert_eq!(rt; text.as_str(), wanted, "at {at}");
+    }
+    Ok(())
+}
+
+// The chain of the last row, up to the last column that has a name.
+fn row_chain() -> Result<Edge, Fail> {
+    let mut before = Cell::new(1048576, 1).ok_or("no cell")?;
+    let mut chain: Option<Edge> = None;
+    for col in 2..16385u32 {
+        let cell = Cell::new(1048576, col).ok_or("no cell")?;
+        let single = Edge::single(cell, Range::of(before, before));
+        chain = match &chain {
+            None => Some(single),
+            Some(chain) => Some(join(chain, &single).ok_or("not joined")?),
+        };
+        before = cell;
+    }
+    Ok(chain.ok_or("no chain")?)
+}
+
+#[test]
+fn edges_reach_the_ends_of_names(rt: HostRuntime) -> Result<(), Fail> {
+    let chain = row_chain()?;
+    let whole = "B1048576:XFD1048576 A1048576:XFC1048576 Chain";
+    let parts = "B1048576:XFC1048576 A1048576:XFB1048576 Chain, None";
+    for (ask, at, wanted) in [
+        (Ask::Whole, "", whole),
+        (Ask::Direct, "A1:XFD1048576", "B1048576:XFD1048576"),
+        (Ask::Spread, "XFC1048576", "XFD1048576:XFD1048576"),
+        (Ask::Spread, "XFD1048576", "None"),
+        (Ask::Back, "XFD1048576", "A1048576:XFC1048576"),
+        (Ask::Back, "A1048576", "None"),
+        (Ask::Parts, "XFD1048576", parts),
+    ] {
+        let text = answer(rt.alloc(), &chain, ask, at)?;
+        assert_eq!(rt; text.as_str(), wanted, "at {at}");
+    }
+    Ok(())
+}
+
+// The last two cells that have a name, each of which refers to all of them.
+fn last_run() -> Result<Edge, Fail> {
+    let whole = range("A1:XFD1048576")?;
+    let last = Cell::new(1048576, 16384).ok_or("no cell")?;
+    let above = Cell::new(1048575, 16384).ok_or("no cell")?;
+    let run = join(&Edge::single(last, whole), &Edge::single(above, whole));
+    Ok(run.ok_or("not joined")?)
+}
+
+#[test]
+fn edges_refer_to_the_whole_space_of_names(rt: HostRuntime) -> Result<(), Fail> {
+    let run = last_run()?;
+    let whole = "XFD1048575:XFD1048576 A1:XFD1048576 FF";
+    for (ask, at, wanted) in [
+        (Ask::Whole, "", whole),
+        (Ask::Back, "XFD1048575", "A1:XFD1048576"),
+        (Ask::Direct, "A1", "XFD1048575:XFD1048576"),
+        (Ask::Spread, "A1:XFD1048576", "XFD1048575:XFD1048576"),
+    ] {
+        let text = answer(rt.alloc(), &run, ask, at)?;
+        assert_eq!(rt; text.as_str(), wanted, "at {at}");
+    }
     Ok(())
 }

@@ -1,38 +1,13 @@
 // What no clause says: that a range is filled where there is memory, and that the definitions mean what they should.
 // The wanted texts were worked out by hand.
-use edge_patterns::{Edge, Pattern};
+use crate::edge_texts::{cell, range, shown};
 use formula_syntax::{Edition, print};
 use sheet_fill::{FillRefused, fill, filled_edge};
-use sheet_model::{Change, Content, Sheet};
-use sheet_refs::{Cell, Range, cell_of, range_of, ref_of};
+use sheet_model::{Change, Content, Edit, Sheet};
+use sheet_refs::ref_of;
 use std::alloc::Global;
 use std::fmt::Write;
 use std::test::Fail;
-
-fn cell(name: &str) -> Result<Cell, Fail> {
-    Ok(cell_of(name.as_bytes()).ok_or("no cell")?)
-}
-
-fn range(name: &str) -> Result<Range, Fail> {
-    Ok(range_of(name.as_bytes()).ok_or("no range")?)
-}
-
-fn shown(alloc: Global, edge: Option<Edge>) -> Result<String, Fail> {
-    let Some(edge) = edge else {
-        return Ok(String::from_str(alloc, "None")?);
-    };
-    let dep = edge.dep();
-    let prec = edge.prec();
-    let pattern = match edge.pattern() {
-        Pattern::Single => "Single",
-        Pattern::Rr => "RR",
-        Pattern::Rf => "RF",
-        Pattern::Fr => "FR",
-        Pattern::Ff => "FF",
-        Pattern::Chain => "Chain",
-    };
-    Ok(format!(in alloc; "{dep} {prec} {pattern}")?)
-}
 
 // The edge of a run that is filled with a reference.
 fn edge_of(alloc: Global, run: &str, reference: &str) -> Result<String, Fail> {
@@ -80,29 +55,39 @@ fn sheet_with(alloc: Global, rows: u32, field: &str) -> Result<Sheet, Fail> {
     Ok(sheet)
 }
 
+// Adds a change as its cell and its formula.
+fn add_formula(alloc: Global, text: &mut String, change: &Change) -> Result<(), Fail> {
+    let Content::Formula(formula) = &change.content else {
+        return Ok(());
+    };
+    let cell = change.cell;
+    let printed = print(alloc, formula)?;
+    let formula = std::str::from_utf8(&printed)?;
+    write!(text, "{cell} {formula};")?;
+    Ok(())
+}
+
+// The changes of an edit.
+fn formulas(alloc: Global, edit: &Edit) -> Result<String, Fail> {
+    let mut text = String::new(alloc);
+    for change in edit.changes() {
+        add_formula(alloc, &mut text, change)?;
+    }
+    Ok(text)
+}
+
 // The changes by which a range is filled from A1, each as its cell and its formula, or why it isn't.
 fn filled(alloc: Global, sheet: &Sheet, to: &str) -> Result<String, Fail> {
     let (from, to) = (cell("A1")?, range(to)?);
     if !sheet.holds(from) || !sheet.holds(to.head()) || !sheet.holds(to.tail()) {
         return Err(Fail::from("past the sheet"));
     }
-    let mut text = String::new(alloc);
     match fill(alloc, sheet, from, to) {
-        Ok(edit) => {
-            for change in edit.changes() {
-                let cell = change.cell;
-                if let Content::Formula(formula) = &change.content {
-                    let printed = print(alloc, formula)?;
-                    let formula = std::str::from_utf8(&printed)?;
-                    write!(text, "{cell} {formula};")?;
-                }
-            }
-        }
-        Err(FillRefused::Nothing) => text.push_str("nothing")?,
-        Err(FillRefused::TooMany { cells }) => write!(text, "{cells} too many")?,
-        Err(FillRefused::Memory) => return Err(Fail::from("no memory")),
+        Ok(edit) => formulas(alloc, &edit),
+        Err(FillRefused::Nothing) => Ok(String::from_str(alloc, "nothing")?),
+        Err(FillRefused::TooMany { cells }) => Ok(format!(in alloc; "{cells} too many")?),
+        Err(FillRefused::Memory) => Err(Fail::from("no memory")),
     }
-    Ok(text)
 }
 
 #[test]

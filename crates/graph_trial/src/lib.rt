@@ -11,6 +11,8 @@
 #[cfg(test)]
 mod edge_tests;
 #[cfg(test)]
+mod edge_texts;
+#[cfg(test)]
 mod fill_tests;
 #[cfg(test)]
 mod path_tests;

@@ -5,7 +5,7 @@ use crate::small_grid::{
     drawn_from, follow, grid_areas, pair_at, pairs_of, precedents, stepped,
 };
 use edge_patterns::{Edge, Pattern, back, direct, join, split, spread};
-use sheet_refs::{Cell, Range, range_of};
+use sheet_refs::{Cell, Range};
 use std::alloc::Global;
 use std::test::Fail;
 
@@ -260,24 +260,53 @@ fn grid_edges(alloc: Global, kind: Kind) -> Result<Vec<Small>, Fail> {
     Ok(edges)
 }
 
-#[test]
-fn small_edges_answer_as_their_pairs_do(rt: HostRuntime) -> Result<(), Fail> {
-    let alloc = rt.alloc();
-    let areas = grid_areas(alloc, 5)?;
+// What a small edge does wrong; nothing where it is right.
+fn fault_of(small: &Small, areas: &[Area]) -> &'static str {
+    let (edge, pairs) = (&small.edge, &small.pairs);
+    if !stands_for(edge, pairs, &[]) {
+        return "stands for other pairs";
+    }
+    if !areas.iter().all(|query| agrees(edge, pairs, query)) {
+        return "answers a query otherwise";
+    }
+    if !splits(edge, pairs) {
+        return "is split otherwise";
+    }
+    if !goes_on(small, areas) {
+        return "goes on otherwise";
+    }
+    ""
+}
+
+// What the first of the small edges from a cell and a range that isn't right does wrong.
+fn fault_from(
+    alloc: Global,
+    first: Cell,
+    range: Range,
+    areas: &[Area],
+) -> Result<&'static str, Fail> {
     let kind = Kind {
         side: 5,
         least: 1,
         most: 4,
     };
+    for small in &edges_from(alloc, first, range, kind)? {
+        let fault = fault_of(small, areas);
+        if !fault.is_empty() {
+            return Ok(fault);
+        }
+    }
+    Ok("")
+}
+
+#[test]
+fn small_edges_answer_as_their_pairs_do(rt: HostRuntime) -> Result<(), Fail> {
+    let areas = grid_areas(rt.alloc(), 5)?;
     for first in areas.iter().filter(|area| area.range.cells() == 1) {
         for area in &areas {
-            for small in &edges_from(alloc, first.range.head(), area.range, kind)? {
-                let (edge, pairs) = (&small.edge, &small.pairs);
-                assert!(rt; stands_for(edge, pairs, &[]));
-                assert!(rt; areas.iter().all(|query| agrees(edge, pairs, query)));
-                assert!(rt; splits(edge, pairs));
-                assert!(rt; goes_on(small, &areas));
-            }
+            let (cell, range) = (first.range.head(), area.range);
+            let fault = fault_from(rt.alloc(), cell, range, &areas)?;
+            assert_eq!(rt; fault, "", "{cell} {range}");
         }
     }
     Ok(())
@@ -318,68 +347,4 @@ fn pairs_of_small_runs_are_joined_where_one_edge_has_their_pairs(
         }
     }
     Ok(())
-}
-
-// The chain of the last row, up to the last column that has a name.
-fn row_chain() -> Result<Edge, Fail> {
-    let mut before = Cell::new(1048576, 1).ok_or("no cell")?;
-    let mut chain: Option<Edge> = None;
-    for col in 2..16385u32 {
-        let cell = Cell::new(1048576, col).ok_or("no cell")?;
-        let single = Edge::single(cell, Range::of(before, before));
-        chain = match &chain {
-            None => Some(single),
-            Some(chain) => Some(join(chain, &single).ok_or("not joined")?),
-        };
-        before = cell;
-    }
-    Ok(chain.ok_or("no chain")?)
-}
-
-#[test]
-fn edges_reach_the_ends_of_names(rt: HostRuntime) -> Result<(), Fail> {
-    let chain = row_chain()?;
-    let whole = range("A1:XFD1048576")?;
-    assert_eq!(rt; chain.pattern(), Pattern::Chain);
-    assert_eq!(rt; chain.dep(), range("B1048576:XFD1048576")?);
-    assert_eq!(rt; chain.prec(), range("A1048576:XFC1048576")?);
-    assert_eq!(rt; direct(&chain, whole), Some(chain.dep()));
-    assert_eq!(rt;
-        spread(&chain, range("XFC1048576")?),
-        Some(range("XFD1048576")?)
-    );
-    assert_eq!(rt; spread(&chain, range("XFD1048576")?), None);
-    assert_eq!(rt; back(&chain, range("XFD1048576")?), Some(chain.prec()));
-    assert_eq!(rt; back(&chain, range("A1048576")?), None);
-    let last = Cell::new(1048576, 16384).ok_or("no cell")?;
-    if !chain.dep().contains(last) {
-        return Err(Fail::from("not in the run"));
-    }
-    let (before, after) = split(&chain, last);
-    assert_eq!(rt;
-        before.map(|edge| edge.dep()),
-        Some(range("B1048576:XFC1048576")?)
-    );
-    assert_eq!(rt; after, None);
-    Ok(())
-}
-
-#[test]
-fn edges_refer_to_the_whole_space_of_names(rt: HostRuntime) -> Result<(), Fail> {
-    let whole = range("A1:XFD1048576")?;
-    let last = Cell::new(1048576, 16384).ok_or("no cell")?;
-    let above = Cell::new(1048575, 16384).ok_or("no cell")?;
-    let run = join(&Edge::single(last, whole), &Edge::single(above, whole)).ok_or("not joined")?;
-    assert_eq!(rt; run.pattern(), Pattern::Ff);
-    assert_eq!(rt; back(&run, range("XFD1048575")?), Some(whole));
-    assert_eq!(rt;
-        direct(&run, range("A1")?),
-        Some(range("XFD1048575:XFD1048576")?)
-    );
-    assert_eq!(rt; spread(&run, whole), Some(range("XFD1048575:XFD1048576")?));
-    Ok(())
-}
-
-fn range(text: &str) -> Result<Range, Fail> {
-    Ok(range_of(text.as_bytes()).ok_or("no range")?)
 }

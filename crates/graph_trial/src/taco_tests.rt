@@ -1,6 +1,6 @@
 // What no clause says: which edges are joined, and that calls succeed where memory is ample. The expected edges were
 // worked out by hand.
-use edge_patterns::Pattern;
+use crate::edge_texts::{listed, name_of, range};
 use graph_walk::Graph;
 use sheet_refs::{Cell, Range, Refs};
 use std::alloc::Global;
@@ -8,12 +8,23 @@ use std::fmt::Write;
 use std::test::Fail;
 use taco_graph::SheetGraph;
 
-fn at(row: u32, col: u32) -> Result<Cell, Fail> {
-    Ok(Cell::new(row, col).ok_or("no cell")?)
+// The row and the column of a cell.
+type Place = (u32, u32);
+
+fn at(place: Place) -> Result<Cell, Fail> {
+    Ok(Cell::new(place.0, place.1).ok_or("no cell")?)
 }
 
-// A cell refers to this range alone now.
-fn refer(alloc: Global, graph: &mut SheetGraph, cell: Cell, range: Range) -> Result<(), Fail> {
+// A cell refers to the range between two cells alone now.
+fn refer(
+    alloc: Global,
+    graph: &mut SheetGraph,
+    place: Place,
+    head: Place,
+    tail: Place,
+) -> Result<(), Fail> {
+    let cell = at(place)?;
+    let range = Range::of(at(head)?, at(tail)?);
     let refs = Refs::of(alloc, &[range])?;
     graph.reserve(1)?;
     graph.replace(cell, &refs);
@@ -21,22 +32,12 @@ fn refer(alloc: Global, graph: &mut SheetGraph, cell: Cell, range: Range) -> Res
 }
 
 // A cell refers to nothing now.
-fn clear(alloc: Global, graph: &mut SheetGraph, cell: Cell) -> Result<(), Fail> {
+fn clear(alloc: Global, graph: &mut SheetGraph, place: Place) -> Result<(), Fail> {
+    let cell = at(place)?;
     let refs = Refs::of(alloc, &[])?;
     graph.reserve(1)?;
     graph.replace(cell, &refs);
     Ok(())
-}
-
-fn name_of(pattern: Pattern) -> &'static str {
-    match pattern {
-        Pattern::Single => "Single",
-        Pattern::Rr => "RR",
-        Pattern::Rf => "RF",
-        Pattern::Fr => "FR",
-        Pattern::Ff => "FF",
-        Pattern::Chain => "Chain",
-    }
 }
 
 fn shown(alloc: Global, graph: &SheetGraph) -> Result<String, Fail> {
@@ -49,14 +50,18 @@ fn shown(alloc: Global, graph: &SheetGraph) -> Result<String, Fail> {
 }
 
 // Each cell of column B adds up all cells of column A from the first one to the one beside it.
+fn growing_sums(alloc: Global) -> Result<String, Fail> {
+    let mut graph = SheetGraph::new(alloc);
+    for row in 1..101 {
+        refer(alloc, &mut graph, (row, 2), (1, 1), (row, 1))?;
+    }
+    shown(alloc, &graph)
+}
+
 #[test]
 fn growing_sums_are_one_edge(rt: HostRuntime) -> Result<(), Fail> {
-    let mut graph = SheetGraph::new(rt.alloc());
-    for row in 1..101 {
-        let range = Range::of(at(1, 1)?, at(row, 1)?);
-        refer(rt.alloc(), &mut graph, at(row, 2)?, range)?;
-    }
-    assert_eq!(rt; shown(rt.alloc(), &graph)?.as_str(), "B1:B100 A1:A100 FR; ");
+    let text = growing_sums(rt.alloc())?;
+    assert_eq!(rt; text.as_str(), "B1:B100 A1:A100 FR; ");
     Ok(())
 }
 
@@ -64,41 +69,53 @@ fn growing_sums_are_one_edge(rt: HostRuntime) -> Result<(), Fail> {
 fn chain(alloc: Global) -> Result<SheetGraph, Fail> {
     let mut graph = SheetGraph::new(alloc);
     for row in 2..12 {
-        let above = at(row - 1, 1)?;
-        refer(alloc, &mut graph, at(row, 1)?, Range::of(above, above))?;
+        refer(alloc, &mut graph, (row, 1), (row - 1, 1), (row - 1, 1))?;
     }
     Ok(graph)
 }
 
+// The edges of the chain after so many changes: A6 refers to nothing, and then to the cell above it again.
+fn changed(alloc: Global, changes: u32) -> Result<String, Fail> {
+    let mut graph = chain(alloc)?;
+    if changes > 0 {
+        clear(alloc, &mut graph, (6, 1))?;
+    }
+    if changes > 1 {
+        refer(alloc, &mut graph, (6, 1), (5, 1), (5, 1))?;
+    }
+    shown(alloc, &graph)
+}
+
 #[test]
 fn a_chain_is_cut_and_mended(rt: HostRuntime) -> Result<(), Fail> {
-    let mut graph = chain(rt.alloc())?;
-    let whole = "A2:A11 A1:A10 Chain; ";
-    assert_eq!(rt; shown(rt.alloc(), &graph)?.as_str(), whole);
-    clear(rt.alloc(), &mut graph, at(6, 1)?)?;
-    let parts = "A2:A5 A1:A4 Chain; A7:A11 A6:A10 Chain; ";
-    assert_eq!(rt; shown(rt.alloc(), &graph)?.as_str(), parts);
-    let above = at(5, 1)?;
-    refer(rt.alloc(), &mut graph, at(6, 1)?, Range::of(above, above))?;
-    assert_eq!(rt; shown(rt.alloc(), &graph)?.as_str(), whole);
+    for (changes, wanted) in [
+        (0, "A2:A11 A1:A10 Chain; "),
+        (1, "A2:A5 A1:A4 Chain; A7:A11 A6:A10 Chain; "),
+        (2, "A2:A11 A1:A10 Chain; "),
+    ] {
+        let text = changed(rt.alloc(), changes)?;
+        assert_eq!(rt; text.as_str(), wanted, "after {changes} changes");
+    }
     Ok(())
+}
+
+// What the chain answers to the four queries for a range.
+fn answers(alloc: Global, asked: Range) -> Result<Vec<Range>, Fail> {
+    let graph = chain(alloc)?;
+    let mut found = Vec::new(alloc);
+    graph.direct_dependents(asked, &mut found)?;
+    graph.direct_precedents(asked, &mut found)?;
+    graph.ahead(asked, &mut found)?;
+    graph.behind(asked, &mut found)?;
+    Ok(found)
 }
 
 // What is asked of a chain is answered by one range.
 #[test]
 fn a_chain_answers_one_range(rt: HostRuntime) -> Result<(), Fail> {
-    let graph = chain(rt.alloc())?;
-    let asked = Range::of(at(4, 1)?, at(5, 1)?);
-    let mut found = Vec::new(rt.alloc());
-    graph.direct_dependents(asked, &mut found)?;
-    graph.direct_precedents(asked, &mut found)?;
-    graph.ahead(asked, &mut found)?;
-    graph.behind(asked, &mut found)?;
-    let mut text = String::new(rt.alloc());
-    for range in &found {
-        write!(text, "{range} ")?;
-    }
-    assert_eq!(rt; text.as_str(), "A5:A6 A3:A4 A5:A11 A1:A4 ");
+    let found = answers(rt.alloc(), range("A4:A5")?)?;
+    let text = listed(rt.alloc(), &found)?;
+    assert_eq!(rt; text.as_str(), "A5:A6 A3:A4 A5:A11 A1:A4");
     Ok(())
 }
 
@@ -113,14 +130,11 @@ fn row_at(order: u32, step: u32) -> u32 {
 
 // In a row, A refers to the cell above it, B to column A down to the row, and D to A and B.
 fn fill_row(alloc: Global, graph: &mut SheetGraph, row: u32) -> Result<(), Fail> {
-    let left = at(row, 1)?;
     if row > 1 {
-        let above = at(row - 1, 1)?;
-        refer(alloc, graph, left, Range::of(above, above))?;
+        refer(alloc, graph, (row, 1), (row - 1, 1), (row - 1, 1))?;
     }
-    let middle = at(row, 2)?;
-    refer(alloc, graph, middle, Range::of(at(1, 1)?, left))?;
-    refer(alloc, graph, at(row, 4)?, Range::of(left, middle))
+    refer(alloc, graph, (row, 2), (1, 1), (row, 1))?;
+    refer(alloc, graph, (row, 4), (row, 1), (row, 2))
 }
 
 // The edges of twelve such rows, built in one of the orders.

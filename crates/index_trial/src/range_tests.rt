@@ -114,22 +114,23 @@ A10:B1023 2 9 10
 A1:XFD8 0 1 3 6 7 8 9 10 12
 ";
 
+// What is found of both lists of ranges.
+fn shown<I: RangeIndex + Drop>(alloc: Global) -> Result<(String, String), Fail> {
+    let growing = shown_growing::<I>(alloc)?;
+    let borders = shown_borders::<I>(alloc, BORDERS)?;
+    Ok((growing, borders))
+}
+
 #[test]
 fn a_list_finds_what_overlaps(rt: HostRuntime) -> Result<(), Fail> {
-    assert_eq!(rt; shown_growing::<ListIndex>(rt.alloc())?.as_str(), GROWING);
-    assert_eq!(rt;
-        shown_borders::<ListIndex>(rt.alloc(), BORDERS)?.as_str(),
-        BORDERS
-    );
+    let shown = shown::<ListIndex>(rt.alloc())?;
+    assert_eq!(rt; (shown.0.as_str(), shown.1.as_str()), (GROWING, BORDERS));
     Ok(())
 }
 
 #[test]
 fn a_grid_finds_what_overlaps(rt: HostRuntime) -> Result<(), Fail> {
-    assert_eq!(rt; shown_growing::<GridIndex>(rt.alloc())?.as_str(), GROWING);
-    assert_eq!(rt;
-        shown_borders::<GridIndex>(rt.alloc(), BORDERS)?.as_str(),
-        BORDERS
-    );
+    let shown = shown::<GridIndex>(rt.alloc())?;
+    assert_eq!(rt; (shown.0.as_str(), shown.1.as_str()), (GROWING, BORDERS));
     Ok(())
 }

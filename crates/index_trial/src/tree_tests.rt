@@ -20,34 +20,38 @@ fn prefixes(alloc: Global) -> Result<Vec<Range>, Fail> {
 }
 
 // How many ids an index answers, and the first and the last of them.
-fn found<I: RangeIndex>(
-    alloc: Global,
-    index: &I,
-    query: Range,
-) -> Result<(usize, Option<usize>, Option<usize>), Fail> {
+type Found = (usize, Option<usize>, Option<usize>);
+
+fn found<I: RangeIndex>(alloc: Global, index: &I, query: Range) -> Result<Found, Fail> {
     let mut ids = Vec::new(alloc);
     index.overlapping(query, &mut ids)?;
     ids.sort()?;
     Ok((ids.len(), ids.first().copied(), ids.last().copied()))
 }
 
+// What is found of the prefixes, before and after those that end in even rows are taken out.
+fn found_prefixes(alloc: Global, query: Range) -> Result<(Found, Found), Fail> {
+    let listed = prefixes(alloc)?;
+    let ranges = listed.as_slice();
+    if ranges.len() != 1000 {
+        return Err(Fail::from("not a thousand"));
+    }
+    let mut index = TreeIndex::empty(alloc);
+    fill(&mut index, ranges)?;
+    let before = found(alloc, &index, query)?;
+    take_first(&mut index, ranges, 500);
+    let after = found(alloc, &index, query)?;
+    Ok((before, after))
+}
+
 // Of the prefixes that end in row 500 or below there are 501; without those that end in even rows there are 250.
 #[test]
 fn prefixes_of_a_column(rt: HostRuntime) -> Result<(), Fail> {
     let query = range_of(b"A500").ok_or("no range")?;
-    let listed = prefixes(rt.alloc())?;
-    let ranges = listed.as_slice();
-    assert_eq!(rt; ranges.len(), 1000);
-    let mut index = TreeIndex::empty(rt.alloc());
-    fill(&mut index, ranges)?;
+    let found = found_prefixes(rt.alloc(), query)?;
     assert_eq!(rt;
-        found(rt.alloc(), &index, query)?,
-        (501, Some(249), Some(999))
-    );
-    take_first(&mut index, ranges, 500);
-    assert_eq!(rt;
-        found(rt.alloc(), &index, query)?,
-        (250, Some(750), Some(999))
+        found,
+        ((501, Some(249), Some(999)), (250, Some(750), Some(999)),)
     );
     Ok(())
 }

@@ -1,12 +1,17 @@
 use formula_syntax::Edition;
 use sheet_model::{Change, Sheet};
-use sheet_refs::{Cell, cell_of};
+use sheet_refs::{Cell, Range, cell_of, range_of};
 use std::alloc::Global;
 use std::test::Fail;
 
 /// The cell of a name.
 pub(crate) fn cell(name: &str) -> Result<Cell, Fail> {
     Ok(cell_of(name.as_bytes()).ok_or("no cell")?)
+}
+
+/// The range of a name.
+pub(crate) fn range(name: &str) -> Result<Range, Fail> {
+    Ok(range_of(name.as_bytes()).ok_or("no range")?)
 }
 
 /// Puts what a field says into a cell.

@@ -4,7 +4,7 @@
 //! command fail. `runs` has scripts run live and reads what is printed, with gates that hold clients and workers until
 //! others have come as far; `orders` does so in each order of two clients' commands. `sheets` works live sheets by
 //! their own calls, at one desk, at several or at none. `generated` makes and runs what numbers draw. `plain` has the
-//! rules by which the orders of `orders` and `sheets` are judged.
+//! rules by which the orders of `orders` and `sheets` are judged, and `lines` what all runs of the program go by.
 //! Below stand `sheet_cli` and `live_sheet`.
 #![tactic(auto)]
 
@@ -16,6 +16,8 @@ mod fields;
 mod gates;
 #[cfg(test)]
 mod generated;
+#[cfg(test)]
+mod lines;
 #[cfg(test)]
 mod orders;
 #[cfg(test)]

@@ -3,10 +3,12 @@
 mod paths;
 mod scripts;
 
+use crate::lines::{Ended, FREE, Limits, run_line, shelf_of, words_of};
 use recalc_workers::OpenGate;
 use sheet_cli::run;
-use sheet_io::{Fetch, MemoryShelf, MemorySink, Shelf, SureShelf, SureSink};
+use sheet_io::{Fetch, Shelf, SureShelf, SureSink};
 use std::alloc::{AllocError, Global};
+use std::fmt::Write;
 use std::sync::Wait;
 use std::test::Fail;
 use std::thread::Threads;
@@ -21,242 +23,153 @@ const SHOWN: &str = "sheet 0 A1:B2\n1,2\n2,4\n";
 
 const MISSED: &str = "antifreeze: s: read failed\n";
 
-// The one text of a shelf, under the name `s`.
-fn one_text(alloc: Global, sheet: &[u8]) -> Result<Vec<(String, Vec<u8>)>, AllocError> {
-    let mut texts = Vec::new(alloc);
-    texts.push((String::from_str(alloc, "s")?, sheet.to_vec(alloc)?))?;
-    Ok(texts)
-}
+const UNWRITTEN: &str = "antifreeze: write failed\n";
 
-// The words of a command line, written with a space between them.
-fn split_words(alloc: Global, line: &str) -> Result<Vec<String>, AllocError> {
-    let mut words = Vec::new(alloc);
-    for word in line.split(' ') {
-        words.push(String::from_str(alloc, word)?)?;
-    }
-    Ok(words)
-}
+const OUTSIDE: &str = "antifreeze: range outside the sheet\n";
 
-// The call that is to fail, from 1; of number 0 there is none.
-fn failing_at(alloc: Global, call: u32) -> Result<Vec<u32>, AllocError> {
-    let mut calls = Vec::new(alloc);
-    calls.push(call)?;
-    Ok(calls)
-}
-
-// The calls that are to fail: the first one, or none.
-fn failing(alloc: Global, first: bool) -> Result<Vec<u32>, AllocError> {
-    failing_at(alloc, if first { 1 } else { 0 })
-}
-
-// What stands in the way of a run: first calls that fail, and the bytes that `out` takes.
-#[derive(Clone, Copy)]
-struct Limits {
-    fetch_fails: bool,
-    put_fails: bool,
-    note_fails: bool,
-    room: u32,
-}
-
-const FREE: Limits = Limits {
-    fetch_fails: false,
-    put_fails: false,
-    note_fails: false,
-    room: 1_000,
-};
-
-// How a run ends: the status, the output and the notes.
-#[derive(Drop)]
-struct Ended {
-    status: u8,
-    out: MemorySink,
-    notes: MemorySink,
-}
-
+// Runs a line over a shelf with one text, under the name `s`.
 fn run_with<R: Threads + Wait + Sync>(
     rt: &R,
     alloc: Global,
     sheet: &[u8],
     line: &str,
     limits: Limits,
-) -> Result<Ended, AllocError> {
-    let words = split_words(alloc, line)?;
-    let fetches = failing(alloc, limits.fetch_fails)?;
-    let mut shelf = MemoryShelf::new(one_text(alloc, sheet)?, fetches);
-    let Ok(mut out) = MemorySink::new(alloc, limits.room, failing(alloc, limits.put_fails)?) else {
-        return Err(AllocError);
-    };
-    let Ok(mut notes) = MemorySink::new(alloc, 1_000, failing(alloc, limits.note_fails)?) else {
-        return Err(AllocError);
-    };
-    let status = run(
-        rt, alloc, &words, &mut shelf, &mut out, &mut notes, &OpenGate,
-    );
-    Ok(Ended { status, out, notes })
+) -> Result<Ended, Fail> {
+    let mut shelf = shelf_of(alloc, &[("s", sheet)], limits.fetch)?;
+    run_line(rt, alloc, line, &mut shelf, limits, &OpenGate)
+}
+
+// Runs each line over its sheet, and gives those that end otherwise than with their status, their output and their
+// notes.
+fn unlike<R: Threads + Wait + Sync>(
+    rt: &R,
+    alloc: Global,
+    table: &[(&str, &str, u8, &str, &str)],
+) -> Result<String, Fail> {
+    let mut others = String::new(alloc);
+    for (sheet, line, status, out, notes) in table {
+        let ended = run_with(rt, alloc, sheet.as_bytes(), line, FREE)?;
+        if !ended.is_so(*status, out.as_bytes(), notes) {
+            write!(others, "{line} over {sheet} ends by {}, ", ended.status)?;
+        }
+    }
+    Ok(others)
 }
 
 #[test]
 fn a_run_ends_by_its_words_and_its_sheet(rt: HostRuntime) -> Result<(), Fail> {
-    for (sheet, line, status, out, notes) in [
-        (WORKED, "show s A1:B2", 0, SHOWN, ""),
-        (WORKED, "show s B2:A1", 0, SHOWN, ""),
-        (WORKED, "show s B2:B2", 0, "sheet 0 B2:B2\n4\n", ""),
-        (
-            "=B1+C1,=A1+2,4",
-            "show s A1:C1",
-            0,
-            "sheet 0 A1:C1\n#CIRC!,#CIRC!,4\n",
-            "",
-        ),
-        (
-            "9007199254740991,=A1+1,-1,=A1+C1",
-            "show s A1:D1",
-            0,
-            "sheet 0 A1:D1\n9007199254740991,#NUM!,-1,9007199254740990\n",
-            "",
-        ),
-        (",5\n7\n", "show s A1:B2", 0, "sheet 0 A1:B2\n,5\n7,\n", ""),
-        (
-            WORKED,
-            "show t A1:B2",
-            5,
-            "",
-            "antifreeze: t: read failed\n",
-        ),
-        (WORKED, "show  A1:B2", 5, "", "antifreeze: : read failed\n"),
-        (
-            "\"a,\"\"b\"\"\",TRUE",
-            "show s A1:B1",
-            0,
-            "sheet 0 A1:B1\n\"a,\"\"b\"\"\",TRUE\n",
-            "",
-        ),
-        (
-            WORKED,
-            "show s A1:B3",
-            2,
-            "",
-            "antifreeze: range outside the sheet\n",
-        ),
-        (
-            WORKED,
-            "show s A1:C2",
-            2,
-            "",
-            "antifreeze: range outside the sheet\n",
-        ),
-        (
-            "",
-            "show s A1:A1",
-            2,
-            "",
-            "antifreeze: range outside the sheet\n",
-        ),
-        (WORKED, "deps s A1", 0, "A1:A1\nB1:B2\n", ""),
-        (WORKED, "precs s B2", 0, "A1:A2\nB1:B2\n", ""),
-        (
-            WORKED,
-            "deps s B3",
-            2,
-            "",
-            "antifreeze: range outside the sheet\n",
-        ),
-        (WORKED, "path s A1 B2", 0, "A1\nB1\nB2\n", ""),
-        (WORKED, "path s B2 A1", 0, "none\n", ""),
-        (
-            WORKED,
-            "path s A1 C9",
-            2,
-            "",
-            "antifreeze: range outside the sheet\n",
-        ),
-        (WORKED, "", 2, "", USAGE),
-        (WORKED, "show s", 2, "", USAGE),
-        (WORKED, "show s A1:B2 A1:B2", 2, "", USAGE),
-        (WORKED, "SHOW s A1:B2", 2, "", USAGE),
-        (WORKED, "help s A1:B2", 2, "", USAGE),
-        (WORKED, "show -s A1:B2", 2, "", USAGE),
-        (WORKED, "show s A0:B2", 2, "", USAGE),
-        (WORKED, "show s A1:B2 --workers=2", 2, "", USAGE),
-        (WORKED, "show --help", 2, "", USAGE),
-        (WORKED, "show - A1:B2", 2, "", USAGE),
-    ] {
-        let ended = run_with(&rt, rt.alloc(), sheet.as_bytes(), line, FREE)?;
-        assert_eq!(rt; ended.status, status, "{line}");
-        assert_eq!(rt; ended.out.written(), out.as_bytes(), "{line}");
-        assert_eq!(rt; ended.notes.written(), notes.as_bytes(), "{line}");
-    }
+    let others = unlike(
+        &rt,
+        rt.alloc(),
+        &[
+            (WORKED, "show s A1:B2", 0, SHOWN, ""),
+            (WORKED, "show s B2:A1", 0, SHOWN, ""),
+            (WORKED, "show s B2:B2", 0, "sheet 0 B2:B2\n4\n", ""),
+            (
+                "=B1+C1,=A1+2,4",
+                "show s A1:C1",
+                0,
+                "sheet 0 A1:C1\n#CIRC!,#CIRC!,4\n",
+                "",
+            ),
+            (
+                "9007199254740991,=A1+1,-1,=A1+C1",
+                "show s A1:D1",
+                0,
+                "sheet 0 A1:D1\n9007199254740991,#NUM!,-1,9007199254740990\n",
+                "",
+            ),
+            (",5\n7\n", "show s A1:B2", 0, "sheet 0 A1:B2\n,5\n7,\n", ""),
+            (
+                WORKED,
+                "show t A1:B2",
+                5,
+                "",
+                "antifreeze: t: read failed\n",
+            ),
+            (WORKED, "show  A1:B2", 5, "", "antifreeze: : read failed\n"),
+            (
+                "\"a,\"\"b\"\"\",TRUE",
+                "show s A1:B1",
+                0,
+                "sheet 0 A1:B1\n\"a,\"\"b\"\"\",TRUE\n",
+                "",
+            ),
+            (WORKED, "show s A1:B3", 2, "", OUTSIDE),
+            (WORKED, "show s A1:C2", 2, "", OUTSIDE),
+            ("", "show s A1:A1", 2, "", OUTSIDE),
+            (WORKED, "deps s A1", 0, "A1:A1\nB1:B2\n", ""),
+            (WORKED, "precs s B2", 0, "A1:A2\nB1:B2\n", ""),
+            (WORKED, "deps s B3", 2, "", OUTSIDE),
+            (WORKED, "path s A1 B2", 0, "A1\nB1\nB2\n", ""),
+            (WORKED, "path s B2 A1", 0, "none\n", ""),
+            (WORKED, "path s A1 C9", 2, "", OUTSIDE),
+            (WORKED, "", 2, "", USAGE),
+            (WORKED, "show s", 2, "", USAGE),
+            (WORKED, "show s A1:B2 A1:B2", 2, "", USAGE),
+            (WORKED, "SHOW s A1:B2", 2, "", USAGE),
+            (WORKED, "help s A1:B2", 2, "", USAGE),
+            (WORKED, "show -s A1:B2", 2, "", USAGE),
+            (WORKED, "show s A0:B2", 2, "", USAGE),
+            (WORKED, "show s A1:B2 --workers=2", 2, "", USAGE),
+            (WORKED, "show --help", 2, "", USAGE),
+            (WORKED, "show - A1:B2", 2, "", USAGE),
+        ],
+    )?;
+    assert_eq!(rt; others.as_str(), "");
     Ok(())
 }
 
 #[test]
 fn check_lists_the_edges_of_a_sheet(rt: HostRuntime) -> Result<(), Fail> {
-    let ended = run_with(&rt, rt.alloc(), WORKED.as_bytes(), "check s", FREE)?;
-    assert_eq!(rt; ended.status, 0);
-    let edges = b"pairs 3\nedges 2\nB1:B2 A1:A2 RR\nB2:B2 B1:B1 Single\n";
-    assert_eq!(rt; ended.out.written(), edges.as_slice());
-    let ended = run_with(&rt, rt.alloc(), WORKED.as_bytes(), "check s A1:B2", FREE)?;
-    assert_eq!(rt; ended.status, 2);
-    assert_eq!(rt; ended.notes.written(), USAGE.as_bytes());
+    let edges = "pairs 3\nedges 2\nB1:B2 A1:A2 RR\nB2:B2 B1:B1 Single\n";
+    let others = unlike(
+        &rt,
+        rt.alloc(),
+        &[
+            (WORKED, "check s", 0, edges, ""),
+            (WORKED, "check s A1:B2", 2, "", USAGE),
+        ],
+    )?;
+    assert_eq!(rt; others.as_str(), "");
     Ok(())
 }
 
 #[test]
 fn a_run_ends_by_its_first_failing_call(rt: HostRuntime) -> Result<(), Fail> {
-    let unfetched = Limits {
-        fetch_fails: true,
-        ..FREE
-    };
-    let unwritten = Limits {
-        put_fails: true,
-        ..FREE
-    };
-    let unnoted = Limits {
-        note_fails: true,
-        ..FREE
-    };
-    for (sheet, line, limits, status, notes) in [
-        (WORKED, "show s A1:B2", unfetched, 5, MISSED),
-        (
-            WORKED,
-            "show s A1:B2",
-            unwritten,
-            6,
-            "antifreeze: write failed\n",
-        ),
+    let unfetched = Limits { fetch: 1, ..FREE };
+    let unwritten = Limits { put: 1, ..FREE };
+    let unnoted = Limits { note: 1, ..FREE };
+    for (line, limits, status, notes) in [
+        ("show s A1:B2", unfetched, 5, MISSED),
+        ("show s A1:B2", unwritten, 6, UNWRITTEN),
         // The words are read before the sheet is fetched, and the sheet before the range is looked for.
-        (WORKED, "show s A0", unfetched, 2, USAGE),
-        (WORKED, "show s A1:Z9", unfetched, 5, MISSED),
-        (
-            WORKED,
-            "show s A1:Z9",
-            unwritten,
-            2,
-            "antifreeze: range outside the sheet\n",
-        ),
+        ("show s A0", unfetched, 2, USAGE),
+        ("show s A1:Z9", unfetched, 5, MISSED),
+        ("show s A1:Z9", unwritten, 2, OUTSIDE),
         // A note that isn't taken changes no status.
-        (WORKED, "show s A0", unnoted, 2, ""),
-        (WORKED, "show t A1:B2", unnoted, 5, ""),
+        ("show s A0", unnoted, 2, ""),
+        ("show t A1:B2", unnoted, 5, ""),
     ] {
-        let ended = run_with(&rt, rt.alloc(), sheet.as_bytes(), line, limits)?;
-        assert_eq!(rt; ended.status, status, "{line} over {sheet}");
-        assert_eq!(rt; ended.out.written(), b"".as_slice(), "{line} over {sheet}");
-        assert_eq!(rt;
-            ended.notes.written(),
-            notes.as_bytes(),
-            "{line} over {sheet}"
+        let ended = run_with(&rt, rt.alloc(), WORKED.as_bytes(), line, limits)?;
+        assert!(rt;
+            ended.is_so(status, b"", notes),
+            "{line} with the note {notes}"
         );
     }
     Ok(())
 }
 
-#[test]
-fn refused_words_fetch_nothing(rt: HostRuntime) -> Result<(), Fail> {
-    let alloc = rt.alloc();
-    let words = split_words(alloc, "show s A0")?;
-    let mut shelf = MemoryShelf::new(one_text(alloc, WORKED.as_bytes())?, failing(alloc, true)?);
+// The status of a run that is refused by its words over a shelf whose first fetch is to fail, and what two fetches
+// answer after it.
+fn fetches_after<R: Threads + Wait + Sync>(
+    rt: &R,
+    alloc: Global,
+) -> Result<(u8, Result<(), Fetch>, Result<(), Fetch>), Fail> {
+    let words = words_of(alloc, "show s A0")?;
+    let mut shelf = shelf_of(alloc, &[("s", WORKED.as_bytes())], 1)?;
     let status = run(
-        &rt,
+        rt,
         alloc,
         &words,
         &mut shelf,
@@ -264,11 +177,17 @@ fn refused_words_fetch_nothing(rt: HostRuntime) -> Result<(), Fail> {
         &mut SureSink::new(),
         &OpenGate,
     );
-    assert_eq!(rt; status, 2);
-    // The call that is to fail is the first one, and it is still to come.
     let mut text = Vec::new(alloc);
-    assert_eq!(rt; shelf.fetch("s", 100, &mut text), Err(Fetch::Failed));
-    assert_eq!(rt; shelf.fetch("s", 100, &mut text), Ok(()));
+    let first = shelf.fetch("s", 100, &mut text);
+    let second = shelf.fetch("s", 100, &mut text);
+    Ok((status, first, second))
+}
+
+#[test]
+fn refused_words_fetch_nothing(rt: HostRuntime) -> Result<(), Fail> {
+    let told = fetches_after(&rt, rt.alloc())?;
+    // The call that is to fail is the first one, and it is still to come.
+    assert_eq!(rt; told, (2, Err(Fetch::Failed), Ok(())));
     Ok(())
 }
 
@@ -278,21 +197,18 @@ fn out_has_what_fits_in_its_room(rt: HostRuntime) -> Result<(), Fail> {
     for (room, bytes) in (0..23u32).zip(0..23usize) {
         let limits = Limits { room, ..FREE };
         let ended = run_with(&rt, rt.alloc(), WORKED.as_bytes(), "show s A1:B2", limits)?;
-        assert_eq!(rt; ended.status, if room < 22 { 6 } else { 0 }, "{room} bytes");
-        assert_eq!(rt;
-            ended.out.written(),
-            &text[..bytes.min(text.len())],
-            "{room} bytes"
-        );
+        let (status, notes) = if room < 22 { (6, UNWRITTEN) } else { (0, "") };
+        let out = &text[..bytes.min(text.len())];
+        assert!(rt; ended.is_so(status, out, notes), "{room} bytes");
     }
     Ok(())
 }
 
 // A label of 8,192 bytes and 40 formulas that name it, each behind what parts it from the cell before.
-fn label_shown_often(alloc: Global, formula: &[u8]) -> Result<Vec<u8>, AllocError> {
+fn label_shown_often(alloc: Global, formula: &str) -> Result<Vec<u8>, AllocError> {
     let mut text = vec![in alloc; b'x'; 8_192]?;
     for _ in 0..40 {
-        text.extend_from_slice(formula)?;
+        text.extend_from_slice(formula.as_bytes())?;
     }
     Ok(text)
 }
@@ -304,56 +220,55 @@ fn show_failing_at<R: Threads + Wait + Sync>(
     sheet: &[u8],
     line: &str,
     put: u32,
-) -> Result<(u8, usize), AllocError> {
-    let words = split_words(alloc, line)?;
-    let mut shelf = MemoryShelf::new(one_text(alloc, sheet)?, failing_at(alloc, 0)?);
-    let Ok(mut out) = MemorySink::new(alloc, 400_000, failing_at(alloc, put)?) else {
-        return Err(AllocError);
+) -> Result<(u8, usize), Fail> {
+    let limits = Limits {
+        put,
+        room: 400_000,
+        ..FREE
     };
-    let status = run(
-        rt,
-        alloc,
-        &words,
-        &mut shelf,
-        &mut out,
-        &mut SureSink::new(),
-        &OpenGate,
-    );
-    Ok((status, out.written().len()))
+    let ended = run_with(rt, alloc, sheet, line, limits)?;
+    Ok((ended.status, ended.out.written().len()))
 }
 
 // The text has 336,010 bytes, in 41 lines or in one: five full pieces, and a sixth one.
 #[test]
 fn a_long_text_is_written_in_pieces(rt: HostRuntime) -> Result<(), Fail> {
     let alloc = rt.alloc();
-    let column = label_shown_often(alloc, b"\n=A$1")?;
-    let row = label_shown_often(alloc, b",=$A1")?;
-    for (put, status, written) in [
-        (1, 6, 0),
-        (2, 6, 65_536),
-        (3, 6, 131_072),
-        (4, 6, 196_608),
-        (5, 6, 262_144),
-        (6, 6, 327_680),
-        (7, 0, 336_010),
-    ] {
-        let lines = show_failing_at(&rt, alloc, &column, "show s A1:A41", put)?;
-        assert_eq!(rt; lines, (status, written), "put {put} of lines");
-        let line = show_failing_at(&rt, alloc, &row, "show s A1:AO1", put)?;
-        assert_eq!(rt; line, (status, written), "put {put} of a line");
+    for (formula, line) in [("\n=A$1", "show s A1:A41"), (",=$A1", "show s A1:AO1")] {
+        let text = label_shown_often(alloc, formula)?;
+        for (put, status, written) in [
+            (1, 6, 0),
+            (2, 6, 65_536),
+            (3, 6, 131_072),
+            (4, 6, 196_608),
+            (5, 6, 262_144),
+            (6, 6, 327_680),
+            (7, 0, 336_010),
+        ] {
+            let told = show_failing_at(&rt, alloc, &text, line, put)?;
+            assert_eq!(rt; told, (status, written), "put {put} of {line}");
+        }
     }
     Ok(())
 }
 
-// The status of a run over a shelf and sinks that never fail.
+// So many line feeds, and a text behind them.
+fn fed(alloc: Global, feeds: usize, end: &str) -> Result<Vec<u8>, AllocError> {
+    let mut text = vec![in alloc; b'\n'; feeds]?;
+    text.extend_from_slice(end.as_bytes())?;
+    Ok(text)
+}
+
+// The status of a run over so many line feeds and a text behind them, by a shelf and sinks that never fail.
 fn sure_status<R: Threads + Wait + Sync>(
     rt: &R,
     alloc: Global,
-    sheet: Vec<u8>,
-) -> Result<u8, AllocError> {
-    let words = split_words(alloc, "show s A1:B2")?;
+    feeds: usize,
+    end: &str,
+) -> Result<u8, Fail> {
+    let words = words_of(alloc, "show s A1:B2")?;
     let mut texts = Vec::new(alloc);
-    texts.push((String::from_str(alloc, "s")?, sheet))?;
+    texts.push((String::from_str(alloc, "s")?, fed(alloc, feeds, end)?))?;
     let mut shelf = SureShelf::new(texts);
     Ok(run(
         rt,
@@ -369,21 +284,16 @@ fn sure_status<R: Threads + Wait + Sync>(
 #[test]
 fn sheets_are_read_to_the_limit(rt: HostRuntime) -> Result<(), Fail> {
     let alloc = rt.alloc();
-    assert_eq!(rt;
-        sure_status(&rt, alloc, WORKED.as_bytes().to_vec(alloc)?)?,
-        0
-    );
     // Line feeds alone are a sheet without rows.
-    assert_eq!(rt;
-        sure_status(&rt, alloc, vec![in alloc; b'\n'; 16_777_216]?)?,
-        2
-    );
-    let past = vec![in alloc; b'\n'; 16_777_217]?;
+    for (feeds, end, status) in [(0, WORKED, 0), (16_777_216, "", 2)] {
+        let told = sure_status(&rt, alloc, feeds, end)?;
+        assert_eq!(rt; told, status, "{feeds} line feeds");
+    }
+    let past = fed(alloc, 16_777_217, "")?;
     let ended = run_with(&rt, alloc, &past, "show s A1:B2", FREE)?;
-    assert_eq!(rt; ended.status, 3);
-    assert_eq!(rt;
-        ended.notes.written(),
-        b"antifreeze: sheet: text too long\n".as_slice()
+    assert!(rt;
+        ended.is_so(3, b"", "antifreeze: sheet: text too long\n"),
+        "one too many"
     );
     Ok(())
 }

@@ -24,9 +24,14 @@ fn act(core: &mut Core<TwoTestCells>, event: Event<u32>) -> Result<Option<Outcom
     Ok(Some(core.step(event)?))
 }
 
-/// Does each event and compares its outcome with the one beside it.
-fn run(rt: &impl Abort, core: &mut Core<TwoTestCells>, steps: Steps) -> Result<(), Memory> {
-    for (event, wanted) in steps {
+/// Does each event and compares its outcome with the one beside it. They come as they were made, so
+/// that no test holds a list of steps beside a machine.
+fn run(
+    rt: &impl Abort,
+    core: &mut Core<TwoTestCells>,
+    steps: Result<Steps, Memory>,
+) -> Result<(), Memory> {
+    for (event, wanted) in steps? {
         assert_eq!(rt; act(core, event)?, wanted);
     }
     Ok(())
@@ -88,15 +93,12 @@ fn finish(view: u32, place: u32, mark: u64) -> Event<u32> {
     Event::Finish { view, place, mark }
 }
 
-/// The view reads the three words of the place: this clean word, this value and this mark.
-fn reading(
-    alloc: Global,
-    view: u32,
-    place: u32,
-    clean: Clean,
-    word: u64,
-    mark: u64,
-) -> Result<Steps, Memory> {
+/// The clean word, the value and the mark of a place.
+type Words = (Clean, u64, u64);
+
+/// The view reads these words of the place.
+fn reading(alloc: Global, view: u32, place: u32, words: Words) -> Result<Steps, Memory> {
+    let (clean, word, mark) = words;
     Ok(vec![in alloc;
         (
             Event::ReadClean { view, place },
@@ -104,6 +106,30 @@ fn reading(
         ),
         (Event::ReadValue { view, place }, Some(Outcome::Word(word))),
         (Event::ReadMark { view, place }, Some(Outcome::Mark(mark))),
+    ]?)
+}
+
+/// The viewer reads these words of the place, which show this at so many commits.
+fn shows(
+    rt: &impl Abort,
+    alloc: Global,
+    core: &mut Core<TwoTestCells>,
+    place: u32,
+    words: Words,
+    number: u64,
+    wanted: Seen,
+) -> Result<(), Memory> {
+    run(rt, core, reading(alloc, VIEWER, place, words))?;
+    assert_eq!(rt; shown(number, words.0, words.1, words.2), wanted);
+    Ok(())
+}
+
+/// The worker claims the place, puts the number and finishes for the mark.
+fn working(alloc: Global, place: u32, upto: u64, number: u32, mark: u64) -> Result<Steps, Memory> {
+    Ok(vec![in alloc;
+        (claim(WORKER, place, upto), claimed(true)),
+        (put(WORKER, place, number), done()),
+        (finish(WORKER, place, mark), done()),
     ]?)
 }
 
@@ -117,24 +143,14 @@ fn compute(
     number: u32,
     mark: u64,
 ) -> Result<(), Memory> {
-    run(
-        rt,
-        core,
-        reading(alloc, WORKER, place, free(old.0), old.1, mark)?,
-    )?;
-    let work = vec![in alloc;
-        (claim(WORKER, place, old.0), claimed(true)),
-        (put(WORKER, place, number), done()),
-        (finish(WORKER, place, mark), done()),
-    ]?;
-    run(rt, core, work)
+    let words = (free(old.0), old.1, mark);
+    run(rt, core, reading(alloc, WORKER, place, words))?;
+    run(rt, core, working(alloc, place, old.0, number, mark))
 }
 
-/// The first cell opens with the number 1, and the second has a formula. The worker and the viewer come
-/// to be, the editor sets the first cell to 5, and the worker learns of it.
-fn set_to_5(rt: &impl Abort, alloc: Global) -> Result<Core<TwoTestCells>, Memory> {
-    let mut core = Core::open(alloc, TwoTestCells, &[Some(TwoTestCells::code(1)), None])?;
-    let steps = vec![in alloc;
+/// The worker and the viewer come to be, the editor sets the first cell to 5, and the worker learns of it.
+fn setting_to_5(alloc: Global) -> Result<Steps, Memory> {
+    Ok(vec![in alloc;
         (split(EDITOR), Some(Outcome::Seat(WORKER))),
         (split(EDITOR), Some(Outcome::Seat(VIEWER))),
         (mark(5, 0), done()),
@@ -142,8 +158,13 @@ fn set_to_5(rt: &impl Abort, alloc: Global) -> Result<Core<TwoTestCells>, Memory
         (commit(5), count(1)),
         (split(EDITOR), Some(Outcome::Seat(3))),
         (join(WORKER, 3), done()),
-    ]?;
-    run(rt, &mut core, steps)?;
+    ]?)
+}
+
+/// The first cell opens with the number 1 and is set to 5, and the second has a formula.
+fn set_to_5(rt: &impl Abort, alloc: Global) -> Result<Core<TwoTestCells>, Memory> {
+    let mut core = Core::open(alloc, TwoTestCells, &[Some(TwoTestCells::code(1)), None])?;
+    run(rt, &mut core, setting_to_5(alloc))?;
     Ok(core)
 }
 
@@ -155,62 +176,62 @@ fn computed_5(rt: &impl Abort, alloc: Global) -> Result<Core<TwoTestCells>, Memo
     Ok(core)
 }
 
-#[test]
-fn a_value_computed_for_a_later_edit_is_shown_as_newer(rt: HostRuntime) -> Result<(), Fail> {
-    let alloc = rt.alloc();
-    let mut core = computed_5(&rt, alloc)?;
-    let editing = vec![in alloc;
+/// The viewer sees one commit, the editor makes the second one, and the worker learns of it.
+fn setting_to_6(alloc: Global) -> Result<Steps, Memory> {
+    Ok(vec![in alloc;
         (see(VIEWER), count(1)),
         (mark(6, 0), done()),
         (mark(6, 1), done()),
         (commit(6), count(2)),
         (split(EDITOR), Some(Outcome::Seat(4))),
         (join(WORKER, 4), done()),
-    ]?;
-    run(&rt, &mut core, editing)?;
+    ]?)
+}
+
+#[test]
+fn a_value_computed_for_a_later_edit_is_shown_as_newer(rt: HostRuntime) -> Result<(), Fail> {
+    let alloc = rt.alloc();
+    let mut core = computed_5(&rt, alloc)?;
+    run(&rt, &mut core, setting_to_6(alloc))?;
     compute(&rt, alloc, &mut core, 0, (2, TwoTestCells::code(5)), 6, 2)?;
-    let steps = reading(alloc, VIEWER, 0, free(3), 72057594037927985, 2)?;
-    run(&rt, &mut core, steps)?;
-    assert_eq!(rt; shown(1, free(3), 72057594037927985, 2), Seen::Newer(2));
+    let words = (free(3), 72057594037927985, 2);
+    shows(&rt, alloc, &mut core, 0, words, 1, Seen::Newer(2))?;
     Ok(())
+}
+
+/// The editor marks one of the two places that an edit touches, and can't commit it yet.
+fn marking_one(alloc: Global) -> Result<Steps, Memory> {
+    Ok(vec![in alloc;
+        (see(VIEWER), count(1)),
+        (mark(6, 0), done()),
+        (commit(6), None),
+    ]?)
 }
 
 #[test]
 fn a_marked_place_is_shown_as_stale_before_the_commit(rt: HostRuntime) -> Result<(), Fail> {
     let alloc = rt.alloc();
     let mut core = computed_5(&rt, alloc)?;
-    let editing = vec![in alloc;
-        (see(VIEWER), count(1)),
-        (mark(6, 0), done()),
-        (commit(6), None),
-    ]?;
-    run(&rt, &mut core, editing)?;
-    let steps = reading(alloc, VIEWER, 0, free(2), TwoTestCells::code(5), 2)?;
-    run(&rt, &mut core, steps)?;
-    assert_eq!(rt; shown(1, free(2), TwoTestCells::code(5), 2), Seen::Stale(2));
-    let steps = reading(alloc, VIEWER, 1, free(2), TwoTestCells::code(6), 1)?;
-    run(&rt, &mut core, steps)?;
-    assert_eq!(rt;
-        shown(1, free(2), TwoTestCells::code(6), 1),
-        Seen::Value(TwoTestCells::code(6))
-    );
+    run(&rt, &mut core, marking_one(alloc))?;
+    let five = (free(2), TwoTestCells::code(5), 2);
+    shows(&rt, alloc, &mut core, 0, five, 1, Seen::Stale(2))?;
+    let six = TwoTestCells::code(6);
+    shows(
+        &rt,
+        alloc,
+        &mut core,
+        1,
+        (free(2), six, 1),
+        1,
+        Seen::Value(six),
+    )?;
     Ok(())
 }
 
-/// Two views read the place as stale, and the slower one claims it in vain, before and after the finish.
-#[test]
-fn a_stale_worker_is_refused_its_claim(rt: HostRuntime) -> Result<(), Fail> {
-    let alloc = rt.alloc();
-    let mut core = set_to_5(&rt, alloc)?;
-    for view in [VIEWER, WORKER] {
-        run(
-            &rt,
-            &mut core,
-            reading(alloc, view, 0, free(1), TwoTestCells::code(1), 1)?,
-        )?;
-    }
+/// Two views claim a place that both have read as stale, and one of them computes it.
+fn racing(alloc: Global) -> Result<Steps, Memory> {
     let (view, place) = (VIEWER, 0);
-    let racing = vec![in alloc;
+    Ok(vec![in alloc;
         (claim(WORKER, 0, 1), claimed(true)),
         (claim(VIEWER, 0, 1), claimed(false)),
         (
@@ -226,22 +247,25 @@ fn a_stale_worker_is_refused_its_claim(rt: HostRuntime) -> Result<(), Fail> {
         (join(VIEWER, EDITOR), None),
         (join(EDITOR, VIEWER), done()),
         (see(VIEWER), None),
-    ]?;
-    run(&rt, &mut core, racing)?;
+    ]?)
+}
+
+/// Two views read the place as stale, and the slower one claims it in vain, before and after the finish.
+#[test]
+fn a_stale_worker_is_refused_its_claim(rt: HostRuntime) -> Result<(), Fail> {
+    let alloc = rt.alloc();
+    let mut core = set_to_5(&rt, alloc)?;
+    let words = (free(1), TwoTestCells::code(1), 1);
+    for view in [VIEWER, WORKER] {
+        run(&rt, &mut core, reading(alloc, view, 0, words))?;
+    }
+    run(&rt, &mut core, racing(alloc))?;
     Ok(())
 }
 
-/// The worker finishes for the edit that it computed for, and the place stays stale.
-#[test]
-fn an_edit_between_a_claim_and_its_put_leaves_the_place_stale(rt: HostRuntime) -> Result<(), Fail> {
-    let alloc = rt.alloc();
-    let mut core = set_to_5(&rt, alloc)?;
-    run(
-        &rt,
-        &mut core,
-        reading(alloc, WORKER, 0, free(1), TwoTestCells::code(1), 1)?,
-    )?;
-    let working = vec![in alloc;
+/// The worker claims the place, the editor makes an edit, and the worker computes for the one before.
+fn working_late(alloc: Global) -> Result<Steps, Memory> {
+    Ok(vec![in alloc;
         (claim(WORKER, 0, 1), claimed(true)),
         (mark(7, 0), done()),
         (mark(8, 1), None),
@@ -252,13 +276,18 @@ fn an_edit_between_a_claim_and_its_put_leaves_the_place_stale(rt: HostRuntime) -
         (finish(WORKER, 0, 2), None),
         (finish(WORKER, 0, 1), done()),
         (see(VIEWER), count(2)),
-    ]?;
-    run(&rt, &mut core, working)?;
-    run(
-        &rt,
-        &mut core,
-        reading(alloc, VIEWER, 0, free(2), TwoTestCells::code(5), 2)?,
-    )?;
-    assert_eq!(rt; shown(2, free(2), TwoTestCells::code(5), 2), Seen::Stale(2));
+    ]?)
+}
+
+/// The worker finishes for the edit that it computed for, and the place stays stale.
+#[test]
+fn an_edit_between_a_claim_and_its_put_leaves_the_place_stale(rt: HostRuntime) -> Result<(), Fail> {
+    let alloc = rt.alloc();
+    let mut core = set_to_5(&rt, alloc)?;
+    let old = (free(1), TwoTestCells::code(1), 1);
+    run(&rt, &mut core, reading(alloc, WORKER, 0, old))?;
+    run(&rt, &mut core, working_late(alloc))?;
+    let words = (free(2), TwoTestCells::code(5), 2);
+    shows(&rt, alloc, &mut core, 0, words, 2, Seen::Stale(2))?;
     Ok(())
 }

@@ -286,11 +286,11 @@ fn a_second_thread_sees_the_commit(rt: HostRuntime) -> Result<(), Fail> {
     let (marks, mut editor) = opened(alloc)?;
     let viewer = marks.split(&mut editor);
     let (mut editor, (saw, mut viewer)) = race(&rt, &marks, editor, viewer);
-    assert!(rt; saw);
     learns(&marks, &mut viewer, &mut editor);
     let mut others = Vec::new(alloc);
     others.push(viewer)?;
-    assert_eq!(rt; closes(marks, editor, others), marked(1));
+    let closed = closes(marks, editor, others);
+    assert_eq!(rt; (saw, closed), (true, marked(1)));
     Ok(())
 }
 
@@ -302,9 +302,10 @@ fn four_viewers_hear_of_a_thousand_commits(rt: HostRuntime) -> Result<(), Fail> 
     let (marks, mut editor) = opened(alloc)?;
     let seats = viewers(alloc, &marks, &mut editor)?;
     let (mut editor, seats) = rounds(&rt, alloc, &marks, editor, seats)?;
-    assert_eq!(rt; seats.len(), 4);
-    assert_eq!(rt; marks.see(&mut editor), 1000);
-    assert_eq!(rt; closes(marks, editor, seats), marked(1000));
+    let viewers = seats.len();
+    let count = marks.see(&mut editor);
+    let closed = closes(marks, editor, seats);
+    assert_eq!(rt; (viewers, count, closed), (4, 1000, marked(1000)));
     Ok(())
 }
 

@@ -107,36 +107,42 @@ fn two_threads_put_all_their_jobs(rt: HostRuntime) -> Result<(), Fail> {
     let (jobs, mut one) = Jobs::new(rt.alloc(), 3, 2)?;
     let other = jobs.hand(rt.alloc(), &mut one)?;
     let (mut one, mut other) = put_together(&rt, &jobs, one, other);
-    assert_eq!(rt; takes_all(&rt, &jobs, &mut other), 200);
-    assert_eq!(rt; takes(&rt, &jobs, &mut one), None);
+    let told = (
+        takes_all(&rt, &jobs, &mut other),
+        takes(&rt, &jobs, &mut one),
+    );
+    assert_eq!(rt; told, (200, None));
     Ok(())
 }
 
 #[test]
 fn new_jobs_have_none_to_take(rt: HostRuntime) -> Result<(), Fail> {
     let (jobs, mut hand) = Jobs::new(rt.alloc(), 3, 2)?;
-    assert_eq!(rt; (jobs.rows(), jobs.cols()), (3, 2));
-    assert_eq!(rt; takes(&rt, &jobs, &mut hand), None);
+    let told = (jobs.rows(), jobs.cols(), takes(&rt, &jobs, &mut hand));
+    assert_eq!(rt; told, (3, 2, None));
     Ok(())
 }
 
 #[test]
 fn jobs_are_taken_in_order(rt: HostRuntime) -> Result<(), Fail> {
     let (jobs, mut hand) = Jobs::new(rt.alloc(), 3, 2)?;
-    assert_eq!(rt; offers(&rt, &jobs, &mut hand, 3, 16), Some(Ok(())));
-    assert_eq!(rt; offers(&rt, &jobs, &mut hand, 1, 15), Some(Ok(())));
-    assert_eq!(rt; takes(&rt, &jobs, &mut hand), Some((3, 16)));
+    let three = offers(&rt, &jobs, &mut hand, 3, 16);
+    let one = offers(&rt, &jobs, &mut hand, 1, 15);
+    let first = takes(&rt, &jobs, &mut hand);
     let mut other = jobs.hand(rt.alloc(), &mut hand)?;
-    assert_eq!(rt; takes(&rt, &jobs, &mut other), Some((1, 15)));
-    assert_eq!(rt; takes(&rt, &jobs, &mut hand), None);
+    let second = takes(&rt, &jobs, &mut other);
+    let none = takes(&rt, &jobs, &mut hand);
+    assert_eq!(rt; (three, one), (Some(Ok(())), Some(Ok(()))));
+    assert_eq!(rt; (first, second, none), (Some((3, 16)), Some((1, 15)), None));
     Ok(())
 }
 
 #[test]
 fn a_full_queue_refuses(rt: HostRuntime) -> Result<(), Fail> {
     let (jobs, mut hand) = Jobs::new(rt.alloc(), 3, 2)?;
-    assert_eq!(rt; fills(&rt, &jobs, &mut hand), 65_536);
-    assert_eq!(rt; takes(&rt, &jobs, &mut hand), Some((1, 16)));
-    assert_eq!(rt; fills(&rt, &jobs, &mut hand), 1);
+    let filled = fills(&rt, &jobs, &mut hand);
+    let taken = takes(&rt, &jobs, &mut hand);
+    let again = fills(&rt, &jobs, &mut hand);
+    assert_eq!(rt; (filled, taken, again), (65_536, Some((1, 16)), 1));
     Ok(())
 }

@@ -212,15 +212,16 @@ fn settled<R: Threads + Wait + Sync>(
 
 #[test]
 fn one_desk_settles_a_level(rt: HostRuntime) -> Result<(), Fail> {
-    assert_eq!(rt; settled(&rt, rt.alloc(), 1, 1)?, 1);
-    assert_eq!(rt; settled(&rt, rt.alloc(), 200, 1)?, 200);
+    for (rows, cells) in [(1, 1), (200, 200)] {
+        assert_eq!(rt; settled(&rt, rt.alloc(), rows, 1)?, cells, "{rows} rows");
+    }
     Ok(())
 }
 
 #[test]
 fn many_desks_settle_a_level(rt: HostRuntime) -> Result<(), Fail> {
-    assert_eq!(rt; settled(&rt, rt.alloc(), 3, 4)?, 3);
-    assert_eq!(rt; settled(&rt, rt.alloc(), 2_049, 4)?, 2_049);
-    assert_eq!(rt; settled(&rt, rt.alloc(), 4_999, 4)?, 4_999);
+    for (rows, cells) in [(3, 3), (2_049, 2_049), (4_999, 4_999)] {
+        assert_eq!(rt; settled(&rt, rt.alloc(), rows, 4)?, cells, "{rows} rows");
+    }
     Ok(())
 }

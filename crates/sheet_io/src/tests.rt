@@ -47,9 +47,12 @@ fn a_shelf_in_memory_fails_by_its_list(rt: HostRuntime) -> Result<(), Fail> {
         ("t", 8, Some(Fetch::Failed), ">"),
         ("t", 8, Some(Fetch::TooLong), ">"),
     ] {
-        let got = fetched(alloc, &mut shelf, name, limit)?;
-        assert_eq!(rt; got.0, refusal, "{name} within {limit}");
-        assert_eq!(rt; got.1.as_slice(), into.as_bytes());
+        let (refused, held) = fetched(alloc, &mut shelf, name, limit)?;
+        assert_eq!(rt;
+            (refused, held.as_slice()),
+            (refusal, into.as_bytes()),
+            "{name} within {limit}"
+        );
     }
     Ok(())
 }
@@ -63,9 +66,12 @@ fn a_sure_shelf_has_the_empty_text_under_other_names(rt: HostRuntime) -> Result<
         ("t", 8, Some(Fetch::TooLong), ">"),
         ("u", 0, None, ">"),
     ] {
-        let got = fetched(alloc, &mut shelf, name, limit)?;
-        assert_eq!(rt; got.0, refusal, "{name} within {limit}");
-        assert_eq!(rt; got.1.as_slice(), into.as_bytes());
+        let (refused, held) = fetched(alloc, &mut shelf, name, limit)?;
+        assert_eq!(rt;
+            (refused, held.as_slice()),
+            (refusal, into.as_bytes()),
+            "{name} within {limit}"
+        );
     }
     Ok(())
 }
@@ -82,21 +88,33 @@ fn a_sink_in_memory_fails_by_its_list_and_at_its_room(rt: HostRuntime) -> Result
         ("", true, "abcdefg"),
         ("i", false, "abcdefg"),
     ] {
-        assert_eq!(rt; put_through(&mut sink, piece), is_taken, "putting {piece}");
-        assert_eq!(rt; sink.written(), written.as_bytes());
+        let taken = put_through(&mut sink, piece);
+        assert_eq!(rt;
+            (taken, sink.written()),
+            (is_taken, written.as_bytes()),
+            "putting {piece}"
+        );
     }
-    assert!(rt; put_through(&mut SureSink::new(), "abc"));
     Ok(())
+}
+
+#[test]
+fn a_sure_sink_takes_a_piece(rt: HostRuntime) {
+    assert!(rt; put_through(&mut SureSink::new(), "abc"));
+}
+
+// Five cuts, two of them of one call.
+fn some_cuts(alloc: Global) -> Result<Vec<Cut>, AllocError> {
+    [(2, 1), (4, 0), (5, 9), (2, 3), (7, 4)]
+        .map(|(call, taken)| Cut { call, taken })
+        .to_vec(alloc)
 }
 
 // A cut that takes more than its piece takes the piece, and one that takes more than there is room for takes what fits.
 #[test]
 fn a_cut_put_takes_first_bytes_and_fails(rt: HostRuntime) -> Result<(), Fail> {
     let alloc = rt.alloc();
-    let cuts = [(2, 1), (4, 0), (5, 9), (2, 3), (7, 4)]
-        .map(|(call, taken)| Cut { call, taken })
-        .to_vec(alloc)?;
-    let mut sink = MemorySink::cutting(alloc, 9, cuts)?;
+    let mut sink = MemorySink::cutting(alloc, 9, some_cuts(alloc)?)?;
     for (piece, is_taken, written) in [
         ("ab", true, "ab"),
         ("cde", false, "abc"),
@@ -106,8 +124,12 @@ fn a_cut_put_takes_first_bytes_and_fails(rt: HostRuntime) -> Result<(), Fail> {
         ("", true, "abcdef"),
         ("ghijk", false, "abcdefghi"),
     ] {
-        assert_eq!(rt; put_through(&mut sink, piece), is_taken, "putting {piece}");
-        assert_eq!(rt; sink.written(), written.as_bytes());
+        let taken = put_through(&mut sink, piece);
+        assert_eq!(rt;
+            (taken, sink.written()),
+            (is_taken, written.as_bytes()),
+            "putting {piece}"
+        );
     }
     Ok(())
 }
@@ -117,28 +139,42 @@ fn letters(alloc: Global, count: usize) -> Result<Vec<u8>, AllocError> {
     vec![in alloc; b'x'; count]
 }
 
+// A file of nine bytes, one of 20,000, and a folder.
+fn make_files(rt: &HostRuntime) -> Result<(), Fail> {
+    fs::write(rt, "short", "some text")?;
+    fs::write(rt, "long", letters(rt.alloc(), 20_000)?.as_slice())?;
+    fs::create_dir(rt, "folder")?;
+    Ok(())
+}
+
+// The first ten bytes, or all where there are fewer.
+fn first_bytes(text: &[u8]) -> &[u8] {
+    &text[..text.len().min(10)]
+}
+
 #[test]
 fn files_are_read_to_their_end_within_the_limit(rt: HostRuntime) -> Result<(), Fail> {
-    let alloc = rt.alloc();
-    fs::write(&rt, "short", "some text")?;
-    fs::write(&rt, "long", letters(alloc, 20_000)?.as_slice())?;
-    fs::create_dir(&rt, "folder")?;
+    make_files(&rt)?;
     let mut shelf = FileShelf::new(&rt);
-    for (name, limit, refusal, held) in [
-        ("short", 9, None, 10),
-        ("short", 8, Some(Fetch::TooLong), 1),
-        ("long", 20_000, None, 20_001),
-        ("missing", 9, Some(Fetch::Failed), 1),
-        ("folder", 9, Some(Fetch::Failed), 1),
+    for (name, limit, refusal, first, count) in [
+        ("short", 9, None, ">some text", 10),
+        ("short", 8, Some(Fetch::TooLong), ">", 1),
+        ("short", usize::MAX, None, ">some text", 10),
+        ("long", 20_000, None, ">xxxxxxxxx", 20_001),
+        ("missing", 9, Some(Fetch::Failed), ">", 1),
+        ("folder", 9, Some(Fetch::Failed), ">", 1),
     ] {
-        let got = fetched(alloc, &mut shelf, name, limit)?;
-        assert_eq!(rt; got.0, refusal, "{name} within {limit}");
-        assert_eq!(rt; got.1.len(), held, "{name} within {limit}");
+        let (refused, held) = fetched(rt.alloc(), &mut shelf, name, limit)?;
+        assert_eq!(rt;
+            (refused, held.len()),
+            (refusal, count),
+            "{name} within {limit}"
+        );
+        assert_eq!(rt; first_bytes(&held), first.as_bytes());
     }
-    let past = fetched(alloc, &mut shelf, "long", 19_999)?;
+    // No promise says how much of a text that is too long stands there.
+    let past = fetched(rt.alloc(), &mut shelf, "long", 19_999)?;
     assert_eq!(rt; past.0, Some(Fetch::TooLong));
-    let text = fetched(alloc, &mut shelf, "short", usize::MAX)?;
-    assert_eq!(rt; text.1.as_slice(), b">some text".as_slice());
     Ok(())
 }
 
@@ -189,9 +225,11 @@ fn a_stream_takes_a_whole_piece_or_fails(rt: HostRuntime) -> Result<(), Fail> {
             fails,
             flushes,
         };
+        let taken = put_through(&mut StreamSink::new(&mut writer), "a whole piece");
         assert_eq!(rt;
-            put_through(&mut StreamSink::new(&mut writer), "a whole piece"),
-            is_taken
+            taken,
+            is_taken,
+            "{at_once} at once of {room}, fails {fails}, flushes {flushes}"
         );
         assert_eq!(rt; writer.taken.as_slice(), written.as_bytes());
     }

@@ -1,8 +1,10 @@
 // What no clause says: that boards and copies are made where there is memory.
+use crate::texts::push_sheet;
 use formula_syntax::Edition;
 use sheet_model::{Board, Change, Content, Edit, Entry, Sheet, Shown};
 use sheet_refs::{Cell, cell_of, range_of};
 use std::alloc::Global;
+use std::fmt::Write;
 use std::test::Fail;
 use value_core::Value;
 
@@ -16,8 +18,7 @@ fn boards_show_what_was_pushed(rt: HostRuntime) -> Result<(), Fail> {
     board.begin(7, window);
     board.push(Shown::Value(Value::Truth(true)));
     board.push(Shown::Stale(3));
-    assert_eq!(rt; board.number(), 7);
-    assert_eq!(rt; board.window(), window);
+    assert_eq!(rt; (board.number(), board.window()), (7, window));
     let shown = [Shown::Value(Value::Truth(true)), Shown::Stale(3)];
     assert_eq!(rt; board.cells(), &shown[..]);
     Ok(())
@@ -26,7 +27,7 @@ fn boards_show_what_was_pushed(rt: HostRuntime) -> Result<(), Fail> {
 #[test]
 fn a_board_without_room_shows_one_cell(rt: HostRuntime) -> Result<(), Fail> {
     let mut board = Board::new(rt.alloc(), 0)?;
-    assert_eq!(rt; board.window(), range_of(b"A1:A1").ok_or("no range")?);
+    assert_eq!(rt; Some(board.window()), range_of(b"A1:A1"));
     board.push(Shown::Newer(1));
     assert_eq!(rt; board.cells(), &[Shown::Newer(1)][..]);
     Ok(())
@@ -55,31 +56,40 @@ fn small(alloc: Global) -> Result<Sheet, Fail> {
 #[test]
 fn copies_have_the_contents_and_the_labels(rt: HostRuntime) -> Result<(), Fail> {
     let sheet = small(rt.alloc())?.copy()?;
-    assert_eq!(rt; sheet.cols(), 3);
-    assert!(rt; matches!(sheet.content(cell("A1")?), Content::Label(0)));
-    assert!(rt; matches!(sheet.content(cell("B1")?), Content::Formula(_)));
-    assert!(rt; matches!(sheet.content(cell("C1")?), Content::Empty));
-    assert_eq!(rt; sheet.labels().length(), 1);
+    let mut text = String::new(rt.alloc());
+    push_sheet(&mut text, &sheet)?;
+    assert_eq!(rt;
+        (text.as_str(), sheet.labels().length()),
+        ("1x3:0<Rent> f _ ", 1)
+    );
     Ok(())
+}
+
+// An entry of the third client that puts the formula of the small sheet into C1.
+fn small_entry(alloc: Global) -> Result<Entry, Fail> {
+    let sheet = small(alloc)?;
+    let content = sheet.content(cell("B1")?).copy()?;
+    let cell = cell("C1")?;
+    let edit = Edit::one(alloc, Change { cell, content })?;
+    Ok(Entry { client: 3, edit })
+}
+
+// The client of an entry, and the cells of its changes, each with whether it gets a formula.
+fn entry_text(alloc: Global, entry: &Entry) -> Result<String, Fail> {
+    let client = entry.client;
+    let mut text = format!(in alloc; "client {client}:")?;
+    for change in entry.edit.changes() {
+        let cell = change.cell;
+        let is_formula = matches!(&change.content, Content::Formula(_));
+        write!(text, " {cell} {is_formula}")?;
+    }
+    Ok(text)
 }
 
 #[test]
 fn entries_are_copied(rt: HostRuntime) -> Result<(), Fail> {
-    let sheet = small(rt.alloc())?;
-    let content = sheet.content(cell("B1")?).copy()?;
-    let change = Change {
-        cell: cell("C1")?,
-        content,
-    };
-    let entry = Entry {
-        client: 3,
-        edit: Edit::one(rt.alloc(), change)?,
-    };
-    let copy = entry.copy()?;
-    assert_eq!(rt; copy.client, 3);
-    assert_eq!(rt; copy.edit.changes().len(), 1);
-    let change = &copy.edit.changes()[0];
-    assert_eq!(rt; change.cell, cell("C1")?);
-    assert!(rt; matches!(&change.content, Content::Formula(_)));
+    let copy = small_entry(rt.alloc())?.copy()?;
+    let text = entry_text(rt.alloc(), &copy)?;
+    assert_eq!(rt; text.as_str(), "client 3: C1 true");
     Ok(())
 }

@@ -2,6 +2,7 @@
 use sheet_model::{Change, Content, Edit};
 use sheet_refs::{Cell, cell_of};
 use std::alloc::Global;
+use std::fmt::Write;
 use std::test::Fail;
 
 fn cell(name: &str) -> Result<Cell, Fail> {
@@ -21,21 +22,37 @@ fn cleared(alloc: Global, names: &[&str]) -> Result<Vec<Change>, Fail> {
 
 #[test]
 fn an_edit_changes_no_cell_twice(rt: HostRuntime) -> Result<(), Fail> {
-    let alloc = rt.alloc();
-    assert!(rt; Edit::of(cleared(alloc, &[])?).is_none());
-    assert!(rt; Edit::of(cleared(alloc, &["A1", "B1", "A1"])?).is_none());
-    assert!(rt; Edit::of(cleared(alloc, &["XFD1", "A2", "B1"])?).is_some());
+    let rows: [(&[&str], bool); 3] = [
+        (&[], false),
+        (&["A1", "B1", "A1"], false),
+        (&["XFD1", "A2", "B1"], true),
+    ];
+    for (names, is_edit) in rows {
+        let edit = Edit::of(cleared(rt.alloc(), names)?);
+        assert_eq!(rt; edit.is_some(), is_edit, "{names:?}");
+    }
     Ok(())
+}
+
+// The edit by which cells are to hold nothing.
+fn clearing(alloc: Global, names: &[&str]) -> Result<Edit, Fail> {
+    Ok(Edit::of(cleared(alloc, names)?).ok_or("no edit")?)
+}
+
+// The cells that an edit changes.
+fn cells_of(alloc: Global, edit: &Edit) -> Result<String, Fail> {
+    let mut text = String::new(alloc);
+    for change in edit.changes() {
+        let cell = change.cell;
+        write!(text, "{cell};")?;
+    }
+    Ok(text)
 }
 
 #[test]
 fn edits_are_copied(rt: HostRuntime) -> Result<(), Fail> {
-    let edit = Edit::of(cleared(rt.alloc(), &["A1", "B2"])?).ok_or("no edit")?;
-    let copy = edit.copy()?;
-    assert_eq!(rt; copy.changes().len(), 2);
-    for change in copy.changes() {
-        assert_eq!(rt; change.cell, cell("A1")?);
-        break;
-    }
+    let copy = clearing(rt.alloc(), &["A1", "B2"])?.copy()?;
+    let cells = cells_of(rt.alloc(), &copy)?;
+    assert_eq!(rt; cells.as_str(), "A1;B2;");
     Ok(())
 }

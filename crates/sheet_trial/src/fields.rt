@@ -43,45 +43,64 @@ fn contents_of(alloc: Global, fields: &[&str]) -> Result<String, Fail> {
 
 #[test]
 fn numbers_have_digits_and_a_sign_within_the_range(rt: HostRuntime) -> Result<(), Fail> {
-    let fields = [
-        "",
-        "12",
-        "+12",
-        "-0012",
-        "9007199254740991",
-        "-9007199254740991",
+    let rows: [(&[&str], &str); 2] = [
+        (
+            &[
+                "",
+                "12",
+                "+12",
+                "-0012",
+                "9007199254740991",
+                "-9007199254740991",
+            ],
+            "empty;number 12;number 12;number -12;number 9007199254740991;number -9007199254740991;",
+        ),
+        (
+            &["9007199254740992", "-9007199254740992", "+", "+-1", " 1"],
+            "label 0 9007199254740992;label 1 -9007199254740992;label 2 +;label 3 +-1;label 4  1;",
+        ),
     ];
-    let text = contents_of(rt.alloc(), &fields)?;
-    assert_eq!(&rt;
-        text.as_str(),
-        "empty;number 12;number 12;number -12;number 9007199254740991;number -9007199254740991;"
-    );
-    let fields = ["9007199254740992", "-9007199254740992", "+", "+-1", " 1"];
-    let text = contents_of(rt.alloc(), &fields)?;
-    assert_eq!(&rt;
-        text.as_str(),
-        "label 0 9007199254740992;label 1 -9007199254740992;label 2 +;label 3 +-1;label 4  1;"
-    );
+    for (fields, contents) in rows {
+        let text = contents_of(rt.alloc(), fields)?;
+        assert_eq!(&rt; text.as_str(), contents);
+    }
     Ok(())
 }
 
 #[test]
 fn words_are_truths_errors_formulas_or_labels(rt: HostRuntime) -> Result<(), Fail> {
-    let fields = [
-        "TRUE", "fAlSe", "#DIV/0!", "#N/A", "TRUE1", "#CIRC!", "#num!",
+    let rows: [(&[&str], &str); 2] = [
+        (
+            &[
+                "TRUE", "fAlSe", "#DIV/0!", "#N/A", "TRUE1", "#CIRC!", "#num!",
+            ],
+            "truth true;truth false;error #DIV/0!;error #N/A;label 0 TRUE1;label 1 #CIRC!;label 2 #num!;",
+        ),
+        (
+            &["=1+A1", "of:=1", "OF:=1", "=FOO(1)", "=", "x=1", "OF:=1"],
+            "formula;formula;label 0 OF:=1;error #NAME?;error #NAME?;label 1 x=1;label 0 OF:=1;",
+        ),
     ];
-    let text = contents_of(rt.alloc(), &fields)?;
-    assert_eq!(&rt;
-        text.as_str(),
-        "truth true;truth false;error #DIV/0!;error #N/A;label 0 TRUE1;label 1 #CIRC!;label 2 #num!;"
-    );
-    let fields = ["=1+A1", "of:=1", "OF:=1", "=FOO(1)", "=", "x=1", "OF:=1"];
-    let text = contents_of(rt.alloc(), &fields)?;
-    assert_eq!(&rt;
-        text.as_str(),
-        "formula;formula;label 0 OF:=1;error #NAME?;error #NAME?;label 1 x=1;label 0 OF:=1;"
-    );
+    for (fields, contents) in rows {
+        let text = contents_of(rt.alloc(), fields)?;
+        assert_eq!(&rt; text.as_str(), contents);
+    }
     Ok(())
+}
+
+/// Puts what a field says into a cell, and appends what the cell held before.
+fn push_replaced(
+    text: &mut String,
+    sheet: &mut Sheet,
+    cell: Cell,
+    field: &str,
+) -> Result<(), Fail> {
+    if field.len() > 8192 || sheet.labels().length() > 1000 || !sheet.holds(cell) {
+        return Err(Fail::from("too much for a test"));
+    }
+    let content = sheet.read(field)?;
+    let before = sheet.put(Change { cell, content });
+    push_content(text, sheet, &before)
 }
 
 #[test]
@@ -90,12 +109,7 @@ fn a_change_gives_back_what_the_cell_held(rt: HostRuntime) -> Result<(), Fail> {
     let cell = Cell::new(2, 1).ok_or("no such cell")?;
     let mut text = String::new(rt.alloc());
     for field in ["7", "x"] {
-        if field.len() > 8192 || sheet.labels().length() > 1000 || !sheet.holds(cell) {
-            return Err(Fail::from("too much for a test"));
-        }
-        let content = sheet.read(field)?;
-        let before = sheet.put(Change { cell, content });
-        push_content(&mut text, &sheet, &before)?;
+        push_replaced(&mut text, &mut sheet, cell, field)?;
     }
     push_content(&mut text, &sheet, sheet.content(cell))?;
     assert_eq!(&rt; text.as_str(), "empty;number 7;label 0 x;");
@@ -113,8 +127,7 @@ fn a_table_keeps_each_text_once(rt: HostRuntime) -> Result<(), Fail> {
         let place = labels.intern(text)?;
         write!(places, "{place};")?;
     }
-    assert_eq!(&rt; places.as_str(), "0;1;0;2;1;");
-    assert_eq!(&rt; labels.length(), 3);
+    assert_eq!(&rt; (places.as_str(), labels.length()), ("0;1;0;2;1;", 3));
     Ok(())
 }
 

@@ -25,7 +25,7 @@ fn push_content(text: &mut String, sheet: &Sheet, content: &Content) -> Result<(
 }
 
 // The sizes of a sheet and what its cells hold, row by row.
-fn push_sheet(text: &mut String, sheet: &Sheet) -> Result<(), Fail> {
+pub(crate) fn push_sheet(text: &mut String, sheet: &Sheet) -> Result<(), Fail> {
     let rows = sheet.rows();
     let cols = sheet.cols();
     write!(text, "{rows}x{cols}:")?;

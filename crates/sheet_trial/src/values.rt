@@ -168,9 +168,7 @@ fn circular_references(rt: HostRuntime) -> Result<(), Fail> {
 }
 
 // A column in which each cell names all cells below it.
-#[test]
-fn sums_of_columns_that_wait(rt: HostRuntime) -> Result<(), Fail> {
-    let alloc = rt.alloc();
+fn column_of_sums(alloc: Global) -> Result<Sheet, Fail> {
     let mut sheet = Sheet::blank(alloc, 50, 1, Edition::One)?;
     put(&mut sheet, 50, 1, "1")?;
     for row in 1..50 {
@@ -182,25 +180,42 @@ fn sums_of_columns_that_wait(rt: HostRuntime) -> Result<(), Fail> {
             format!(in alloc; "=SUM(A{below}:A50)")?.as_str(),
         )?;
     }
-    assert_eq!(rt; shown(alloc, &sheet, 1)?.as_str(), "281474976710656,");
+    Ok(sheet)
+}
+
+#[test]
+fn sums_of_columns_that_wait(rt: HostRuntime) -> Result<(), Fail> {
+    let sheet = column_of_sums(rt.alloc())?;
+    let first = shown(rt.alloc(), &sheet, 1)?;
+    assert_eq!(rt; first.as_str(), "281474976710656,");
     Ok(())
+}
+
+// A column of four fields, the last of which is circular.
+fn column(alloc: Global) -> Result<Sheet, Fail> {
+    let mut sheet = Sheet::blank(alloc, 4, 1, Edition::One)?;
+    for (row, field) in [(1, "=A2+A3"), (2, "=A3*2"), (3, "5"), (4, "=A4")] {
+        put(&mut sheet, row, 1, field)?;
+    }
+    Ok(sheet)
+}
+
+// The values of the cells in the rows 2, 4, 1 and 2 of the first column, asked for in this order.
+fn asked_in_turn(alloc: Global, sheet: &Sheet) -> Result<String, Fail> {
+    let mut kept = KeptValues::new(alloc, sheet)?;
+    let mut text = String::new(alloc);
+    ask(&mut kept, sheet, 2, &mut text)?;
+    ask(&mut kept, sheet, 4, &mut text)?;
+    ask(&mut kept, sheet, 1, &mut text)?;
+    ask(&mut kept, sheet, 2, &mut text)?;
+    Ok(text)
 }
 
 // Each value is that of the sheet, whichever was asked for before.
 #[test]
 fn values_one_after_the_other(rt: HostRuntime) -> Result<(), Fail> {
-    let alloc = rt.alloc();
-    let mut sheet = Sheet::blank(alloc, 4, 1, Edition::One)?;
-    put(&mut sheet, 1, 1, "=A2+A3")?;
-    put(&mut sheet, 2, 1, "=A3*2")?;
-    put(&mut sheet, 3, 1, "5")?;
-    put(&mut sheet, 4, 1, "=A4")?;
-    let mut kept = KeptValues::new(alloc, &sheet)?;
-    let mut text = String::new(alloc);
-    ask(&mut kept, &sheet, 2, &mut text)?;
-    ask(&mut kept, &sheet, 4, &mut text)?;
-    ask(&mut kept, &sheet, 1, &mut text)?;
-    ask(&mut kept, &sheet, 2, &mut text)?;
+    let sheet = column(rt.alloc())?;
+    let text = asked_in_turn(rt.alloc(), &sheet)?;
     assert_eq!(rt; text.as_str(), "10,#CIRC!,15,10,");
     Ok(())
 }

@@ -52,14 +52,10 @@ fn a_text_takes_as_few_puts_as_it_may(rt: HostRuntime) -> Result<(), Fail> {
         (2, 131_072, 4, false, 196_608),
     ] {
         let mut sink = sink_failing_at(alloc, failing)?;
+        let sent = send_pieces(alloc, pieces, length, &mut sink)?;
         assert_eq!(rt;
-            send_pieces(alloc, pieces, length, &mut sink)?,
-            whole,
-            "{pieces} of {length}"
-        );
-        assert_eq!(rt;
-            sink.written().len(),
-            written,
+            (sent, sink.written().len()),
+            (whole, written),
             "{pieces} of {length}, put {failing}"
         );
     }

@@ -3,19 +3,25 @@
 use super::*;
 use std::test::Fail;
 
-fn number(n: i64) -> Result<Value, Fail> {
-    let whole = Whole::new(n).ok_or("a number out of range")?;
-    Ok(Value::Number(whole))
+// Stands in a row for a number that is out of range. No call gives it, so that no row that wants it passes.
+const OUTSIDE: Value = Value::Label(1_000);
+
+// A number as a value. It answers without a `?`, of which each makes a test longer to prove.
+fn number(n: i64) -> Value {
+    match Whole::new(n) {
+        Some(whole) => Value::Number(whole),
+        None => OUTSIDE,
+    }
 }
 
 #[test]
-fn values_have_codes(rt: HostRuntime) -> Result<(), Fail> {
+fn values_have_codes(rt: HostRuntime) {
     for (value, word) in [
         (Value::Empty, 0),
-        (number(0)?, 72_057_594_037_927_937),
-        (number(-1)?, 72_057_594_037_927_929),
-        (number(9_007_199_254_740_991)?, 144_115_188_075_855_865),
-        (number(-9_007_199_254_740_991)?, 9),
+        (number(0), 72_057_594_037_927_937),
+        (number(-1), 72_057_594_037_927_929),
+        (number(9_007_199_254_740_991), 144_115_188_075_855_865),
+        (number(-9_007_199_254_740_991), 9),
         (Value::Truth(false), 2),
         (Value::Truth(true), 10),
         (Value::Error(ErrorKind::Null), 3),
@@ -29,10 +35,12 @@ fn values_have_codes(rt: HostRuntime) -> Result<(), Fail> {
         (Value::Label(0), 4),
         (Value::Label(u32::MAX), 34_359_738_364),
     ] {
-        assert_eq!(rt; code(value), word);
-        assert_eq!(rt; decode(word), Some(value));
+        assert_eq!(rt;
+            (code(value), decode(word)),
+            (word, Some(value)),
+            "{value:?} {word}"
+        );
     }
-    Ok(())
 }
 
 #[test]
@@ -117,8 +125,16 @@ const VALUE: Value = Value::Error(ErrorKind::Value);
 
 const DIV0: Value = Value::Error(ErrorKind::Div0);
 
+// A number as a value, and `#NUM!` where there is none.
+fn number_or_error(n: Option<i64>) -> Value {
+    match n {
+        Some(n) => number(n),
+        None => NUM,
+    }
+}
+
 #[test]
-fn numbers_are_calculated(rt: HostRuntime) -> Result<(), Fail> {
+fn numbers_are_calculated(rt: HostRuntime) {
     let greatest = 9_007_199_254_740_991;
     for (left, op, right, wanted) in [
         (greatest, ADD, 0, Some(greatest)),
@@ -144,29 +160,27 @@ fn numbers_are_calculated(rt: HostRuntime) -> Result<(), Fail> {
         (-1, POWER, greatest - 1, Some(1)),
         (3, POWER, greatest, None),
     ] {
-        let value = match wanted {
-            Some(n) => number(n)?,
-            None => NUM,
-        };
         assert_eq!(rt;
-            binary(op, number(left)?, number(right)?),
-            value,
+            binary(op, number(left), number(right)),
+            number_or_error(wanted),
             "{left} {op:?} {right}"
         );
     }
-    Ok(())
 }
 
 #[test]
-fn kinds_are_converted(rt: HostRuntime) -> Result<(), Fail> {
+fn kinds_are_converted(rt: HostRuntime) {
     for (left, op, right, wanted) in [
-        (TRUE, ADD, TRUE, number(2)?),
-        (EMPTY, SUB, TRUE, number(-1)?),
-        (LABEL, MUL, number(0)?, VALUE),
-        (number(1)?, DIV, EMPTY, DIV0),
+        (TRUE, ADD, TRUE, number(2)),
+        (EMPTY, SUB, TRUE, number(-1)),
+        (LABEL, MUL, number(0), VALUE),
+        (number(1), DIV, EMPTY, DIV0),
         (NA, ADD, REF, NA),
         (LABEL, ADD, REF, VALUE),
-        (number(1)?, POWER, REF, REF),
+        (number(1), POWER, REF, REF),
+        // A comparison converts no label, and its first error wins.
+        (NA, BinaryOp::Equal, REF, NA),
+        (LABEL, BinaryOp::Less, REF, REF),
     ] {
         assert_eq!(rt;
             binary(op, left, right),
@@ -174,13 +188,20 @@ fn kinds_are_converted(rt: HostRuntime) -> Result<(), Fail> {
             "{left:?} {op:?} {right:?}"
         );
     }
-    assert_eq!(rt; prefix(PrefixOp::Minus, TRUE), number(-1)?);
-    assert_eq!(rt; prefix(PrefixOp::Minus, EMPTY), number(0)?);
-    assert_eq!(rt; prefix(PrefixOp::Minus, LABEL), VALUE);
-    assert_eq!(rt; prefix(PrefixOp::Plus, LABEL), LABEL);
-    assert_eq!(rt; prefix(PrefixOp::Plus, EMPTY), number(0)?);
-    assert_eq!(rt; prefix(PrefixOp::Plus, NA), NA);
-    Ok(())
+}
+
+#[test]
+fn kinds_are_converted_by_signs(rt: HostRuntime) {
+    for (op, value, wanted) in [
+        (PrefixOp::Minus, TRUE, number(-1)),
+        (PrefixOp::Minus, EMPTY, number(0)),
+        (PrefixOp::Minus, LABEL, VALUE),
+        (PrefixOp::Plus, LABEL, LABEL),
+        (PrefixOp::Plus, EMPTY, number(0)),
+        (PrefixOp::Plus, NA, NA),
+    ] {
+        assert_eq!(rt; prefix(op, value), wanted, "{op:?} {value:?}");
+    }
 }
 
 // What the six comparisons give, in the order `=`, `<>`, `<`, `<=`, `>`, `>=`: a letter each, T and F for
@@ -203,25 +224,25 @@ fn comparisons(left: Value, right: Value) -> [char; 6] {
 }
 
 #[test]
-fn values_are_compared(rt: HostRuntime) -> Result<(), Fail> {
+fn values_are_compared(rt: HostRuntime) {
     let equal = ['T', 'F', 'F', 'T', 'F', 'T'];
     let less = ['F', 'T', 'T', 'T', 'F', 'F'];
     let greater = ['F', 'T', 'F', 'F', 'T', 'T'];
     let same = ['T', 'F', 'V', 'V', 'V', 'V'];
     let different = ['F', 'T', 'V', 'V', 'V', 'V'];
     for (left, right, wanted) in [
-        (number(-2)?, number(1)?, less),
-        (number(1)?, number(1)?, equal),
+        (number(-2), number(1), less),
+        (number(1), number(1), equal),
         (FALSE, TRUE, less),
         (TRUE, TRUE, equal),
         (LABEL, LABEL, same),
         (LABEL, OTHER, different),
-        (TRUE, number(1)?, different),
-        (LABEL, number(1)?, different),
+        (TRUE, number(1), different),
+        (LABEL, number(1), different),
         (LABEL, FALSE, different),
         (EMPTY, EMPTY, equal),
-        (EMPTY, number(1)?, less),
-        (number(-1)?, EMPTY, less),
+        (EMPTY, number(1), less),
+        (number(-1), EMPTY, less),
         (EMPTY, FALSE, equal),
         (TRUE, EMPTY, greater),
         (EMPTY, LABEL, different),
@@ -229,17 +250,14 @@ fn values_are_compared(rt: HostRuntime) -> Result<(), Fail> {
     ] {
         assert_eq!(rt; comparisons(left, right), wanted, "{left:?} {right:?}");
     }
-    assert_eq!(rt; binary(BinaryOp::Equal, NA, REF), NA);
-    assert_eq!(rt; binary(BinaryOp::Less, LABEL, REF), REF);
-    Ok(())
 }
 
 #[test]
-fn values_are_truths(rt: HostRuntime) -> Result<(), Fail> {
+fn values_are_truths(rt: HostRuntime) {
     for (value, wanted) in [
         (EMPTY, Ok(false)),
-        (number(0)?, Ok(false)),
-        (number(-3)?, Ok(true)),
+        (number(0), Ok(false)),
+        (number(-3), Ok(true)),
         (TRUE, Ok(true)),
         (FALSE, Ok(false)),
         (LABEL, Err(ErrorKind::Value)),
@@ -247,7 +265,11 @@ fn values_are_truths(rt: HostRuntime) -> Result<(), Fail> {
     ] {
         assert_eq!(rt; as_truth(value), wanted, "{value:?}");
     }
-    assert_eq!(rt; Value::Number(truth_number(true)), number(1)?);
-    assert_eq!(rt; Value::Number(truth_number(false)), number(0)?);
-    Ok(())
+}
+
+#[test]
+fn truths_are_numbers(rt: HostRuntime) {
+    for (truth, wanted) in [(true, number(1)), (false, number(0))] {
+        assert_eq!(rt; Value::Number(truth_number(truth)), wanted, "{truth}");
+    }
 }

@@ -1,5 +1,6 @@
 use crate::faults::commands::{COMMANDS, Command};
-use crate::faults::runs::{CALM, Ended, Faults, Input, input_of, run_with};
+use crate::faults::runs::{CALM, Input, input_of, run_with};
+use crate::lines::{Ended, Limits};
 use std::alloc::Global;
 use std::sync::Wait;
 use std::test::Fail;
@@ -43,12 +44,12 @@ fn ends_cut<R: Threads + Wait + Sync>(
     put: u32,
     taken: u32,
 ) -> Result<bool, Fail> {
-    let faults = Faults {
+    let limits = Limits {
         put: put.wrapping_add(1),
         taken,
         ..CALM
     };
-    let end = run_with(rt, alloc, input, faults)?;
+    let end = run_with(rt, alloc, input, limits)?;
     let before = (put as usize).wrapping_mul(PIECE);
     if before >= whole.len() {
         return Ok(has_ended(&end, 0, whole, whole.len(), ""));
@@ -106,11 +107,11 @@ fn ends_unfetched<R: Threads + Wait + Sync>(
     fetch: u32,
     fetches: u32,
 ) -> Result<bool, Fail> {
-    let faults = Faults {
+    let limits = Limits {
         fetch: fetch.wrapping_add(1),
         ..CALM
     };
-    let end = run_with(rt, alloc, input, faults)?;
+    let end = run_with(rt, alloc, input, limits)?;
     if fetch >= fetches {
         return Ok(has_ended(&end, 0, whole, whole.len(), ""));
     }
@@ -150,15 +151,15 @@ fn ends_unnoted<R: Threads + Wait + Sync>(
     rt: &R,
     alloc: Global,
     input: &Input,
-    faults: Faults,
+    limits: Limits,
     status: u8,
     line: &str,
 ) -> Result<bool, Fail> {
-    let end = run_with(rt, alloc, input, faults)?;
+    let end = run_with(rt, alloc, input, limits)?;
     let notes = end.notes.written();
     Ok(
         end.status == status
-            && notes.len() == faults.taken as usize
+            && notes.len() == limits.taken as usize
             && line.as_bytes().starts_with(notes),
     )
 }
@@ -171,13 +172,13 @@ fn stands_failing_note<R: Threads + Wait + Sync>(
     fetches: u32,
     taken: u32,
 ) -> Result<bool, Fail> {
-    let note = Faults {
+    let note = Limits {
         note: 1,
         taken,
         ..CALM
     };
-    let unwritten = Faults { put: 1, ..note };
-    let unfetched = Faults { fetch: 1, ..note };
+    let unwritten = Limits { put: 1, ..note };
+    let unfetched = Limits { fetch: 1, ..note };
     Ok(
         ends_unnoted(rt, alloc, input, unwritten, 6, UNWRITTEN)?
             && (fetches == 0 || ends_unnoted(rt, alloc, input, unfetched, 5, UNFETCHED[0])?),

@@ -48,9 +48,8 @@ fn the_script_of_1(rt: HostRuntime) -> Result<(), Fail> {
             edits += 1;
         }
     }
-    assert_eq!(rt; script.names().len(), 4);
-    assert_eq!(rt; script.steps().len(), 104);
-    assert_eq!(rt; edits, 100);
+    let told = (script.names().len(), script.steps().len(), edits);
+    assert_eq!(rt; told, (4, 104, 100));
     Ok(())
 }
 
@@ -61,7 +60,6 @@ fn the_edges_of_1(rt: HostRuntime) -> Result<(), Fail> {
     let (sheet, _) = generate(alloc, 1)?;
     let graph = graph_of(alloc, SheetGraph::new(alloc), &sheet)?;
     let edges = graph.edges()?;
-    assert_eq!(rt; edges.len(), 10);
-    assert_eq!(rt; pair_count(&edges), 9_998);
+    assert_eq!(rt; (edges.len(), pair_count(&edges)), (10, 9_998));
     Ok(())
 }

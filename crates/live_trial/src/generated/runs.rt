@@ -1,6 +1,6 @@
+use crate::lines::{FREE, run_line, text_of};
 use recalc_workers::Gate;
-use sheet_cli::run;
-use sheet_io::{MemoryShelf, MemorySink};
+use sheet_io::MemoryShelf;
 use sheet_refs::Cell;
 use std::alloc::Global;
 use std::sync::Wait;
@@ -52,46 +52,29 @@ impl Noting {
     }
 }
 
-// A sink for so many bytes.
-fn sink_of(alloc: Global, room: u32) -> Result<MemorySink, Fail> {
-    match MemorySink::new(alloc, room, Vec::new(alloc)) {
-        Ok(sink) => Ok(sink),
-        Err(_) => Err(Fail::from("no memory")),
-    }
-}
-
-// What the program prints of the run of 1 with so many workers, beside which the gate notes each cell.
+// What the program prints by a line for which it fetches nothing, beside which the gate notes each cell.
 fn printed<R: Threads + Wait + Sync>(
     rt: &R,
     alloc: Global,
-    workers: &str,
+    line: &str,
     gate: &Noting,
 ) -> Result<String, Fail> {
-    let mut words = Vec::new(alloc);
-    for word in ["gen", "1", "--workers", workers] {
-        words.push(String::from_str(alloc, word)?)?;
-    }
     let mut shelf = MemoryShelf::new(Vec::new(alloc), Vec::new(alloc));
-    let mut out = sink_of(alloc, 1_000)?;
-    let mut notes = sink_of(alloc, 1_000)?;
-    if run(rt, alloc, &words, &mut shelf, &mut out, &mut notes, gate) != 0 {
-        return Err(Fail::from("a run that is refused"));
-    }
-    let bytes = out.written().to_vec(alloc)?;
-    Ok(String::from_utf8(bytes).map_err(|_| "no text")?)
+    let ended = run_line(rt, alloc, line, &mut shelf, FREE, gate)?;
+    text_of(alloc, &ended)
 }
 
 #[test]
 fn workers_compute_each_formula(rt: HostRuntime) -> Result<(), Fail> {
     let alloc = rt.alloc();
-    for workers in ["1", "4"] {
+    for line in ["gen 1 --workers 1", "gen 1 --workers 4"] {
         let gate = Noting::new(alloc)?;
-        let text = printed(&rt, alloc, workers, &gate)?;
+        let text = printed(&rt, alloc, line, &gate)?;
         assert_eq!(rt;
-            text.as_str(),
-            "gen 1\ncells 7000\nedits 100\nsum 1387998746\n"
+            (text.as_str(), gate.formulas()),
+            ("gen 1\ncells 7000\nedits 100\nsum 1387998746\n", 6_000),
+            "{line}"
         );
-        assert_eq!(rt; gate.formulas(), 6_000);
     }
     Ok(())
 }

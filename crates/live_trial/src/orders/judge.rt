@@ -202,6 +202,22 @@ fn takes_sheet(
     )
 }
 
+// Whether what stands behind the log is as it may be, when the commands came in this order.
+fn takes_rest(
+    alloc: Global,
+    reader: &mut Reader<'_>,
+    commands: &[(bool, Command)],
+) -> Result<bool, Fail> {
+    Ok(
+        reader.takes("client ann\n")
+            && takes_reports(alloc, reader, commands, false)?
+            && reader.takes("client bob\n")
+            && takes_reports(alloc, reader, commands, true)?
+            && takes_sheet(alloc, reader, commands)?
+            && reader.is_done(),
+    )
+}
+
 /// Whether the program may print this where the commands of both clients come in this order, one after the other: each
 /// edit once, under its client and in its place; in each look as many edits as came before it, and of each cell its
 /// value after these, or the number of the last of these that touched it, where the client wasn't shown the value
@@ -211,13 +227,5 @@ pub(crate) fn may_print(alloc: Global, order: &Order, text: &str) -> Result<bool
     let commands = in_order(alloc, order, &ann, &bob)?;
     let log = log_of(alloc, &commands, [ann.name, bob.name])?;
     let mut reader = Reader::new(text);
-    Ok(
-        reader.takes(log.as_str())
-            && reader.takes("client ann\n")
-            && takes_reports(alloc, &mut reader, &commands, false)?
-            && reader.takes("client bob\n")
-            && takes_reports(alloc, &mut reader, &commands, true)?
-            && takes_sheet(alloc, &mut reader, &commands)?
-            && reader.is_done(),
-    )
+    Ok(reader.takes(log.as_str()) && takes_rest(alloc, &mut reader, &commands)?)
 }

@@ -31,20 +31,18 @@ fn a_look_behind_a_firm_one(rt: HostRuntime) -> Result<(), Fail> {
 
 #[test]
 fn a_cycle_and_no_clients(rt: HostRuntime) -> Result<(), Fail> {
-    let alloc = rt.alloc();
-    let text = printed(
-        &rt,
-        alloc,
-        "1,=A1\n",
-        "set A1 =B1\nfirm A1:B1\n",
-        1,
-        &OpenGate,
-    )?;
-    assert_eq!(rt;
-        text.as_str(),
-        "log 1\n1 main set A1 =B1\nclient main\nfirm 1 A1:B1\n#CIRC!,#CIRC!\nsheet 1 A1:B1\n#CIRC!,#CIRC!\n"
-    );
-    let text = printed(&rt, alloc, TWO_FORMULAS, "", 3, &OpenGate)?;
-    assert_eq!(rt; text.as_str(), "log 0\nsheet 0 A1:B2\n1,2\n2,4\n");
+    for (sheet, script, workers, wanted) in [
+        (
+            "1,=A1\n",
+            "set A1 =B1\nfirm A1:B1\n",
+            1,
+            "log 1\n1 main set A1 =B1\nclient main\nfirm 1 A1:B1\n#CIRC!,#CIRC!\n\
+             sheet 1 A1:B1\n#CIRC!,#CIRC!\n",
+        ),
+        (TWO_FORMULAS, "", 3, "log 0\nsheet 0 A1:B2\n1,2\n2,4\n"),
+    ] {
+        let text = printed(&rt, rt.alloc(), sheet, script, workers, &OpenGate)?;
+        assert_eq!(rt; text.as_str(), wanted, "{workers} workers");
+    }
     Ok(())
 }

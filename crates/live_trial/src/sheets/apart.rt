@@ -3,8 +3,8 @@ ghost use Rattle.sheet_model.specs.Edits.{HaveLabels};
 ghost use Rattle.live_sheet.specs.Passes.{client_of};
 ghost use Rattle.live_sheet.specs.Setups.{IsNamedBy};
 
-use crate::fields::{cell, four_cells, sheet_of};
-use crate::sheets::edits::sets;
+use crate::fields::{four_cells, range, sheet_of};
+use crate::sheets::edits::with_edit;
 use crate::sheets::stories::{edit, look};
 use crate::sheets::texts::{write_codes, write_turn};
 use live_sheet::{Desk, Live, Naming, Opened, Pass, Setup};
@@ -103,7 +103,36 @@ fn closes<N: Naming, R: Threads + Wait + Sync>(
     write_codes(text, &closed.values)
 }
 
-// Edits each of two live sheets, and looks at both after each step.
+// Edits each of two live sheets, looks at the other one after each step, and takes a turn.
+fn goes_on<N: Naming, M: Naming, R: Wait>(
+    rt: &R,
+    alloc: Global,
+    one: &mut Single<N>,
+    other: &mut Single<M>,
+    one_sizes: Sizes,
+    other_sizes: Sizes,
+    range: Range,
+    first: Edit,
+    second: Edit,
+    text: &mut String,
+) -> Result<(), Fail>
+    requires one_sizes { one_sizes ≡ N.opening.sizes }
+    requires other_sizes { other_sizes ≡ M.opening.sizes }
+    requires first { (labels : ℕ) → HaveLabels labels first }
+    requires second { (labels : ℕ) → HaveLabels labels second }
+    ensures one { OnOk result (client_of one.new.pass ≡ client_of one.old.pass) }
+    ensures other { OnOk result (client_of other.new.pass ≡ client_of other.old.pass) }
+{
+    makes(rt, one, first, text)?;
+    shows(alloc, other, other_sizes, range, text)?;
+    makes(rt, other, second, text)?;
+    shows(alloc, one, one_sizes, range, text)?;
+    works(rt, one, text)?;
+    text.push_str(", ")?;
+    shows(alloc, other, other_sizes, range, text)
+}
+
+// Goes on with two live sheets, and closes both.
 fn goes<N: Naming, M: Naming, R: Threads + Wait + Sync>(
     rt: &R,
     alloc: Global,
@@ -127,13 +156,18 @@ fn goes<N: Naming, M: Naming, R: Threads + Wait + Sync>(
     let mut one = one;
     let mut other = other;
     let mut text = String::new(alloc);
-    makes(rt, &mut one, first, &mut text)?;
-    shows(alloc, &mut other, other_sizes, range, &mut text)?;
-    makes(rt, &mut other, second, &mut text)?;
-    shows(alloc, &mut one, one_sizes, range, &mut text)?;
-    works(rt, &mut one, &mut text)?;
-    text.push_str(", ")?;
-    shows(alloc, &mut other, other_sizes, range, &mut text)?;
+    goes_on(
+        rt,
+        alloc,
+        &mut one,
+        &mut other,
+        one_sizes,
+        other_sizes,
+        range,
+        first,
+        second,
+        &mut text,
+    )?;
     closes(rt, alloc, one, &mut text)?;
     closes(rt, alloc, other, &mut text)?;
     Ok(text)
@@ -205,21 +239,24 @@ fn both<R: Threads + Wait + Sync>(
     )
 }
 
-// Two live sheets are open at once. Neither shows, counts or computes what was done to the other.
-#[test]
-fn two_live_sheets_are_apart(rt: HostRuntime) -> Result<(), Fail> {
-    let alloc = rt.alloc();
-    let mut one = four_cells(alloc)?;
+// The sheet of four cells with other numbers.
+fn other_cells(alloc: Global) -> Result<Sheet, Fail> {
     let fields = [
         ("A1", "10"),
         ("B1", "=A1+1"),
         ("A2", "20"),
         ("B2", "=A2+B1"),
     ];
-    let mut other = sheet_of(alloc, 2, 2, &fields)?;
-    let first = sets(alloc, &mut one, "A1", "5")?;
-    let second = sets(alloc, &mut other, "A2", "7")?;
-    let range = Range::of(cell("A1")?, cell("B2")?);
+    sheet_of(alloc, 2, 2, &fields)
+}
+
+// Two live sheets are open at once. Neither shows, counts or computes what was done to the other.
+#[test]
+fn two_live_sheets_are_apart(rt: HostRuntime) -> Result<(), Fail> {
+    let alloc = rt.alloc();
+    let range = range("A1:B2")?;
+    let (one, first) = with_edit(alloc, four_cells(alloc)?, "A1", "5")?;
+    let (other, second) = with_edit(alloc, other_cells(alloc)?, "A2", "7")?;
     let text = both(&rt, alloc, one, other, range, first, second)?;
     assert_eq!(rt;
         text.as_str(),

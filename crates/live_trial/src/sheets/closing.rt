@@ -59,20 +59,33 @@ fn a_sheet_at_whose_desks_nobody_worked_is_closed(rt: HostRuntime) -> Result<(),
     Ok(())
 }
 
+// What is told of a sheet of so many rows and columns with this field in A1; with none where it has no bytes.
+fn closed_with<R: Threads + Wait + Sync>(
+    rt: &R,
+    alloc: Global,
+    rows: u32,
+    cols: u32,
+    field: &str,
+    clients: u32,
+    workers: u32,
+) -> Result<String, Fail> {
+    let sheet = if field.is_empty() {
+        sheet_of(alloc, rows, cols, &[])?
+    } else {
+        sheet_of(alloc, rows, cols, &[("A1", field)])?
+    };
+    closed(rt, alloc, sheet, clients, workers)
+}
+
 #[test]
 fn the_smallest_and_the_most(rt: HostRuntime) -> Result<(), Fail> {
-    let alloc = rt.alloc();
-    let text = closed(&rt, alloc, sheet_of(alloc, 0, 0, &[])?, 1, 1)?;
-    assert_eq!(rt; text.as_str(), "0:");
-    let text = closed(&rt, alloc, sheet_of(alloc, 1, 2, &[])?, 0, 1)?;
-    assert_eq!(rt; text.as_str(), "0: - -");
-    let text = closed(
-        &rt,
-        alloc,
-        sheet_of(alloc, 1, 2, &[("A1", "=B1+3")])?,
-        32,
-        64,
-    )?;
-    assert_eq!(rt; text.as_str(), "0: 3 -");
+    for (rows, cols, field, clients, workers, wanted) in [
+        (0, 0, "", 1, 1, "0:"),
+        (1, 2, "", 0, 1, "0: - -"),
+        (1, 2, "=B1+3", 32, 64, "0: 3 -"),
+    ] {
+        let text = closed_with(&rt, rt.alloc(), rows, cols, field, clients, workers)?;
+        assert_eq!(rt; text.as_str(), wanted, "{rows} rows for {clients} clients");
+    }
     Ok(())
 }

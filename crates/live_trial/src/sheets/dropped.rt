@@ -2,14 +2,14 @@ ghost use Rattle.std.specs.Prelude.{◌≡◌, ℕ};
 ghost use Rattle.sheet_model.specs.Edits.{HaveLabels};
 ghost use Rattle.live_sheet.specs.Setups.{IsNamedBy};
 
-use crate::fields::{cell, put};
-use crate::sheets::edits::sets;
+use crate::fields::{cell, put, range};
+use crate::sheets::edits::with_edit;
 use crate::sheets::stories::{edit, firm, look};
 use formula_syntax::Edition;
-use live_sheet::{Desk, Live, Naming, Opened, Setup};
+use live_sheet::{Desk, Live, Naming, Opened, Pass, Setup};
 use recalc_workers::{OpenGate, Turn};
 use sheet_model::{Board, Edit, Sheet};
-use sheet_refs::{Cell, Range, Sizes};
+use sheet_refs::{Cell, Sizes};
 use std::alloc::Global;
 use std::fmt::Write;
 use std::marker::Brand;
@@ -47,6 +47,30 @@ fn works_until_idle<N: Naming, R: Wait>(rt: &R, live: &Live<N>, desk: &mut Desk<
 }
 
 // Edits, works until there is no job, looks, and takes a firm look.
+fn goes<N: Naming, R: Threads + Wait + Sync>(
+    rt: &R,
+    alloc: Global,
+    live: &Live<N>,
+    pass: &mut Pass<N>,
+    desk: &mut Desk<N>,
+    sizes: Sizes,
+    change: Edit,
+) -> Result<String, Fail>
+    requires sizes { sizes ≡ N.opening.sizes }
+    requires labels { (labels : ℕ) → HaveLabels labels change }
+{
+    let border = range("B65535:B65536")?;
+    let last = range("B70000:B70000")?;
+    let mut board = Board::new(alloc, 2)?;
+    let mut text = String::new(alloc);
+    edit(rt, live, pass, change, &mut text)?;
+    write!(text, "{} done, ", works_until_idle(rt, live, desk))?;
+    look(live, pass, sizes, border, &mut board, &mut text)?;
+    firm(rt, live, pass, sizes, last, &mut board, &mut text)?;
+    Ok(text)
+}
+
+// Opens a sheet for this.
 fn edits_and_works<N: Naming, R: Threads + Wait + Sync>(
     rt: &R,
     alloc: Global,
@@ -66,15 +90,7 @@ fn edits_and_works<N: Naming, R: Threads + Wait + Sync>(
     let (Some(mut pass), Some(mut desk)) = (passes.pop(), desks.pop()) else {
         return Err(Fail::from("no pass or no desk"));
     };
-    let mut board = Board::new(alloc, 2)?;
-    let mut text = String::new(alloc);
-    edit(rt, &live, &mut pass, change, &mut text)?;
-    write!(text, "{} done, ", works_until_idle(rt, &live, &mut desk))?;
-    let border = Range::of(cell("B65535")?, cell("B65536")?);
-    look(&live, &mut pass, sizes, border, &mut board, &mut text)?;
-    let last = Range::of(cell("B70000")?, cell("B70000")?);
-    firm(rt, &live, &mut pass, sizes, last, &mut board, &mut text)?;
-    Ok(text)
+    goes(rt, alloc, &live, &mut pass, &mut desk, sizes, change)
 }
 
 // The same over a sheet, with one client and one desk.
@@ -95,8 +111,7 @@ fn worked<R: Threads + Wait + Sync>(
 #[test]
 fn jobs_that_find_the_queue_full_are_dropped(rt: HostRuntime) -> Result<(), Fail> {
     let alloc = rt.alloc();
-    let mut sheet = column(alloc)?;
-    let change = sets(alloc, &mut sheet, "A1", "5")?;
+    let (sheet, change) = with_edit(alloc, column(alloc)?, "A1", "5")?;
     let text = worked(&rt, alloc, sheet, change)?;
     assert_eq!(rt; text.as_str(), " #1 65536 done, 1: 5 ~1 firm 1: 5");
     Ok(())

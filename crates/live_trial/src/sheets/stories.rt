@@ -1,5 +1,7 @@
-ghost use Rattle.std.specs.Prelude.{◌≡◌, ℕ, OnOk};
+ghost use Rattle.std.specs.Prelude.{◌≡◌, ◌≤◌, ℕ, length, IfSome, OnOk};
+ghost use Rattle.sheet_refs.specs.Cells.{cells_of};
 ghost use Rattle.sheet_model.specs.Edits.{HaveLabels};
+ghost use Rattle.edit_log.specs.Rows.{IsInside};
 ghost use Rattle.live_sheet.specs.Passes.{client_of};
 
 use crate::sheets::texts::write_board;
@@ -12,6 +14,19 @@ use std::sync::Wait;
 use std::test::Fail;
 use std::thread::Threads;
 
+// What of the range is in the sheet; none where there is nothing of it, or no room for it on the board.
+fn window_of<N: Naming>(sizes: Sizes, range: Range, board: &Board) -> Option<Range>
+    requires { sizes ≡ N.opening.sizes }
+    ensures inside { IfSome result (λ window. IsInside N.opening.sizes window) }
+    ensures room { IfSome result (λ window. length (cells_of window) ≤ board.now.room) }
+{
+    let window = sizes.clip(range)?;
+    if window.cells() > u64::from(board.room()) {
+        return None;
+    }
+    Some(window)
+}
+
 /// Looks at what of the range is in the sheet; false where there is nothing of it, or no room for it.
 pub(crate) fn looks<N: Naming>(
     live: &Live<N>,
@@ -23,12 +38,9 @@ pub(crate) fn looks<N: Naming>(
     requires { sizes ≡ N.opening.sizes }
     ensures { client_of pass.new ≡ client_of pass.old }
 {
-    let Some(window) = sizes.clip(range) else {
+    let Some(window) = window_of::<N>(sizes, range, board) else {
         return false;
     };
-    if window.cells() > u64::from(board.room()) {
-        return false;
-    }
     live.look(pass, window, board);
     true
 }
@@ -62,12 +74,9 @@ pub(crate) fn firms<N: Naming, R: Threads + Wait + Sync>(
 ) -> bool
     requires { sizes ≡ N.opening.sizes }
 {
-    let Some(window) = sizes.clip(range) else {
+    let Some(window) = window_of::<N>(sizes, range, board) else {
         return false;
     };
-    if window.cells() > u64::from(board.room()) {
-        return false;
-    }
     live.firm(rt, pass, window, board, &OpenGate).is_ok()
 }
 

@@ -52,3 +52,13 @@ pub(crate) fn write_turn(text: &mut String, turn: &Turn) -> Result<(), Fail> {
     }
     Ok(())
 }
+
+/// Writes what was told beside a turn, and then what the turn came to.
+pub(crate) fn write_beside(
+    text: &mut String,
+    told: Result<String, Fail>,
+    turn: &Turn,
+) -> Result<(), Fail> {
+    text.push_str(told?.as_str())?;
+    write_turn(text, turn)
+}

@@ -6,7 +6,7 @@ ghost use Rattle.live_sheet.specs.Passes.{client_of};
 ghost use Rattle.live_sheet.specs.Setups.{IsNamedBy};
 
 use crate::fields::four_cells;
-use crate::sheets::edits::{is_plain, sets};
+use crate::sheets::edits::{is_plain, with_edits};
 use crate::sheets::texts::write_codes;
 use live_sheet::{Closed, Live, Naming, Opened, Pass, Setup};
 use recalc_workers::OpenGate;
@@ -150,9 +150,12 @@ fn edited_and_undone<R: Threads + Wait + Sync>(
 #[test]
 fn the_last_edit_of_a_closed_sheet_is_undone(rt: HostRuntime) -> Result<(), Fail> {
     let alloc = rt.alloc();
-    let mut sheet = four_cells(alloc)?;
-    let first = sets(alloc, &mut sheet, "A1", "5")?;
-    let second = sets(alloc, &mut sheet, "A2", "=A1*2")?;
+    let (sheet, first, second) = with_edits(
+        alloc,
+        four_cells(alloc)?,
+        ("A1", "5"),
+        ("A2", "=A1*2"),
+    )?;
     let text = edited_and_undone(&rt, alloc, sheet, first, second)?;
     assert_eq!(rt; text.as_str(), " 5 6 2 8");
     Ok(())

@@ -2,10 +2,10 @@ ghost use Rattle.std.specs.Prelude.{◌≡◌, ℕ};
 ghost use Rattle.sheet_model.specs.Edits.{HaveLabels};
 ghost use Rattle.live_sheet.specs.Setups.{IsNamedBy};
 
-use crate::fields::{cell, four_cells, sheet_of};
-use crate::sheets::edits::sets;
+use crate::fields::{four_cells, range, sheet_of};
+use crate::sheets::edits::{with_edit, with_edits};
 use crate::sheets::stories::{edit, look, work};
-use live_sheet::{Live, Naming, Opened, Setup};
+use live_sheet::{Live, Naming, Opened, Pass, Setup};
 use recalc_workers::OpenGate;
 use sheet_model::{Board, Edit, Sheet};
 use sheet_refs::{Range, Sizes};
@@ -66,9 +66,8 @@ fn worked<R: Wait>(
 #[test]
 fn an_edit_leaves_its_cells_stale_where_no_desk_works(rt: HostRuntime) -> Result<(), Fail> {
     let alloc = rt.alloc();
-    let mut sheet = four_cells(alloc)?;
-    let change = sets(alloc, &mut sheet, "A1", "5")?;
-    let range = Range::of(cell("A1")?, cell("B2")?);
+    let range = range("A1:B2")?;
+    let (sheet, change) = with_edit(alloc, four_cells(alloc)?, "A1", "5")?;
     let text = worked(&rt, alloc, sheet, range, change, 0)?;
     assert_eq!(rt;
         text.as_str(),
@@ -80,9 +79,9 @@ fn an_edit_leaves_its_cells_stale_where_no_desk_works(rt: HostRuntime) -> Result
 #[test]
 fn one_desk_computes_a_cycle(rt: HostRuntime) -> Result<(), Fail> {
     let alloc = rt.alloc();
-    let mut sheet = sheet_of(alloc, 1, 2, &[("A1", "1"), ("B1", "=A1")])?;
-    let change = sets(alloc, &mut sheet, "A1", "=B1")?;
-    let range = Range::of(cell("A1")?, cell("B1")?);
+    let range = range("A1:B1")?;
+    let opening = sheet_of(alloc, 1, 2, &[("A1", "1"), ("B1", "=A1")])?;
+    let (sheet, change) = with_edit(alloc, opening, "A1", "=B1")?;
     let text = worked(&rt, alloc, sheet, range, change, 3)?;
     assert_eq!(rt;
         text.as_str(),
@@ -92,6 +91,30 @@ fn one_desk_computes_a_cycle(rt: HostRuntime) -> Result<(), Fail> {
 }
 
 // Edits twice, settles, and looks.
+fn settles<N: Naming, R: Threads + Wait + Sync>(
+    rt: &R,
+    alloc: Global,
+    live: &Live<N>,
+    pass: &mut Pass<N>,
+    sizes: Sizes,
+    range: Range,
+    first: Edit,
+    second: Edit,
+) -> Result<String, Fail>
+    requires sizes { sizes ≡ N.opening.sizes }
+    requires first { (labels : ℕ) → HaveLabels labels first }
+    requires second { (labels : ℕ) → HaveLabels labels second }
+{
+    let mut board = Board::new(alloc, 4)?;
+    let mut text = String::new(alloc);
+    edit(rt, live, pass, first, &mut text)?;
+    edit(rt, live, pass, second, &mut text)?;
+    live.settle(rt, pass, &OpenGate)?;
+    look(live, pass, sizes, range, &mut board, &mut text)?;
+    Ok(text)
+}
+
+// Opens a sheet for this.
 fn edits_and_settles<N: Naming, R: Threads + Wait + Sync>(
     rt: &R,
     alloc: Global,
@@ -114,13 +137,7 @@ fn edits_and_settles<N: Naming, R: Threads + Wait + Sync>(
     let Some(mut pass) = passes.pop() else {
         return Err(Fail::from("no pass"));
     };
-    let mut board = Board::new(alloc, 4)?;
-    let mut text = String::new(alloc);
-    edit(rt, &live, &mut pass, first, &mut text)?;
-    edit(rt, &live, &mut pass, second, &mut text)?;
-    live.settle(rt, &mut pass, &OpenGate)?;
-    look(&live, &mut pass, sizes, range, &mut board, &mut text)?;
-    Ok(text)
+    settles(rt, alloc, &live, &mut pass, sizes, range, first, second)
 }
 
 // The same over a sheet, with one client and so many desks.
@@ -143,10 +160,13 @@ fn settled<R: Threads + Wait + Sync>(
 #[test]
 fn settling_computes_all_cells(rt: HostRuntime) -> Result<(), Fail> {
     let alloc = rt.alloc();
-    let mut sheet = four_cells(alloc)?;
-    let first = sets(alloc, &mut sheet, "A1", "5")?;
-    let second = sets(alloc, &mut sheet, "A2", "=a1 * 2")?;
-    let range = Range::of(cell("A1")?, cell("B2")?);
+    let range = range("A1:B2")?;
+    let (sheet, first, second) = with_edits(
+        alloc,
+        four_cells(alloc)?,
+        ("A1", "5"),
+        ("A2", "=a1 * 2"),
+    )?;
     let text = settled(&rt, alloc, sheet, range, first, second)?;
     assert_eq!(rt; text.as_str(), " #1  #2 2: 5 6 10 16");
     Ok(())

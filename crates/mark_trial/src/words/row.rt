@@ -93,6 +93,11 @@ fn found(loads: Loads) -> (Clean, u64, u64) {
     (loads.clean, loads.word, loads.mark)
 }
 
+/// What a read found, and what it shows to a viewer who has seen one commit.
+fn shows(words: (Clean, u64, u64)) -> ((Clean, u64, u64), Seen) {
+    (words, shown(1, words.0, words.1, words.2))
+}
+
 /// What a viewer who has seen one commit is shown of a place that is marked for a second edit, and then of its value
 /// that was computed for it; and what a claim of a held place finds.
 #[test]
@@ -107,16 +112,19 @@ fn later_edits_show_as_stale_and_newer(rt: HostRuntime) -> Result<(), Fail> {
         held: true,
     };
     let refused = contends(&marks, &mut worker, &mut second, 0, 1, 5);
-    assert_eq!(rt; refused, Some(held));
-    assert_eq!(rt; computes(&marks, &mut worker, 1, 1, 5), Some(1));
-    assert_eq!(rt; marks.see(&mut viewer), 1);
+    let first = computes(&marks, &mut worker, 1, 1, 5);
+    let count = marks.see(&mut viewer);
     let marked = found(sets(&marks, &mut editor, &mut viewer, 1, 6));
-    assert_eq!(rt; marked, (free(2), TwoTestCells::code(5), 2));
-    assert_eq!(rt; shown(1, marked.0, marked.1, marked.2), Seen::Stale(2));
     let mut worker = hires(&marks, &mut editor, 2, 6);
-    assert_eq!(rt; computes(&marks, &mut worker, 0, 2, 6), Some(2));
+    let later = computes(&marks, &mut worker, 0, 2, 6);
     let newer = found(reads(&marks, &mut viewer, 0));
-    assert_eq!(rt; newer, (free(3), 72057594037927985, 2));
-    assert_eq!(rt; shown(1, newer.0, newer.1, newer.2), Seen::Newer(2));
+    assert_eq!(rt;
+        ((refused, first, count, later), shows(marked), shows(newer)),
+        (
+            (Some(held), Some(1), 1, Some(2)),
+            ((free(2), TwoTestCells::code(5), 2), Seen::Stale(2)),
+            ((free(3), 72057594037927985, 2), Seen::Newer(2)),
+        )
+    );
     Ok(())
 }

@@ -74,15 +74,14 @@ fn threads_share_the_words_of_any_subject(rt: HostRuntime) -> Result<(), Fail> {
     let (marks, mut editor) = opened(rt.alloc())?;
     let pair = (marks.split(&mut editor), marks.split(&mut editor));
     let ((first, one), (second, other)) = looks_beside(&rt, &marks, pair, (0, 1));
-    assert_eq!(rt;
-        (one, other),
-        (Seen::Value(TwoTestCells::code(1)), Seen::Stale(0))
-    );
     let mut seats = Vec::new(rt.alloc());
     seats.push(first)?;
     seats.push(second)?;
     let all = look_all(&rt, &marks, seats, 0)?;
     let right = all.iter().filter(|look| look.1 == one).count();
-    assert_eq!(rt; right, 2);
+    assert_eq!(rt;
+        (one, other, right),
+        (Seen::Value(TwoTestCells::code(1)), Seen::Stale(0), 2)
+    );
     Ok(())
 }

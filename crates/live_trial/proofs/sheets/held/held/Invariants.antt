@@ -1,5 +1,5 @@
 use Rattle.live_sheet.specs.Setups.{setup_words, setup_queue, setup_opening, setup_clients, setup_ledger, setup_parts}
-use Rattle.live_trial.proofs.sheets.overtaken.overtaken.Given as goal
+use Rattle.live_trial.proofs.sheets.held.held.Given as goal
 
 -- the names are those of the setup
 abbrev pub ghosts-opens-N-Naming : goal.ghosts-opens-N-Naming
