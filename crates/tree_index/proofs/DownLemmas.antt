@@ -1,18 +1,40 @@
 -- A rectangle that is widened on the way down to a leaf.
 use Rattle.std.proofs.Common.{◌≡◌, ◌≢◌, inl, inr, ◌<◌, ℕ, Option, Some, refl, sym, ◌∙◌, ap, subst, arith}
 use Rattle.std.specs.Prelude.{slice_set}
+use Rattle.std.specs.List.{slice_get}
 use Rattle.sheet_refs.specs.Cells.{Corners}
 use Rattle.range_index.specs.Entries.{Entry, entry_of, ChangesRange}
 use Rattle.range_index.proofs.ChangeLemmas.{some_same}
 use Rattle.tree_index.specs.declared.nodes.Tree.{Tree}
 use Rattle.tree_index.specs.Rectangles.{Covers, IsSpan}
-use Rattle.tree_index.specs.Trees.{Node, IsBelow}
+use Rattle.tree_index.specs.Trees.{Node, IsBelow, Links}
 use Rattle.tree_index.specs.Indexes.{HoldTree, node_at}
 use Rattle.tree_index.specs.Changes.{Admits, HasPlace, HasPlaceBelow, IsInner, Rearranges, SetsRange, child_in, child_of}
 use Rattle.tree_index.proofs.ChildLemmas.{changes_set, listed_at}
 use Rattle.tree_index.proofs.RectangleLemmas.{covers_more}
-use Rattle.tree_index.proofs.ShapeLemmas.{link_cases, listed_in, same_level}
+use Rattle.tree_index.proofs.ShapeLemmas.{link_cases, listed_in, one_link, same_level}
 use Rattle.tree_index.proofs.WayLemmas.{range_rest}
+
+-- a child whose rectangle has a range takes it in
+pub admits_child : (tree : Tree) (key place : ℕ) (range : Corners) (child : Entry) → HoldTree tree → IsInner tree key
+    → child_of tree key place ≡ Some child → Covers child.range range → Admits (node_at tree) child.id range
+admits_child tree key place range child holds inside child_is covers parent rectangle link =
+    let here : slice_get inside.node.children place ≡ Some child =
+    ap (λ (o : Option Node). child_in o place) (sym inside.there) ∙ child_is in
+    let link_here : Links (node_at tree) key child = record {
+      node = inside.node;
+      there = inside.there;
+      inner = inside.inner;
+      listed = listed_at inside.node.children place child here;
+    } in
+    let same : child ≡ entry_of child.id rectangle =
+    one_link (node_at tree) tree.root tree.root key parent child (entry_of child.id rectangle) holds.shape link_here link refl in
+    subst (λ (r : Corners). Covers r range) (ap (λ (e : Entry). e.range) same) covers
+
+-- and one that has room still has it
+pub room_at : (tree : Tree) (key place : ℕ) (child : Entry) → child_of tree key place ≡ Some child → HasPlaceBelow tree key place → HasPlace tree child.id
+room_at tree key place child child_is below =
+    subst (λ (e : Entry). HasPlace tree e.id) (some_same below.child child (sym below.here ∙ child_is)) below.room
 
 module _ (old new : Tree) (key place : ℕ) (range wide : Corners) (tree : HoldTree old) (inside : IsInner old key) (has : Admits (node_at old) key range)
     (child : Entry) (child_is : child_of old key place ≡ Some child) (sets : SetsRange old new key place wide)

@@ -60,6 +60,13 @@ pub record HasPlace (tree : Tree) (key : ℕ) : Type 0 where
   pub there : node_at tree key ≡ Some node
   pub few : length node.children < 16
 
+-- a leaf is there, and has fewer than sixteen entries
+pub record IsOpenLeaf (tree : Tree) (key : ℕ) : Type 0 where
+  pub leaf : Node
+  pub there : node_at tree key ≡ Some leaf
+  pub lowest : leaf.level ≡ 0
+  pub few : length leaf.children < 16
+
 -- a leaf that can take an entry of a range in
 pub record TakesIn (tree : Tree) (key : ℕ) (range : Corners) : Type 0 where
   pub leaf : Node

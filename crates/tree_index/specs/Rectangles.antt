@@ -10,7 +10,14 @@ pub record Covers (outer inner : Corners) : Type 0 where
   pub bottom : inner.tail.row ≤ outer.tail.row
   pub right : inner.tail.col ≤ outer.tail.col
 
--- the same of the ranges of some entries
+-- neither rectangle ends before the other begins
+pub record AreCrossed (a b : Corners) : Type 0 where
+  pub rows : a.head.row ≤ b.tail.row
+  pub rows_back : b.head.row ≤ a.tail.row
+  pub cols : a.head.col ≤ b.tail.col
+  pub cols_back : b.head.col ≤ a.tail.col
+
+-- a rectangle covers those of some entries
 abbrev pub CoverAll : Corners → List Entry → Type 0
 CoverAll outer entries = (entry : Entry) → Contains entries entry → Covers outer entry.range
 

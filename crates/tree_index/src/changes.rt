@@ -6,6 +6,7 @@ ghost use Rattle.tree_index.specs.Indexes.{HoldTree, entries_in, room_of, node_a
 ghost use Rattle.tree_index.specs.Changes.{Rearranges, Admits, IsNotedAt, note_at, place_noted};
 
 use crate::choices::stays;
+use crate::item::Item;
 use crate::node::TOP;
 use crate::nodes::Tree;
 use crate::notes::Place;
@@ -28,7 +29,10 @@ impl Tree {
         ensures room { room_of self.old ≤ room_of self.new + 1 }
     {
         match self.leaf_for(range) {
-            Some(leaf) => self.put_in_leaf(leaf, id, range),
+            Some(leaf) => {
+                self.put_in_leaf(leaf, id, range);
+                self.newest = Item { id: leaf, range };
+            }
             None => self.put_late(id, range),
         }
     }

@@ -7,6 +7,7 @@ ghost use Rattle.tree_index.specs.Changes.{AddsThose};
 
 use crate::item::Item;
 use crate::nodes::Tree;
+use crate::rectangles::meet;
 use sheet_refs::{Memory, Range};
 
 // Adds the ids of some entries whose ranges overlap a query.
@@ -16,7 +17,7 @@ fn visit_items(items: &[Item], q: Range, out: &mut Vec<usize>) -> Result<(), Mem
     ensures kept { KeepsIds out.old.items out.new.items }
 {
     for item in items {
-        if item.range.overlaps(&q) {
+        if meet(item.range, q) {
             out.push(item.id)?;
         }
     }
@@ -63,7 +64,7 @@ impl Tree {
             return Ok(());
         }
         for child in node.children.as_slice() {
-            if child.range.overlaps(&q) {
+            if meet(child.range, q) {
                 self.visit_below(level - 1, child.id, q, out)?;
             }
         }

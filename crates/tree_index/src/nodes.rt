@@ -4,6 +4,7 @@ ghost use Rattle.std.specs.Prelude.{IsTrue, IsFalse, IsSome, IfSome, IfNone, Mat
 ghost use Rattle.std.specs.HashMap.{spare, IsUnique};
 ghost use Rattle.std.specs.Prelude.{nat_eq};
 ghost use Rattle.slab.specs.Slab.{HasRoomFor};
+ghost use Rattle.sheet_refs.specs.Cells.{Corners};
 ghost use Rattle.range_index.specs.Entries.{HasNoId, IsPlaceOf};
 ghost use Rattle.tree_index.specs.Trees.{note_of, new_node};
 ghost use Rattle.tree_index.specs.Indexes.{HoldTree, entries_in, node_at};
@@ -21,12 +22,14 @@ use std::alloc::Global;
 use std::collections::HashMap;
 
 /// The nodes, the key of the root, the entries that are still to come into the tree, and what is noted of each id.
+/// `newest` says with which range an entry came last, and which leaf took it in; what is promised doesn't rest on it.
 #[derive(Drop)]
 pub(crate) struct Tree {
     pub(crate) nodes: Slab<Node>,
     pub(crate) root: usize,
     pub(crate) late: Vec<Item>,
     pub(crate) notes: HashMap<usize, Note>,
+    pub(crate) newest: Item,
 }
 
 // The place of a key among children.
@@ -52,6 +55,7 @@ impl Tree {
             root: 0,
             late: Vec::new(alloc),
             notes: HashMap::new(alloc),
+            newest: Item::default(),
         }
     }
 
@@ -172,19 +176,22 @@ impl Tree {
         }
     }
 
-    /// Whether the rectangle of a node has a range; the root's has every range.
-    pub(crate) fn admits(&self, key: usize, range: Range) -> bool
+    /// Whether a node is the root, whose rectangle has every range.
+    pub(crate) fn is_root(&self, key: usize) -> bool
         requires { HoldTree self.now }
+        ensures { IsTrue result → (range : Corners) → Admits (node_at self.now) key range }
+    {
+        key == self.root
+    }
+
+    /// Whether the rectangle of the node at a place of another has a range.
+    pub(crate) fn child_admits(&self, above: usize, place: usize, key: usize, range: Range) -> bool
+        requires tree { HoldTree self.now }
+        requires place { IsPlaceAbove self.now key above place }
         ensures { IsTrue result → Admits (node_at self.now) key range }
     {
-        if key == self.root {
-            return true;
-        }
-        let Some((above, place)) = self.place_above(key) else {
-            return false;
-        };
         match self.child_at(above, place) {
-            Some(child) => covers(child.range, range),
+            Some(child) => child.id == key && covers(child.range, range),
             None => false,
         }
     }

@@ -1,6 +1,7 @@
 // Rectangles that hold others.
 ghost use Rattle.std.specs.Prelude.{◌↔◌, ◌≡◌, IsTrue, IsNone, IfSome, length};
-ghost use Rattle.tree_index.specs.Rectangles.{Covers, CoverAll, IsLeast, IsSpan};
+ghost use Rattle.sheet_refs.specs.Rectangles.{Overlap};
+ghost use Rattle.tree_index.specs.Rectangles.{AreCrossed, Covers, CoverAll, IsLeast, IsSpan};
 
 use crate::item::Item;
 use sheet_refs::Range;
@@ -23,6 +24,24 @@ pub(crate) fn covers(outer: Range, inner: Range) -> bool
     let (head, tail) = (outer.head(), outer.tail());
     let above = head.row() <= inner.head().row() && head.col() <= inner.head().col();
     above && inner.tail().row() <= tail.row() && inner.tail().col() <= tail.col()
+}
+
+// Whether neither rectangle ends before the other begins.
+#[inline(always)]
+fn are_crossed(a: Range, b: Range) -> bool
+    ensures { IsTrue result ↔ AreCrossed a b }
+{
+    let rows = a.head().row() <= b.tail().row() && b.head().row() <= a.tail().row();
+    rows && a.head().col() <= b.tail().col() && b.head().col() <= a.tail().col()
+}
+
+/// Whether two rectangles share a cell. It compares no further than it has to: most differ in their rows.
+#[inline(always)]
+pub(crate) fn meet(a: Range, b: Range) -> bool
+    ensures { IsTrue result ↔ Overlap a b }
+{
+    let _ = (a.head(), b.head());
+    are_crossed(a, b)
 }
 
 /// The smallest rectangle that has all of some; None exactly where there is none.

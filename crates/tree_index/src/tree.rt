@@ -7,12 +7,14 @@ use std::marker::Model;
 
 /// An index by a tree of rectangles, an R-tree (Guttman, 1984).
 ///
-/// A node has up to sixteen children, each with a rectangle; in a leaf they are the entries. An insert goes down to the
-/// child whose rectangle grows least, or to the last one, where none has the range and that one grows by no more cells
-/// than the range has. It splits each full node that it comes to in halves, in the order of rows, columns or sizes,
-/// whichever leaves the smallest rectangles. It takes nodes that `reserve` has made room for; where there is none left,
-/// the entry goes to a list that each query looks through, and the next `reserve` puts it into the tree. A removal
-/// makes the rectangles above it as small as they can be, and takes nodes without children out.
+/// A node has up to sixteen children, each with a rectangle; in a leaf they are the entries. An insert goes into the
+/// leaf that took in the entry before it, where that has room and the two ranges are next to each other and about as
+/// large. Else it goes down to the child whose rectangle grows least, or to the last one, where none has the range
+/// and that one grows by no more cells than the range has. It splits each full node that it comes to in halves, in
+/// the order of rows, columns or sizes, whichever leaves the smallest rectangles. It takes nodes that `reserve` has
+/// made room for; where there is none left, the entry goes to a list that each query looks through, and the next
+/// `reserve` puts it into the tree. A removal makes the rectangles above it as small as they can be, and takes nodes
+/// without children out.
 ///
 /// Costs: an insert, a removal and a change look at a node a level, and a query at the nodes whose rectangles overlap
 /// it. A level of the tree takes eight to sixteen times the entries of the one below it.

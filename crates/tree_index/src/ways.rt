@@ -1,12 +1,12 @@
 // The way down to a leaf.
 ghost use Rattle.std.specs.Prelude.{◌≡◌, ◌<◌, IsTrue, IfSome};
 ghost use Rattle.tree_index.specs.Indexes.{HoldTree, node_at};
-ghost use Rattle.tree_index.specs.Changes.{Rearranges, Admits, HasPlace, HasPlaceBelow, IsInner, TakesIn};
+ghost use Rattle.tree_index.specs.Changes.{Rearranges, Admits, HasPlace, HasPlaceBelow, IsInner, IsOpenLeaf, TakesIn};
 
-use crate::choices::{grows_less, place_for};
+use crate::choices::{grows_less, is_next, place_for};
 use crate::node::TOP;
 use crate::nodes::Tree;
-use crate::rectangles::span;
+use crate::rectangles::{covers, span};
 use sheet_refs::Range;
 
 impl Tree {
@@ -117,6 +117,9 @@ impl Tree {
         let Some(child) = self.child_at(key, place) else {
             return None;
         };
+        if covers(child.range, range) {
+            return Some(child.id);
+        }
         self.set_range(key, place, span(child.range, range));
         Some(child.id)
     }
@@ -161,23 +164,66 @@ impl Tree {
         ensures notes { self.new.notes ≡ self.old.notes }
         ensures admits { IsTrue result → Admits (node_at self.new) key range }
     {
-        if self.admits(key, range) {
+        if self.is_root(key) {
+            return true;
+        }
+        let Some((above, place)) = self.place_above(key) else {
+            return false;
+        };
+        if self.child_admits(above, place, key, range) {
             return true;
         }
         if levels == 0 {
             return false;
         }
-        let Some((above, place)) = self.place_above(key) else {
-            return false;
-        };
         if !self.widen(levels - 1, above, range) {
             return false;
         }
         self.widen_child(above, place, key, range)
     }
 
+    // Whether a node is a leaf with room.
+    fn is_open_leaf(&self, key: usize) -> bool
+        ensures { IsTrue result → IsOpenLeaf self.now key }
+    {
+        match self.nodes.get(key) {
+            Some(node) => node.level == 0 && !node.children.is_full(),
+            None => false,
+        }
+    }
+
+    // The leaf that the newest entry went into, where the range is next to that entry's and the leaf has room: its
+    // rectangle has the range then.
+    fn leaf_again(&mut self, range: Range) -> Option<usize>
+        requires tree { HoldTree self.old }
+        ensures rest { Rearranges self.old self.new }
+        ensures leaf { IfSome result (λ key. TakesIn self.new key range) }
+    {
+        let leaf = self.newest.id;
+        if !is_next(self.newest.range, range) || !self.is_open_leaf(leaf) {
+            return None;
+        }
+        if self.widen(TOP + 1, leaf, range) && self.is_open_leaf(leaf) {
+            Some(leaf)
+        } else {
+            None
+        }
+    }
+
     /// A leaf with room whose rectangle has a range, where nodes suffice.
     pub(crate) fn leaf_for(&mut self, range: Range) -> Option<usize>
+        requires tree { HoldTree self.old }
+        ensures rest { Rearranges self.old self.new }
+        ensures leaf { IfSome result (λ key. TakesIn self.new key range) }
+    {
+        match self.leaf_again(range) {
+            Some(leaf) => Some(leaf),
+            None => self.leaf_from_root(range),
+        }
+    }
+
+    // The same, by the way down from the root.
+    fn leaf_from_root(&mut self, range: Range) -> Option<usize>
         requires tree { HoldTree self.old }
         ensures rest { Rearranges self.old self.new }
         ensures leaf { IfSome result (λ key. TakesIn self.new key range) }

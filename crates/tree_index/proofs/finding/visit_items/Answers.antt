@@ -5,7 +5,7 @@ use Rattle.std.proofs.lemmas.List.{take_more}
 use Rattle.range_index.specs.Entries.{Entry, HasNoId, AddsOverlapping}
 use Rattle.range_index.proofs.EntryLemmas.{not_found, one_found, absent_before}
 use Rattle.tree_index.proofs.finding.visit_items.Goals as goal
-use Rattle.tree_index.proofs.finding.visit_items.Goals.{then-overlaps+in_ok-push, else-overlaps}
+use Rattle.tree_index.proofs.finding.visit_items.Goals.{then-meet+in_ok-push, else-meet}
 
 pub loop-item-preserved : goal.loop-item-preserved
 loop-item-preserved c =
@@ -19,18 +19,18 @@ loop-item-preserved c =
     let range : c.item.inside.range ≡ entry.range = ap (λ (e : Entry). e.range) c.item.view_is in
     let id : c.item.inside.id ≡ entry.id = ap (λ (e : Entry). e.id) c.item.view_is in
     let absent : HasNoId before entry.id = absent_before entries place entry c.requires c.loop-item-test.true c.item-item.is in
-    subst (λ (es : List Entry). AddsOverlapping es q c.args.out.now.items c.if-overlaps.out.items) (sym next)
-    (elim c.if-overlaps.branch [
-      | then-overlaps+in_ok-push w ↦
-          let test : c.overlaps.result ≡ true = search rules in
-          let overlap : Overlap entry.range q = subst (λ (r : Corners). Overlap r q) range (c.overlaps.ensures.0 test) in
-          let pushed : c.if-overlaps.out.items ≡ c.loop-item.out.items ++ entry.id ∷ [] = rw (w.out-is, ← id) w.in_ok-push.ensures.items in
-          one_found before entry q c.args.out.now.items c.loop-item.out.items c.if-overlaps.out.items absent overlap pushed c.loop-item.invariant
-      | else-overlaps w ↦
-          let test : c.overlaps.result ≡ false = search rules in
+    subst (λ (es : List Entry). AddsOverlapping es q c.args.out.now.items c.if-meet.out.items) (sym next)
+    (elim c.if-meet.branch [
+      | then-meet+in_ok-push w ↦
+          let test : c.meet.result ≡ true = search rules in
+          let overlap : Overlap entry.range q = subst (λ (r : Corners). Overlap r q) range (c.meet.ensures.0 test) in
+          let pushed : c.if-meet.out.items ≡ c.loop-item.out.items ++ entry.id ∷ [] = rw (w.out-is, ← id) w.in_ok-push.ensures.items in
+          one_found before entry q c.args.out.now.items c.loop-item.out.items c.if-meet.out.items absent overlap pushed c.loop-item.invariant
+      | else-meet w ↦
+          let test : c.meet.result ≡ false = search rules in
           let apart : Overlap entry.range q
           → ⊥ =
-          λ overlap. absurd (let yes : c.overlaps.result ≡ true = c.overlaps.ensures.1
+          λ overlap. absurd (let yes : c.meet.result ≡ true = c.meet.ensures.1
           (subst (λ (r : Corners). Overlap r q) (sym range) overlap) in cc) in
           rw w.out-is (not_found before entry q c.args.out.now.items c.loop-item.out.items apart c.loop-item.invariant)
     ])

@@ -15,7 +15,7 @@ use Rattle.tree_index.proofs.NoteLemmas.{note_in}
 use Rattle.tree_index.proofs.ShapeLemmas.{no_node, same_level}
 use Rattle.tree_index.proofs.UnderLemmas.{IsUnderOne, next_found, next_passed, under_children, under_there}
 use Rattle.tree_index.proofs.nodes.Tree.+visit_below.Goals as goal
-use Rattle.tree_index.proofs.nodes.Tree.+visit_below.Goals.{then-overlaps+in_ok-visit_below, else-overlaps}
+use Rattle.tree_index.proofs.nodes.Tree.+visit_below.Goals.{then-meet+in_ok-visit_below, else-meet}
 
 pub returns-then-level-eq0-clause-found : goal.returns-then-level-eq0-clause-found
 returns-then-level-eq0-clause-found t c =
@@ -64,20 +64,20 @@ loop-child-preserved t c =
     (Contains-get_or items place entry c.loop-child-test.true)) in
     let old : List ℕ = c.args.out.now.items in
     subst (λ (es : List Entry). AddsThose (IsUnderOne (node_at c.args.self.now) (c.args.level - 1) es) c.args.q
-    c.args.out.now.items c.if-overlaps.out.items) (sym next)
-    (elim c.if-overlaps.branch [
-      | then-overlaps+in_ok-visit_below w ↦
+    c.args.out.now.items c.if-meet.out.items) (sym next)
+    (elim c.if-meet.branch [
+      | then-meet+in_ok-visit_below w ↦
           rw w.out-is (next_found c.requires.shape (note_in c.args.self.now.notes.entries)
           (λ k e is. (c.requires.noted e (Leaf k)).0 is) (c.args.level - 1) items place entry q old
           c.loop-child.out.items w.visit_below.new.out.items one c.loop-child-test.true c.child-item.is
           c.loop-child.invariant
           (subst (λ (i : ℕ). AddsThose (IsUnder (node_at c.args.self.now) (c.args.level - 1) i) q c.loop-child.out.items
           w.visit_below.new.out.items) id w.in_ok-visit_below.ensures.found))
-      | else-overlaps w ↦
-          let test : c.overlaps.result ≡ false = search rules in
+      | else-meet w ↦
+          let test : c.meet.result ≡ false = search rules in
           let apart : Overlap entry.range q
           → ⊥ =
-          λ overlap. absurd (let holds : c.overlaps.result ≡ true = c.overlaps.ensures.1
+          λ overlap. absurd (let holds : c.meet.result ≡ true = c.meet.ensures.1
           (subst (λ (r : Corners). Overlap r q) (sym range) overlap) in cc) in
           rw w.out-is (next_passed c.requires.shape (c.args.level - 1) c.args.key node before entry q old
           c.loop-child.out.items there inner listed apart c.loop-child.invariant)

@@ -22,7 +22,7 @@ returns-clause-rest c =
       | inl same ↦ subst (λ (k : ℕ). IsShape (node_at c.make_node.new.self) k key) same shape
       | inr other ↦ alone (node_at c.make_node.new.self) old.root key shape (set.nodes.others old.root other ∙ c.requires.none)
     ] in
-    rearranged c.args.self.now (record { nodes = mid.nodes; root = key; late = mid.late; notes = mid.notes }) (rw (set.late, set.notes) (reshaped tree shape_new
+    rearranged c.args.self.now (record mid { root = key }) (rw (set.late, set.notes) (reshaped tree shape_new
     (no_leaf (node_at old) (node_at c.make_node.new.self) old.late.items key set.nodes.others
     (none_no_leaf (node_at old) key c.in-Some.ensures.fresh) (new_no_leaf (node_at c.make_node.new.self) key 0
     set.nodes.here)))) set.late set.notes
