@@ -8,7 +8,7 @@ use Rattle.edge_patterns.specs.declared.axis.Axis.TheVariants.{Down, Right}
 use Rattle.edge_patterns.specs.declared.edge.Pattern.{Pattern}
 use Rattle.edge_patterns.specs.declared.edge.Pattern.TheVariants.{Single, Rr, Rf, Fr, Ff, Chain}
 use Rattle.edge_patterns.specs.Axes.{along, IsLine, axis_of, count_along, cell_along}
-use Rattle.edge_patterns.specs.Edges.{EdgeValue, IsEdge, IsShapeOf, IsPair, run_cell, range_at, range_along}
+use Rattle.edge_patterns.specs.Edges.{EdgeValue, IsEdge, IsShapeOf, IsPair, IsStill, run_cell, range_at, range_along}
 use Rattle.edge_patterns.proofs.Crossings.{cell_again}
 
 -- the pairs of an edge by a direction
@@ -44,7 +44,14 @@ one_cell axis Chain edge shape one = let several = shape.0.several in absurd (om
 pub count_one : (axis : Axis) (run : Corners) → run.head ≡ run.tail → count_along axis run ≡ 1
 count_one axis run same = let e = ap (along axis) same in omega (arith, e)
 
--- and its range is the rectangle
+-- where neither end moves, each range is the rectangle
+pub still_range : (axis : Axis) (edge : EdgeValue) (index : ℕ) → IsStill edge → range_along axis edge index ≡ edge.prec
+still_range axis edge index still =
+    let head : along axis edge.prec.head + 0 ≡ along axis edge.prec.head = omega arith in
+    let tail : along axis edge.prec.tail - 0 ≡ along axis edge.prec.tail = omega arith in
+    rw (still.0, still.1, head, tail, cell_again axis edge.prec.head, cell_again axis edge.prec.tail) refl
+
+-- and that of a single one is
 pub single_range : (axis : Axis) (edge : EdgeValue) → edge.pattern ≡ Single → range_along axis edge 0 ≡ edge.prec
 single_range axis edge single =
     let head : along axis edge.prec.head + 0 ≡ along axis edge.prec.head = omega arith in

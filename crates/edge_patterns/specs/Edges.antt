@@ -29,6 +29,10 @@ tail_moves Fr = true
 tail_moves Ff = false
 tail_moves Chain = true
 
+-- neither end of the range moves
+abbrev pub IsStill : EdgeValue → Type 0
+IsStill edge = (head_moves edge.pattern ≡ false) × (tail_moves edge.pattern ≡ false)
+
 -- so many steps where it moves, and none where it stays
 abbrev pub steps_if : Bool → ℕ → ℕ
 steps_if moves count = if moves then count else 0

@@ -3,6 +3,7 @@ use Rattle.std.specs.Prelude.{◌≡◌, ◌≢◌, ℕ, ◌+◌, ◌-◌, ◌<�
 use Rattle.std.specs.declared.option.Option.{Option}
 use Rattle.sheet_refs.specs.Cells.{Position, Corners}
 use Rattle.edge_patterns.specs.declared.axis.Axis.{Axis}
+use Rattle.edge_patterns.specs.declared.axis.Axis.TheVariants.{Down}
 use Rattle.edge_patterns.specs.Axes.{along, across, IsLine, axis_of, count_along}
 use Rattle.edge_patterns.specs.Edges.{EdgeValue, IsEdge, IsPair, run_length, range_at, range_along, steps_if}
 
@@ -55,6 +56,16 @@ pub record IsAsWide (axis : Axis) (a b : Corners) : Type 0 where
 -- over so many cells a coordinate goes from one number to another, by one at each cell or not at all
 abbrev pub Moves : ℕ → ℕ → ℕ → Bool → Type 0
 Moves first last count moves = last ≡ first + steps_if moves count
+
+-- down a column, from the first cell of a run to the last, an end of the range stays or goes on by as many rows
+abbrev pub StaysOrMoves : Corners → ℕ → ℕ → Type 0
+StaysOrMoves run first last = (last ≡ first) ⊎ (last ≡ first + (count_along Down run - 1))
+
+-- and so do both ends, which stay in their columns
+pub record GoesDown (run first last : Corners) : Type 0 where
+  pub wide : IsAsWide Down first last
+  pub head : StaysOrMoves run first.head.row last.head.row
+  pub tail : StaysOrMoves run first.tail.row last.tail.row
 
 -- the cell comes before another in a run
 abbrev pub StandsBefore : EdgeValue → Position → Position → Type 0

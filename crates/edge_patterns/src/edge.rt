@@ -1,4 +1,4 @@
-ghost use Rattle.std.specs.Prelude.{◌≡◌, ◌+◌, ◌-◌, ◌<◌, ◌≤◌, ◌↔◌, IsTrue};
+ghost use Rattle.std.specs.Prelude.{◌≡◌, ◌+◌, ◌-◌, ◌<◌, ◌≤◌, ◌↔◌, IsTrue, IsFalse};
 
 use crate::axis::{Axis, check_names};
 use sheet_refs::{Cell, Range};
@@ -67,7 +67,7 @@ impl Edge {
     ghost use Rattle.edge_patterns.specs.Axes.{axis_of, along, slice_of};
     ghost use Rattle.edge_patterns.specs.Edges.{IsEdge, IsRange, run_length, range_at, first_along};
     ghost use Rattle.edge_patterns.specs.Edges.{last_along, part_of_run, part_of_prec, part_of};
-    ghost use Rattle.edge_patterns.specs.Edges.{edge_of, BeginsBefore, single_edge};
+    ghost use Rattle.edge_patterns.specs.Edges.{edge_of, BeginsBefore, IsStill, single_edge};
 
     /// The edge of one cell and the range to which it refers.
     pub fn single(cell: Cell, range: Range) -> Edge
@@ -152,12 +152,22 @@ impl Edge {
         }
     }
 
+    // Whether an end of the range moves on with the cell; where none does, each cell refers to the whole rectangle.
+    fn moves(&self) -> bool
+        ensures { IsFalse result → IsStill self.now }
+    {
+        self.pattern.head_moves() || self.pattern.tail_moves()
+    }
+
     /// The range to which the cell with this index refers.
     pub(crate) fn range_at(&self, index: u32) -> Range
         requires { index < run_length self.now }
         ensures range { result ≡ range_at self.now index }
         ensures named { IsRange result }
     {
+        if !self.moves() {
+            return self.prec();
+        }
         self.axis()
             .slice(&self.prec, self.first(index), self.last(index))
     }

@@ -1,10 +1,11 @@
 // Joining two edges.
 ghost use Rattle.std.specs.Prelude.{◌≡◌, ◌≢◌, ◌+◌, ◌-◌, ◌<◌, ◌≤◌, ◌↔◌, IsTrue};
 ghost use Rattle.sheet_refs.specs.Names.{Finds};
-ghost use Rattle.edge_patterns.specs.Axes.{IsLine, count_along};
+ghost use Rattle.edge_patterns.specs.Axes.{IsLine, along, count_along};
 ghost use Rattle.edge_patterns.specs.Edges.{run_length, IsBeside, steps_if, head_moves, tail_moves};
 ghost use Rattle.edge_patterns.specs.Joins.{Follows, HasBothPairs, IsJoin, HasEnds, HasInnerRanges};
-ghost use Rattle.edge_patterns.specs.Joins.{IsAsWide, Moves};
+ghost use Rattle.edge_patterns.specs.Joins.{IsAsWide, Moves, GoesDown};
+ghost use Rattle.edge_patterns.specs.declared.axis.Axis.TheVariants.{Down};
 ghost use Rattle.edge_patterns.specs.declared.edge.Pattern.TheVariants.{Single, Chain};
 
 use crate::axis::Axis;
@@ -73,6 +74,19 @@ fn has_inner_ranges(edge: &Edge, front: &Edge, rear: &Edge) -> bool
         && edge.range_at(inner) == rear.range_at(0)
 }
 
+/// The edge of a run down a column whose first and last cells have these ranges. Between them each end of the ranges
+/// stays, or goes on by a row from each cell to the next.
+pub fn filled(run: &Range, first: &Range, last: &Range) -> Edge
+    requires line { IsLine Down run.now }
+    requires several { 2 ≤ count_along Down run.now }
+    requires follow { GoesDown run.now first.now last.now }
+    ensures { HasEnds Down run.now first.now last.now result }
+{
+    let head = first.head().row() != last.head().row();
+    let tail = first.tail().row() != last.tail().row();
+    spanned(Axis::Down, *run, *first, *last, head, tail)
+}
+
 // The edge with this run whose first and last cells have these ranges.
 fn over(axis: Axis, dep: Range, first: Range, last: Range) -> Option<Edge>
     requires line { IsLine axis dep }
@@ -89,9 +103,21 @@ fn over(axis: Axis, dep: Range, first: Range, last: Range) -> Option<Edge>
     let Some(tail) = moves(axis.along(first.tail()), axis.along(last.tail()), count) else {
         return None;
     };
+    Some(spanned(axis, dep, first, last, head, tail))
+}
+
+// The same, where it is known whether heads and tails move.
+fn spanned(axis: Axis, dep: Range, first: Range, last: Range, head: bool, tail: bool) -> Edge
+    requires line { IsLine axis dep }
+    requires several { 2 ≤ count_along axis dep }
+    requires wide { IsAsWide axis first last }
+    requires head { Moves (along axis first.head) (along axis last.head) (count_along axis dep - 1) head }
+    requires tail { Moves (along axis first.tail) (along axis last.tail) (count_along axis dep - 1) tail }
+    ensures { HasEnds axis dep first last result }
+{
     let prec = Range::of(first.head(), last.tail());
     let pattern = pattern_of(head, tail, is_beside(axis, &dep, &prec));
-    Some(Edge::of_parts(dep, prec, pattern))
+    Edge::of_parts(dep, prec, pattern)
 }
 
 // Whether two ranges lie between the same coordinates across a direction.

@@ -18,7 +18,7 @@ mod queries;
 mod splits;
 
 pub use edge::{Edge, Pattern};
-pub use joins::join;
+pub use joins::{filled, join};
 pub use laws::edge_laws;
 pub use queries::{back, direct, spread};
 pub use splits::split;

@@ -5,5 +5,6 @@ pub mod PlaceLemmas
 mod RefusalLemmas
 mod ReplaceLemmas
 mod RowLemmas
+mod RunLemmas
 mod Sent
 pub mod TouchLemmas

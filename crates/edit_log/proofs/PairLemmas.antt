@@ -1,18 +1,20 @@
 -- How the pairs of a graph grow, cell by cell.
-use Rattle.std.proofs.Common.{◌≡◌, ◌≢◌, ◌⊎◌, inl, inr, ◌<◌, ◌≤◌, ◌+◌, ℕ, Bool, true, false, List, [], Contains, arith, refl, sym, ap, subst, ◌∙◌}
+use Rattle.std.proofs.Common.{◌≡◌, ◌≢◌, ◌⊎◌, inl, inr, ◌<◌, ◌≤◌, ◌+◌, ◌-◌, ℕ, Bool, true, false, Option, Some, List, [], Contains}
+use Rattle.std.proofs.Common.{arith, refl, sym, ap, subst, ◌∙◌}
 use Rattle.std.proofs.Math.Nat.{eq-or-lt_of_le}
+use Rattle.std.proofs.lemmas.Bool.{cases_lt}
 use Rattle.std.proofs.lemmas.Bool.Decides.{nat_tests}
 use Rattle.sheet_refs.specs.Cells.{Position, Corners}
+use Rattle.sheet_refs.specs.Refs.{AreRefs}
 use Rattle.sheet_refs.specs.Sizes.{is_inside}
 use Rattle.formula_syntax.specs.Listing.{IsOnceEach}
 use Rattle.formula_syntax.proofs.Listings.{once_all, once_back}
 use Rattle.graph_walk.specs.Graphs.{Pair, Replaces, SamePairs}
-use Rattle.std.specs.declared.sync.Arc.{Arc}
-use Rattle.std.proofs.Common.{Global}
-use Rattle.formula_syntax.specs.declared.tree.Formula.{Formula}
-use Rattle.sheet_model.specs.declared.content.Content.{Content}
-use Rattle.sheet_model.specs.Sheets.{SheetValue, content_value, content_of}
+use Rattle.graph_walk.specs.Series.{SeriesValue, FollowDown, LackRun, AddsRun, IsOfRun}
+use Rattle.sheet_model.specs.Sheets.{SheetValue, content_of}
 use Rattle.edit_log.specs.Pairs.{IsPairOf, ArePairsOf, HasNoPairs, IsBeforeRow, HasPairsBefore}
+use Rattle.edit_log.specs.Runs.{AreAdded, Follow, GoTo, IsListed, IsRunOf, cells_down, down, ranges_at, series_of}
+use Rattle.edit_log.proofs.RunLemmas.{column_cell, column_follows, listed_range, range_listed, run_more, run_of_one, same_end}
 use Rattle.sheet_model.specs.Ranges.{ranges_in}
 
 -- a cell of a pair lies in the sheet
@@ -110,26 +112,170 @@ without_formula sheet cell pairs none before pair = (
         (ap (λ (c : Position). ranges_in (content_of sheet c)) same ∙ none) is))
 
 -- a cell with a formula has the pairs that it is given
-pub with_formula : (sheet : SheetValue) (cell : Position) (old kept new : List Pair) (refs : List Corners)
+pub with_formula : (sheet : SheetValue) (cell : Position) (old new : List Pair) (refs : List Corners)
     → IsOnceEach (ranges_in (content_of sheet cell)) refs → HasPairsBefore sheet cell.col cell.row old
-    → SamePairs old kept → Replaces kept new cell refs → HasPairsBefore sheet cell.col (cell.row + 1) new
-with_formula sheet cell old kept new refs once before same replaced pair =
+    → Replaces old new cell refs → HasPairsBefore sheet cell.col (cell.row + 1) new
+with_formula sheet cell old new refs once before replaced pair =
     (λ there. from_new ((replaced pair).0 there), λ at. (replaced pair).1 (to_new (row_ends cell pair.cell at.0) at.1))
   where
     ranges_at : Position → List Corners
     ranges_at c = ranges_in (content_of sheet c)
 
-    from_new : ((pair.cell ≡ cell) × Contains refs pair.range) ⊎ ((pair.cell ≢ cell) × Contains kept pair)
+    from_new : ((pair.cell ≡ cell) × Contains refs pair.range) ⊎ ((pair.cell ≢ cell) × Contains old pair)
         → IsBeforeRow cell.col (cell.row + 1) pair.cell × IsPairOf sheet pair
     from_new (inl own) = (
       subst (λ (c : Position). IsBeforeRow cell.col (cell.row + 1) c) (sym own.0) (at_row cell),
       subst (λ (c : Position). Contains (ranges_at c) pair.range) (sym own.0) (once_back (ranges_at cell) refs pair.range once own.1),
     )
     from_new (inr other) =
-        let at = (before pair).0 ((same pair).0 other.1) in
+        let at = (before pair).0 other.1 in
         ((row_on cell pair.cell at.0).0, at.1)
 
     to_new : IsBeforeRow cell.col cell.row pair.cell ⊎ (pair.cell ≡ cell) → IsPairOf sheet pair
-        → ((pair.cell ≡ cell) × Contains refs pair.range) ⊎ ((pair.cell ≢ cell) × Contains kept pair)
-    to_new (inl above) is = inr ((row_on cell pair.cell above).1, (same pair).1 ((before pair).1 (above, is)))
+        → ((pair.cell ≡ cell) × Contains refs pair.range) ⊎ ((pair.cell ≢ cell) × Contains old pair)
+    to_new (inl above) is = inr ((row_on cell pair.cell above).1, (before pair).1 (above, is))
     to_new (inr own) is = inl (own, once_all (ranges_at cell) refs pair.range once (subst (λ (c : Position). Contains (ranges_at c) pair.range) own is))
+
+-- room for calls leaves the pairs, of which a call then replaces those of a cell
+pub replaced_alone : (old kept new : List Pair) (cell : Position) (refs : List Corners) → SamePairs old kept
+    → Replaces kept new cell refs → Replaces old new cell refs
+replaced_alone old kept new cell refs same replaced pair = (λ there. from_new ((replaced pair).0 there), λ at. (replaced pair).1 (to_new at))
+  where
+    from_new : ((pair.cell ≡ cell) × Contains refs pair.range) ⊎ ((pair.cell ≢ cell) × Contains kept pair)
+        → ((pair.cell ≡ cell) × Contains refs pair.range) ⊎ ((pair.cell ≢ cell) × Contains old pair)
+    from_new (inl own) = inl own
+    from_new (inr other) = inr (other.0, (same pair).0 other.1)
+
+    to_new : ((pair.cell ≡ cell) × Contains refs pair.range) ⊎ ((pair.cell ≢ cell) × Contains old pair)
+        → ((pair.cell ≡ cell) × Contains refs pair.range) ⊎ ((pair.cell ≢ cell) × Contains kept pair)
+    to_new (inl own) = inl own
+    to_new (inr other) = inr (other.0, (same pair).1 other.1)
+
+-- a cell before the row below some cells is before them, or is one of them
+rows_end : (cell other : Position) (count : ℕ) → IsBeforeRow cell.col (cell.row + count) other
+    → IsBeforeRow cell.col cell.row other ⊎ ((other.row - cell.row < count) × (other ≡ down cell (other.row - cell.row)))
+rows_end cell other count (inl left) = inl (inl left)
+rows_end cell other count (inr above) = elim (cases_lt other.row cell.row) [
+  | inl less ↦ inl (inr (above.0, less))
+  | inr least ↦ inr (omega (arith, above.1, least), same_end other (down cell (other.row - cell.row)) (omega (arith, least)) above.0)
+]
+
+-- before some cells, none of them has a pair
+pub run_lacks : (sheet : SheetValue) (cell : Position) (count : ℕ) (pairs : List Pair) → HasPairsBefore sheet cell.col cell.row pairs
+    → LackRun pairs (cells_down cell count)
+run_lacks sheet cell count pairs before pair there inside = outside ((before pair).0 there).0
+  where
+    outside : IsBeforeRow cell.col cell.row pair.cell → ⊥
+    outside (inl left) = omega (arith, left, inside.col_from)
+    outside (inr above) = omega (arith, above.1, inside.row_from)
+
+-- a pair of a cell of a run is one of the sheet, and is before the row below
+of_run : (sheet : SheetValue) (cell : Position) (count : ℕ) (firsts lasts : List Corners) (pair : Pair)
+    → IsRunOf sheet cell count firsts lasts → IsOfRun (cells_down cell count) (series_of firsts lasts) pair
+    → IsBeforeRow cell.col (cell.row + count) pair.cell × IsPairOf sheet pair
+of_run sheet cell count firsts lasts pair run own =
+    let series : List SeriesValue = series_of firsts lasts in
+    let index : ℕ = pair.cell.row - cell.row in
+    let at : (index < count) × (pair.cell ≡ down cell index) = column_cell cell pair.cell count run.some own.inside in
+    let listed : Contains (ranges_at series index) pair.range =
+    subst (λ (r : Corners). Contains (ranges_at series index) r) (sym own.range_is) (range_listed series index own.one own.listed) in
+    let named : Contains (ranges_in (content_of sheet (down cell index))) pair.range =
+    once_back (ranges_in (content_of sheet (down cell index))) (ranges_at series index) pair.range (run.listed index at.0) listed in (
+      inr (ap (λ (c : Position). c.col) at.1, omega (arith, at.0, own.inside.row_from)),
+      subst (λ (c : Position). Contains (ranges_in (content_of sheet c)) pair.range) (sym at.1) named,
+    )
+
+-- a pair of the sheet whose cell is one of a run is a pair of the run
+to_run : (sheet : SheetValue) (cell : Position) (count : ℕ) (firsts lasts : List Corners) (pair : Pair)
+    → IsRunOf sheet cell count firsts lasts → pair.cell.row - cell.row < count → pair.cell ≡ down cell (pair.cell.row - cell.row)
+    → IsPairOf sheet pair → IsOfRun (cells_down cell count) (series_of firsts lasts) pair
+to_run sheet cell count firsts lasts pair run below same is =
+    let series : List SeriesValue = series_of firsts lasts in
+    let index : ℕ = pair.cell.row - cell.row in
+    let named : Contains (ranges_in (content_of sheet (down cell index))) pair.range =
+    subst (λ (c : Position). Contains (ranges_in (content_of sheet c)) pair.range) same is in
+    let one = listed_range series index pair.range
+    (once_all (ranges_in (content_of sheet (down cell index))) (ranges_at series index) pair.range (run.listed index below) named) in
+    let row : pair.cell.row ≡ cell.row + index = ap (λ (c : Position). c.row) same in
+    let col : pair.cell.col ≡ cell.col = ap (λ (c : Position). c.col) same in
+    record {
+      inside = record { row_from = omega (arith, row); row_to = omega (arith, row, below); col_from = omega (arith, col); col_to = omega (arith, col) };
+      one = one.0;
+      listed = one.1;
+      range_is = one.2;
+    }
+
+-- the cells of a run have the pairs that its series give them
+pub run_added : (sheet : SheetValue) (cell : Position) (count : ℕ) (firsts lasts : List Corners) (old new : List Pair)
+    → IsRunOf sheet cell count firsts lasts → HasPairsBefore sheet cell.col cell.row old
+    → AddsRun old new (cells_down cell count) (series_of firsts lasts) → HasPairsBefore sheet cell.col (cell.row + count) new
+run_added sheet cell count firsts lasts old new run before adds pair =
+    (λ there. from_new ((adds pair).0 there), λ at. (adds pair).1 (to_new (rows_end cell pair.cell count at.0) at.1))
+  where
+    still : IsBeforeRow cell.col cell.row pair.cell → IsBeforeRow cell.col (cell.row + count) pair.cell
+    still (inl left) = inl left
+    still (inr above) = inr (above.0, omega (arith, above.1))
+
+    from_new : IsOfRun (cells_down cell count) (series_of firsts lasts) pair ⊎ Contains old pair
+        → IsBeforeRow cell.col (cell.row + count) pair.cell × IsPairOf sheet pair
+    from_new (inl own) = of_run sheet cell count firsts lasts pair run own
+    from_new (inr kept) = let at = (before pair).0 kept in (still at.0, at.1)
+
+    to_new : IsBeforeRow cell.col cell.row pair.cell
+        ⊎ ((pair.cell.row - cell.row < count) × (pair.cell ≡ down cell (pair.cell.row - cell.row))) → IsPairOf sheet pair
+        → IsOfRun (cells_down cell count) (series_of firsts lasts) pair ⊎ Contains old pair
+    to_new (inl above) is = inr ((before pair).1 (above, is))
+    to_new (inr among) is = inl (to_run sheet cell count firsts lasts pair run among.0 among.1 is)
+
+-- what was listed of a cell, by its row and its column
+pub listed_down : (sheet : SheetValue) (cell : Position) (row col count : ℕ) (next : Option (List Corners)) → row ≡ cell.row + count
+    → col ≡ cell.col → IsListed sheet (record { row = row; col = col }) next → IsListed sheet (down cell count) next
+listed_down sheet cell row col count next row_is col_is listed =
+    subst (λ (p : Position). IsListed sheet p next) (same_end (record { row = row; col = col }) (down cell count) row_is col_is) listed
+
+-- a run grows by the cell below it, and begins with two cells
+pub run_on : (sheet : SheetValue) (cell : Position) (count : ℕ) (firsts lasts nexts : List Corners)
+    → IsRunOf sheet cell count firsts lasts → Follow count firsts lasts nexts → IsListed sheet (down cell count) (Some nexts)
+    → IsRunOf sheet cell (count + 1) firsts nexts
+run_on sheet cell count firsts lasts nexts run follow listed =
+    run_more (λ index. ranges_in (content_of sheet (down cell index))) count firsts lasts nexts run follow listed
+
+pub run_of_two : (sheet : SheetValue) (cell : Position) (firsts nexts : List Corners) → AreRefs firsts → IsListed sheet cell (Some firsts)
+    → Follow 1 firsts firsts nexts → IsListed sheet (down cell 1) (Some nexts) → IsRunOf sheet cell 2 firsts nexts
+run_of_two sheet cell firsts nexts are first follow next =
+    let here : down cell 0 ≡ cell = same_end (down cell 0) cell (omega arith) refl in
+    let one : IsRunOf sheet cell 1 firsts firsts =
+    run_of_one (λ index. ranges_in (content_of sheet (down cell index))) firsts are
+    (subst (λ (p : Position). IsListed sheet p (Some firsts)) (sym here) first) in
+    run_on sheet cell 1 firsts firsts nexts one follow next
+
+-- what the series of several cells are
+pub run_follows : (sheet : SheetValue) (cell : Position) (count : ℕ) (firsts lasts : List Corners)
+    → IsRunOf sheet cell count firsts lasts → 2 ≤ count → FollowDown (cells_down cell count) (series_of firsts lasts)
+run_follows sheet cell count firsts lasts run several =
+    column_follows (λ index. ranges_in (content_of sheet (down cell index))) cell count firsts lasts run several
+
+-- a cell goes on to the next one
+pub goes_one : (sheet : SheetValue) (cell : Position) (next : Option (List Corners)) → cell.row ≤ sheet.sizes.rows → cell.row ≤ 1048576
+    → IsListed sheet (down cell 1) next → GoTo sheet cell 1 next
+goes_one sheet cell next rows named listed = record {
+  some = omega arith;
+  inside = omega (arith, rows);
+  named = omega (arith, named);
+  listed = listed;
+}
+
+-- the pairs before a cell, by its row and its column, and those before the cell to which it goes on
+pub pairs_at : (sheet : SheetValue) (cell : Position) (row col : ℕ) (pairs : List Pair) → cell.row ≡ row → cell.col ≡ col
+    → HasPairsBefore sheet col row pairs → HasPairsBefore sheet cell.col cell.row pairs
+pairs_at sheet cell row col pairs row_is col_is before =
+    subst (λ r. HasPairsBefore sheet cell.col r pairs) (sym row_is) (subst (λ c. HasPairsBefore sheet c row pairs) (sym col_is) before)
+
+pub column_on : (sheet : SheetValue) (cell : Position) (row col : ℕ) (pairs : List Pair) (count : ℕ) (next : Option (List Corners))
+    → cell.row ≡ row → cell.col ≡ col → AreAdded sheet cell pairs count next
+    → HasPairsBefore sheet col (row + count) pairs × IsListed sheet (record { row = row + count; col = col }) next
+column_on sheet cell row col pairs count next row_is col_is added = (
+  subst (λ r. HasPairsBefore sheet col (r + count) pairs) row_is (subst (λ c. HasPairsBefore sheet c (cell.row + count) pairs) col_is added.before),
+  subst (λ (p : Position). IsListed sheet p next)
+      (same_end (down cell count) (record { row = row + count; col = col }) (omega (arith, row_is)) col_is) added.goes.listed,
+)

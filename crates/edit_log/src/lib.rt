@@ -1,7 +1,8 @@
 //! The graph of a sheet, and the book of its edits.
 //!
 //! A sheet's pairs are those of each cell whose formula refers to a range, with that range
-//! (`specs/Pairs.antt`). `graph_of` gives a graph exactly these.
+//! (`specs/Pairs.antt`). `graph_of` gives a graph exactly these, and those of a run of formulas that follow one another
+//! down a column (`specs/Runs.antt`) by one call.
 //!
 //! A `Book` is a sheet with its graph and the log of its edits, which agree at every moment (`specs/Books.antt`).
 //! `prepare` finds the cells that an edit touches, by one walk from all cells that it changes, and takes all memory;
@@ -23,6 +24,7 @@ mod preparing;
 mod refused;
 mod replacing;
 mod rows;
+mod runs;
 
 pub use book::Book;
 pub use crossing::book_crosses;

@@ -100,6 +100,73 @@ fn graphs_have_the_pairs_of_their_sheets(rt: HostRuntime) -> Result<(), Fail> {
 }
 
 #[test]
+fn cells_of_a_run_have_the_pairs_of_their_formulas(rt: HostRuntime) -> Result<(), Fail> {
+    let stays = ["=$A$2", "=$A$2", "=$A$2", "=$A$2"];
+    let moves = ["=A1", "=A2", "=A3", "=A4"];
+    let then_stays = ["=A1", "=A2", "=A2", "=A2"];
+    let then_moves = ["=A1", "=A1", "=A2", "=A3"];
+    let jumps = ["=A1", "=A2", "=A4", "=A5"];
+    let grows = ["=SUM($A$1:A1)", "=SUM($A$1:A2)", "=SUM($A$1:A3)", "4"];
+    let meets_above = ["=A1*$A$1", "=A2*$A$1", "=A3*$A$1", "x"];
+    let meets_within = ["=A1*$A$2", "=A2*$A$2", "=A3*$A$2", ""];
+    let broken = ["=A1", "=A2", "3", "=A4"];
+    for (column, asked, ahead, behind) in [
+        (&stays, "A2:A2", " A2:A2 B1:B4", " A2:A2"),
+        (&stays, "B4:B4", " B4:B4", " A2:A2 B4:B4"),
+        (&moves, "A4:A4", " A4:A4 B4:B4", " A4:A4"),
+        (&moves, "B2:B3", " B2:B3", " A2:A3 B2:B3"),
+        (&then_stays, "A2:A2", " A2:A2 B2:B4", " A2:A2"),
+        (&then_moves, "A1:A1", " A1:A1 B1:B2", " A1:A1"),
+        (&then_moves, "B4:B4", " B4:B4", " A3:A3 B4:B4"),
+        (&jumps, "A3:A4", " A3:A4 B3:B3", " A3:A4"),
+        (&jumps, "B4:B4", " B4:B4", " A5:A5 B4:B4"),
+        (&grows, "A2:A2", " A2:A2 B2:B3", " A2:A2"),
+        (&meets_above, "A1:A1", " A1:A1 B1:B3", " A1:A1"),
+        (&meets_above, "B3:B3", " B3:B3", " A1:A1 A3:A3 B3:B3"),
+        (&meets_within, "A2:A2", " A2:A2 B1:B3", " A2:A2"),
+        (&meets_within, "B2:B2", " B2:B2", " A2:A2 B2:B2"),
+        (&broken, "A3:A3", " A3:A3", " A3:A3"),
+        (&broken, "A4:A4", " A4:A4 B4:B4", " A4:A4"),
+    ] {
+        let [first, second, third, last] = column;
+        let fields = [
+            ("B1", *first),
+            ("B2", *second),
+            ("B3", *third),
+            ("B4", *last),
+        ];
+        let found = walked(rt.alloc(), &fields, asked)?;
+        assert_eq!(rt;
+            (found.0.as_str(), found.1.as_str()),
+            (ahead, behind),
+            "{first} {asked}"
+        );
+    }
+    Ok(())
+}
+
+#[test]
+fn a_run_ends_with_its_column(rt: HostRuntime) -> Result<(), Fail> {
+    let fields = [
+        ("B3", "=A3"),
+        ("B4", "=A4"),
+        ("C1", "=A5"),
+        ("C2", "=B5+A6"),
+        ("C3", "=B6+A7"),
+    ];
+    for (asked, ahead) in [
+        ("A4:A4", " A4:A4 B4:B4"),
+        ("A5:A5", " A5:A5 C1:C1"),
+        ("A6:A7", " A6:A7 C2:C3"),
+        ("B6:B6", " B6:B6 C3:C3"),
+    ] {
+        let found = walked(rt.alloc(), &fields, asked)?;
+        assert_eq!(rt; found.0.as_str(), ahead, "{asked}");
+    }
+    Ok(())
+}
+
+#[test]
 fn cells_that_lead_to_a_cycle_are_not_on_it(rt: HostRuntime) -> Result<(), Fail> {
     let alloc = rt.alloc();
     let graph = graph(alloc, &[("A1", "=B1"), ("B1", "=A1"), ("C1", "=A1")])?;

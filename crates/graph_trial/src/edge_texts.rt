@@ -25,7 +25,7 @@ pub(crate) fn listed(alloc: Global, ranges: &[Range]) -> Result<String, Fail> {
     Ok(text)
 }
 
-pub(crate) fn name_of(pattern: Pattern) -> &'static str {
+fn name_of(pattern: Pattern) -> &'static str {
     match pattern {
         Pattern::Single => "Single",
         Pattern::Rr => "RR",
@@ -44,6 +44,16 @@ pub(crate) fn shown(alloc: Global, edge: Option<Edge>) -> Result<String, Fail> {
     let (dep, prec) = (edge.dep(), edge.prec());
     let pattern = name_of(edge.pattern());
     Ok(format!(in alloc; "{dep} {prec} {pattern}")?)
+}
+
+// The same of each of some edges, in their order.
+pub(crate) fn edges_shown(alloc: Global, edges: &[Edge]) -> Result<String, Fail> {
+    let mut text = String::new(alloc);
+    for edge in edges {
+        let (dep, prec) = (edge.dep(), edge.prec());
+        write!(text, "{dep} {prec} {}; ", name_of(edge.pattern()))?;
+    }
+    Ok(text)
 }
 
 fn found(alloc: Global, range: Option<Range>) -> Result<String, Fail> {

@@ -1,8 +1,8 @@
 //! Trials of edges, of the graphs that keep them, and of what stands over such a graph: chains and fills.
 //!
 //! The crate offers nothing. Its tests hold the edges of a small grid against plain lists of pairs, make thousands of
-//! changes of a compressed graph, after each of which no two edges can be joined, and compare what graphs, walks,
-//! chains and fills answer with what a person finds.
+//! changes of a compressed graph, after each of which no two edges can be joined, have runs of cells come at once and
+//! cell by cell, and compare what graphs, walks, chains and fills answer with what a person finds.
 //!
 //! Below stand `edge_patterns`, `taco_graph` over the indexes of ranges, `plain_graph` with the walks of `graph_walk`,
 //! `dep_path` and `sheet_fill`.
@@ -18,6 +18,10 @@ mod fill_tests;
 mod path_tests;
 #[cfg(test)]
 mod plain_tests;
+#[cfg(test)]
+mod run_tests;
+#[cfg(test)]
+mod runs;
 #[cfg(test)]
 mod small_edges;
 #[cfg(test)]

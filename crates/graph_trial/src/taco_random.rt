@@ -68,7 +68,11 @@ fn range_by(cell: Cell, kind: u32) -> Result<Option<Range>, Fail> {
 }
 
 // None, one or two ranges.
-fn refs_of(alloc: Global, one: Option<Range>, other: Option<Range>) -> Result<Refs, Fail> {
+pub(crate) fn refs_of(
+    alloc: Global,
+    one: Option<Range>,
+    other: Option<Range>,
+) -> Result<Refs, Fail> {
     let Some(first) = one else {
         return refs_of_one(alloc, other);
     };
@@ -134,9 +138,9 @@ fn next(seed: u32) -> u32 {
 
 // A cell and a range to which it refers.
 #[derive(Clone, Copy)]
-struct Pair {
-    cell: Cell,
-    range: Range,
+pub(crate) struct Pair {
+    pub(crate) cell: Cell,
+    pub(crate) range: Range,
 }
 
 // The pairs of a list without those of a cell, and with these ranges of it.
@@ -162,7 +166,7 @@ fn replaced(
 }
 
 // Whether the edges have the pairs of a list, and no more.
-fn has_pairs(edges: &[Edge], pairs: &[Pair]) -> bool {
+pub(crate) fn has_pairs(edges: &[Edge], pairs: &[Pair]) -> bool {
     let mut count = 0u64;
     for edge in edges {
         count = count.saturating_add(edge.dep().cells());

@@ -1,10 +1,9 @@
 // What no clause says: which edges are joined, and that calls succeed where memory is ample. The expected edges were
 // worked out by hand.
-use crate::edge_texts::{listed, name_of, range};
+use crate::edge_texts::{edges_shown, listed, range};
 use graph_walk::Graph;
 use sheet_refs::{Cell, Range, Refs};
 use std::alloc::Global;
-use std::fmt::Write;
 use std::test::Fail;
 use taco_graph::SheetGraph;
 
@@ -41,12 +40,8 @@ fn clear(alloc: Global, graph: &mut SheetGraph, place: Place) -> Result<(), Fail
 }
 
 fn shown(alloc: Global, graph: &SheetGraph) -> Result<String, Fail> {
-    let mut text = String::new(alloc);
-    for edge in &graph.edges()? {
-        let (dep, prec) = (edge.dep(), edge.prec());
-        write!(text, "{dep} {prec} {}; ", name_of(edge.pattern()))?;
-    }
-    Ok(text)
+    let edges = graph.edges()?;
+    edges_shown(alloc, &edges)
 }
 
 // Each cell of column B adds up all cells of column A from the first one to the one beside it.

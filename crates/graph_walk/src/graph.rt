@@ -1,8 +1,10 @@
-ghost use Rattle.std.specs.Prelude.{ℕ, ◌+◌, ◌≤◌, List, OnOk};
+ghost use Rattle.std.specs.Prelude.{ℕ, ◌+◌, ◌≤◌, List, OnErr, OnOk};
 ghost use Rattle.graph_walk.specs.Graphs.{Pair, Keeps, SamePairs, Replaces};
 ghost use Rattle.graph_walk.specs.Graphs.{AddsDirectDependents, AddsDirectPrecedents, AddsAhead};
 ghost use Rattle.graph_walk.specs.Graphs.{AddsBehind};
+ghost use Rattle.graph_walk.specs.Series.{FollowDown, LackRun, AddsRun};
 
+use crate::series::Series;
 use sheet_refs::{Cell, Memory, Range, Refs};
 
 /// The dependency graph of a sheet: a finite set of pairs of a range and a cell that refers to it.
@@ -50,4 +52,13 @@ pub trait Graph {
         requires { 1 ≤ spare self.old }
         ensures replaced { Replaces (pairs self.old) (pairs self.new) cell refs.now }
         ensures room { spare self.old ≤ spare self.new + 1 };
+
+    /// Adds the pairs of a run of at least two cells down a column, which have none: each of its cells refers to its
+    /// range of each of the series, at most 255, by none of which it has the same range as by another. It may use up
+    /// what room has been made for `replace`. After Memory the pairs are those that there were.
+    fn add_run(&mut self, run: Range, series: &[Series]) -> Result<(), Memory>
+        requires follow { FollowDown run series.now }
+        requires free { LackRun (pairs self.old) run }
+        ensures added { OnOk result (AddsRun (pairs self.old) (pairs self.new) run series.now) }
+        ensures same { OnErr result (SamePairs (pairs self.old) (pairs self.new)) };
 }

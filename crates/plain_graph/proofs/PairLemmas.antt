@@ -173,7 +173,7 @@ with_cell range cell = record { range = range; cell = cell }
 abbrev pub pairs_with : Position → List Corners → List Pair
 pairs_with cell ranges = map (λ range. with_cell range cell) ranges
 
-same_pair : {a b : Corners} {x y : Position} → a ≡ b → x ≡ y → with_cell a x ≡ with_cell b y
+pub same_pair : {a b : Corners} {x y : Position} → a ≡ b → x ≡ y → with_cell a x ≡ with_cell b y
 same_pair range cell = cc
 
 -- what a list has after some pairs of a cell were taken out: those of the first so many places are of other cells

@@ -8,6 +8,7 @@ pub mod GrowthLemmas
 mod JoinableLemmas
 mod OneEdgeLemmas
 mod ReplaceLemmas
+mod RunLemmas
 mod SideLemmas
 mod StoreLemmas
 mod LawLemmas

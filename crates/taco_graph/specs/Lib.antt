@@ -5,6 +5,7 @@ pub mod Joinable
 pub mod Laws
 pub mod Order
 pub mod Pairs
+pub mod Runs
 pub mod Sides
 pub mod Stores
 pub mod Taco

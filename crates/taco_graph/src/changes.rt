@@ -1,5 +1,5 @@
 // How edges are taken out and put back.
-ghost use Rattle.std.specs.Prelude.{◌≡◌, ◌+◌, ◌≤◌};
+ghost use Rattle.std.specs.Prelude.{◌≡◌, ◌+◌, ◌≤◌, ◌<◌};
 ghost use Rattle.sheet_refs.specs.Cells.{span_of};
 ghost use Rattle.edge_patterns.specs.Edges.{IsEdge, single_edge};
 ghost use Rattle.taco_graph.specs.Stores.{IsApart, AreEdges};
@@ -9,11 +9,14 @@ ghost use Rattle.taco_graph.specs.Changes.{HasRoomForParts, KeepsRoomForParts};
 ghost use Rattle.taco_graph.specs.Changes.{IsPartApart, GainsPartPairs, PartLacksCell};
 ghost use Rattle.taco_graph.specs.Joinable.{KeptAreJoined, OthersAreJoined, AddsJoined};
 ghost use Rattle.taco_graph.specs.Joinable.{CantJoinAny, CantJoinBeyond};
+ghost use Rattle.graph_walk.specs.Series.{GoOn, steps_of};
+ghost use Rattle.taco_graph.specs.Runs.{IsSeriesApart, GainsSeries};
 ghost use Rattle.taco_graph.specs.Sides.{NameBeside, AreRound};
 
 use crate::neighbours::Sides;
 use crate::store::EdgeStore;
-use edge_patterns::{Edge, split};
+use edge_patterns::{Edge, filled, split};
+use graph_walk::Series;
 use range_index::RangeIndex;
 use sheet_refs::{Cell, Range};
 
@@ -134,6 +137,32 @@ pub(crate) fn add_single<I: RangeIndex>(
 {
     let edge = Edge::single(cell, range);
     add(store, sides, edge, cell);
+    store.check_edges();
+}
+
+/// Adds the edge of a run down a column whose cells have the ranges of a series, where the sides are those of the run.
+pub(crate) fn add_filled<I: RangeIndex>(
+    store: &mut EdgeStore<I>,
+    sides: &mut Sides,
+    run: Range,
+    series: Series,
+)
+    requires line { run.tail.col ≡ run.head.col }
+    requires several { run.head.row < run.tail.row }
+    requires follow { GoOn (steps_of run) series }
+    requires apart { IsSeriesApart store.old.slots run series }
+    requires joined { KeptAreJoined store.old.slots }
+    requires names { NameBeside store.old.slots run.head sides.old }
+    requires round { AreRound run sides.old }
+    requires room { 1 ≤ store.old.room }
+    ensures joined { KeptAreJoined store.new.slots }
+    ensures names { NameBeside store.new.slots run.head sides.new }
+    ensures round { AreRound run sides.new }
+    ensures pairs { GainsSeries store.old.slots store.new.slots run series }
+    ensures room { store.old.room ≤ store.new.room + 1 }
+{
+    let edge = filled(&run, &series.first, &series.last);
+    add(store, sides, edge, run.head());
     store.check_edges();
 }
 

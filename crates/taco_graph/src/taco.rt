@@ -5,12 +5,12 @@ ghost use Rattle.taco_graph.specs.Order.{AreInOrder};
 ghost use Rattle.taco_graph.specs.Pairs.{HaveFewPairs, StandFor};
 
 use crate::answers::Question;
-use crate::changes::{add_single, take_out};
+use crate::changes::{add_filled, add_single, take_out};
 use crate::neighbours::Sides;
 use crate::order::sort_edges;
 use crate::store::EdgeStore;
 use edge_patterns::Edge;
-use graph_walk::Graph;
+use graph_walk::{Graph, Series};
 use range_index::RangeIndex;
 use sheet_refs::{Cell, MAX_REFERENCES, Memory, Range, Refs};
 use std::alloc::Global;
@@ -171,5 +171,15 @@ impl<I: RangeIndex> Graph for Taco<I> {
         for range in refs.ranges() {
             add_single(&mut self.store, &mut self.sides, cell, *range);
         }
+    }
+
+    fn add_run(&mut self, run: Range, series: &[Series]) -> Result<(), Memory> {
+        self.reserve(1)?;
+        self.ready -= 1;
+        self.sides.turn_to(&run);
+        for one in series {
+            add_filled(&mut self.store, &mut self.sides, run, *one);
+        }
+        Ok(())
     }
 }

@@ -1,20 +1,19 @@
-use Rattle.std.proofs.Common.{◌≡◌, ◌+◌, sym, subst, arith}
-use Rattle.edit_log.specs.Pairs.{HasPairsBefore}
-use Rattle.edit_log.proofs.PairLemmas.{column_ends}
+use Rattle.std.proofs.Common.{◌≡◌, arith}
+use Rattle.edit_log.proofs.PairLemmas.{column_ends, column_on, pairs_at}
 use Rattle.edit_log.proofs.graphs.add_column.Goals as goal
 
-pub add_cell-requires : goal.add_cell-requires
-add_cell-requires g c =
+pub add_from-requires-clause-before : goal.add_from-requires-clause-before
+add_from-requires-clause-before g c =
     let at : (c.unwrap-cell.result.row ≡ c.loop-row.row) × (c.unwrap-cell.result.col ≡ c.args.col) = rw c.unwrap-cell.ensures at c.new.ensures.position in
-    subst (λ row. HasPairsBefore c.args.sheet.now c.unwrap-cell.result.col row (g.G.Graph.pairs c.loop-row.graph)) (sym at.0)
-    (subst (λ col. HasPairsBefore c.args.sheet.now col c.loop-row.row (g.G.Graph.pairs c.loop-row.graph)) (sym at.1) c.loop-row.invariant)
+    pairs_at c.args.sheet.now c.unwrap-cell.result c.loop-row.row c.args.col (g.G.Graph.pairs c.loop-row.graph) at.0 at.1 c.loop-row.invariant.1
 
 pub loop-row-preserved : goal.loop-row-preserved
 loop-row-preserved g c =
     let at : (c.unwrap-cell.result.row ≡ c.loop-row.row) × (c.unwrap-cell.result.col ≡ c.args.col) = rw c.unwrap-cell.ensures at c.new.ensures.position in
-    subst (λ row. HasPairsBefore c.args.sheet.now c.args.col (row + 1) (g.G.Graph.pairs c.add_cell.new.graph)) at.0
-    (subst (λ col. HasPairsBefore c.args.sheet.now col (c.unwrap-cell.result.row + 1) (g.G.Graph.pairs c.add_cell.new.graph)) at.1 c.in_ok-add_cell.ensures)
+    let on = column_on c.args.sheet.now c.unwrap-cell.result c.loop-row.row c.args.col (g.G.Graph.pairs c.add_from.new.graph) c.in_ok-count.count
+    c.in_ok-count.next at.0 at.1 c.in_ok-count.ensures in
+    (omega arith, on.0, on.1)
 
 pub returns : goal.returns
 returns g c = column_ends c.args.sheet.now c.args.col c.loop-row.row (g.G.Graph.pairs c.loop-row.graph)
-    (omega (arith, c.loop-row-test.false, c.rows-row-end.ensures.rows)) c.loop-row.invariant
+    (omega (arith, c.loop-row-test.false, c.rows.ensures.rows)) c.loop-row.invariant.1
