@@ -65,3 +65,6 @@ close-closed-requires-clause-order g c κs within =
     (subst (λ r. IfOk r (λ after. client_of after ≡ client_of c.in_ok-ann.ann)) c.in_ok-ann-2.was ann)
     (subst (λ r. IfOk r (λ after. client_of after ≡ client_of c.in_ok-bob.bob)) c.in_ok-bob-2.was bob)
     c.firm.ensures.keeps.office.client (λ k p stands. (c.in_ok-opened.ensures.passes.each k p stands).whose)
+
+pub invariant_of-bob-in_err-desk-clause-live : goal.invariant_of-bob-in_err-desk-clause-live
+invariant_of-bob-in_err-desk-clause-live c = λ c'. search rules
