@@ -4,13 +4,13 @@ the tables, and draws them as SVG into docs/figures/.
 
 Run by hand, on a machine that does nothing else: bench/figures.py [RUNS] [NAME]. Each time is the least of RUNS runs (3 by
 default), those of one line in turn; NAME draws the figures whose names contain it alone. Each figure says of which machine
-it is, with its processors, its load and the day.
+it is, with its processors, its load before the first run and the day.
 
     commands    show of one cell, deps of A1 and check, over the number of cells: a chain, a fan, a ledger
     peers       show of one cell of a ledger, over its cells, beside the programs that are installed, as bench/peers.py finds
                 them: ssconvert of Gnumeric, LibreOffice, and a small program over libixion
     edges       the edges of check beside its pairs, over the number of cells
-    workers     live over the number of workers: a ledger that is computed from nothing
+    workers     live without commands over the number of workers: a ledger of which all is computed as the run closes
 
 It needs nothing but Python's own modules.
 """
@@ -57,8 +57,8 @@ def shown(number):
     return f"{number:,.0f}" if number >= 1 else f"{number:g}"
 
 
-def chart(name, title, across, up, series):
-    """Draws lines over two logarithmic axes: for each name of the series its points."""
+def chart(name, where, title, across, up, series):
+    """Draws lines over two logarithmic axes: for each name of the series its points. Below stands where it was measured."""
     points = [point for line in series.values() for point in line]
     if not points:
         return
@@ -83,7 +83,7 @@ def chart(name, title, across, up, series):
     middle = (TOP + HEIGHT - BOTTOM) // 2
     drawn.append(f'<text x="{(LEFT + WIDTH - RIGHT) // 2}" y="{HEIGHT - 30}" text-anchor="middle">{escaped(across)}</text>')
     drawn.append(f'<text x="18" y="{middle}" text-anchor="middle" transform="rotate(-90 18 {middle})">{escaped(up)}</text>')
-    drawn.append(f'<text x="{LEFT}" y="{HEIGHT - 8}" fill="#666" font-size="10">{escaped(machine())}</text>')
+    drawn.append(f'<text x="{LEFT}" y="{HEIGHT - 8}" fill="#666" font-size="10">{escaped(where)}</text>')
     box = f'<svg xmlns="http://www.w3.org/2000/svg" width="{WIDTH}" height="{HEIGHT}" font-family="sans-serif" font-size="12">'
     FIGURES.mkdir(exist_ok=True)
     (FIGURES / f"{name}.svg").write_text("\n".join([box, '<rect width="100%" height="100%" fill="white"/>', *drawn, "</svg>"]) + "\n")
@@ -101,7 +101,7 @@ def part(value, marks):
     return math.log(value / marks[0]) / math.log(marks[-1] / marks[0]) if marks[-1] > marks[0] else 0.5
 
 
-def commands(folder, runs):
+def commands(folder, runs, where):
     """The times of three commands over three shapes of sheet."""
     series = {}
     for shape, text in SHAPES.items():
@@ -115,10 +115,10 @@ def commands(folder, runs):
             for what, times in taken.items():
                 series.setdefault(f"{what}, {shape}", []).append((count, max(min(times), 1e-4)))
                 print(f"{min(times):9.4f} s  {what} of a {shape} of {count:,} cells", flush=True)
-    chart("commands", "What commands take", "cells of the sheet", "seconds of processor time", series)
+    chart("commands", where, "What commands take", "cells of the sheet", "seconds of processor time", series)
 
 
-def peers(folder, runs):
+def peers(folder, runs, where):
     """The time by the clock of a ledger beside other programs, each of which reads it and computes its values."""
     found, series = others(), {}
     for count in SIZES:
@@ -134,10 +134,10 @@ def peers(folder, runs):
         for name, times in taken.items():
             series.setdefault(name, []).append((count, min(times)))
             print(f"{min(times):9.4f} s  {name}, a ledger of {count:,} cells", flush=True)
-    chart("peers", "A ledger read and computed", "cells of the sheet", "seconds by the clock", series)
+    chart("peers", where, "A ledger read and computed", "cells of the sheet", "seconds by the clock", series)
 
 
-def edges(folder, _):
+def edges(folder, _, where):
     """How many edges stand for how many pairs."""
     series = {}
     for shape, text in SHAPES.items():
@@ -149,10 +149,10 @@ def edges(folder, _):
             for what, number in zip(("pairs", "edges"), found):
                 series.setdefault(f"{what}, {shape}", []).append((count, number))
             print(f"{found[1]:9,} edges for {found[0]:,} pairs: a {shape} of {count:,} cells", flush=True)
-    chart("edges", "Edges that stand for pairs", "cells of the sheet", "how many", series)
+    chart("edges", where, "Edges that stand for pairs", "cells of the sheet", "how many", series)
 
 
-def workers(folder, runs):
+def workers(folder, runs, where):
     """The time by the clock of a live run without commands, over the number of workers."""
     (folder / "sheet.csv").write_text(of_rows(100_000))
     (folder / "script.txt").write_text("")
@@ -164,17 +164,19 @@ def workers(folder, runs):
     for count in counts:
         print(f"{min(taken[count]):9.4f} s  live with {count} workers, a ledger of 100,000 cells", flush=True)
     series = {"a ledger of 100,000 cells": [(count, min(taken[count])) for count in counts]}
-    chart("workers", "A live run over the number of workers", "workers", "seconds by the clock", series)
+    chart("workers", where, "A live run without commands over the number of workers", "workers", "seconds by the clock", series)
 
 
 def main():
     runs, name = called_with(__doc__, 3)
     build()
-    print(f"{machine()}, least of {runs} runs each")
+    # (the load is asked for once, before the first run: later it would be mostly that of the runs themselves)
+    where = machine()
+    print(f"{where}, least of {runs} runs each")
     for figure in (commands, peers, edges, workers):
         if name in figure.__name__:
             with tempfile.TemporaryDirectory(prefix="antifreeze-figures-") as folder:
-                figure(pathlib.Path(folder), runs)
+                figure(pathlib.Path(folder), runs, where)
 
 
 if __name__ == "__main__":

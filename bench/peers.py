@@ -9,8 +9,9 @@ runs each (3 by default), the programs in turn:
     MB        the most memory that was resident, for each program
     times     the time of the best of the others, divided by that of `show`
 
-The program over libixion is compiled from bench/peers/ixion.cpp where its headers are installed (Debian's libixion-dev). A
-program that isn't installed, or doesn't end with 0 within ten minutes, is left out with a word.
+In front stand the machine, its load before the first run, and which version of each program was found. The program over libixion is
+compiled from bench/peers/ixion.cpp where its headers are installed (Debian's libixion-dev). A program that isn't installed, or
+doesn't end with 0 within ten minutes, is left out with a word.
 """
 
 import pathlib
@@ -22,6 +23,12 @@ from measuring import ROOT, STARTER, build, called_with, chain, head, ledger, li
 
 IXION = pathlib.Path(tempfile.gettempdir()) / "antifreeze-ixion_bench"
 MINUTES = 10
+# What prints the version of each of the other programs.
+VERSIONS = {
+    "ssconvert": ("ssconvert", "--version"),
+    "LibreOffice": ("soffice", "--version"),
+    "libixion": ("pkg-config", "--modversion", "libixion-0.17"),
+}
 
 
 def sums(count):
@@ -62,6 +69,16 @@ def others():
     return found
 
 
+def version(what):
+    """The version of another program, as its own words say it, in one line."""
+    try:
+        ran = subprocess.run(VERSIONS[what], stdin=subprocess.DEVNULL, capture_output=True, text=True, timeout=60 * MINUTES)
+    except (OSError, subprocess.TimeoutExpired):
+        return "not told"
+    said = (ran.stdout + ran.stderr).strip().split("\n")[0]
+    return said if said and not ran.returncode else "not told"
+
+
 def taken(folder, words):
     """Time by the clock and peak of memory of one run of another program; None where it fails."""
     status, _, clock, peak = told(STARTER, folder, "sh", "-c", f'exec timeout {60 * MINUTES} "$@" 2> /dev/null', "sh", *words)
@@ -94,6 +111,8 @@ def main():
     build()
     head(runs)
     found = others()
+    for what in found:
+        print(f"{what}: {version(what)}")
     print("  ".join(f"{what[:11]:>11} s   MB" for what in ("show", *found)) + "    times")
     for what, (text, cell) in SHEETS.items():
         if word in what:

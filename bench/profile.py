@@ -1,8 +1,8 @@
 #!/usr/bin/env python3
 """Counts the built program's instructions, crate by crate, so that one sees where a command's time goes and what changed.
 
-Run by hand: bench/profile.py [WORD]. A table for each sheet and command whose name contains WORD (all by default), under the number
-of instructions in all: the share of each crate that has at least one in a hundred, with those of its functions that have most.
+Run by hand: bench/profile.py [WORD]. The first line has the kind of machine, its processors, its load and the day. Then comes a
+table for each sheet and command whose name contains WORD (all by default), under the number of instructions in all: the share of each crate that has at least one in a hundred, with those of its functions that have most.
 `memory` is the C library's part, mostly allocation. Code that the compiler put into its caller counts as the caller's.
 
 It needs valgrind, which counts the same for the same program and input, whatever else the machine does. How the program is found
@@ -19,7 +19,7 @@ import sys
 import tempfile
 
 from graph import at_random, books
-from measuring import PROGRAM, build, lines
+from measuring import PROGRAM, build, lines, machine
 
 # What is counted: the sheet's text, the script's, and the words.
 COUNTED = {
@@ -79,6 +79,7 @@ def main():
     if not shutil.which("valgrind"):
         sys.exit("bench/profile.py: valgrind isn't installed")
     build()
+    print(machine())
     for what, (sheet, script, words) in COUNTED.items():
         if word not in what:
             continue

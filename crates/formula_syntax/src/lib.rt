@@ -12,7 +12,7 @@
 //! see it as a tree of the specs (`specs/Tree.antt`), without where its nodes lie in memory. One table says
 //! what parameters each function takes, and which of them have to be references (`specs/Functions.antt`).
 //!
-//! Below stand `sheet_refs` and `value_core`; evaluation stands above.
+//! Below stand `sheet_refs`, `value_core` and `text_pieces`, and the kit's `itoa`; evaluation stands above.
 #![tactic(auto)]
 
 mod edition;

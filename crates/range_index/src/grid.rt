@@ -1,4 +1,4 @@
-// The fast index.
+// The index by tiles.
 use crate::index::RangeIndex;
 use crate::tables::Tables;
 use sheet_refs::{Memory, Range};
@@ -18,8 +18,8 @@ use std::marker::Model;
 ///
 /// Costs, as looks into a table: an insert takes four and a removal six at most, whatever else is there. A query of
 /// one cell takes one for each home near it, which are two where all ranges have one column and up to eight rows, and
-/// never more than twenty-eight, and one for each entry of these. Over 10,000 single cells of one column a query of one
-/// cell took 0.08 microseconds, where `ListIndex` took 14 (docs/DECISIONS.md).
+/// never more than twenty-eight, and one for each entry of these. `bench/index.py` measures it beside the list and the
+/// tree.
 #[derive(Drop)]
 pub struct GridIndex {
     tables: Tables,

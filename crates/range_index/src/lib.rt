@@ -1,10 +1,10 @@
 //! Which of many ranges overlap a query.
 //!
 //! An index holds ids, each with a range (`specs/Entries.antt`), and answers exactly the ids whose ranges
-//! overlap a query, each once. `ListIndex` is the slow and plain one, `GridIndex` the fast one. `index_laws` says what
-//! is there after any list of calls: under each id the range that its last call left to it.
+//! overlap a query, each once. `ListIndex` is the slow and plain one, `GridIndex` the one by tiles. `index_laws` says
+//! what is there after any list of calls: under each id the range that its last call left to it.
 //!
-//! Below stands `sheet_refs`; the compressed graph stands above.
+//! Below stands `sheet_refs`; the compressed graph stands above, by the tree of `tree_index`.
 #![tactic(auto)]
 
 mod changes;

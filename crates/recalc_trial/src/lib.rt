@@ -1,10 +1,11 @@
 //! Trials of recalculation across crates: the hands of the queue of jobs, plans over a graph, turns of a desk over a
 //! book of edits, and the settling of levels.
 //!
-//! No crate stands on it. `BookOffice` is the plainest office: it owns a book and the editor's seat, with no lock. What
-//! was done before a turn brings about its answer: which cells are to be computed, which jobs are offered, what another
-//! seat holds, and what the office marks while it is asked for a task. Below stand `recalc_plan`, `recalc_workers`,
-//! `edit_log`, `mark_words`, and `plain_graph`, a graph that is its list of pairs.
+//! No crate stands on it, but the program of `bench/settle` does. `BookOffice` is the plainest office: it owns a book
+//! and the editor's seat, with no lock. What was done before a turn brings about its answer: which cells are to be
+//! computed, which jobs are offered, what another seat holds, and what the office marks while it is asked for a task.
+//! Below stand `recalc_plan`, `recalc_workers`, `edit_log`, `mark_words`, and `plain_graph`, a graph that is its list
+//! of pairs.
 #![tactic(auto)]
 
 mod crossing;

@@ -5,7 +5,8 @@ use denote.Ref.{MutBor}
 use denote.Param.Members.{Shared}
 
 -- a call of f with this number left this of that
-pub record LeavesAt {F T : Type 0} (g : Shared F (ℕ × (MutBor T × Unit {0})) ((Unit {0}) × (MutBor T × Unit {0}))) (f : F) (place : ℕ) (old new : T) : Type 0 where
+pub record LeavesAt {F T : Type 0} (g : Shared F (ℕ × (MutBor T × Unit {0})) ((Unit {0}) × (MutBor T × Unit {0}))) (f : F)
+    (place : ℕ) (old new : T) : Type 0 where
   pub call : ChangesAt g f place old new
 
 -- there are as many as before, and each element is what a call of f left at its place
