@@ -1,5 +1,5 @@
 -- The ranges of a formula: each once, in the order in which they first stand.
-use Rattle.std.specs.Prelude.{◌≡◌, ℕ, ◌+◌, ◌<◌, List, [], ◌∷◌, ◌++◌, Contains, map}
+use Rattle.std.specs.Prelude.{◌≡◌, ℕ, ◌+◌, ◌*◌, ◌<◌, ◌≤◌, List, [], ◌∷◌, ◌++◌, Contains, map}
 use Rattle.std.specs.Borrow.{Bor}
 use Rattle.sheet_refs.specs.Cells.{Corners}
 use Rattle.sheet_refs.specs.Ends.{Reference, corners_of}
@@ -14,6 +14,10 @@ pub data IsOnceEach : List Corners → List Corners → Type 0 where
       → longer ≡ all ++ range ∷ [] → IsOnceEach longer ranges
   first : (all ranges longer more : List Corners) (range : Corners) → IsOnceEach all ranges → ¬ Contains all range
       → longer ≡ all ++ range ∷ [] → more ≡ ranges ++ range ∷ [] → IsOnceEach longer more
+
+-- where the first cell of a range stands, row by row
+abbrev pub head_place : Corners → ℕ
+head_place range = range.head.row * 65536 + range.head.col
 
 -- the ranges that a tree names, as they are written
 abbrev pub ranges_of : Tree → List Corners
@@ -42,6 +46,13 @@ references_left (nodes ∷ rest) = references_left rest ++ all_references (trees
 abbrev pub lists_left : List (Bor (List Node)) → ℕ
 lists_left [] = 0
 lists_left (nodes ∷ rest) = 1 + all_visits (trees_of nodes.now) + lists_left rest
+
+-- nodes are left for later behind those that were, where there are any
+pub record AreLeft (nodes : List Node) (left next : List (Bor (List Node))) : Type 0 where
+  pub added : List (Bor (List Node))
+  pub kept : next ≡ left ++ added
+  pub whole : references_left added ≡ all_references (trees_of nodes)
+  pub few : lists_left added ≤ 1 + all_visits (trees_of nodes)
 
 -- some references are listed up to a place, and the others are left as nodes of fewer lists
 pub record Lists (own : List Reference) (count : ℕ) (left next : List (Bor (List Node))) (ranges more : List Corners) : Type 0 where

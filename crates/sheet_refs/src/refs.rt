@@ -38,6 +38,14 @@ impl Refs {
         Ok(Refs { ranges })
     }
 
+    /// The ranges of a list, which it takes over as it is.
+    pub fn from_vec(ranges: Vec<Range>) -> Refs
+        requires { AreRefs ranges.items }
+        ensures { result ≡ ranges.items }
+    {
+        Refs { ranges }
+    }
+
     /// The ranges, in their order.
     pub fn ranges(&self) -> &[Range]
         ensures ranges { result.now ≡ self.now }
