@@ -1,10 +1,14 @@
 -- The record that csv reads where a line without quotes stands.
 use Rattle.std.proofs.Common.{◌≡◌, ℕ, zero, suc, ◌+◌, ◌<◌, ◌≤◌, ◌⊎◌, Bool, true, false, List, [], ◌∷◌, ◌++◌, length, take, drop, get_or, Some}
-use Rattle.std.proofs.Common.{None, inl, inr, refl, sym, ◌∙◌, ap, subst, arith, if◌then◌else◌, append_assoc, length-drop, length-append, get_or-drop}
-use Rattle.std.specs.Prelude.{◌==◌, ◌||◌, not, cond, count_by, max}
+use Rattle.memchr.specs.Find.{IsFirstByte}
+use Rattle.std.proofs.Common.{◌≢◌, Option, None, inl, inr, refl, sym, ◌∙◌, ap, subst, arith, if◌then◌else◌, append_assoc, length-drop}
+use Rattle.std.proofs.Common.{length-append, get_or-drop, add-one}
+use Rattle.std.specs.Prelude.{◌==◌, ◌||◌, not, cond, count_by, max, slice_index}
+use Rattle.std.specs.Option.{unwrap_or}
 use Rattle.std.specs.List.{prefix_len}
 use Rattle.std.specs.Str.{IsAscii}
 use Rattle.std.proofs.lemmas.Bool.Decides.{nat_tests}
+use Rattle.std.proofs.lemmas.List.{append-nil}
 use Rattle.std.proofs.lemmas.List.Sums.{sum_by-cons}
 use Rattle.std.proofs.lemmas.Str.{IsUtf8-from_ascii}
 use Rattle.csv.specs.Machine.{Read, next_record, step, after_end}
@@ -17,7 +21,7 @@ use Rattle.csv.specs.declared.parser.Terminator.TheVariants as term
 use Rattle.csv.proofs.ReadFacts.{reached-more}
 use Rattle.csv_sheet.specs.Records.{Rows}
 use Rattle.csv_sheet.specs.Results.{IsLong}
-use Rattle.csv_sheet.specs.Lines.{AreCounted, HasCounted, goes_on, has_quote, is_comma, line_fields, with_line}
+use Rattle.csv_sheet.specs.Lines.{AreCounted, HasCounted, HasReadLines, IsPlain, goes_on, goes_on_field, has_quote, is_comma, line_fields, with_line}
 use Rattle.csv_sheet.specs.declared.lines.Lines.{Lines}
 use Rattle.csv_sheet.proofs.RowLemmas.{length-more, longest-more, none_more, text_more}
 
@@ -89,13 +93,16 @@ ended fields (b ∷ bs) = (fields, after_end term.CRLF b, bs)
 abbrev ReadsTo : List ℕ → State → List (List ℕ) → List ℕ → ℕ → Type 0
 ReadsTo left s fields field n = next_record default_config s fields field left ≡ Some (ended (fields ++ line_fields field (take n left)) (drop n left))
 
--- the length of a line by its first byte
-prefix_one : (b : ℕ) (bs : List ℕ) → prefix_len goes_on (b ∷ bs) ≡ cond (goes_on b) (suc (prefix_len goes_on bs)) 0
-prefix_one b bs = by (goes_on b)
+-- the length of a front by its first byte
+prefix_of : (test : ℕ → Bool) (b : ℕ) (bs : List ℕ) → prefix_len test (b ∷ bs) ≡ cond (test b) (suc (prefix_len test bs)) 0
+prefix_of test b bs = by (test b)
   where
-    by : (x : Bool) → cond x (1 + prefix_len goes_on bs) 0 ≡ cond x (suc (prefix_len goes_on bs)) 0
+    by : (x : Bool) → cond x (1 + prefix_len test bs) 0 ≡ cond x (suc (prefix_len test bs)) 0
     by true = omega arith
     by false = refl
+
+prefix_one : (b : ℕ) (bs : List ℕ) → prefix_len goes_on (b ∷ bs) ≡ cond (goes_on b) (suc (prefix_len goes_on bs)) 0
+prefix_one = prefix_of goes_on
 
 line_read : (left : List ℕ) (s : State) (fields : List (List ℕ)) (field : List ℕ) → Inside s → has_quote left ≡ false
     → ReadsTo left s fields field (prefix_len goes_on left)
@@ -205,29 +212,110 @@ counted_more rows (b ∷ bs) lines more some ascii short count cols is =
       short = none_more rows fields IsLong is.short (λ col within long. let most = line_short [] (b ∷ bs) col in omega (arith, most, long, short));
     }
 
--- the whole text is left to be counted
-pub counting_begins : (text : List ℕ) (lines : Lines) → IsAscii text → has_quote text ≡ false → lines.rows ≡ 0 → lines.cols ≡ 0 → HasCounted text text lines
+-- a front ends where the first byte that passes a test stands, or with the text
+front_at : (test : ℕ → Bool) (text : List ℕ) (k : ℕ) → k < length text → ((j : ℕ) → j < k → test (slice_index text j) ≢ true)
+    → test (slice_index text k) ≡ true → prefix_len (λ b. not (test b)) text ≡ k
+front_at test [] k within before at = absurd (omega (arith, within))
+front_at test (b ∷ bs) zero within before at = prefix_of (λ c. not (test c)) b bs ∙ rw at refl
+front_at test (b ∷ bs) (suc k) within before at =
+    prefix_of (λ c. not (test c)) b bs
+    ∙ by (test b) refl (λ is. front_at test bs k (omega (arith, within)) (λ j less. before (suc j) (omega (arith, less))) at)
+  where
+    by : (x : Bool) → test b ≡ x → (x ≡ false → prefix_len (λ c. not (test c)) bs ≡ k) → cond (not x) (suc (prefix_len (λ c. not (test c)) bs)) 0 ≡ suc k
+    by true is more = absurd (before 0 (omega arith) is)
+    by false is more = ap suc (more refl)
+
+whole_front : (test : ℕ → Bool) (text : List ℕ) → ((j : ℕ) → j < length text → test (slice_index text j) ≢ true)
+    → prefix_len (λ b. not (test b)) text ≡ length text
+whole_front test [] none = refl
+whole_front test (b ∷ bs) none =
+    prefix_of (λ c. not (test c)) b bs ∙ by (test b) refl (whole_front test bs (λ j less. none (suc j) (omega (arith, less))))
+  where
+    by : (x : Bool) → test b ≡ x → prefix_len (λ c. not (test c)) bs ≡ length bs
+        → cond (not x) (suc (prefix_len (λ c. not (test c)) bs)) 0 ≡ suc (length bs)
+    by true is more = absurd (none 0 (omega arith) is)
+    by false is more = ap suc more
+
+pub front_found : (test : ℕ → Bool) (text : List ℕ) (found : Option ℕ) → IsFirstByte test text found
+    → prefix_len (λ b. not (test b)) text ≡ unwrap_or found (length text)
+front_found test text None none = whole_front test text (λ j less. none j (omega arith) less)
+front_found test text (Some k) first =
+    front_at test text k first.0.high (λ j less. first.0.before j (omega arith) less) first.1
+
+-- a line that has a byte is a record
+pub some_line : (rows : Rows) (line : List ℕ) → 0 < length line → with_line rows line ≡ rows ++ line_fields [] line ∷ []
+some_line rows [] some = absurd (omega (arith, some))
+some_line rows (b ∷ bs) some = refl
+
+pub no_line : (rows : Rows) (line : List ℕ) → length line ≡ 0 → with_line rows line ≡ rows
+no_line rows [] none = refl
+no_line rows (b ∷ bs) none = absurd (omega (arith, none))
+
+-- the fields behind the first one, by what is behind that one's bytes
+abbrev behind_comma : List ℕ → List (List ℕ)
+behind_comma [] = []
+behind_comma (b ∷ bs) = line_fields [] bs
+
+-- the first field of a line, and the others
+abbrev IsCut : List ℕ → List ℕ → ℕ → Type 0
+IsCut field line n = line_fields field line ≡ (field ++ take n line) ∷ behind_comma (drop n line)
+
+first_field : (field line : List ℕ) → IsCut field line (prefix_len goes_on_field line)
+unfolding line_fields
+first_field field [] = ap (λ f. f ∷ []) (sym (append-nil field))
+first_field field (b ∷ bs) =
+    subst (λ n. IsCut field (b ∷ bs) n) (sym (prefix_of goes_on_field b bs)) (by (b == 44) (first_field (field ++ b ∷ []) bs))
+  where
+    by : (x : Bool) → IsCut (field ++ b ∷ []) bs (prefix_len goes_on_field bs)
+        → (if x then field ∷ line_fields [] bs else line_fields (field ++ b ∷ []) bs)
+        ≡ (field ++ take (cond (not x) (suc (prefix_len goes_on_field bs)) 0) (b ∷ bs))
+        ∷ behind_comma (drop (cond (not x) (suc (prefix_len goes_on_field bs)) 0) (b ∷ bs))
+    by true same = ap (λ f. f ∷ line_fields [] bs) (sym (append-nil field))
+    by false same =
+        same ∙ ap (λ f. f ∷ behind_comma (drop (prefix_len goes_on_field bs) bs)) (append_assoc field (b ∷ []) (take (prefix_len goes_on_field bs) bs))
+
+drop_more : (n : ℕ) (fields : List (List ℕ)) → drop (suc n) fields ≡ drop 1 (drop n fields)
+drop_more zero fields = refl
+drop_more (suc n) [] = refl
+drop_more (suc n) (f ∷ fs) = drop_more n fs
+
+module _ (fields : List (List ℕ)) (col : ℕ) (left : List ℕ) (behind : drop col fields ≡ line_fields [] left) where
+  -- the next field of a line, and what is left behind it
+  pub next_field : get_or fields col [] ≡ take (prefix_len goes_on_field left) left
+  next_field =
+      let there : get_or (drop col fields) 0 [] ≡ get_or fields (col + 0) [] = get_or-drop col fields 0 [] in
+      let here : col + 0 ≡ col = omega arith in
+      sym (ap (λ k. get_or fields k []) here) ∙ sym there ∙ ap (λ fs. get_or fs 0 []) (behind ∙ first_field [] left)
+
+  pub next_left : col + 1 < length fields → drop (col + 1) fields ≡ line_fields [] (drop 1 (drop (prefix_len goes_on_field left) left))
+  next_left more =
+      let next : drop (suc col) fields ≡ behind_comma (drop (prefix_len goes_on_field left) left) =
+      drop_more col fields ∙ ap (λ fs. drop 1 fs) (behind ∙ first_field [] left) in
+      let count = length-drop (suc col) fields in
+      let some : 0 < length (behind_comma (drop (prefix_len goes_on_field left) left)) = (let e = ap length next in omega (arith, count, e, more)) in
+      rw add-one (next ∙ goes (drop (prefix_len goes_on_field left) left) some)
+    where
+      goes : (bytes : List ℕ) → 0 < length (behind_comma bytes) → behind_comma bytes ≡ line_fields [] (drop 1 bytes)
+      goes [] some = absurd (omega (arith, some))
+      goes (b ∷ bs) some = refl
+
+-- the whole text is left to be read
+pub reading_begins : (text : List ℕ) → IsPlain text → HasReadLines text text []
 unfolding Reached
-counting_begins text lines ascii unquoted rows cols = record {
-  rows = [];
+reading_begins text plain = record {
   state = st.StartRecord;
   rest = text;
   reached = (refl, refl);
   goes = refl;
-  counted = record { count = rows; cols = cols; text = λ k d within. absurd (omega (arith, within)); short = λ row col within long. omega (arith, within) };
-  ascii = ascii;
-  unquoted = unquoted;
-  few = omega (arith, rows);
+  plain = plain;
 }
 
 -- and less of it, once a line was
-pub counting_goes : (text left : List ℕ) (lines more : Lines) → HasCounted text left lines → 0 < length left
-    → ((rows : Rows) → AreCounted rows lines → AreCounted (with_line rows (take (prefix_len goes_on left) left)) more)
-    → more.rows ≤ lines.rows + 1 → HasCounted text (drop 1 (drop (prefix_len goes_on left) left)) more
-counting_goes text [] lines more has some counts few = absurd (omega (arith, some))
-counting_goes text (b ∷ bs) lines more has some counts few =
-    subst (λ n. HasCounted text (drop 1 (drop n (b ∷ bs))) more) (sym (prefix_one b bs)) (by (goes_on b) refl
-    (subst (λ n. (rows : Rows) → AreCounted rows lines → AreCounted (with_line rows (take n (b ∷ bs))) more) (prefix_one b bs) counts))
+pub reading_goes : (text left : List ℕ) (rows : Rows) → HasReadLines text left rows → 0 < length left
+    → HasReadLines text (drop 1 (drop (prefix_len goes_on left) left)) (with_line rows (take (prefix_len goes_on left) left))
+reading_goes text [] rows has some = absurd (omega (arith, some))
+reading_goes text (b ∷ bs) rows has some =
+    subst (λ n. HasReadLines text (drop 1 (drop n (b ∷ bs))) (with_line rows (take n (b ∷ bs)))) (sym (prefix_one b bs)) (by (goes_on b) refl)
   where
     quote_behind : (n : ℕ) (l : List ℕ) → has_quote l ≡ false → has_quote (drop n l) ≡ false
     quote_behind zero l none = none
@@ -238,38 +326,34 @@ counting_goes text (b ∷ bs) lines more has some counts few =
     ascii_behind n l all i = rw (get_or-drop n l i 0) (all (n + i))
 
     by : (on : Bool) → goes_on b ≡ on
-        → ((rows : Rows) → AreCounted rows lines → AreCounted (with_line rows (take (cond on (suc (prefix_len goes_on bs)) 0) (b ∷ bs))) more)
-        → HasCounted text (drop 1 (drop (cond on (suc (prefix_len goes_on bs)) 0) (b ∷ bs))) more
-    by false ends counts = record {
-      rows = has.rows;
+        → HasReadLines text (drop 1 (drop (cond on (suc (prefix_len goes_on bs)) 0) (b ∷ bs)))
+        (with_line rows (take (cond on (suc (prefix_len goes_on bs)) 0) (b ∷ bs)))
+    by false ends = record {
       state = has.state;
       rest = has.rest;
       reached = has.reached;
       goes = has.goes ∙ skip_read b bs ends;
-      counted = counts has.rows has.counted;
-      ascii = λ i. has.ascii (suc i);
-      unquoted = (or_false (b == 34) (has_quote bs) has.unquoted).1;
-      few = (let f = has.few in omega (arith, f, few));
+      plain = record { ascii = λ i. has.plain.ascii (suc i); unquoted = (or_false (b == 34) (has_quote bs) has.plain.unquoted).1 };
     }
-    by true on counts =
+    by true on =
         let n = prefix_len goes_on bs in
         let fields = line_fields [] (b ∷ take n bs) in
         let whole : next_record default_config st.StartField [] [] (b ∷ bs) ≡ Some (ended fields (drop n bs)) =
-        line_read (b ∷ bs) st.StartField [] [] (inl refl) has.unquoted ∙ ap (λ k. Some (ended (line_fields [] (take k (b ∷ bs))) (drop k (b ∷ bs)))) (one on) in
+        line_read (b ∷ bs) st.StartField [] [] (inl refl) has.plain.unquoted
+        ∙ ap (λ k. Some (ended (line_fields [] (take k (b ∷ bs))) (drop k (b ∷ bs)))) (one on) in
         let read : next_record default_config has.state [] [] has.rest ≡ Some (ended fields (drop n bs)) = has.goes ∙ first_read b bs on ∙ whole in
         record {
-          rows = has.rows ++ fields ∷ [];
           state = (ended fields (drop n bs)).1;
           rest = (ended fields (drop n bs)).2;
-          reached = subst (λ (f : List (List ℕ)). Reached default_config st.StartRecord text (has.rows ++ f ∷ [])
+          reached = subst (λ (f : List (List ℕ)). Reached default_config st.StartRecord text (rows ++ f ∷ [])
               (ended fields (drop n bs)).1 (ended fields (drop n bs)).2)
               (ended_fields fields (drop n bs))
-              (reached-more default_config st.StartRecord has.state text has.rest has.rows (ended fields (drop n bs)) has.reached read);
+              (reached-more default_config st.StartRecord has.state text has.rest rows (ended fields (drop n bs)) has.reached read);
           goes = ended_read fields (drop n bs);
-          counted = counts has.rows has.counted;
-          ascii = ascii_behind 1 (drop n bs) (ascii_behind n bs (λ i. has.ascii (suc i)));
-          unquoted = quote_behind 1 (drop n bs) (quote_behind n bs (or_false (b == 34) (has_quote bs) has.unquoted).1);
-          few = (let f = has.few in let behind = length-drop n bs in let last = length-drop 1 (drop n bs) in omega (arith, f, few, behind, last));
+          plain = record {
+            ascii = ascii_behind 1 (drop n bs) (ascii_behind n bs (λ i. has.plain.ascii (suc i)));
+            unquoted = quote_behind 1 (drop n bs) (quote_behind n bs (or_false (b == 34) (has_quote bs) has.plain.unquoted).1);
+          };
         }
       where
         one : goes_on b ≡ true → prefix_len goes_on (b ∷ bs) ≡ suc (prefix_len goes_on bs)
@@ -279,13 +363,11 @@ counting_goes text (b ∷ bs) lines more has some counts few =
         ended_fields fs [] = refl
         ended_fields fs (x ∷ xs) = refl
 
--- where nothing is left, all records were
-pub counting_ends : (text left : List ℕ) (lines : Lines) → HasCounted text left lines → length left ≡ 0
-    → (rows : Rows) × AreRecords default_config st.StartRecord text rows × AreCounted rows lines
+-- where nothing is left, all records were read
+pub reading_ends : (text left : List ℕ) (rows : Rows) → HasReadLines text left rows → length left ≡ 0 → AreRecords default_config st.StartRecord text rows
 unfolding next_record
-counting_ends text left lines has none =
-    let last = has.goes ∙ ap (λ l. next_record default_config st.StartRecord [] [] l) (empty left none) ∙ nothing in
-    (has.rows, (has.state, has.rest, has.reached, last), has.counted)
+reading_ends text left rows has none =
+    (has.state, has.rest, has.reached, has.goes ∙ ap (λ l. next_record default_config st.StartRecord [] [] l) (empty left none) ∙ nothing)
   where
     nothing : next_record default_config st.StartRecord [] [] [] ≡ None
     nothing = refl
@@ -293,3 +375,33 @@ counting_ends text left lines has none =
     empty : (l : List ℕ) → length l ≡ 0 → l ≡ []
     empty [] e = refl
     empty (x ∷ xs) e = absurd (omega (arith, e))
+
+-- what is behind a line is shorter
+pub behind_shorter : (n : ℕ) (left : List ℕ) → 0 < length left → length (drop 1 (drop n left)) < length left
+behind_shorter n left some = (let behind = length-drop n left in let last = length-drop 1 (drop n left) in omega (arith, behind, last, some))
+
+-- none was counted yet
+pub counting_begins : (text : List ℕ) (lines : Lines) → IsPlain text → lines.rows ≡ 0 → lines.cols ≡ 0 → HasCounted text text lines
+counting_begins text lines plain rows cols = record {
+  rows = [];
+  read = reading_begins text plain;
+  counted = record { count = rows; cols = cols; text = λ k d within. absurd (omega (arith, within)); short = λ row col within long. omega (arith, within) };
+  few = omega (arith, rows);
+}
+
+-- and one line more
+pub counting_goes : (text left : List ℕ) (lines more : Lines) → HasCounted text left lines → 0 < length left
+    → ((rows : Rows) → AreCounted rows lines → AreCounted (with_line rows (take (prefix_len goes_on left) left)) more)
+    → more.rows ≤ lines.rows + 1 → HasCounted text (drop 1 (drop (prefix_len goes_on left) left)) more
+counting_goes text left lines more has some counts few =
+    let n = prefix_len goes_on left in
+    record {
+      rows = with_line has.rows (take n left);
+      read = reading_goes text left has.rows has.read some;
+      counted = counts has.rows has.counted;
+      few = (let f = has.few in let behind = length-drop n left in let last = length-drop 1 (drop n left) in omega (arith, f, few, behind, last, some));
+    }
+
+pub counting_ends : (text left : List ℕ) (lines : Lines) → HasCounted text left lines → length left ≡ 0
+    → (rows : Rows) × AreRecords default_config st.StartRecord text rows × AreCounted rows lines
+counting_ends text left lines has none = (has.rows, reading_ends text left has.rows has.read none, has.counted)

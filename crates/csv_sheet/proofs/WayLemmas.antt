@@ -1,13 +1,12 @@
 -- Records that are read and put into a sheet one after the other.
 use Rattle.std.proofs.Common.{◌≡◌, ◌≢◌, ℕ, ◌+◌, ◌-◌, ◌*◌, ◌<◌, ◌≤◌, List, [], ◌∷◌, ◌++◌, length, get_or, inl, inr, refl}
 use Rattle.std.proofs.Common.{sym, ◌∙◌, ap, subst, arith, Err, length-append, append_assoc}
-use Rattle.std.specs.Prelude.{Option}
 use Rattle.std.proofs.Math.ListN.{get_or-append}
 use Rattle.std.proofs.Math.Seq.{get_or-append_seam}
 use Rattle.std.proofs.lemmas.List.{append-nil}
-use Rattle.csv.specs.Reading.{AreRecords, default_config}
+use Rattle.csv.specs.Reading.{AreRecords, Reached, default_config}
 use Rattle.csv.specs.Records.{AllText}
-use Rattle.csv.specs.declared.reader.Reader.{Reader}
+use Rattle.csv.specs.declared.parser.State.{State}
 use Rattle.csv.specs.declared.parser.State.TheVariants.{StartRecord}
 use Rattle.sheet_refs.specs.declared.sizes.Sizes.{Sizes}
 use Rattle.formula_syntax.specs.declared.edition.Edition.{Edition}
@@ -16,15 +15,14 @@ use Rattle.sheet_model.specs.Fields.{IsContent, IsDeepFormula}
 use Rattle.sheet_model.specs.Sheets.{SheetValue, IsSheetSize, content_of, blank_sheet}
 use Rattle.sheet_model.specs.Tables.{AddsLabels}
 use Rattle.sheet_model.proofs.ContentLemmas.{refused_none}
-use Rattle.csv_sheet.specs.Filling.{HoldsRecords, IsRecordFor, IsRowRefusal, HasFilled}
-use Rattle.csv_sheet.specs.Reading.{HasReadRecords}
+use Rattle.csv_sheet.specs.Filling.{HoldsRecords, IsRecordFor, IsRowRefusal, ArePut}
 use Rattle.csv_sheet.specs.Records.{Rows, fields_at, field_at, all_fields, cell_there, longest, sizes_of}
-use Rattle.csv_sheet.specs.Results.{AreReadable, IsSheetOf, IsGivenByRecords, IsPlaceBefore, IsFirstField, IsFirstRefused, IsRefusedFormula, IsLong}
+use Rattle.csv_sheet.specs.Results.{AreReadable, IsSheetOf, IsGivenByRecords, IsTooLarge, IsPlaceBefore, IsFirstField, IsFirstRefused, IsRefusedFormula, IsLong}
 use Rattle.csv_sheet.specs.declared.refused.SheetRefused.{SheetRefused}
 use Rattle.csv_sheet.specs.declared.refused.SheetRefused.TheVariants.{NotUtf8, TooManyCells, FieldTooLong, FormulaTooDeep, TooManyRefs, UnknownEdition, Memory}
 use Rattle.csv_sheet.proofs.FieldLemmas.{longest_at, longest_of}
 use Rattle.csv_sheet.proofs.FillLemmas.{holds_nothing}
-use Rattle.csv_sheet.proofs.RecordLemmas.{rows_in_front, one_rows}
+use Rattle.csv_sheet.proofs.RecordLemmas.{rows_in_front, one_rows, has_columns}
 
 -- the record behind those that were read
 next_fields : (before rest : Rows) (fields : List (List ℕ)) → fields_at ((before ++ fields ∷ []) ++ rest) (length before) ≡ fields
@@ -120,19 +118,32 @@ module _ (all before rest : Rows) (fields : List (List ℕ)) (whole : all ≡ (b
   row_refused sheet holds sizes UnknownEdition other is = absurd is.why
   row_refused sheet holds sizes Memory other is = absurd (other refl)
 
-module _ {R : Type 0} (left : R → Option (List ℕ)) (text : List ℕ) (all : Rows)
-    (has : AreRecords default_config StartRecord text all) (readable : AreReadable all)
+-- the sizes of records that fit a sheet are those of one
+readable_size : (text : List ℕ) (rows : Rows) → AreRecords default_config StartRecord text rows → ¬ IsTooLarge rows → IsSheetSize (sizes_of rows)
+readable_size text rows has fits =
+    let few : 1048576 < length rows * longest rows → ⊥ = λ more. fits (inl more) in
+    let thin : 16384 < longest rows → ⊥ = λ more. fits (inr more) in
+    record {
+      cells = omega (arith, few);
+      narrow = omega (arith, thin);
+      no_rows = λ none. no_columns rows none;
+      no_cols = λ none. has_columns default_config StartRecord text rows has none;
+    }
+  where
+    no_columns : (some : Rows) → length some ≡ 0 → longest some ≡ 0
+    no_columns [] e = refl
+    no_columns (fields ∷ rest) e = absurd (omega (arith, e))
+
+module _ (text : List ℕ) (all : Rows) (has : AreRecords default_config StartRecord text all) (readable : AreReadable all)
     (old : SheetValue) (blank : old ≡ blank_sheet old.edition (sizes_of all)) where
   old_sizes : old.sizes ≡ sizes_of all
   old_sizes = ap (λ (s : SheetValue). s.sizes) blank
 
   -- before the first record
-  pub way_begins : IsSheetSize old.sizes → (reader : Reader R) → HasReadRecords left text [] reader → HasFilled left text 0 old old reader
-  way_begins size reader read = record {
-    rows = [];
+  pub put_none : ArePut [] 0 old old
+  put_none = record {
     count = refl;
-    read = read;
-    holds = subst (HoldsRecords []) (sym blank) (holds_nothing old.edition (sizes_of all) (subst IsSheetSize old_sizes size));
+    holds = subst (HoldsRecords []) (sym blank) (holds_nothing old.edition (sizes_of all) (readable_size text all has readable.fits));
     edition = refl;
     sizes = refl;
     few = (let none : length old.labels ≡ 0 = ap (λ (s : SheetValue). length s.labels) blank in omega (arith, none));
@@ -146,66 +157,73 @@ module _ {R : Type 0} (left : R → Option (List ℕ)) (text : List ℕ) (all : 
       let count : length rows ≡ length all = ap length same in
       omega (arith, less_all, count)
 
-  -- behind the last row
-  pub way_ends : (new : SheetValue) (reader : Reader R) → HasFilled left text old.sizes.rows old new reader → IsSheetOf old.edition all new
-  way_ends new reader way =
-      let front = rows_in_front default_config StartRecord text way.rows all reader.state way.read.rest way.read.reached has in
-      let count : length way.rows ≡ length all = way.count ∙ ap (λ (s : Sizes). s.rows) old_sizes in
-      let none : front.0 ≡ [] = no_rest way.rows front.0 (ap length (sym front.1) ∙ sym count) in
-      let same : way.rows ≡ all = sym (front.1 ∙ ap (λ rest. way.rows ++ rest) none ∙ append-nil way.rows) in
-      let sizes : new.sizes ≡ sizes_of all = way.sizes ∙ old_sizes in
-      record {
-        readable = readable;
-        kept = way.holds.kept;
-        edition_is = way.edition;
-        sizes = sizes;
-        labels = subst (λ rows. AddsLabels (all_fields rows) [] new.labels) same way.holds.labels;
-        cells = λ row col r c.
-            subst (λ rows. IsContent old.edition new.labels (field_at rows row col) (content_of new (cell_there row col))) same
-            (subst (λ (e : Edition). IsContent e new.labels (field_at way.rows row col) (content_of new (cell_there row col))) way.edition
-            (way.holds.cells row col (subst (λ (s : Sizes). row < s.rows) (sym sizes) r) (subst (λ (s : Sizes). col < s.cols) (sym sizes) c)));
-      }
+  -- as many records as there are rows are all records
+  pub all_read : (rows : Rows) (state : State) (rest : List ℕ) → Reached default_config StartRecord text rows state rest
+      → length rows ≡ old.sizes.rows → rows ≡ all
+  all_read rows state rest reached at_end =
+      let front = rows_in_front default_config StartRecord text rows all state rest reached has in
+      let count : length rows ≡ length all = at_end ∙ ap (λ (s : Sizes). s.rows) old_sizes in
+      let none : front.0 ≡ [] = no_rest rows front.0 (ap length (sym front.1) ∙ sym count) in
+      sym (front.1 ∙ ap (λ more. rows ++ more) none ∙ append-nil rows)
     where
       no_rest : (rows rest : Rows) → length (rows ++ rest) ≡ length rows → rest ≡ []
       no_rest rows [] e = refl
       no_rest rows (fields ∷ rest) e = (let d = length-append rows (fields ∷ rest) in absurd (omega (arith, d, e)))
 
-  -- one record more
-  pub way_goes : (row : ℕ) (fields : List (List ℕ)) (between new : SheetValue) (reader later : Reader R) → (way : HasFilled left text row old between reader)
-      → HasReadRecords left text (way.rows ++ fields ∷ []) later
-      → ((rows : Rows) → length rows ≡ row → HoldsRecords rows between → HoldsRecords (rows ++ fields ∷ []) new)
-      → new.edition ≡ between.edition → new.sizes ≡ between.sizes
-      → length new.labels ≤ (row + 1) * between.sizes.cols
-      → HasFilled left text (row + 1) old new later
-  way_goes row fields between new reader later way read filled edition sizes few = record {
-    rows = way.rows ++ fields ∷ [];
-    count = length-append way.rows (fields ∷ []) ∙ ap (λ n. n + 1) way.count;
-    read = read;
-    holds = filled way.rows way.count way.holds;
-    edition = edition ∙ way.edition;
-    sizes = sizes ∙ way.sizes;
-    few = subst (λ (s : Sizes). length new.labels ≤ (row + 1) * s.cols) way.sizes few;
-  }
+  -- so are those at whose end the text is
+  pub whole_read : (rows : Rows) → AreRecords default_config StartRecord text rows → rows ≡ all
+  whole_read rows is = one_rows default_config StartRecord text rows all is has
 
-  -- the record that was read fits the sheet
-  pub way_fits : (row : ℕ) (fields : List (List ℕ)) (between : SheetValue) (reader later : Reader R) → (way : HasFilled left text row old between reader)
-      → HasReadRecords left text (way.rows ++ fields ∷ []) later → IsRecordFor between row fields
-  way_fits row fields between reader later way read =
-      let front = rows_in_front default_config StartRecord text (way.rows ++ fields ∷ []) all later.state read.rest read.reached has in
-      let sizes : between.sizes ≡ sizes_of all = way.sizes ∙ old_sizes in
-      let few : length between.labels ≤ length way.rows * between.sizes.cols =
-      subst (λ k. length between.labels ≤ k * between.sizes.cols) (sym way.count)
-      (subst (λ (s : Sizes). length between.labels ≤ row * s.cols) (sym way.sizes) way.few) in
-      subst (λ k. IsRecordFor between k fields) way.count
-      (record_fits all way.rows front.0 fields front.1 readable between way.holds sizes few)
+  -- once all records were put
+  pub put_all : (rows : Rows) (row : ℕ) (new : SheetValue) → rows ≡ all → ArePut rows row old new → IsSheetOf old.edition all new
+  put_all rows row new same put =
+      let sizes : new.sizes ≡ sizes_of all = put.sizes ∙ old_sizes in
+      record {
+        readable = readable;
+        kept = put.holds.kept;
+        edition_is = put.edition;
+        sizes = sizes;
+        labels = subst (λ rows. AddsLabels (all_fields rows) [] new.labels) same put.holds.labels;
+        cells = λ row col r c.
+            subst (λ rows. IsContent old.edition new.labels (field_at rows row col) (content_of new (cell_there row col))) same
+            (subst (λ (e : Edition). IsContent e new.labels (field_at rows row col) (content_of new (cell_there row col))) put.edition
+            (put.holds.cells row col (subst (λ (s : Sizes). row < s.rows) (sym sizes) r) (subst (λ (s : Sizes). col < s.cols) (sym sizes) c)));
+      }
 
-  -- where it is refused, that is what the text gives
-  pub way_refused : (row : ℕ) (fields : List (List ℕ)) (between : SheetValue) (reader later : Reader R) → (way : HasFilled left text row old between reader)
-      → HasReadRecords left text (way.rows ++ fields ∷ []) later → (refused : SheetRefused) → refused ≢ Memory
-      → IsRowRefusal between.edition row fields refused → IsGivenByRecords old.edition all (Err refused)
-  way_refused row fields between reader later way read refused other is =
-      let front = rows_in_front default_config StartRecord text (way.rows ++ fields ∷ []) all later.state read.rest read.reached has in
-      let sizes : between.sizes ≡ sizes_of all = way.sizes ∙ old_sizes in
-      subst (λ (e : Edition). IsGivenByRecords e all (Err refused)) way.edition
-      (row_refused all way.rows front.0 fields front.1 readable between way.holds sizes refused other
-      (subst (λ k. IsRowRefusal between.edition k fields refused) (sym way.count) is))
+  module _ (rows : Rows) (fields : List (List ℕ)) (state : State) (rest : List ℕ)
+      (reached : Reached default_config StartRecord text (rows ++ fields ∷ []) state rest)
+      (row : ℕ) (between : SheetValue) (put : ArePut rows row old between) where
+    front : (behind : Rows) × (all ≡ (rows ++ fields ∷ []) ++ behind) × AreRecords default_config state rest behind
+    front = rows_in_front default_config StartRecord text (rows ++ fields ∷ []) all state rest reached has
+
+    -- the next record fits the sheet
+    pub put_fits : IsRecordFor between row fields
+    put_fits =
+        let sizes : between.sizes ≡ sizes_of all = put.sizes ∙ old_sizes in
+        let few : length between.labels ≤ length rows * between.sizes.cols =
+        subst (λ k. length between.labels ≤ k * between.sizes.cols) (sym put.count)
+        (subst (λ (s : Sizes). length between.labels ≤ row * s.cols) (sym put.sizes) put.few) in
+        subst (λ k. IsRecordFor between k fields) put.count
+        (record_fits all rows front.0 fields front.1 readable between put.holds sizes few)
+
+    -- where it is refused, that is what the text gives
+    pub put_refused : (refused : SheetRefused) → refused ≢ Memory → IsRowRefusal between.edition row fields refused
+        → IsGivenByRecords old.edition all (Err refused)
+    put_refused refused other is =
+        let sizes : between.sizes ≡ sizes_of all = put.sizes ∙ old_sizes in
+        subst (λ (e : Edition). IsGivenByRecords e all (Err refused)) put.edition
+        (row_refused all rows front.0 fields front.1 readable between put.holds sizes refused other
+        (subst (λ k. IsRowRefusal between.edition k fields refused) (sym put.count) is))
+
+-- one record more
+pub put_more : (rows : Rows) (fields : List (List ℕ)) (row : ℕ) (old between new : SheetValue) → ArePut rows row old between
+    → ((rows : Rows) → length rows ≡ row → HoldsRecords rows between → HoldsRecords (rows ++ fields ∷ []) new)
+    → new.edition ≡ between.edition → new.sizes ≡ between.sizes
+    → length new.labels ≤ (row + 1) * between.sizes.cols → ArePut (rows ++ fields ∷ []) (row + 1) old new
+put_more rows fields row old between new put filled edition sizes few = record {
+  count = length-append rows (fields ∷ []) ∙ ap (λ n. n + 1) put.count;
+  holds = filled rows put.count put.holds;
+  edition = edition ∙ put.edition;
+  sizes = sizes ∙ put.sizes;
+  few = subst (λ (s : Sizes). length new.labels ≤ (row + 1) * s.cols) put.sizes few;
+}

@@ -1,7 +1,8 @@
 -- Filling the cells of a blank sheet, field by field.
-use Rattle.std.specs.Prelude.{◌≡◌, ℕ, ◌+◌, ◌*◌, ◌<◌, ◌≤◌, List, [], ◌∷◌, ◌++◌, length, take, slice_index_or, Option}
+use Rattle.std.specs.Prelude.{◌≡◌, ℕ, ◌+◌, ◌*◌, ◌<◌, ◌≤◌, List, [], ◌∷◌, ◌++◌, length, take, drop, slice_index_or, Option}
 use Rattle.csv.specs.Records.{AllText}
 use Rattle.csv.specs.declared.reader.Reader.{Reader}
+use Rattle.csv_sheet.specs.Lines.{HasReadLines, line_fields}
 use Rattle.csv_sheet.specs.Reading.{HasReadRecords}
 use Rattle.sheet_refs.specs.Cells.{Position}
 use Rattle.sheet_model.specs.Fields.{IsContent, IsDeepFormula, IsTableAfter}
@@ -63,12 +64,28 @@ pub record IsPartFilled (row : ℕ) (fields : List (List ℕ)) (col : ℕ) (old 
   pub few : length new.labels ≤ row * old.sizes.cols + col
   pub clean : (k : ℕ) → k < col → ¬ IsRefusedFormula old.edition (slice_index_or fields k [])
 
--- so many records of a text were read and put into a sheet
-pub record HasFilled {R : Type 0} (left : R → Option (List ℕ)) (text : List ℕ) (row : ℕ) (old new : SheetValue) (reader : Reader R) : Type 0 where
-  pub rows : Rows
+-- so many records were put into a sheet
+pub record ArePut (rows : Rows) (row : ℕ) (old new : SheetValue) : Type 0 where
   pub count : length rows ≡ row
-  pub read : HasReadRecords left text rows reader
   pub holds : HoldsRecords rows new
   pub edition : new.edition ≡ old.edition
   pub sizes : new.sizes ≡ old.sizes
   pub few : length new.labels ≤ row * old.sizes.cols
+
+-- so many records of a text were read and put into a sheet
+pub record HasFilled {R : Type 0} (left : R → Option (List ℕ)) (text : List ℕ) (row : ℕ) (old new : SheetValue) (reader : Reader R) : Type 0 where
+  pub rows : Rows
+  pub read : HasReadRecords left text rows reader
+  pub put : ArePut rows row old new
+
+-- so many lines of a text were, up to what is left of it
+pub record HasFilledLines (text left : List ℕ) (row : ℕ) (old new : SheetValue) : Type 0 where
+  pub rows : Rows
+  pub read : HasReadLines text left rows
+  pub put : ArePut rows row old new
+  pub few : row + length left ≤ length text
+
+-- so many fields of a line were put into a row, and these bytes are left of it
+pub record IsLineFilled (row : ℕ) (line left : List ℕ) (col : ℕ) (old new : SheetValue) : Type 0 where
+  pub part : IsPartFilled row (line_fields [] line) col old new
+  pub behind : col < length (line_fields [] line) → drop col (line_fields [] line) ≡ line_fields [] left

@@ -22,6 +22,10 @@ has_quote text = list_any (λ b. b == 34) text
 abbrev pub is_comma : ℕ → Bool
 is_comma b = b == 44
 
+-- whether a byte goes on with a field of a line
+abbrev pub goes_on_field : ℕ → Bool
+goes_on_field b = not (is_comma b)
+
 -- what stands between the commas of a line, of whose first field some bytes are known
 unfoldable pub line_fields : List ℕ → List ℕ → List (List ℕ)
 line_fields field [] = field ∷ []
@@ -39,14 +43,22 @@ pub record AreCounted (rows : Rows) (lines : Lines) : Type 0 where
   pub text : AreText rows
   pub short : NoField IsLong rows
 
--- so many lines of a text were counted as its records, up to what is left of it
-pub record HasCounted (text left : List ℕ) (lines : Lines) : Type 0 where
-  pub rows : Rows
+-- a text whose records are its lines
+pub record IsPlain (text : List ℕ) : Type 0 where
+  pub ascii : IsAscii text
+  pub unquoted : has_quote text ≡ false
+
+-- these records were read of a text line by line, up to what is left of it
+pub record HasReadLines (text left : List ℕ) (rows : Rows) : Type 0 where
   pub state : State
   pub rest : List ℕ
   pub reached : Reached default_config StartRecord text rows state rest
   pub goes : next_record default_config state [] [] rest ≡ next_record default_config StartRecord [] [] left
+  pub plain : IsPlain left
+
+-- and so many lines were counted
+pub record HasCounted (text left : List ℕ) (lines : Lines) : Type 0 where
+  pub rows : Rows
+  pub read : HasReadLines text left rows
   pub counted : AreCounted rows lines
-  pub ascii : IsAscii left
-  pub unquoted : has_quote left ≡ false
   pub few : lines.rows + length left ≤ length text

@@ -6,8 +6,8 @@
 //! the first cause why it has none (`specs/Results.antt`), and `load` gives it. What a field holds, and which texts
 //! of labels a sheet has, `sheet_model` says.
 //!
-//! Below stand `sheet_refs`, `formula_syntax`, `sheet_model`, the kit's `csv`, and, in definitions and proofs alone,
-//! `value_core`; above stands `sheet_cli`.
+//! Below stand `sheet_refs`, `formula_syntax`, `sheet_model`, the kit's `csv` and `memchr`, and, in definitions and
+//! proofs alone, `value_core`; above stands `sheet_cli`.
 #![tactic(auto)]
 
 mod extent;

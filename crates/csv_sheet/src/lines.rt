@@ -1,16 +1,17 @@
-// The records of texts without quotes, which are their lines: counted byte by byte, without a record in memory.
+// The records of texts without quotes, which are their lines: cut byte by byte, without a record in memory.
 ghost use Rattle.std.specs.Prelude.{◌≡◌, ◌<◌, ◌≤◌, ◌+◌, ◌-◌, ◌^◌};
-ghost use Rattle.std.specs.Prelude.{[], length, drop, count_by, IfSome};
+ghost use Rattle.std.specs.Prelude.{[], length, take, drop, count_by, IfSome, IsTrue};
 ghost use Rattle.std.specs.List.{prefix_len};
 ghost use Rattle.std.specs.Str.{IsAscii};
 ghost use Rattle.csv.specs.Reading.{AreRecords, default_config};
 ghost use Rattle.csv.specs.declared.parser.State.TheVariants.{StartRecord};
-ghost use Rattle.csv_sheet.specs.Lines.{AreCounted, goes_on, is_comma, line_fields, with_line};
+ghost use Rattle.csv_sheet.specs.Lines.{AreCounted, IsPlain, goes_on, goes_on_field, is_comma, line_fields, with_line};
 ghost use Rattle.csv_sheet.specs.Reading.{Measures};
 ghost use Rattle.csv_sheet.specs.Records.{Rows};
 
 use crate::extent::Extent;
 use formula_syntax::MAX_FIELD;
+use memchr::{memchr, memchr2};
 
 /// How many lines have a byte, and how many fields the longest of them has.
 #[derive(Clone, Copy)]
@@ -19,19 +20,21 @@ pub(crate) struct Lines {
     cols: usize,
 }
 
-// Whether a byte goes on with a line.
-fn is_within(byte: u8) -> bool
-    ensures { result ≡ goes_on byte }
-{
-    byte != b'\r' && byte != b'\n'
-}
-
 // How many bytes the line at the front has.
 fn line_length(text: &[u8]) -> usize
     ensures count { result ≡ prefix_len goes_on text.now }
     ensures within { result ≤ length text.now }
 {
-    text.iter().take_while(|byte| is_within(**byte)).count()
+    memchr2(b'\r', b'\n', text).unwrap_or(text.len())
+}
+
+/// The line at the front, and what is behind its end.
+pub(crate) fn split_line(text: &[u8]) -> (&[u8], &[u8])
+    ensures line { result.0.now ≡ take (prefix_len goes_on text.now) text.now }
+    ensures behind { result.1.now ≡ drop 1 (drop (prefix_len goes_on text.now) text.now) }
+{
+    let (line, behind) = text.split_at(line_length(text));
+    (line, behind_first(behind))
 }
 
 // How many commas a line has.
@@ -41,12 +44,29 @@ fn comma_count(line: &[u8]) -> usize
     line.iter().filter(|byte| **byte == b',').count()
 }
 
-// How many fields a line has.
-fn field_count(line: &[u8]) -> usize
-    requires { length line.now ≤ MAX_FIELD }
+/// How many fields a line has.
+pub(crate) fn field_count(line: &[u8]) -> usize
+    requires { length line.now ≤ 16777216 }
     ensures { result ≡ length (line_fields [] line.now) }
 {
     comma_count(line) + 1
+}
+
+// How many bytes the first field of a line has.
+fn field_length(line: &[u8]) -> usize
+    ensures count { result ≡ prefix_len goes_on_field line.now }
+    ensures within { result ≤ length line.now }
+{
+    memchr(b',', line).unwrap_or(line.len())
+}
+
+/// The first field of a line, and what is behind the comma that ends it.
+pub(crate) fn split_field(line: &[u8]) -> (&[u8], &[u8])
+    ensures field { result.0.now ≡ take (prefix_len goes_on_field line.now) line.now }
+    ensures behind { result.1.now ≡ drop 1 (drop (prefix_len goes_on_field line.now) line.now) }
+{
+    let (field, behind) = line.split_at(field_length(line));
+    (field, behind_first(behind))
 }
 
 // What is behind the first byte.
@@ -78,6 +98,13 @@ impl Lines {
     }
 }
 
+/// Whether the records of a text are its lines: all its bytes are ASCII, and none is a quote.
+pub(crate) fn is_plain(text: &[u8]) -> bool
+    ensures { IsTrue result → IsPlain text.now }
+{
+    text.is_ascii() && !text.contains(&b'"')
+}
+
 /// The extent of the records of a text, in time proportional to its length and without memory; None where it has a
 /// quote, a byte that isn't ASCII, or a line that is longer than a field may be.
 pub(crate) fn measure_lines(text: &[u8]) -> Option<Extent>
@@ -85,18 +112,18 @@ pub(crate) fn measure_lines(text: &[u8]) -> Option<Extent>
     ensures { IfSome result (λ extent. (rows : Rows)
         × AreRecords default_config StartRecord text.now rows × Measures rows extent) }
 {
-    if !text.is_ascii() || text.contains(&b'"') {
+    if !is_plain(text) {
         return None;
     }
     let mut lines = Lines { rows: 0, cols: 0 };
     let mut left = text;
     while !left.is_empty() {
-        let (line, behind) = left.split_at(line_length(left));
+        let (line, behind) = split_line(left);
         if line.len() > MAX_FIELD {
             return None;
         }
         lines = lines.with(line);
-        left = behind_first(behind);
+        left = behind;
     }
     Some(Extent {
         rows: lines.rows,

@@ -1,23 +1,26 @@
-use Rattle.std.proofs.Common.{◌≡◌, ◌<◌, ◌∙◌, List, ℕ, rules, ap, refl, subst, sym, take, drop, length}
+use Rattle.std.proofs.Common.{◌≡◌, ◌<◌, ◌∙◌, List, ℕ, rules, refl, subst, sym, length}
 use Rattle.std.specs.List.{prefix_len}
 use Rattle.csv_sheet.specs.Lines.{AreCounted, HasCounted, goes_on, with_line}
-use Rattle.csv_sheet.proofs.LineLemmas.{counting_begins, counting_goes, counting_ends, is_byte}
+use Rattle.csv_sheet.proofs.LineLemmas.{counting_begins, counting_goes, counting_ends, behind_shorter, is_byte}
 use Rattle.csv_sheet.proofs.lines.measure_lines.Goals as goal
 
 pub loop-left-init : goal.loop-left-init
-loop-left-init c = counting_begins c.args.text.now _ (search rules) (search rules) refl refl
+loop-left-init c = counting_begins c.args.text.now _ (search rules) refl refl
 
 pub loop-left-preserved : goal.loop-left-preserved
 loop-left-preserved c =
     let left = c.loop-left.left.now in
-    let n = prefix_len goes_on left in
     let some : 0 < length left = search rules in
-    let line : c.split_at.result.0.now ≡ take n left = c.split_at.ensures.front ∙ ap (λ k. take k left) c.line_length.ensures.count in
-    let behind : c.behind_first-left.result.now ≡ drop 1 (drop n left) =
-    c.behind_first-left.ensures ∙ ap (λ (l : List ℕ). drop 1 l) (c.split_at.ensures.back ∙ ap (λ k. drop k left) c.line_length.ensures.count) in
-    subst (λ (l : List ℕ). HasCounted c.args.text.now l c.with-lines.result) (sym behind)
+    let cut = c.split_line.ensures in
+    subst (λ (l : List ℕ). HasCounted c.args.text.now l c.with-lines.result) (sym cut.behind)
     (counting_goes c.args.text.now left c.loop-left.lines c.with-lines.result c.loop-left.invariant some
-    (λ rows is. subst (λ (l : List ℕ). AreCounted (with_line rows l) c.with-lines.result) line (c.with-lines.ensures.counted rows is)) c.with-lines.ensures.few)
+    (λ rows is. subst (λ (l : List ℕ). AreCounted (with_line rows l) c.with-lines.result) cut.line (c.with-lines.ensures.counted rows is))
+    c.with-lines.ensures.few)
+
+pub loop-left-smaller : goal.loop-left-smaller
+loop-left-smaller c =
+    let some : 0 < length c.loop-left.left.now = search rules in
+    rw c.split_line.ensures.behind (behind_shorter (prefix_len goes_on c.loop-left.left.now) c.loop-left.left.now some)
 
 pub returns : goal.returns
 returns c =
