@@ -1,4 +1,4 @@
-ghost use Rattle.std.specs.Prelude.{◌≡◌, ◌≢◌, ◌<◌, ◌≤◌, ◌++◌};
+ghost use Rattle.std.specs.Prelude.{◌≡◌, ◌≢◌, ◌<◌, ◌≤◌, ◌+◌, ◌++◌};
 ghost use Rattle.std.specs.Prelude.{[], length, IfOk, IsTrue, OnErr};
 ghost use Rattle.sheet_io.specs.Faults.{Rose};
 ghost use Rattle.sheet_io.specs.Sink.{AppendsPrefix, Puts};
@@ -51,6 +51,23 @@ impl SinkBuffer {
         ensures cause { ¬ IsTrue result → Rose (K.faults sink.old) (K.faults sink.new) }
         ensures counted { K.faults sink.old ≤ K.faults sink.new }
     {
+        // Nearly all pieces are short, and fit.
+        if piece.len() <= MOST - self.bytes.len() {
+            self.hold(piece);
+            return true;
+        }
+        self.take_in_parts(piece, sink)
+    }
+
+    // The same of a piece that doesn't fit.
+    fn take_in_parts<K: Sink>(&mut self, piece: &[u8], sink: &mut K) -> bool
+        ensures passed { IsTrue result
+            → HasPassed (K.written sink.old) (K.written sink.new) (self.old ++ piece.now) self.new }
+        ensures cut { ¬ IsTrue result
+            → AppendsPrefix (K.written sink.old) (K.written sink.new) (self.old ++ piece.now) }
+        ensures cause { ¬ IsTrue result → Rose (K.faults sink.old) (K.faults sink.new) }
+        ensures counted { K.faults sink.old ≤ K.faults sink.new }
+    {
         let mut rest = piece;
         while !rest.is_empty() {
             if !self.make_room(sink) {
@@ -90,6 +107,16 @@ impl SinkBuffer {
         true
     }
 
+    // Holds bytes that fit.
+    #[inline(always)]
+    fn hold(&mut self, bytes: &[u8])
+        requires room { length self.old + length bytes.now ≤ 65536 }
+        ensures { self.new ≡ self.old ++ bytes.now }
+    {
+        // The room is there from the start, so this can't fail.
+        let _ = self.bytes.extend_from_slice(bytes);
+    }
+
     // Holds as many of the bytes as fit, and gives the others.
     fn fill<'a>(&mut self, bytes: &'a [u8]) -> &'a [u8]
         requires room { length self.old < 65536 }
@@ -99,8 +126,7 @@ impl SinkBuffer {
     {
         let fits = bytes.len().min(MOST - self.bytes.len());
         let (front, back) = bytes.split_at(fits);
-        // The room is there from the start, so this can't fail.
-        let _ = self.bytes.extend_from_slice(front);
+        self.hold(front);
         back
     }
 }

@@ -2,3 +2,4 @@ mod CallLemmas
 pub mod KeepLemmas
 mod LetterLemmas
 pub mod PieceLemmas
+mod WriteLemmas

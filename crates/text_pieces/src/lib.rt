@@ -11,6 +11,7 @@
 mod laws;
 mod names;
 mod pieces;
+mod written;
 
 pub use laws::piece_laws;
 pub use names::{send_cell, send_range, send_reference};

@@ -1,7 +1,7 @@
 -- What the commands print of reports, each of which is what was shown of a window after a number of edits.
-use Rattle.std.specs.Prelude.{◌≡◌, ℕ, ◌+◌, ◌-◌, ◌*◌, Bool, if◌then◌else◌, List, ◌∷◌, ◌++◌, length, slice_index_or, flat_map, codes}
+use Rattle.std.specs.Prelude.{ℕ, ◌+◌, ◌-◌, ◌*◌, Bool, if◌then◌else◌, List, ◌∷◌, ◌++◌, slice_index_or, flat_map, codes}
 use Rattle.std.specs.Fmt.{decimal}
-use Rattle.sheet_refs.specs.Cells.{Position, Corners, cells_of, width}
+use Rattle.sheet_refs.specs.Cells.{Position, Corners, width}
 use Rattle.sheet_refs.specs.Names.{range_text}
 use Rattle.sheet_model.specs.Boards.{BoardValue}
 use Rattle.sheet_model.specs.declared.board.Shown.{Shown}

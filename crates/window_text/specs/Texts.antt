@@ -1,10 +1,9 @@
 -- What the commands print of a sheet, and of its edges.
-use Rattle.std.specs.Prelude.{ℕ, ℤ, List, [], ◌∷◌, ◌++◌, map, flat_map, length, codes, IsTrue}
+use Rattle.std.specs.Prelude.{ℕ, ℤ, List, [], ◌∷◌, ◌++◌, map, flat_map, length, codes}
 use Rattle.std.specs.List.{join_with_byte}
 use Rattle.std.specs.Fmt.{decimal, signed_decimal}
-use Rattle.sheet_refs.specs.Cells.{Position, Corners, IsIn, rows_of, row_cells}
+use Rattle.sheet_refs.specs.Cells.{Position, Corners, rows_of, row_cells}
 use Rattle.sheet_refs.specs.Names.{range_text}
-use Rattle.sheet_refs.specs.Sizes.{is_inside}
 use Rattle.edge_patterns.specs.declared.edge.Pattern.{Pattern}
 use Rattle.edge_patterns.specs.declared.edge.Pattern.TheVariants.{Single, Rr, Rf, Fr, Ff, Chain}
 use Rattle.edge_patterns.specs.Edges.{EdgeValue}

@@ -1,5 +1,5 @@
 // The lines of edges.
-ghost use Rattle.std.specs.Prelude.{◌≡◌};
+ghost use Rattle.std.specs.Prelude.{◌≡◌, ◌++◌, ◌∷◌, []};
 ghost use Rattle.text_pieces.specs.Pieces.{HandsOut};
 ghost use Rattle.window_text.specs.Texts.{count_line, edge_line, pattern_text};
 
@@ -25,17 +25,17 @@ pub(crate) fn send_count<F: FnMut(&[u8]) -> bool>(word: &[u8], number: u64, to: 
     send(b"\n", to)
 }
 
-// The name of a pattern.
-fn pattern_name(pattern: Pattern) -> &'static str
-    ensures { result.now ≡ pattern_text pattern }
+// The name of a pattern as it ends the line of an edge, so that it goes out in one piece.
+fn pattern_ending(pattern: Pattern) -> &'static [u8]
+    ensures { result.now ≡ 32 ∷ pattern_text pattern ++ 10 ∷ [] }
 {
     match pattern {
-        Pattern::Single => "Single",
-        Pattern::Rr => "RR",
-        Pattern::Rf => "RF",
-        Pattern::Fr => "FR",
-        Pattern::Ff => "FF",
-        Pattern::Chain => "Chain",
+        Pattern::Single => b" Single\n",
+        Pattern::Rr => b" RR\n",
+        Pattern::Rf => b" RF\n",
+        Pattern::Fr => b" FR\n",
+        Pattern::Ff => b" FF\n",
+        Pattern::Chain => b" Chain\n",
     }
 }
 
@@ -54,11 +54,5 @@ pub(crate) fn send_edge<F: FnMut(&[u8]) -> bool>(edge: &Edge, to: &mut F) -> boo
     if !send_range(edge.prec(), to) {
         return false;
     }
-    if !send(b" ", to) {
-        return false;
-    }
-    if !send(pattern_name(edge.pattern()).as_bytes(), to) {
-        return false;
-    }
-    send(b"\n", to)
+    send(pattern_ending(edge.pattern()), to)
 }

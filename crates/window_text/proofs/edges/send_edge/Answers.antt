@@ -33,43 +33,11 @@ returns-then-not-send_range-2-clause-sent g c =
     c.if-not-send.ensures.sent)
     (subst (λ r. HandsOut g.F.FnMut c.send.new.to (range_text r) false c.send_range-2.new.to) c.prec.ensures.prec c.if-not-send_range-2.ensures.sent)
 
-pub returns-then-not-send-2-clause-sent : goal.returns-then-not-send-2-clause-sent
-returns-then-not-send-2-clause-sent g c =
-    let e = c.args.edge.now in
-    ended g.F.FnMut _ _ _ (edge_line e) (32 ∷ []) (pattern_text e.pattern ++ 10 ∷ [])
-    (next g.F.FnMut _ _ _ (edge_line e) (range_text e.prec) (after_rectangle e)
-    (next g.F.FnMut _ _ _ (edge_line e) (32 ∷ []) (range_text e.prec ++ after_rectangle e)
-    (begun g.F.FnMut _ _ (range_text e.dep) (after_run e)
-    (subst (λ r. HandsOut g.F.FnMut c.args.to.now (range_text r) true c.send_range.new.to) c.dep.ensures.dep
-    c.if-not-send_range.ensures.sent))
-    c.if-not-send.ensures.sent)
-    (subst (λ r. HandsOut g.F.FnMut c.send.new.to (range_text r) true c.send_range-2.new.to) c.prec.ensures.prec c.if-not-send_range-2.ensures.sent))
-    c.if-not-send-2.ensures.sent
-
-pub returns-then-not-send-3-clause-sent : goal.returns-then-not-send-3-clause-sent
-returns-then-not-send-3-clause-sent g c =
-    let e = c.args.edge.now in
-    let said : c.as_bytes.result.now ≡ pattern_text e.pattern = c.as_bytes.ensures.value
-    ∙ (c.pattern_name.ensures ∙ ap pattern_text c.pattern.ensures.pattern) in
-    ended g.F.FnMut _ _ _ (edge_line e) (pattern_text e.pattern) (10 ∷ [])
-    (next g.F.FnMut _ _ _ (edge_line e) (32 ∷ []) (pattern_text e.pattern ++ 10 ∷ [])
-    (next g.F.FnMut _ _ _ (edge_line e) (range_text e.prec) (after_rectangle e)
-    (next g.F.FnMut _ _ _ (edge_line e) (32 ∷ []) (range_text e.prec ++ after_rectangle e)
-    (begun g.F.FnMut _ _ (range_text e.dep) (after_run e)
-    (subst (λ r. HandsOut g.F.FnMut c.args.to.now (range_text r) true c.send_range.new.to) c.dep.ensures.dep
-    c.if-not-send_range.ensures.sent))
-    c.if-not-send.ensures.sent)
-    (subst (λ r. HandsOut g.F.FnMut c.send.new.to (range_text r) true c.send_range-2.new.to) c.prec.ensures.prec c.if-not-send_range-2.ensures.sent))
-    c.if-not-send-2.ensures.sent)
-    (subst (λ t. HandsOut g.F.FnMut c.send-2.new.to t false c.send-3.new.to) said c.if-not-send-3.ensures.sent)
-
 pub returns-clause-sent : goal.returns-clause-sent
 returns-clause-sent g c =
     let e = c.args.edge.now in
-    let said : c.as_bytes.result.now ≡ pattern_text e.pattern = c.as_bytes.ensures.value
-    ∙ (c.pattern_name.ensures ∙ ap pattern_text c.pattern.ensures.pattern) in
-    (next g.F.FnMut _ _ _ (edge_line e) (pattern_text e.pattern) (10 ∷ [])
-    (next g.F.FnMut _ _ _ (edge_line e) (32 ∷ []) (pattern_text e.pattern ++ 10 ∷ [])
+    let said : c.pattern_ending.result.now ≡ after_rectangle e = c.pattern_ending.ensures
+    ∙ ap (λ p. 32 ∷ pattern_text p ++ 10 ∷ []) c.pattern.ensures.pattern in
     (next g.F.FnMut _ _ _ (edge_line e) (range_text e.prec) (after_rectangle e)
     (next g.F.FnMut _ _ _ (edge_line e) (32 ∷ []) (range_text e.prec ++ after_rectangle e)
     (begun g.F.FnMut _ _ (range_text e.dep) (after_run e)
@@ -77,6 +45,5 @@ returns-clause-sent g c =
     c.if-not-send_range.ensures.sent))
     c.if-not-send.ensures.sent)
     (subst (λ r. HandsOut g.F.FnMut c.send.new.to (range_text r) true c.send_range-2.new.to) c.prec.ensures.prec c.if-not-send_range-2.ensures.sent))
-    c.if-not-send-2.ensures.sent)
-    (subst (λ t. HandsOut g.F.FnMut c.send-2.new.to t true c.send-3.new.to) said c.if-not-send-3.ensures.sent))
-    c.send-4.new.to c.send-4.result c.send-4.ensures.sent
+    c.send-2.new.to c.send-2.result
+    (subst (λ t. HandsOut g.F.FnMut c.send_range-2.new.to t c.send-2.result c.send-2.new.to) said c.send-2.ensures.sent)

@@ -1,6 +1,6 @@
 use Rattle.std.proofs.Common.{◌≤◌, ◌++◌, length}
 use Rattle.sink_buffer.specs.Buffers.{HasPassed}
-use Rattle.sink_buffer.proofs.buffer.SinkBuffer.take.Given as goal
+use Rattle.sink_buffer.proofs.buffer.SinkBuffer.take_in_parts.Given as goal
 
 -- what came has passed, where the rest counts as held
 abbrev pub invariant-loop-rest : goal.invariant-loop-rest

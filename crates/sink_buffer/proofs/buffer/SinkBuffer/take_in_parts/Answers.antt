@@ -1,6 +1,6 @@
 use Rattle.std.proofs.Common.{refl, arith, ◌++◌}
 use Rattle.sink_buffer.proofs.PassLemmas.{taken_cut, taken_more}
-use Rattle.sink_buffer.proofs.buffer.SinkBuffer.take.Goals as goal
+use Rattle.sink_buffer.proofs.buffer.SinkBuffer.take_in_parts.Goals as goal
 
 pub returns-then-not-make_room-clause-cut : goal.returns-then-not-make_room-clause-cut
 returns-then-not-make_room-clause-cut g c = λ refused.
