@@ -4,15 +4,21 @@ use Rattle.std.proofs.lemmas.Bool.{cases_lt}
 use Rattle.std.specs.Prelude.{Bool, true, false}
 use Rattle.sheet_refs.specs.Cells.{Position, Corners, IsIn, IsOrdered, span_of}
 use Rattle.edge_patterns.specs.declared.axis.Axis.{Axis}
+use Rattle.edge_patterns.specs.declared.axis.Axis.TheVariants.{Down, Right}
 use Rattle.edge_patterns.specs.declared.edge.Pattern.{Pattern}
 use Rattle.edge_patterns.specs.declared.edge.Pattern.TheVariants.{Single, Rr, Rf, Fr, Ff, Chain}
-use Rattle.edge_patterns.specs.Axes.{along, IsLine, count_along, cell_along}
+use Rattle.edge_patterns.specs.Axes.{along, across, position_at, IsLine, count_along, cell_along}
 use Rattle.edge_patterns.specs.Edges.{EdgeValue, IsEdge, IsShapeOf, IsPair, run_length, range_at, range_along, head_moves, tail_moves, edge_of}
-use Rattle.edge_patterns.specs.Joins.{Follows, HasBothPairs, HasEnds, HasInnerRanges, Moves}
+use Rattle.edge_patterns.specs.Joins.{Follows, HasBothPairs, HasEnds, HasInnerRanges, IsAsWide, Moves}
 use Rattle.edge_patterns.proofs.Crossings.{lies, is_in, ordered, is_ordered}
 use Rattle.edge_patterns.proofs.AxisLemmas.{to_along, from_along}
-use Rattle.edge_patterns.proofs.JoinLemmas.{same_range, shape_along, length_either, range_either, ordered_span, ends_at, head_goes, tail_goes}
+use Rattle.edge_patterns.proofs.JoinLemmas.{same_range, shape_along, length_either, range_either, ordered_span, as_wide, ends_at, head_goes, tail_goes}
 use Rattle.edge_patterns.proofs.UnionLemmas.{agree, same_cells, run_has_ranges, one_range}
+
+-- the coordinate across a direction of a position that is given by its two coordinates
+across_position : (axis : Axis) (line index : ℕ) → across axis (position_at axis line index) ≡ index
+across_position Down line index = refl
+across_position Right line index = refl
 
 -- whether a coordinate moves is told by its ends
 moves_one : (m k : Bool) (first last count : ℕ) → 0 < count → Moves first last count m → Moves first last count k → m ≡ k
@@ -367,6 +373,15 @@ module _ (axis : Axis) (front rear : EdgeValue) (front_is : IsEdge front) (rear_
           dep_is = union_run;
           first_is = sym (union_front 0 front_some);
           last_is = sym (ap (range_along axis edge) last) ∙ sym (union_rear (count_along axis rear.dep - 1) (omega (arith, rear_some)));
+        }
+
+    -- the rectangles are as wide as the outer ranges, and so are those
+    pub union_wide : IsAsWide axis front.prec rear.prec
+    union_wide =
+        let wide = as_wide axis whole _ _ edge whole_line union_ends in
+        record {
+          left = sym (across_position axis _ (across axis front.prec.head)) ∙ wide.left ∙ across_position axis _ (across axis rear.prec.head);
+          right = sym (across_position axis _ (across axis front.prec.tail)) ∙ wide.right ∙ across_position axis _ (across axis rear.prec.tail);
         }
 
     pub union_inner : HasInnerRanges edge front rear

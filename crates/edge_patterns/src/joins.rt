@@ -52,6 +52,10 @@ fn union_of(axis: Axis, front: &Edge, rear: &Edge) -> Option<Edge>
     requires { Follows axis front.now.dep rear.now.dep }
     ensures { Finds result (HasBothPairs front.now rear.now) }
 {
+    // Most neighbours refer to other columns, or other rows, which is found at a look.
+    if !is_as_wide(axis, &front.prec(), &rear.prec()) {
+        return None;
+    }
     let dep = Range::of(front.dep().head(), rear.dep().tail());
     let outer = over(axis, dep, front.range_at(0), rear.range_at(rear.len() - 1));
     let Some(edge) = outer else {

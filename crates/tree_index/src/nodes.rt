@@ -1,5 +1,5 @@
 // The nodes of a tree, and each single look at them and write to them.
-ghost use Rattle.std.specs.Prelude.{◌≡◌, ◌↔◌, ◌++◌, [], ◌∷◌, None, Some};
+ghost use Rattle.std.specs.Prelude.{◌≡◌, ◌↔◌, ◌-◌, ◌++◌, [], ◌∷◌, length, None, Some};
 ghost use Rattle.std.specs.Prelude.{IsTrue, IsFalse, IsSome, IfSome, IfNone, MatchOption, swap_remove};
 ghost use Rattle.std.specs.HashMap.{spare, IsUnique};
 ghost use Rattle.std.specs.Prelude.{nat_eq};
@@ -32,10 +32,23 @@ pub(crate) struct Tree {
     pub(crate) newest: Item,
 }
 
-// The place of a key among children.
+// Whether a key is that of the last child.
+fn is_last(children: &[Item], id: usize) -> bool
+    ensures { IsTrue result → IsPlaceOf children.now id (length children.now - 1) }
+{
+    match children.last() {
+        Some(child) => child.id == id,
+        None => false,
+    }
+}
+
+// The place of a key among children. The last one is asked first: where entries come in order, it is the one.
 pub(crate) fn place_of(children: &[Item], id: usize) -> Option<usize>
     ensures { MatchOption result (HasNoId children.now id) (IsPlaceOf children.now id) }
 {
+    if is_last(children, id) {
+        return Some(children.len() - 1);
+    }
     for place in 0..children.len() {
         let child = children[place];
         if child.id == id {

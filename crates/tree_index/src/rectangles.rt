@@ -1,10 +1,40 @@
 // Rectangles that hold others.
-ghost use Rattle.std.specs.Prelude.{◌↔◌, ◌≡◌, IsTrue, IsNone, IfSome, length};
+ghost use Rattle.std.specs.Prelude.{◌↔◌, ◌≡◌, IsTrue, IsNone, IfSome, length, max, min};
 ghost use Rattle.sheet_refs.specs.Rectangles.{Overlap};
 ghost use Rattle.tree_index.specs.Rectangles.{AreCrossed, Covers, CoverAll, IsLeast, IsSpan};
 
 use crate::item::Item;
-use sheet_refs::Range;
+use sheet_refs::{Cell, Range};
+
+// The cell at the top left of two. It makes no cell anew where one of them is it, as where entries come in order.
+#[inline(always)]
+fn upper(a: Cell, b: Cell) -> Cell
+    ensures row { result.row ≡ min a.row b.row }
+    ensures col { result.col ≡ min a.col b.col }
+{
+    if a.row() <= b.row() && a.col() <= b.col() {
+        return a;
+    }
+    if b.row() <= a.row() && b.col() <= a.col() {
+        return b;
+    }
+    Range::of(a, b).head()
+}
+
+// The cell at the bottom right of two.
+#[inline(always)]
+fn lower(a: Cell, b: Cell) -> Cell
+    ensures row { result.row ≡ max a.row b.row }
+    ensures col { result.col ≡ max a.col b.col }
+{
+    if b.row() <= a.row() && b.col() <= a.col() {
+        return a;
+    }
+    if a.row() <= b.row() && a.col() <= b.col() {
+        return b;
+    }
+    Range::of(a, b).tail()
+}
 
 /// The smallest rectangle that has both.
 pub(crate) fn span(a: Range, b: Range) -> Range
@@ -12,9 +42,10 @@ pub(crate) fn span(a: Range, b: Range) -> Range
     ensures second { Covers result b }
     ensures least { IsSpan a b result }
 {
-    let heads = Range::of(a.head(), b.head());
-    let tails = Range::of(a.tail(), b.tail());
-    Range::of(heads.head(), tails.tail())
+    if covers(a, b) {
+        return a;
+    }
+    Range::of(upper(a.head(), b.head()), lower(a.tail(), b.tail()))
 }
 
 /// Whether each cell of the one is a cell of the other.
@@ -22,8 +53,8 @@ pub(crate) fn covers(outer: Range, inner: Range) -> bool
     ensures { IsTrue result ↔ Covers outer inner }
 {
     let (head, tail) = (outer.head(), outer.tail());
-    let above = head.row() <= inner.head().row() && head.col() <= inner.head().col();
-    above && inner.tail().row() <= tail.row() && inner.tail().col() <= tail.col()
+    let rows = head.row() <= inner.head().row() && inner.tail().row() <= tail.row();
+    rows && head.col() <= inner.head().col() && inner.tail().col() <= tail.col()
 }
 
 // Whether neither rectangle ends before the other begins.

@@ -3,8 +3,15 @@ use Rattle.sheet_refs.specs.Cells.{span_of}
 use Rattle.edge_patterns.specs.Edges.{EdgeValue, range_at, run_length}
 use Rattle.edge_patterns.specs.Joins.{HasEnds, HasInnerRanges}
 use Rattle.edge_patterns.proofs.ChainLemmas.{refuted}
-use Rattle.edge_patterns.proofs.JoinedLemmas.{outer, has_pairs, union_ends, union_inner, ends_tell, whole, whole_line, whole_several}
+use Rattle.edge_patterns.proofs.JoinedLemmas.{outer, has_pairs, union_ends, union_inner, union_wide, ends_tell, whole, whole_line, whole_several}
 use Rattle.edge_patterns.proofs.joins.union_of.Goals as goal
+
+pub returns-then-not-is_as_wide : goal.returns-then-not-is_as_wide
+returns-then-not-is_as_wide c = λ edge union.
+    let front = c.args.front.now in
+    let rear = c.args.rear.now in
+    let not_wide = rw (c.prec.ensures.prec, c.prec-2.ensures.prec) at c.if-not-is_as_wide.ensures in
+    refuted not_wide (union_wide c.args.axis front rear c.prec.ensures.edge c.prec-2.ensures.edge c.requires edge union)
 
 pub returns-in_default : goal.returns-in_default
 returns-in_default c = λ edge union.
