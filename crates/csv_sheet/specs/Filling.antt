@@ -1,17 +1,19 @@
 -- Filling the cells of a blank sheet, field by field.
-use Rattle.std.specs.Prelude.{◌≡◌, ℕ, ◌+◌, ◌*◌, ◌<◌, ◌≤◌, List, [], ◌∷◌, ◌++◌, length, take, drop, slice_index_or, Option}
+use Rattle.std.specs.Prelude.{◌≡◌, ◌≢◌, Err, ℕ, ◌+◌, ◌*◌, ◌<◌, ◌≤◌, List, [], ◌∷◌, ◌++◌, length, take, drop, slice_index_or, Option}
+use Rattle.csv.specs.Reading.{AreRecords, default_config}
 use Rattle.csv.specs.Records.{AllText}
+use Rattle.csv.specs.declared.parser.State.TheVariants.{StartRecord}
 use Rattle.csv.specs.declared.reader.Reader.{Reader}
 use Rattle.csv_sheet.specs.Lines.{HasReadLines, line_fields}
 use Rattle.csv_sheet.specs.Reading.{HasReadRecords}
 use Rattle.sheet_refs.specs.Cells.{Position}
 use Rattle.sheet_model.specs.Fields.{IsContent, IsDeepFormula, IsTableAfter}
-use Rattle.sheet_model.specs.Sheets.{SheetValue, ContentValue, IsSheet, content_of, with_content, with_labels}
+use Rattle.sheet_model.specs.Sheets.{SheetValue, ContentValue, IsSheet, blank_sheet, content_of, with_content, with_labels}
 use Rattle.sheet_model.specs.Tables.{AddsLabels}
 use Rattle.formula_syntax.specs.declared.edition.Edition.{Edition}
 use Rattle.formula_syntax.specs.Spelling.{HasTooManyRefs}
-use Rattle.csv_sheet.specs.Records.{Rows, all_fields, field_at, cell_there}
-use Rattle.csv_sheet.specs.Results.{IsLong, IsRefusedFormula}
+use Rattle.csv_sheet.specs.Records.{Rows, all_fields, field_at, cell_there, sizes_of}
+use Rattle.csv_sheet.specs.Results.{AreReadable, IsGivenByRecords, IsLong, IsRefusedFormula, IsSheetOf}
 use Rattle.csv_sheet.specs.declared.refused.SheetRefused.{SheetRefused}
 use Rattle.csv_sheet.specs.declared.refused.SheetRefused.TheVariants.{NotUtf8, TooManyCells, FieldTooLong, FormulaTooDeep, TooManyRefs, UnknownEdition, Memory}
 
@@ -89,3 +91,16 @@ pub record HasFilledLines (text left : List ℕ) (row : ℕ) (old new : SheetVal
 pub record IsLineFilled (row : ℕ) (line left : List ℕ) (col : ℕ) (old new : SheetValue) : Type 0 where
   pub part : IsPartFilled row (line_fields [] line) col old new
   pub behind : col < length (line_fields [] line) → drop col (line_fields [] line) ≡ line_fields [] left
+
+-- a blank sheet of the sizes of a text's records, which can be read
+abbrev pub IsBlankFor : List ℕ → SheetValue → Type 0
+IsBlankFor text sheet = (rows : Rows) × AreRecords default_config StartRecord text rows × AreReadable rows
+    × (sheet ≡ blank_sheet sheet.edition (sizes_of rows))
+
+-- the sheet of a text's records in an edition
+abbrev pub IsFilledWith : List ℕ → Edition → SheetValue → Type 0
+IsFilledWith text edition sheet = (rows : Rows) × AreRecords default_config StartRecord text rows × IsSheetOf edition rows sheet
+
+-- a refusal other than want of memory is what a text's records give
+abbrev pub IsFillRefusal : List ℕ → Edition → SheetRefused → Type 0
+IsFillRefusal text edition e = e ≢ Memory → (rows : Rows) × AreRecords default_config StartRecord text rows × IsGivenByRecords edition rows (Err e)

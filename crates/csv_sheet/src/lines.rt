@@ -1,4 +1,4 @@
-// The records of texts without quotes, which are their lines: cut byte by byte, without a record in memory.
+// The records of texts without quotes, which are their lines: cut without a record in memory.
 ghost use Rattle.std.specs.Prelude.{◌≡◌, ◌<◌, ◌≤◌, ◌+◌, ◌-◌, ◌^◌};
 ghost use Rattle.std.specs.Prelude.{[], length, take, drop, count_by, IfSome, IsTrue};
 ghost use Rattle.std.specs.List.{prefix_len};

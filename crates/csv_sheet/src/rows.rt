@@ -1,17 +1,12 @@
 ghost use Rattle.std.specs.Prelude.{◌≡◌, ◌≢◌, ◌<◌, ◌≤◌, ◌+◌, ◌-◌};
 ghost use Rattle.std.specs.Prelude.{◌*◌, ◌^◌, [], ◌∷◌, ◌++◌, length};
 ghost use Rattle.std.specs.Prelude.{IfErr, OnOk, Err, IsTrue, IsUtf8};
-ghost use Rattle.csv.specs.Reading.{AreRecords, default_config};
 ghost use Rattle.csv.specs.Records.{fields_of};
-ghost use Rattle.csv.specs.declared.parser.State.TheVariants.{StartRecord};
 ghost use Rattle.sheet_refs.specs.Sizes.{is_inside};
-ghost use Rattle.sheet_model.specs.Sheets.{blank_sheet};
 ghost use Rattle.csv_sheet.specs.Filling.{HoldsRecords, PutsField, IsFieldRefusal, IsRecordFor};
-ghost use Rattle.csv_sheet.specs.Filling.{IsRowRefusal};
+ghost use Rattle.csv_sheet.specs.Filling.{IsBlankFor, IsFilledWith, IsFillRefusal, IsRowRefusal};
 ghost use Rattle.csv_sheet.specs.Lines.{IsPlain, line_fields};
-ghost use Rattle.csv_sheet.specs.Records.{Rows, sizes_of, without_marks};
-ghost use Rattle.csv_sheet.specs.Results.{AreReadable, IsGivenByRecords, IsSheetOf};
-ghost use Rattle.csv_sheet.specs.declared.refused.SheetRefused.TheVariants as refused;
+ghost use Rattle.csv_sheet.specs.Records.{Rows, without_marks};
 
 use crate::lines::{field_count, is_plain, split_field, split_line};
 use crate::records::{read_text, reader_of, text_field};
@@ -91,12 +86,9 @@ fn text_of(field: &[u8]) -> &str
 pub(crate) fn fill(alloc: Global, text: &[u8], sheet: &mut Sheet) -> Result<(), SheetRefused>
     requires short { length text.now ≤ 16777216 }
     requires no_marks { without_marks text.now ≡ text.now }
-    requires blank { (rows : Rows) × AreRecords default_config StartRecord text.now rows
-        × AreReadable rows × (sheet.old ≡ blank_sheet sheet.old.edition (sizes_of rows)) }
-    ensures filled { OnOk result ((rows : Rows)
-        × AreRecords default_config StartRecord text.now rows × IsSheetOf sheet.old.edition rows sheet.new) }
-    ensures why { IfErr result (λ e. e ≢ refused.Memory → (rows : Rows)
-        × AreRecords default_config StartRecord text.now rows × IsGivenByRecords sheet.old.edition rows (Err e)) }
+    requires blank { IsBlankFor text.now sheet.old }
+    ensures filled { OnOk result (IsFilledWith text.now sheet.old.edition sheet.new) }
+    ensures why { IfErr result (IsFillRefusal text.now sheet.old.edition) }
 {
     if is_plain(text) {
         fill_lines(text, sheet)
@@ -109,12 +101,9 @@ pub(crate) fn fill(alloc: Global, text: &[u8], sheet: &mut Sheet) -> Result<(), 
 fn fill_lines(text: &[u8], sheet: &mut Sheet) -> Result<(), SheetRefused>
     requires short { length text.now ≤ 16777216 }
     requires plain { IsPlain text.now }
-    requires blank { (rows : Rows) × AreRecords default_config StartRecord text.now rows
-        × AreReadable rows × (sheet.old ≡ blank_sheet sheet.old.edition (sizes_of rows)) }
-    ensures filled { OnOk result ((rows : Rows)
-        × AreRecords default_config StartRecord text.now rows × IsSheetOf sheet.old.edition rows sheet.new) }
-    ensures why { IfErr result (λ e. e ≢ refused.Memory → (rows : Rows)
-        × AreRecords default_config StartRecord text.now rows × IsGivenByRecords sheet.old.edition rows (Err e)) }
+    requires blank { IsBlankFor text.now sheet.old }
+    ensures filled { OnOk result (IsFilledWith text.now sheet.old.edition sheet.new) }
+    ensures why { IfErr result (IsFillRefusal text.now sheet.old.edition) }
 {
     let mut left = text;
     let mut row = 0;
@@ -132,12 +121,9 @@ fn fill_lines(text: &[u8], sheet: &mut Sheet) -> Result<(), SheetRefused>
 // The same by reading each record.
 fn fill_records(alloc: Global, text: &[u8], sheet: &mut Sheet) -> Result<(), SheetRefused>
     requires no_marks { without_marks text.now ≡ text.now }
-    requires blank { (rows : Rows) × AreRecords default_config StartRecord text.now rows
-        × AreReadable rows × (sheet.old ≡ blank_sheet sheet.old.edition (sizes_of rows)) }
-    ensures filled { OnOk result ((rows : Rows)
-        × AreRecords default_config StartRecord text.now rows × IsSheetOf sheet.old.edition rows sheet.new) }
-    ensures why { IfErr result (λ e. e ≢ refused.Memory → (rows : Rows)
-        × AreRecords default_config StartRecord text.now rows × IsGivenByRecords sheet.old.edition rows (Err e)) }
+    requires blank { IsBlankFor text.now sheet.old }
+    ensures filled { OnOk result (IsFilledWith text.now sheet.old.edition sheet.new) }
+    ensures why { IfErr result (IsFillRefusal text.now sheet.old.edition) }
 {
     let mut reader = reader_of(alloc, text);
     let mut fields = StringRecord::new(alloc);
