@@ -20,10 +20,12 @@ mod LookLemmas
 pub mod LoopLemmas
 pub mod PartLemmas
 pub mod RangeLemmas
+mod ReadyLemmas
 mod ResultLemmas
 pub mod SameSheets
 pub mod SheetLemmas
 pub mod SheetValues
+mod SettleLemmas
 mod StepLemmas
 pub mod TableLemmas
 mod TurnLemmas

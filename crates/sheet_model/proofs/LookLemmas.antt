@@ -41,6 +41,17 @@ module _ (sizes : Sizes) (states : List CellState) where
       → slice_get (cells_of part.range) place ≡ Some c → IsFalse (is_plain sizes states c)
   stop_past part place past c at = absurd (let within = slice_get_within (cells_of part.range) place c at in omega arith)
 
+  -- evaluation can read past each cell of a part that is done with
+  pub past_cells : (part : Part) (next : ℕ) → IsPartOfRectangle sizes states (part_at part next)
+      → length (cells_of part.range) ≤ next → ((cell : Position) → Contains (cells_of part.range) cell
+      ↔ IsIn cell part.range) → (cell : Position) → IsIn cell part.range → IsTrue (is_plain sizes states cell)
+  past_cells part next is end listed cell inside =
+      let found = (listed cell).1 inside in
+      let less = found.1 in
+      is.passed found.0 cell (omega (arith, less, end))
+      (slice_get_read (cells_of part.range) (length (cells_of part.range)) found.0 cell refl found.1
+      (sym found.2))
+
   module _ (old rest : List Part) (part : Part) (looks : LooksOn sizes states old (rest ++ part ∷ [])) where
     in_rest : (k : ℕ) (p : Part) → slice_get rest k ≡ Some p → slice_get (rest ++ part ∷ []) k ≡ Some p
     in_rest k p at = slice_get-append rest (part ∷ []) k p at
@@ -69,17 +80,9 @@ module _ (sizes : Sizes) (states : List CellState) where
       left = λ k cell at. elim (left_or_last k cell at) [
         | inl plain ↦ inl plain
         | inr still ↦
-            elim still [ inl here ↦ inr here | inr last ↦ inl (plain_in cell last.1) ]
+            elim still [ inl here ↦ inr here | inr last ↦ inl (past_cells part next is end listed cell last.1) ]
       ];
     }
-      where
-        plain_in : (cell : Position) → IsIn cell part.range → IsTrue (is_plain sizes states cell)
-        plain_in cell inside =
-            let found = (listed cell).1 inside in
-            let less = found.1 in
-            is.passed found.0 cell (omega (arith, less, end))
-            (slice_get_read (cells_of part.range) (length (cells_of part.range)) found.0 cell refl found.1
-            (sym found.2))
 
     -- the last part is left with a later next place
     pub looks_stop : (next : ℕ) → IsPartOfRectangle sizes states (part_at part next) → LooksOn sizes states old (rest ++ part_at part next ∷ [])

@@ -1,7 +1,8 @@
 -- The walk over a sheet: what is known of each cell, the cells that are open, and what each of them is still to look at.
 use Rattle.std.specs.Prelude.{◌≡◌, ◌≢◌, ◌⊎◌, ℕ, suc, ◌+◌, ◌*◌, ◌<◌, ◌≤◌, Bool, true, false, IsTrue, IsFalse, List, []}
-use Rattle.std.specs.Prelude.{length, map, slice_get, slice_index_or, count_by, Some}
+use Rattle.std.specs.Prelude.{length, map, set, slice_get, slice_index_or, count_by, Some}
 use Rattle.sheet_refs.specs.Cells.{Position}
+use Rattle.sheet_refs.specs.Ends.{Reference}
 use Rattle.sheet_refs.specs.Sizes.{is_inside, cell_count, place_of}
 use Rattle.sheet_refs.specs.declared.sizes.Sizes.{Sizes}
 use Rattle.value_core.specs.declared.value.ErrorKind.TheVariants.{Circ}
@@ -10,7 +11,7 @@ use Rattle.value_core.specs.declared.value.Value.TheVariants as value
 use Rattle.sheet_model.specs.Parts.{IsAt, IsLeftInParts, AreParts}
 use Rattle.sheet_model.specs.Sheets.{SheetValue, ContentValue, Constant, Computed, IsSheet}
 use Rattle.formula_eval.specs.Meaning.{IsNamedBy}
-use Rattle.sheet_model.specs.Values.{content_references, value_of, IsInput}
+use Rattle.sheet_model.specs.Values.{content_references, step_content, value_of, IsInput}
 use Rattle.sheet_model.specs.Words.{CellState, Unseen, Open, Known, AreWords, states_of, is_plain}
 use Rattle.sheet_model.specs.declared.parts.Part.{Part}
 use Rattle.sheet_model.specs.declared.walk.Frame.{Frame}
@@ -31,10 +32,23 @@ known_value (Known value) = value
 abbrev pub known_values : Sizes → List CellState → Position → Value
 known_values sizes states cell = known_value (slice_index_or states (place_of sizes cell) Unseen)
 
--- evaluation can read past each cell of the rectangle that a content names
+-- evaluation can read past each cell of the rectangle that references name
+abbrev pub ArePlainReferences : Sizes → List CellState → List Reference → Type 0
+ArePlainReferences sizes states references =
+    (cell : Position) → IsNamedBy references cell → IsTrue (is_inside sizes cell) → IsTrue (is_plain sizes states cell)
+
+-- the same of each that a content names
 abbrev pub ArePlainInputs : Sizes → List CellState → ContentValue → Type 0
-ArePlainInputs sizes states content = (cell : Position) → IsNamedBy (content_references content) cell
-    → IsTrue (is_inside sizes cell) → IsTrue (is_plain sizes states cell)
+ArePlainInputs sizes states content = ArePlainReferences sizes states (content_references content)
+
+-- what stands in the cell at a place
+abbrev pub content_there : SheetValue → ℕ → ContentValue
+content_there sheet place = slice_index_or sheet.contents place (Constant value.Empty)
+
+-- one cell more has a known value, which is that of its content over the values known before
+abbrev pub KnowsOneMore : SheetValue → List CellState → List CellState → ℕ → Type 0
+KnowsOneMore sheet old new place =
+    new ≡ set old place (Known (step_content sheet.sizes (known_values sheet.sizes old) (content_there sheet place)))
 
 abbrev pub is_unseen : CellState → Bool
 is_unseen Unseen = true

@@ -29,6 +29,7 @@ mod known;
 mod labels;
 mod laws;
 mod parts;
+mod ready;
 mod report;
 mod sheet;
 mod subject;

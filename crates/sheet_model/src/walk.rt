@@ -1,15 +1,18 @@
 ghost use Rattle.std.specs.Prelude.{◌≡◌, ◌≢◌, ◌<◌, ◌≤◌, ℕ, []};
 ghost use Rattle.std.specs.Prelude.{map, set, length, slice_get, IfOk};
-ghost use Rattle.std.specs.Prelude.{OnOk, Some};
+ghost use Rattle.std.specs.Prelude.{OnOk, Some, IsTrue, IsFalse};
 ghost use Rattle.sheet_refs.specs.Sizes.{place_of, cell_count};
 ghost use Rattle.sheet_model.specs.Values.{AreValues};
+ghost use Rattle.sheet_model.specs.Sheets.{content_value};
 ghost use Rattle.sheet_model.specs.Walks.{IsStoredWalk, IsIdle, StaysSeen, SeenBelow, IsWaiting};
 ghost use Rattle.sheet_model.specs.Walks.{IsClosing, IsNextToOpen, IsDone, cells_left, closed_state};
-ghost use Rattle.sheet_model.specs.Walks.{walk_states};
+ghost use Rattle.sheet_model.specs.Walks.{walk_states, content_there, KnowsOneMore};
 ghost use Rattle.sheet_model.specs.Words.{AreWords, Open, Unseen};
 
+use crate::content::Content;
 use crate::eval::{add_content, evaluate, first_words};
 use crate::parts::Part;
+use crate::ready::is_ready;
 use crate::sheet::Sheet;
 use crate::words::{OPEN, UNSEEN, look};
 use formula_eval::{CIRCULAR, Stack};
@@ -32,6 +35,14 @@ pub(crate) struct Walk {
     pub(crate) frames: Vec<Frame>,
     pub(crate) parts: Vec<Part>,
     stack: Stack,
+}
+
+// What stands in the cell at a place.
+fn content_at(sheet: &Sheet, place: usize) -> &Content
+    requires { place < cell_count sheet.now.sizes }
+    ensures { content_value result.now ≡ content_there sheet.now place }
+{
+    &sheet.contents()[place]
 }
 
 impl Walk {
@@ -78,7 +89,29 @@ impl Walk {
         add_content(sheet.sizes(), sheet.content(cell), &mut self.parts)
     }
 
-    /// Opens the cell for which the newest open cell waits; where it is open or circular, all open
+    /// Settles the cell at a place without opening it, where evaluation is found to read past all that it names, and
+    /// says whether it was. Mostly the cells that a formula names stand before it, and then no frame and no part is
+    /// needed.
+    fn settle_at_once(&mut self, sheet: &Sheet, place: usize) -> bool
+        requires sound { IsStoredWalk sheet.now self.old }
+        requires place { place < cell_count sheet.now.sizes }
+        requires unseen { slice_get (walk_states self.old) place ≡ Some Unseen }
+        ensures sound { IsStoredWalk sheet.now self.new }
+        ensures frames { self.new.frames.items ≡ self.old.frames.items }
+        ensures settled { IsTrue result
+            → KnowsOneMore sheet.now (walk_states self.old) (walk_states self.new) place }
+        ensures left { IsFalse result → walk_states self.new ≡ walk_states self.old }
+    {
+        let content = content_at(sheet, place);
+        if !is_ready(sheet.sizes(), &self.words, content) {
+            return false;
+        }
+        let word = evaluate(sheet.sizes(), &self.words, content, &mut self.stack);
+        self.words[place] = word;
+        true
+    }
+
+    /// Settles or opens the cell for which the newest open cell waits; where it is open or circular, all open
     /// cells lead into a cycle, and are closed.
     fn enter(&mut self, sheet: &Sheet, cell: Cell) -> Result<(), AllocError>
         requires sound { IsStoredWalk sheet.now self.old }
@@ -87,7 +120,11 @@ impl Walk {
         ensures seen { OnOk result (StaysSeen self.old self.new) }
         ensures less { OnOk result (cells_left self.new < cells_left self.old) }
     {
-        if self.words[sheet.place(cell)] == UNSEEN {
+        let place = sheet.place(cell);
+        if self.words[place] == UNSEEN {
+            if self.settle_at_once(sheet, place) {
+                return Ok(());
+            }
             return self.open(sheet, cell);
         }
         self.close(sheet);
@@ -146,6 +183,9 @@ impl Walk {
         if self.words[place] != UNSEEN {
             return Ok(());
         }
+        if self.settle_at_once(sheet, place) {
+            return Ok(());
+        }
         self.open(sheet, sheet.cell_at(place))?;
         while !self.frames.is_empty() {
             self.turn(sheet)?;
@@ -171,13 +211,14 @@ impl Walk {
 
 /// The code of the value of each cell, row by row.
 ///
-/// Each formula is evaluated once, over values that are known; before that the walk looks once at
-/// each cell that the formula names, for each time that it names it, whatever was not known yet,
-/// or twice where others than numbers lie beside it, and once more at each cell for which it waited,
-/// with a few that lie behind it. Cells past the rectangle take no time. The time
-/// is in proportion to the cells, the formulas and the cells that they name. It takes 8 bytes for
-/// each cell, and 40 bytes or a few more for each open one; no recursion goes by the depth of the
-/// sheet.
+/// Each formula is evaluated once, over values that are known. Before that the walk tries, once, whether they are: it
+/// looks at the cells that the formula names, up to the first that evaluation can't read past, or to a range of more
+/// than 64 cells. Where it comes to neither, the formula is evaluated. Else it is opened, and the walk looks once at
+/// each cell that it names, for each time that it names it, whatever was not known yet, and once more at each cell for
+/// which it waited, with a few that lie behind it. Such a look is two where others than numbers lie beside the cell.
+/// Cells past the rectangle take no time. The time is in proportion to the cells, the formulas and the cells that they
+/// name. It takes 8 bytes for each cell, and 40 bytes or a few more for each open one; no recursion goes by the depth
+/// of the sheet.
 pub fn all_values(alloc: Global, sheet: &Sheet) -> Result<Vec<u64>, Memory>
     ensures { IfOk result (λ codes. AreValues sheet.now codes.items) }
 {

@@ -1,7 +1,7 @@
 ghost use Rattle.std.specs.Prelude.{◌≡◌, ◌<◌, ◌≤◌, ◌*◌, ℕ, length, slice_get, Some};
 ghost use Rattle.std.specs.Prelude.{IsTrue, IsFalse, MatchOption};
 ghost use Rattle.sheet_refs.specs.Cells.{Position, IsIn, cells_of};
-ghost use Rattle.sheet_refs.specs.Sizes.{cell_count};
+ghost use Rattle.sheet_refs.specs.Sizes.{cell_count, is_inside};
 ghost use Rattle.sheet_model.specs.Lines.{AreRowsWithin, HasNumbers, IsWithin, StopsAfter, StopsInRows};
 ghost use Rattle.sheet_model.specs.Parts.{AreParts, IsPartOfRectangle, IsStopInParts, LooksOn, part_at};
 ghost use Rattle.sheet_model.specs.Words.{AreWords, IsCodeWord, is_plain as plain, is_plain_state};
@@ -9,7 +9,7 @@ ghost use Rattle.sheet_model.specs.Words.{cell_state, states_of};
 
 use crate::parts::Part;
 use formula_eval::CIRCULAR;
-use sheet_refs::{Cell, Sizes};
+use sheet_refs::{Cell, Range, Sizes};
 
 /// The word of a cell that wasn't looked at. No value has it as its code.
 pub(crate) const UNSEEN: u64 = 5;
@@ -25,6 +25,16 @@ fn is_plain_word(word: u64) -> bool
         return false;
     }
     word != CIRCULAR
+}
+
+/// Whether evaluation can read past a cell of the rectangle.
+pub(crate) fn is_plain_cell(sizes: Sizes, words: &[u64], cell: Cell) -> bool
+    requires count { length words.now ≡ cell_count sizes }
+    requires words { AreWords words.now }
+    requires inside { IsTrue (is_inside sizes cell) }
+    ensures { result ≡ plain sizes (states_of words.now) cell }
+{
+    is_plain_word(words[sizes.place(cell)])
 }
 
 /// How many words of a line are tried together at first. Later it is as many as were read already, so that few are
@@ -155,6 +165,24 @@ fn stop_in_block(
     stop_in_rows(words, first, step, rows, cols, next)
 }
 
+// Where evaluation stops in a part of one cell, as most parts are: at 0, or at 1 where it can read past the cell. The
+// word of the cell tells, and no division is needed.
+fn stop_in_cell(sizes: Sizes, words: &[u64], part: Part) -> u64
+    requires count { length words.now ≡ cell_count sizes }
+    requires words { AreWords words.now }
+    requires part { IsPartOfRectangle sizes (states_of words.now) part }
+    requires one { length (cells_of part.range) ≡ 1 }
+    requires next { part.next ≡ 0 }
+    ensures part { IsPartOfRectangle sizes (states_of words.now) (part_at part result) }
+    ensures stop { (cell : Position) → slice_get (cells_of part.range) result ≡ Some cell
+        → IsFalse (plain sizes (states_of words.now) cell) }
+{
+    if is_plain_cell(sizes, words, part.range.head()) {
+        return 1;
+    }
+    0
+}
+
 /// The place of the first cell of a part, from its next one on, that evaluation can't read past;
 /// the number of its cells where there is none.
 fn first_stop(sizes: Sizes, words: &[u64], part: Part) -> u64
@@ -170,6 +198,9 @@ fn first_stop(sizes: Sizes, words: &[u64], part: Part) -> u64
     if place >= cells {
         return place;
     }
+    if cells == 1 {
+        return stop_in_cell(sizes, words, part);
+    }
     let head = part.range.head();
     let tail = part.range.tail();
     let rows = (tail.row() - head.row() + 1) as usize;
@@ -183,6 +214,18 @@ fn first_stop(sizes: Sizes, words: &[u64], part: Part) -> u64
         cols,
         place as usize,
     ) as u64
+}
+
+/// Whether evaluation can read past each cell of a range in the rectangle.
+pub(crate) fn is_plain_range(sizes: Sizes, words: &[u64], range: Range) -> bool
+    requires count { length words.now ≡ cell_count sizes }
+    requires words { AreWords words.now }
+    requires inside { (cell : Position) → IsIn cell range → IsTrue (is_inside sizes cell) }
+    ensures { IsTrue result → (cell : Position) → IsIn cell range
+        → IsTrue (plain sizes (states_of words.now) cell) }
+{
+    let part = Part { range, next: 0 };
+    first_stop(sizes, words, part) >= range.cells()
 }
 
 /// Looks on at the parts from a place on, the last first, up to the first cell that evaluation

@@ -18,16 +18,18 @@ state : (c : After-index)
 state c =
     let self = c.args.self.now in
     let count = words_count c.args.sheet.now self.words.items self.frames.items self.parts.items c.requires.sound in
-    rw (← c.place.ensures.place)
-    (slice_get-map cell_state self.words.items c.place.result
-    ∙ ap (option_map cell_state) (slice_get_read self.words.items (cell_count c.args.sheet.now.sizes) c.place.result
-    c.index.result.now (sym count) c.place.ensures.within c.index.ensures))
+    rw (← c.place-place.ensures.place)
+    (slice_get-map cell_state self.words.items c.place-place.result
+    ∙ ap (option_map cell_state) (slice_get_read self.words.items (cell_count c.args.sheet.now.sizes) c.place-place.result
+    c.index.result.now (sym count) c.place-place.ensures.within c.index.ensures))
 
 pub open-requires-clause-opening : goal.open-requires-clause-opening
 open-requires-clause-opening c = record {
   inside = c.requires.waiting.inside;
-  unseen = state (goal.at.open-requires-clause-opening c).After-index ∙ ap Some (unseen_state c.index.result.now (search rules));
-  newest = c.requires.waiting.newest;
+  unseen =
+      ap (λ states. slice_get states (place_of c.args.sheet.now.sizes c.args.cell)) (c.settle_at_once.ensures.left (search rules))
+      ∙ state (goal.at.open-requires-clause-opening c).After-index ∙ ap Some (unseen_state c.index.result.now (search rules));
+  newest = rw c.settle_at_once.ensures.frames c.requires.waiting.newest;
 }
 
 pub returns-then-index-eq-UNSEEN-clause-seen : goal.returns-then-index-eq-UNSEEN-clause-seen
@@ -35,7 +37,8 @@ returns-then-index-eq-UNSEEN-clause-seen c =
     let at = state (goal.at.returns-then-index-eq-UNSEEN-clause-seen c).After-index ∙ ap Some (unseen_state c.index.result.now (search rules)) in
     let differs : Open ≢ Unseen = λ e. cc in
     on_ok c.open.result
-    (λ (less : cells_left c.open.new.self < cells_left c.args.self.now). rw c.open.ensures.states
+    (λ (less : cells_left c.open.new.self < cells_left c.settle_at_once.new.self).
+    rw (c.open.ensures.states, c.settle_at_once.ensures.left (search rules))
     (seen_set (states_of c.args.self.now.words.items) (place_of c.args.sheet.now.sizes c.args.cell) Unseen Open at
     differs))
     c.open.ensures.less
