@@ -1,5 +1,5 @@
 -- The laws of settling.
-use Rattle.std.proofs.Common.{◌≡◌, ◌<◌, ◌≤◌, ℕ, List, ◌++◌, Some, length, get_or, refl, sym, ◌∙◌, ap, subst}
+use Rattle.std.proofs.Common.{◌≡◌, ℕ, List, Some, get_or, sym, ◌∙◌, ap, subst}
 use Rattle.std.specs.Prelude.{slice_get}
 use Rattle.std.proofs.lemmas.Option.{same_Some, slice_get-get_or, slice_get_within}
 use Rattle.sheet_refs.specs.Sizes.{place_of}
@@ -15,7 +15,7 @@ use Rattle.mark_words.specs.Tokens.{view_of}
 use Rattle.sheet_model.specs.declared.entry.Entry.{Entry}
 use Rattle.sheet_model.proofs.ListLemmas.{slice_get-append}
 use Rattle.recalc_workers.specs.Settling.{KnowsCells, KnowsPlace}
-use Rattle.recalc_workers.specs.SettleLaws.{CellsStayKnown, DesksStand, EditorStands, HasItsMark}
+use Rattle.recalc_workers.specs.SettleLaws.{CellsStayKnown, DesksStand, EditorStands}
 use Rattle.recalc_workers.specs.SettleLaws.{KnownCellsAreKnownInputs, KnownCellsHaveTheirMarks, StandsStill}
 use Rattle.recalc_workers.proofs.SettlingLemmas.{knows_still}
 use Rattle.recalc_workers.proofs.SharingLemmas.{editor_knows}

@@ -45,6 +45,10 @@ word_in [] words cell = None
 word_in (part ∷ parts) words cell =
     if is_in part.range cell then slice_get words (place_in part.range cell) else word_in parts (drop (length (cells_of part.range)) words) cell
 
+-- a list begins with the words of a range's cells, row by row
+abbrev pub BeginsWithRange : (Position → Option ℕ) → Corners → List ℕ → Type 0
+BeginsWithRange codes range words = (cell : Position) → IsIn cell range → codes cell ≡ slice_get words (place_in range cell)
+
 -- each of the words is the code of a value
 abbrev pub AreCodes : List ℕ → Type 0
 AreCodes words = (i word : ℕ) → slice_get words i ≡ Some word → IsValue (value_of_word word) × (code_of (value_of_word word) ≡ word)

@@ -2,11 +2,11 @@ ghost use Rattle.std.specs.Prelude.{◌≡◌, IfSome};
 ghost use Rattle.std.proofs.Props.{props};
 ghost use Rattle.formula_eval.specs.Inputs.{IsCode};
 ghost use Rattle.sheet_model.specs.Words.{value_prop};
-ghost use Rattle.recalc_workers.specs.Inputs.{AreCodes, place_in, word_in};
-ghost use Rattle.sheet_refs.specs.Cells.{IsIn};
+ghost use Rattle.recalc_workers.specs.Inputs.{AreCodes, BeginsWithRange, place_in, word_in};
+ghost use Rattle.sheet_refs.specs.Cells.{IsIn, width};
 ghost use Rattle.std.specs.Prelude.{drop, slice_get};
 
-use formula_eval::Inputs;
+use formula_eval::{Block, Inputs};
 use sheet_model::Part;
 use sheet_refs::{Cell, Range, Sizes};
 
@@ -51,6 +51,19 @@ impl<'a> Inputs for Listed<'a> {
     fn get(&self, cell: Cell) -> Option<u64> {
         word_of(self.parts, self.words, cell)
     }
+
+    fn block(&self, range: Range) -> Option<Block<'_>> {
+        let words = lend_words(self.parts, self.words, range)?;
+        let step = width_of(range);
+        Some(Block { words, step })
+    }
+}
+
+/// How many columns a range has.
+fn width_of(range: Range) -> usize
+    ensures { result ≡ width range }
+{
+    (range.tail().col() - range.head().col() + 1) as usize
 }
 
 /// The place of a cell of a range among its cells, row by row, counted from 0.
@@ -59,8 +72,7 @@ fn place_within(range: Range, cell: Cell) -> usize
     ensures { result ≡ place_in range cell }
 {
     let head = range.head();
-    let width = (range.tail().col() - head.col() + 1) as usize;
-    (cell.row() - head.row()) as usize * width + (cell.col() - head.col()) as usize
+    (cell.row() - head.row()) as usize * width_of(range) + (cell.col() - head.col()) as usize
 }
 
 /// The word at a place of a list.
@@ -94,6 +106,25 @@ fn word_of(parts: &[Part], words: &[u64], cell: Cell) -> Option<u64>
             return word_at(rest, place_within(range, cell));
         }
         rest = without_first(rest, range.cells() as usize);
+    }
+    None
+}
+
+/// The words of a range's cells, row by row, and those behind them, where the first part with a cell of the range has
+/// this very range. It looks at each part at most once, whatever the range's size.
+fn lend_words<'a>(parts: &[Part], words: &'a [u64], range: Range) -> Option<&'a [u64]>
+    ensures { IfSome result (λ found. BeginsWithRange (word_in parts.now words.now) range found.now) }
+{
+    let mut rest = words;
+    for part in parts {
+        let other = part.range;
+        if other == range {
+            return Some(rest);
+        }
+        if other.overlaps(&range) {
+            return None;
+        }
+        rest = without_first(rest, other.cells() as usize);
     }
     None
 }
