@@ -1,3 +1,4 @@
+mod AheadLemmas
 mod FieldLemmas
 mod FillLemmas
 mod LineLemmas

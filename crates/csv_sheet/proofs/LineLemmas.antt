@@ -94,7 +94,7 @@ abbrev ReadsTo : List ℕ → State → List (List ℕ) → List ℕ → ℕ →
 ReadsTo left s fields field n = next_record default_config s fields field left ≡ Some (ended (fields ++ line_fields field (take n left)) (drop n left))
 
 -- the length of a front by its first byte
-prefix_of : (test : ℕ → Bool) (b : ℕ) (bs : List ℕ) → prefix_len test (b ∷ bs) ≡ cond (test b) (suc (prefix_len test bs)) 0
+pub prefix_of : (test : ℕ → Bool) (b : ℕ) (bs : List ℕ) → prefix_len test (b ∷ bs) ≡ cond (test b) (suc (prefix_len test bs)) 0
 prefix_of test b bs = by (test b)
   where
     by : (x : Bool) → cond x (1 + prefix_len test bs) 0 ≡ cond x (suc (prefix_len test bs)) 0

@@ -4,12 +4,15 @@ use Rattle.csv.specs.Reading.{AreRecords, default_config}
 use Rattle.csv.specs.Records.{AllText}
 use Rattle.csv.specs.declared.parser.State.TheVariants.{StartRecord}
 use Rattle.csv.specs.declared.reader.Reader.{Reader}
+use Rattle.csv_sheet.specs.Ahead.{AreNext, text_fields}
 use Rattle.csv_sheet.specs.Lines.{HasReadLines, line_fields}
 use Rattle.csv_sheet.specs.Reading.{HasReadRecords}
 use Rattle.sheet_refs.specs.Cells.{Position}
 use Rattle.sheet_model.specs.Fields.{IsContent, IsDeepFormula, IsTableAfter}
 use Rattle.sheet_model.specs.Sheets.{SheetValue, ContentValue, IsSheet, blank_sheet, content_of, with_content, with_labels}
 use Rattle.sheet_model.specs.Tables.{AddsLabels}
+use Rattle.sheet_model.specs.declared.content.Content.{Content}
+use Rattle.std.specs.declared.vec.IntoIter.{IntoIter}
 use Rattle.formula_syntax.specs.declared.edition.Edition.{Edition}
 use Rattle.formula_syntax.specs.Spelling.{HasTooManyRefs}
 use Rattle.csv_sheet.specs.Records.{Rows, all_fields, field_at, cell_there, sizes_of}
@@ -80,17 +83,21 @@ pub record HasFilled {R : Type 0} (left : R → Option (List ℕ)) (text : List 
   pub read : HasReadRecords left text rows reader
   pub put : ArePut rows row old new
 
--- so many lines of a text were, up to what is left of it
-pub record HasFilledLines (text left : List ℕ) (row : ℕ) (old new : SheetValue) : Type 0 where
+-- so many lines of a text were, up to what is left of it, of whose first fields the next of a list tell what is known
+pub record HasFilledLines {Z : Type 0} (text left : List ℕ) (row : ℕ) (old new : SheetValue) (ahead : IntoIter (Option Content) Z) : Type 0 where
   pub rows : Rows
   pub read : HasReadLines text left rows
   pub put : ArePut rows row old new
   pub few : row + length left ≤ length text
+  pub next : AreNext old.edition ahead (text_fields left)
 
 -- so many fields of a line were put into a row, and these bytes are left of it
-pub record IsLineFilled (row : ℕ) (line left : List ℕ) (col : ℕ) (old new : SheetValue) : Type 0 where
+pub record IsLineFilled {Z : Type 0} (row : ℕ) (line left : List ℕ) (col : ℕ) (old new : SheetValue) (before ahead : IntoIter (Option Content) Z)
+    : Type 0 where
   pub part : IsPartFilled row (line_fields [] line) col old new
   pub behind : col < length (line_fields [] line) → drop col (line_fields [] line) ≡ line_fields [] left
+  pub next : (more : List (List ℕ)) → AreNext old.edition before (line_fields [] line ++ more)
+      → AreNext old.edition ahead (drop col (line_fields [] line) ++ more)
 
 -- a blank sheet of the sizes of a text's records, which can be read
 abbrev pub IsBlankFor : List ℕ → SheetValue → Type 0

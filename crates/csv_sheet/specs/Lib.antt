@@ -1,3 +1,4 @@
+pub mod Ahead
 pub mod Filling
 pub mod Headings
 pub mod Lines

@@ -4,6 +4,7 @@ ghost use Rattle.std.specs.Prelude.{length, slice_index_or, IfOk, IsTrue, MatchO
 ghost use Rattle.csv.specs.Reading.{AreRecords, default_config};
 ghost use Rattle.csv.specs.Records.{fields_of, AllText};
 ghost use Rattle.csv.specs.declared.parser.State.TheVariants.{StartRecord};
+ghost use Rattle.csv_sheet.specs.Lines.{IsPlain};
 ghost use Rattle.csv_sheet.specs.Reading.{Measures, AreShort, IsFirstLong};
 ghost use Rattle.csv_sheet.specs.Records.{Rows, cell_there, without_marks};
 ghost use Rattle.csv_sheet.specs.Results.{AreText, IsFirstNotText, IsFirstField, NoField, IsLong};
@@ -113,17 +114,21 @@ impl Extent {
     }
 }
 
-/// The extent of all records of a text, in time proportional to its length; none of the fields is kept.
-pub(crate) fn measure(alloc: Global, text: &[u8]) -> Result<Extent, Memory>
+/// The extent of all records of a text, in time proportional to its length; none of the fields is kept. Where these
+/// are known to be its lines, they are cut, and mostly no memory is taken.
+pub(crate) fn measure(alloc: Global, text: &[u8], plain: bool) -> Result<Extent, Memory>
     requires no_marks { without_marks text.now ≡ text.now }
     requires short { length text.now ≤ 16777216 }
+    requires plain { IsTrue plain → IsPlain text.now }
     ensures { IfOk result (λ extent. (rows : Rows)
         × AreRecords default_config StartRecord text.now rows × Measures rows extent) }
 {
-    match measure_lines(text) {
-        Some(extent) => Ok(extent),
-        None => measure_records(alloc, text),
+    if plain {
+        if let Some(extent) = measure_lines(text) {
+            return Ok(extent);
+        }
     }
+    measure_records(alloc, text)
 }
 
 // The same, by reading each record.

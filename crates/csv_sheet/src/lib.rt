@@ -10,6 +10,7 @@
 //! proofs alone, `value_core`; above stands `sheet_cli`.
 #![tactic(auto)]
 
+mod ahead;
 mod extent;
 mod heading;
 mod laws;
@@ -20,5 +21,5 @@ mod refused;
 mod rows;
 
 pub use laws::load_laws;
-pub use loading::load;
+pub use loading::{load, load_in_threads};
 pub use refused::SheetRefused;

@@ -1,6 +1,6 @@
 // The records of texts without quotes, which are their lines: cut without a record in memory.
 ghost use Rattle.std.specs.Prelude.{◌≡◌, ◌<◌, ◌≤◌, ◌+◌, ◌-◌, ◌^◌};
-ghost use Rattle.std.specs.Prelude.{[], length, take, drop, count_by, IfSome, IsTrue};
+ghost use Rattle.std.specs.Prelude.{[], length, take, drop, count_by, IfSome, IsTrue, IsUtf8};
 ghost use Rattle.std.specs.List.{prefix_len};
 ghost use Rattle.std.specs.Str.{IsAscii};
 ghost use Rattle.csv.specs.Reading.{AreRecords, default_config};
@@ -20,8 +20,8 @@ pub(crate) struct Lines {
     cols: usize,
 }
 
-// How many bytes the line at the front has.
-fn line_length(text: &[u8]) -> usize
+/// How many bytes the line at the front has.
+pub(crate) fn line_length(text: &[u8]) -> usize
     ensures count { result ≡ prefix_len goes_on text.now }
     ensures within { result ≤ length text.now }
 {
@@ -79,6 +79,15 @@ fn behind_first(text: &[u8]) -> &[u8]
     }
 }
 
+/// A field as text.
+pub(crate) fn text_of(field: &[u8]) -> &str
+    requires { IsUtf8 field.now }
+    ensures { result.now ≡ field.now }
+{
+    // That it is text is a condition, which is proved; testing it again would read each field twice.
+    unsafe { str::from_utf8_unchecked(field) }
+}
+
 impl Lines {
     // The same with one line more.
     fn with(&self, line: &[u8]) -> Lines
@@ -105,16 +114,14 @@ pub(crate) fn is_plain(text: &[u8]) -> bool
     text.is_ascii() && !text.contains(&b'"')
 }
 
-/// The extent of the records of a text, in time proportional to its length and without memory; None where it has a
-/// quote, a byte that isn't ASCII, or a line that is longer than a field may be.
+/// The extent of the records of a text, which are its lines, in time proportional to its length and without memory;
+/// None where a line is longer than a field may be.
 pub(crate) fn measure_lines(text: &[u8]) -> Option<Extent>
-    requires { length text.now ≤ 16777216 }
+    requires short { length text.now ≤ 16777216 }
+    requires plain { IsPlain text.now }
     ensures { IfSome result (λ extent. (rows : Rows)
         × AreRecords default_config StartRecord text.now rows × Measures rows extent) }
 {
-    if !is_plain(text) {
-        return None;
-    }
     let mut lines = Lines { rows: 0, cols: 0 };
     let mut left = text;
     while !left.is_empty() {

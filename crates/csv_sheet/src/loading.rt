@@ -5,8 +5,10 @@ ghost use Rattle.csv_sheet.specs.Records.{without_marks};
 ghost use Rattle.csv_sheet.specs.declared.refused.SheetRefused.{SheetRefused as Refusal};
 ghost use Rattle.csv_sheet.specs.declared.refused.SheetRefused.TheVariants as refused;
 
+use crate::ahead::{InThreads, Nothing, ReadAhead};
 use crate::extent::measure;
 use crate::heading::read_heading;
+use crate::lines::is_plain;
 use crate::records::behind_marks;
 use crate::refused::SheetRefused;
 use crate::rows::fill;
@@ -14,25 +16,34 @@ use formula_syntax::Edition;
 use sheet_model::Sheet;
 use sheet_refs::Cell;
 use std::alloc::Global;
+use std::thread::Threads;
 
-// The sheet of a text, or the first cause why it has none.
-fn load_text(alloc: Global, text: &[u8]) -> Result<Sheet, SheetRefused>
-    requires { length text.now ≤ 16777216 }
+// The sheet of a text, or the first cause why it has none; some of its fields may be read ahead.
+fn load_text<A: ReadAhead>(alloc: Global, text: &[u8], reader: &A) -> Result<Sheet, SheetRefused>
+    requires ready { A.ready }
+    requires short { length text.now ≤ 16777216 }
     ensures { result ≢ Err refused.Memory → IsSheetResult text.now result }
 {
     let Some(heading) = read_heading(behind_marks(text)) else {
         return Err(SheetRefused::UnknownEdition);
     };
-    load_records(alloc, heading.edition, heading.records)
+    load_records(alloc, heading.edition, heading.records, reader)
 }
 
 // The sheet of the text of records in an edition, or the first cause why it has none.
-fn load_records(alloc: Global, edition: Edition, records: &[u8]) -> Result<Sheet, SheetRefused>
+fn load_records<A: ReadAhead>(
+    alloc: Global,
+    edition: Edition,
+    records: &[u8],
+    reader: &A,
+) -> Result<Sheet, SheetRefused>
+    requires ready { A.ready }
     requires short { length records.now ≤ 16777216 }
     requires no_marks { without_marks records.now ≡ records.now }
     ensures { result ≢ Err refused.Memory → IsRecordsResult edition records.now result }
 {
-    let extent = measure(alloc, records)?;
+    let plain = is_plain(records);
+    let extent = measure(alloc, records, plain)?;
     if let Some(row) = extent.not_text {
         return Err(SheetRefused::NotUtf8 { number: row + 1 });
     }
@@ -48,7 +59,7 @@ fn load_records(alloc: Global, edition: Edition, records: &[u8]) -> Result<Sheet
         });
     }
     let mut sheet = Sheet::blank(alloc, extent.rows, extent.cols as u32, edition)?;
-    match fill(alloc, records, &mut sheet) {
+    match fill(alloc, records, plain, &mut sheet, reader) {
         Ok(()) => Ok(sheet),
         Err(refused) => Err(refused),
     }
@@ -70,5 +81,22 @@ pub fn load(alloc: Global, text: &[u8]) -> Result<Sheet, SheetRefused>
     ensures exact { result ≢ Err refused.Memory
         → (answer : Result SheetValue Refusal) → result ≡ answer ↔ IsSheetResult text.now answer }
 {
-    load_text(alloc, text)
+    load_text(alloc, text, &Nothing)
+}
+
+/// The same by several threads: where 65,536 bytes or more are left of a text that is all ASCII and has no quote, as
+/// many threads as there are processors read what the fields of 32,768 bytes each write, which this one then puts into
+/// the sheet, and so on. It takes 24 bytes more for each field that is read ahead. Where a thread can't be made, this
+/// one does its part.
+pub fn load_in_threads<R: Threads + Sync>(
+    rt: &R,
+    alloc: Global,
+    text: &[u8],
+) -> Result<Sheet, SheetRefused>
+    requires { length text.now ≤ 16777216 }
+    ensures result { result ≢ Err refused.Memory → IsSheetResult text.now result }
+    ensures exact { result ≢ Err refused.Memory
+        → (answer : Result SheetValue Refusal) → result ≡ answer ↔ IsSheetResult text.now answer }
+{
+    load_text(alloc, text, &InThreads::new(rt))
 }

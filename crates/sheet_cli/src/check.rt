@@ -15,6 +15,7 @@ use sheet_io::Shelf;
 use sheet_model::Sheet;
 use sheet_refs::Memory;
 use std::alloc::Global;
+use std::thread::Threads;
 use taco_graph::SheetGraph;
 
 /// What `check` and the words after it ask for.
@@ -29,7 +30,8 @@ pub(crate) fn read_check(alloc: Global, words: &[String]) -> Result<Asked, Memor
 }
 
 /// The reply to `check`.
-pub(crate) fn reply_of_check<F: Shelf>(
+pub(crate) fn reply_of_check<R: Threads + Sync, F: Shelf>(
+    rt: &R,
     alloc: Global,
     name: &str,
     shelf: &mut F,
@@ -39,7 +41,7 @@ pub(crate) fn reply_of_check<F: Shelf>(
     ensures held { F.holds shelf.new ≡ F.holds shelf.old }
     ensures counted { F.faults shelf.old ≤ F.faults shelf.new }
 {
-    match fetch_sheet(alloc, name, shelf)? {
+    match fetch_sheet(rt, alloc, name, shelf)? {
         Ok(sheet) => Ok(Reply::Output(check_output(alloc, &sheet)?)),
         Err(reply) => Ok(reply),
     }

@@ -20,6 +20,7 @@ use sheet_io::Shelf;
 use sheet_model::Sheet;
 use sheet_refs::{Cell, Memory, Range, cell_of, range_of};
 use std::alloc::Global;
+use std::thread::Threads;
 
 /// What `fill` and the words after it ask for.
 pub(crate) fn read_fill(alloc: Global, words: &[String]) -> Result<Asked, Memory>
@@ -40,7 +41,8 @@ pub(crate) fn read_fill(alloc: Global, words: &[String]) -> Result<Asked, Memory
 
 /// The reply to `fill`. The sheet is fetched and read, then the cell and the range are looked for in it, and then it is
 /// looked whether there is something to fill, and not too much; the first of these that fails gives the refusal.
-pub(crate) fn reply_of_fill<F: Shelf>(
+pub(crate) fn reply_of_fill<R: Threads + Sync, F: Shelf>(
+    rt: &R,
     alloc: Global,
     name: &str,
     from: Cell,
@@ -52,7 +54,7 @@ pub(crate) fn reply_of_fill<F: Shelf>(
     ensures held { F.holds shelf.new ≡ F.holds shelf.old }
     ensures counted { F.faults shelf.old ≤ F.faults shelf.new }
 {
-    match fetch_sheet(alloc, name, shelf)? {
+    match fetch_sheet(rt, alloc, name, shelf)? {
         Ok(sheet) => fill_reply(alloc, sheet, from, to),
         Err(reply) => Ok(reply),
     }

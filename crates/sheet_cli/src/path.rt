@@ -17,6 +17,7 @@ use sheet_io::Shelf;
 use sheet_model::Sheet;
 use sheet_refs::{Cell, Memory, cell_of};
 use std::alloc::Global;
+use std::thread::Threads;
 use taco_graph::SheetGraph;
 
 /// What `path` and the words after it ask for.
@@ -38,7 +39,8 @@ pub(crate) fn read_path(alloc: Global, words: &[String]) -> Result<Asked, Memory
 
 /// The reply to `path`. The sheet is fetched and read, then the cells are looked for in it; the first of these that
 /// fails gives the refusal.
-pub(crate) fn reply_of_path<F: Shelf>(
+pub(crate) fn reply_of_path<R: Threads + Sync, F: Shelf>(
+    rt: &R,
     alloc: Global,
     name: &str,
     from: Cell,
@@ -50,7 +52,7 @@ pub(crate) fn reply_of_path<F: Shelf>(
     ensures held { F.holds shelf.new ≡ F.holds shelf.old }
     ensures counted { F.faults shelf.old ≤ F.faults shelf.new }
 {
-    match fetch_sheet(alloc, name, shelf)? {
+    match fetch_sheet(rt, alloc, name, shelf)? {
         Ok(sheet) => path_reply(alloc, &sheet, from, to),
         Err(reply) => Ok(reply),
     }

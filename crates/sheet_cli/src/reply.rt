@@ -54,8 +54,8 @@ pub(crate) fn reply_to<R: Threads + Wait + Sync, F: Shelf, G: Gate + Sync>(
             command,
             sheet,
             range,
-        } => reply_of_window(alloc, command, sheet.as_str(), range, shelf),
-        Asked::OfCheck { sheet } => reply_of_check(alloc, sheet.as_str(), shelf),
+        } => reply_of_window(rt, alloc, command, sheet.as_str(), range, shelf),
+        Asked::OfCheck { sheet } => reply_of_check(rt, alloc, sheet.as_str(), shelf),
         Asked::OfScript {
             command,
             sheet,
@@ -69,8 +69,22 @@ pub(crate) fn reply_to<R: Threads + Wait + Sync, F: Shelf, G: Gate + Sync>(
             shelf,
             gate,
         ),
-        Asked::OfPath { sheet, from, to } => reply_of_path(alloc, sheet.as_str(), from, to, shelf),
-        Asked::OfFill { sheet, from, to } => reply_of_fill(alloc, sheet.as_str(), from, to, shelf),
+        Asked::OfPath { sheet, from, to } => reply_of_path(
+            rt,
+            alloc,
+            sheet.as_str(),
+            from,
+            to,
+            shelf,
+        ),
+        Asked::OfFill { sheet, from, to } => reply_of_fill(
+            rt,
+            alloc,
+            sheet.as_str(),
+            from,
+            to,
+            shelf,
+        ),
         Asked::OfGenerated { number, workers } => {
             reply_of_generated(rt, alloc, number, workers, gate)
         }

@@ -66,7 +66,7 @@ pub(crate) fn reply_of_script<R: Threads + Wait + Sync, F: Shelf, G: Gate + Sync
     ensures held { F.holds shelf.new ≡ F.holds shelf.old }
     ensures counted { F.faults shelf.old ≤ F.faults shelf.new }
 {
-    match fetch_sheet(alloc, name, shelf)? {
+    match fetch_sheet(rt, alloc, name, shelf)? {
         Ok(sheet) => reply_over_sheet(rt, alloc, command, sheet, script, shelf, gate),
         Err(reply) => Ok(reply),
     }

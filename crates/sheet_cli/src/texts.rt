@@ -6,11 +6,12 @@ ghost use Rattle.sheet_cli.specs.Lines.{refused_line, too_long_line};
 ghost use Rattle.sheet_cli.specs.Replies.{HasFetched, HasSheet, HasText, answer_of};
 
 use crate::reply::{Reply, refusal};
-use csv_sheet::{SheetRefused, load};
+use csv_sheet::{SheetRefused, load_in_threads};
 use sheet_io::{Fetch, Shelf};
 use sheet_model::Sheet;
 use sheet_refs::Memory;
 use std::alloc::Global;
+use std::thread::Threads;
 
 /// The longest text that is read, of a sheet or of a script, in bytes.
 pub(crate) const MAX_TEXT: usize = 16_777_216;
@@ -52,7 +53,8 @@ pub(crate) fn fetch_text<F: Shelf>(
 }
 
 /// The sheet under a name, or the reply that says why there is none.
-pub(crate) fn fetch_sheet<F: Shelf>(
+pub(crate) fn fetch_sheet<R: Threads + Sync, F: Shelf>(
+    rt: &R,
     alloc: Global,
     name: &str,
     shelf: &mut F,
@@ -63,18 +65,22 @@ pub(crate) fn fetch_sheet<F: Shelf>(
     ensures counted { F.faults shelf.old ≤ F.faults shelf.new }
 {
     match fetch_text(alloc, name, shelf)? {
-        Fetched::Text(text) => sheet_of(alloc, &text),
+        Fetched::Text(text) => sheet_of(rt, alloc, &text),
         Fetched::Missed(reply) => Ok(Err(reply)),
         Fetched::TooLong => Ok(Err(too_long(alloc)?)),
     }
 }
 
 // The sheet of a text, or the reply that says why it has none.
-fn sheet_of(alloc: Global, text: &[u8]) -> Result<Result<Sheet, Reply>, Memory>
+fn sheet_of<R: Threads + Sync>(
+    rt: &R,
+    alloc: Global,
+    text: &[u8],
+) -> Result<Result<Sheet, Reply>, Memory>
     requires { length text.now ≤ 16777216 }
     ensures { IfOk result (HasSheet text.now) }
 {
-    match load(alloc, text) {
+    match load_in_threads(rt, alloc, text) {
         Ok(sheet) => Ok(Ok(sheet)),
         Err(why) => Ok(Err(unread(alloc, why)?)),
     }

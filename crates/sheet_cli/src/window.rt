@@ -19,6 +19,7 @@ use sheet_io::Shelf;
 use sheet_model::Sheet;
 use sheet_refs::{Memory, Range, range_of};
 use std::alloc::Global;
+use std::thread::Threads;
 use taco_graph::SheetGraph;
 
 /// A command about a window of a sheet.
@@ -68,7 +69,8 @@ pub(crate) fn read_window(
 
 /// The reply to a command about a window. The sheet is fetched and read, then the range is looked for in it;
 /// the first of these that fails gives the refusal.
-pub(crate) fn reply_of_window<F: Shelf>(
+pub(crate) fn reply_of_window<R: Threads + Sync, F: Shelf>(
+    rt: &R,
     alloc: Global,
     command: WindowCommand,
     name: &str,
@@ -80,7 +82,7 @@ pub(crate) fn reply_of_window<F: Shelf>(
     ensures held { F.holds shelf.new ≡ F.holds shelf.old }
     ensures counted { F.faults shelf.old ≤ F.faults shelf.new }
 {
-    match fetch_sheet(alloc, name, shelf)? {
+    match fetch_sheet(rt, alloc, name, shelf)? {
         Ok(sheet) => window_reply(alloc, command, sheet, range),
         Err(reply) => Ok(reply),
     }

@@ -1,9 +1,10 @@
-use csv_sheet::{SheetRefused, load};
+use csv_sheet::{SheetRefused, load, load_in_threads};
 use sheet_model::{Content, Sheet};
 use sheet_refs::Cell;
 use std::alloc::Global;
 use std::fmt::Write;
 use std::test::Fail;
+use std::thread::Threads;
 
 // Appends what a cell holds, a label by its text.
 fn push_content(text: &mut String, sheet: &Sheet, content: &Content) -> Result<(), Fail> {
@@ -39,17 +40,30 @@ pub(crate) fn push_sheet(text: &mut String, sheet: &Sheet) -> Result<(), Fail> {
     Ok(())
 }
 
+// What was loaded, or why nothing was.
+fn in_words(alloc: Global, loaded: Result<Sheet, SheetRefused>) -> Result<String, Fail> {
+    let mut answer = String::new(alloc);
+    match loaded {
+        Ok(sheet) => push_sheet(&mut answer, &sheet)?,
+        Err(refused) => write!(answer, "{refused}")?,
+    }
+    Ok(answer)
+}
+
 // What a text gives.
 fn told(alloc: Global, text: &[u8]) -> Result<String, Fail> {
     if text.len() > 16_777_216 {
         return Err(Fail::from("a text that is too long"));
     }
-    let mut answer = String::new(alloc);
-    match load(alloc, text) {
-        Ok(sheet) => push_sheet(&mut answer, &sheet)?,
-        Err(refused) => write!(answer, "{refused}")?,
+    in_words(alloc, load(alloc, text))
+}
+
+// The same by threads.
+fn told_in_threads<R: Threads + Sync>(rt: &R, alloc: Global, text: &[u8]) -> Result<String, Fail> {
+    if text.len() > 16_777_216 {
+        return Err(Fail::from("a text that is too long"));
     }
-    Ok(answer)
+    in_words(alloc, load_in_threads(rt, alloc, text))
 }
 
 #[test]
@@ -151,6 +165,39 @@ fn the_first_cause_is_told(rt: HostRuntime) -> Result<(), Fail> {
         let text = long_text(rt.alloc(), front, many, times, back)?;
         let answer = told(rt.alloc(), text.as_slice())?;
         assert_eq!(&rt; answer.as_str(), line);
+    }
+    Ok(())
+}
+
+// Texts of which several threads read parts: with lines of one to many fields, labels that come again, all line ends,
+// a quote, a byte that isn't ASCII, and refusals of which a later part has one too.
+#[test]
+fn threads_read_what_one_reads(rt: HostRuntime) -> Result<(), Fail> {
+    let rows: [(&[u8], &[u8], usize, &[u8]); 7] = [
+        (
+            b"z",
+            b"\nx,=A1+B2*SUM(C1:C9),-7,,TRUE\r\n\ry",
+            4_000,
+            b"\nz,w",
+        ),
+        (b"#edition 2\n", b"=COUNTIF(A1;1),o,of:=A1\r", 4_000, b""),
+        (b"", b"=A1+1,", 16_000, b"=2\n=A1:\n=)\n"),
+        (b"", b"8\n", 40_000, b"\"q\"\"r\",=A1"),
+        (b"", b"=A1\n", 20_000, b"\xC3\xA4,=B1\n"),
+        (
+            b"1\n",
+            b"=A1\n,#REF!,#CIRC!\n",
+            6_000,
+            b"=((((((((((((((((((((((((((((((((((((((((((((((((((((((((((((((((1\n\
+              =((((((((((((((((((((((((((((((((((((((((((((((((((((((((((((((((1",
+        ),
+        (b"", b"12345678\n", 8_000, b""),
+    ];
+    for (front, many, times, back) in rows {
+        let text = long_text(rt.alloc(), front, many, times, back)?;
+        let one = told(rt.alloc(), text.as_slice())?;
+        let several = told_in_threads(&rt, rt.alloc(), text.as_slice())?;
+        assert_eq!(&rt; several.as_str(), one.as_str());
     }
     Ok(())
 }

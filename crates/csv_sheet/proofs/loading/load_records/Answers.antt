@@ -8,7 +8,7 @@ use Rattle.csv_sheet.proofs.FillLemmas.{made_there}
 use Rattle.csv_sheet.proofs.loading.load_records.Goals as goal
 
 pub returns-then-is_too_large : goal.returns-then-is_too_large
-returns-then-is_too_large c = λ other.
+returns-then-is_too_large g c = λ other.
     let m = c.in_ok-extent.ensures in
     let extent = c.in_ok-extent.extent in
     result_from c.args.edition c.args.records.now m.0 (Err (refused.TooManyCells c.from.result extent.cols)) m.1 (
@@ -19,7 +19,7 @@ returns-then-is_too_large c = λ other.
     )
 
 pub overflow_cast-col : goal.overflow_cast-col
-overflow_cast-col c =
+overflow_cast-col g c =
     let m = c.in_ok-extent.ensures in
     let extent = c.in_ok-extent.extent in
     let first = long_first m.0 extent m.2 c.in-Some-long.row c.in-Some-long.col c.in-Some-long.is in
@@ -29,7 +29,7 @@ overflow_cast-col c =
     omega (arith, col_to)
 
 pub overflow_add-col : goal.overflow_add-col
-overflow_add-col c =
+overflow_add-col g c =
     let m = c.in_ok-extent.ensures in
     let extent = c.in_ok-extent.extent in
     let first = long_first m.0 extent m.2 c.in-Some-long.row c.in-Some-long.col c.in-Some-long.is in
@@ -39,7 +39,7 @@ overflow_add-col c =
     omega (arith, col_to)
 
 pub unwrap-requires : goal.unwrap-requires
-unwrap-requires c =
+unwrap-requires g c =
     let m = c.in_ok-extent.ensures in
     let extent = c.in_ok-extent.extent in
     let first = long_first m.0 extent m.2 c.in-Some-long.row c.in-Some-long.col c.in-Some-long.is in
@@ -47,7 +47,7 @@ unwrap-requires c =
     (not_large m.0 extent m.2 c.is_too_large.result c.is_too_large.ensures.1 c.if-is_too_large.false))
 
 pub returns-in-Some-long : goal.returns-in-Some-long
-returns-in-Some-long c = λ other.
+returns-in-Some-long g c = λ other.
     let m = c.in_ok-extent.ensures in
     let extent = c.in_ok-extent.extent in
     let first = long_first m.0 extent m.2 c.in-Some-long.row c.in-Some-long.col c.in-Some-long.is in
@@ -59,19 +59,19 @@ returns-in-Some-long c = λ other.
     )
 
 pub blank-requires : goal.blank-requires
-blank-requires c =
+blank-requires g c =
     let m = c.in_ok-extent.ensures in
     let extent = c.in_ok-extent.extent in
     sheet_size m.0 extent m.2 c.args.records.now m.1 (not_large m.0 extent m.2 c.is_too_large.result c.is_too_large.ensures.1 c.if-is_too_large.false)
 
 pub returns-in-Ok : goal.returns-in-Ok
-returns-in-Ok c = λ other.
+returns-in-Ok g c = λ other.
     let r = c.in-Ok.ensures.filled in
     let edition : c.in_ok-sheet.sheet.edition ≡ c.args.edition = ap (λ (s : SheetValue). s.edition) c.in_ok-sheet.ensures in
     result_from c.args.edition c.args.records.now r.0 (Ok c.fill.new.sheet) r.1 (subst (λ (e : Edition). IsSheetOf e r.0 c.fill.new.sheet) edition r.2)
 
 pub returns-in-Err : goal.returns-in-Err
-returns-in-Err c = λ other.
+returns-in-Err g c = λ other.
     let r = c.in-Err.ensures.why (λ same. other (ap (λ e. Err e) same)) in
     let edition : c.in_ok-sheet.sheet.edition ≡ c.args.edition = ap (λ (s : SheetValue). s.edition) c.in_ok-sheet.ensures in
     result_from c.args.edition c.args.records.now r.0 (Err c.in-Err.refused) r.1

@@ -1,7 +1,9 @@
 use Rattle.std.proofs.Common.{◌<◌, ◌≤◌, ◌∙◌, ℕ, [], List, length, get_or, sym, ap, subst, arith, refl}
 use Rattle.std.specs.Prelude.{IsUtf8}
+use Rattle.csv_sheet.specs.Ahead.{IsAhead}
 use Rattle.csv_sheet.specs.Filling.{IsFieldRefusal}
 use Rattle.csv_sheet.specs.Lines.{line_fields}
+use Rattle.csv_sheet.proofs.AheadLemmas.{known_of}
 use Rattle.csv_sheet.proofs.FillLemmas.{part_none, part_step, made_there}
 use Rattle.csv_sheet.proofs.LineLemmas.{next_field, next_left}
 use Rattle.csv_sheet.proofs.RecordLemmas.{err_handed, text_at}
@@ -11,6 +13,7 @@ pub loop-col-init : goal.loop-col-init
 loop-col-init c = record {
   part = part_none c.args.row (line_fields [] c.args.line.now) c.args.sheet.now c.requires.record.few;
   behind = λ within. refl;
+  next = λ more start. start;
 }
 
 -- there is a field more
@@ -30,6 +33,19 @@ fill_cell-requires-clause-short c =
     let short : length (get_or fields c.loop-col.col []) ≤ 8192 = (let not_long = c.requires.record.short c.loop-col.col within in omega (arith, not_long)) in
     subst (λ (f : List ℕ). length f ≤ 8192) (sym field) short
 
+pub fill_cell-requires-clause-ahead : goal.fill_cell-requires-clause-ahead
+fill_cell-requires-clause-ahead c =
+    let fields = line_fields [] c.args.line.now in
+    let way = c.loop-col.invariant in
+    let within : c.loop-col.col < length fields = (let e = c.field_count-col-end.ensures in let t = c.loop-col-test.true in omega (arith, e, t)) in
+    let field = c.text_of.ensures ∙ c.split_field.ensures.field ∙ sym (next_field fields c.loop-col.col c.loop-col.left.now (way.behind within)) in
+    let start = way.next c.requires.ahead.0 c.requires.ahead.1 in
+    let known = known_of c.args.sheet.now.edition fields c.loop-col.col c.loop-col.ahead c.next.new.self c.next.result within
+    c.next.ensures.cases c.next.ensures.items c.requires.ahead.0 start in
+    subst (λ e. IsAhead e c.text_of.result.now c.flatten-known.result) (sym way.part.edition)
+    (subst (λ f. IsAhead c.args.sheet.now.edition f c.flatten-known.result) (sym field)
+    (subst (IsAhead c.args.sheet.now.edition (get_or fields c.loop-col.col [])) (sym c.flatten-known.ensures) known.0))
+
 pub loop-col-preserved : goal.loop-col-preserved
 loop-col-preserved c =
     let fields = line_fields [] c.args.line.now in
@@ -42,6 +58,8 @@ loop-col-preserved c =
           c.requires.record within way.part cell field c.in_ok-fill_cell.ensures.put;
       behind = λ more. next_left fields c.loop-col.col c.loop-col.left.now (way.behind within) more
           ∙ ap (λ l. line_fields [] l) (sym c.split_field.ensures.behind);
+      next = λ more start. (known_of c.args.sheet.now.edition fields c.loop-col.col c.loop-col.ahead c.next.new.self c.next.result within
+          c.next.ensures.cases c.next.ensures.items more (way.next more start)).1;
     }
 
 pub returns-in_err-fill_cell-clause-why : goal.returns-in_err-fill_cell-clause-why

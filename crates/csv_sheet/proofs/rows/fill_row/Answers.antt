@@ -12,5 +12,5 @@ loop-col-preserved c =
     let t = c.loop-col-test.true in omega (arith, e, t)) in
     let cell = made_there c.new.result c.unwrap-cell.result c.args.row c.loop-col.col c.new.ensures.position c.unwrap-cell.ensures in
     part_step c.args.row (fields_of c.args.fields.now) c.loop-col.col c.args.sheet.now c.loop-col.sheet
-    c.fill_cell.new.sheet c.unwrap-cell.result c.text_field.result.now
-    c.requires within c.loop-col.invariant cell c.text_field.ensures c.in_ok-fill_cell.ensures.put
+    c.read_cell.new.sheet c.unwrap-cell.result c.text_field.result.now
+    c.requires within c.loop-col.invariant cell c.text_field.ensures c.in_ok-read_cell.ensures.put

@@ -1,0 +1,10 @@
+use Rattle.csv_sheet.proofs.ahead.+fn-read_parts-join+arg2+fn-read_parts-join+arg3+read_parts.Given as goal
+
+abbrev pub decreases-join+arg2 : goal.decreases-join+arg2
+decreases-join+arg2 g l = l.half
+
+abbrev pub decreases-join+arg3 : goal.decreases-join+arg3
+decreases-join+arg3 g l = l.rest
+
+abbrev pub decreases-read_parts : goal.decreases-read_parts
+decreases-read_parts g l = l.threads
