@@ -1,30 +1,43 @@
-//! Trials of live sheets, of live runs and of calls that fail: tests alone; no crate stands on it.
+//! Trials of live sheets over their calls: tests alone; no crate stands on it.
 //!
-//! `program` has the program's one call answer words and texts, and `faults` has each put and each fetch of every
-//! command fail. `runs` has scripts run live and reads what is printed, with gates that hold clients and workers until
-//! others have come as far; `orders` does so in each order of two clients' commands. `sheets` works live sheets by
-//! their own calls, at one desk, at several or at none. `generated` makes and runs what numbers draw. `plain` has the
-//! rules by which the orders of `orders` and `sheets` are judged, and `lines` what all runs of the program go by.
-//! Below stand `sheet_cli` and `live_sheet`.
+//! What no clause says: that a live sheet is answered where there is memory, that an edit computes nothing, and that
+//! turns at a desk compute. The expected texts were worked out by hand. `working` edits, works and settles, `closing`
+//! closes what nobody worked at, `dropped` edits more cells than jobs find room, `apart` has two live sheets open at
+//! once, and `undoing` undoes an edit of a closed log. `held` looks and edits while a worker is held at the gate of
+//! `gate`. `drawn` takes a thousand orders of edits, looks and turns, which are drawn from a number by `draws` and
+//! judged by what `known` keeps of them. `single`, `stories`, `edits`, `fields` and `texts` are what these tell their
+//! stories by.
+//!
+//! Below stand `live_sheet`, `sheet_undo`, and `trial_parts` with the plain rules and the hold of a gate.
 #![tactic(auto)]
 
 #[cfg(test)]
-mod faults;
+mod apart;
+#[cfg(test)]
+mod closing;
+#[cfg(test)]
+mod drawn;
+#[cfg(test)]
+mod draws;
+#[cfg(test)]
+mod dropped;
+#[cfg(test)]
+mod edits;
 #[cfg(test)]
 mod fields;
 #[cfg(test)]
-mod gates;
+mod gate;
 #[cfg(test)]
-mod generated;
+mod held;
 #[cfg(test)]
-mod lines;
+mod known;
 #[cfg(test)]
-mod orders;
+mod single;
 #[cfg(test)]
-mod plain;
+mod stories;
 #[cfg(test)]
-mod program;
+mod texts;
 #[cfg(test)]
-mod runs;
+mod undoing;
 #[cfg(test)]
-mod sheets;
+mod working;

@@ -1,0 +1,10 @@
+use Rattle.live_sheet.specs.Setups.{setup_words, setup_queue, setup_opening, setup_clients, setup_ledger, setup_parts}
+use Rattle.live_trial.proofs.drawn.is_legal.Given as goal
+
+-- the names are those of the setup
+abbrev pub ghosts-goes-N-Naming : goal.ghosts-goes-N-Naming
+ghosts-goes-N-Naming g a =
+    record { words = setup_words a.setup; queue = setup_queue a.setup; opening = setup_opening a.setup; clients = setup_clients a.setup }
+
+abbrev pub ghosts-goes-N-Ledger : goal.ghosts-goes-N-Ledger
+ghosts-goes-N-Ledger g a = record { name = setup_ledger a.setup; parts = setup_parts a.setup }

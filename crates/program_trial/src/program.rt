@@ -1,0 +1,278 @@
+// The program's one call: what no clause says, that it succeeds where memory is ample, and that the statuses and lines
+// are those meant.
+mod paths;
+mod scripts;
+
+use crate::lines::{Ended, FREE, Limits, run_line, shelf_of, status_of};
+use sheet_io::{Fetch, Shelf, SureShelf};
+use std::alloc::{AllocError, Global};
+use std::fmt::Write;
+use std::sync::Wait;
+use std::test::Fail;
+use std::thread::Threads;
+
+const USAGE: &str = "antifreeze: usage: antifreeze show|deps|precs SHEET RANGE; check SHEET; \
+    play|live SHEET SCRIPT; gen NUMBER; fill SHEET CELL RANGE; undo SHEET SCRIPT NUMBER; path SHEET CELL CELL; \
+    --workers N with live, gen\n";
+
+const WORKED: &str = "1,=A1+1\n2,=A2+B1\n";
+
+const SHOWN: &str = "sheet 0 A1:B2\n1,2\n2,4\n";
+
+const MISSED: &str = "antifreeze: s: read failed\n";
+
+const UNWRITTEN: &str = "antifreeze: write failed\n";
+
+const OUTSIDE: &str = "antifreeze: range outside the sheet\n";
+
+// Runs a line over a shelf with one text, under the name `s`.
+fn run_with<R: Threads + Wait + Sync>(
+    rt: &R,
+    alloc: Global,
+    sheet: &[u8],
+    line: &str,
+    limits: Limits,
+) -> Result<Ended, Fail> {
+    let mut shelf = shelf_of(alloc, &[("s", sheet)], limits.fetch)?;
+    run_line(rt, alloc, line, &mut shelf, limits)
+}
+
+// Runs each line over its sheet, and gives those that end otherwise than with their status, their output and their
+// notes.
+fn unlike<R: Threads + Wait + Sync>(
+    rt: &R,
+    alloc: Global,
+    table: &[(&str, &str, u8, &str, &str)],
+) -> Result<String, Fail> {
+    let mut others = String::new(alloc);
+    for (sheet, line, status, out, notes) in table {
+        let ended = run_with(rt, alloc, sheet.as_bytes(), line, FREE)?;
+        if !ended.is_so(*status, out.as_bytes(), notes) {
+            write!(others, "{line} over {sheet} ends by {}, ", ended.status)?;
+        }
+    }
+    Ok(others)
+}
+
+#[test]
+fn a_run_ends_by_its_words_and_its_sheet(rt: HostRuntime) -> Result<(), Fail> {
+    let others = unlike(
+        &rt,
+        rt.alloc(),
+        &[
+            (WORKED, "show s A1:B2", 0, SHOWN, ""),
+            (WORKED, "show s B2:A1", 0, SHOWN, ""),
+            (WORKED, "show s B2:B2", 0, "sheet 0 B2:B2\n4\n", ""),
+            (
+                "=B1+C1,=A1+2,4",
+                "show s A1:C1",
+                0,
+                "sheet 0 A1:C1\n#CIRC!,#CIRC!,4\n",
+                "",
+            ),
+            (
+                "9007199254740991,=A1+1,-1,=A1+C1",
+                "show s A1:D1",
+                0,
+                "sheet 0 A1:D1\n9007199254740991,#NUM!,-1,9007199254740990\n",
+                "",
+            ),
+            (",5\n7\n", "show s A1:B2", 0, "sheet 0 A1:B2\n,5\n7,\n", ""),
+            (
+                WORKED,
+                "show t A1:B2",
+                5,
+                "",
+                "antifreeze: t: read failed\n",
+            ),
+            (WORKED, "show  A1:B2", 5, "", "antifreeze: : read failed\n"),
+            (
+                "\"a,\"\"b\"\"\",TRUE",
+                "show s A1:B1",
+                0,
+                "sheet 0 A1:B1\n\"a,\"\"b\"\"\",TRUE\n",
+                "",
+            ),
+            (WORKED, "show s A1:B3", 2, "", OUTSIDE),
+            (WORKED, "show s A1:C2", 2, "", OUTSIDE),
+            ("", "show s A1:A1", 2, "", OUTSIDE),
+            (WORKED, "deps s A1", 0, "A1:A1\nB1:B2\n", ""),
+            (WORKED, "precs s B2", 0, "A1:A2\nB1:B2\n", ""),
+            (WORKED, "deps s B3", 2, "", OUTSIDE),
+            (WORKED, "path s A1 B2", 0, "A1\nB1\nB2\n", ""),
+            (WORKED, "path s B2 A1", 0, "none\n", ""),
+            (WORKED, "path s A1 C9", 2, "", OUTSIDE),
+            (WORKED, "", 2, "", USAGE),
+            (WORKED, "show s", 2, "", USAGE),
+            (WORKED, "show s A1:B2 A1:B2", 2, "", USAGE),
+            (WORKED, "SHOW s A1:B2", 2, "", USAGE),
+            (WORKED, "help s A1:B2", 2, "", USAGE),
+            (WORKED, "show -s A1:B2", 2, "", USAGE),
+            (WORKED, "show s A0:B2", 2, "", USAGE),
+            (WORKED, "show s A1:B2 --workers=2", 2, "", USAGE),
+            (WORKED, "show --help", 2, "", USAGE),
+            (WORKED, "show - A1:B2", 2, "", USAGE),
+        ],
+    )?;
+    assert_eq!(rt; others.as_str(), "");
+    Ok(())
+}
+
+#[test]
+fn check_lists_the_edges_of_a_sheet(rt: HostRuntime) -> Result<(), Fail> {
+    let edges = "pairs 3\nedges 2\nB1:B2 A1:A2 RR\nB2:B2 B1:B1 Single\n";
+    let others = unlike(
+        &rt,
+        rt.alloc(),
+        &[
+            (WORKED, "check s", 0, edges, ""),
+            (WORKED, "check s A1:B2", 2, "", USAGE),
+        ],
+    )?;
+    assert_eq!(rt; others.as_str(), "");
+    Ok(())
+}
+
+#[test]
+fn a_run_ends_by_its_first_failing_call(rt: HostRuntime) -> Result<(), Fail> {
+    let unfetched = Limits { fetch: 1, ..FREE };
+    let unwritten = Limits { put: 1, ..FREE };
+    let unnoted = Limits { note: 1, ..FREE };
+    for (line, limits, status, notes) in [
+        ("show s A1:B2", unfetched, 5, MISSED),
+        ("show s A1:B2", unwritten, 6, UNWRITTEN),
+        // The words are read before the sheet is fetched, and the sheet before the range is looked for.
+        ("show s A0", unfetched, 2, USAGE),
+        ("show s A1:Z9", unfetched, 5, MISSED),
+        ("show s A1:Z9", unwritten, 2, OUTSIDE),
+        // A note that isn't taken changes no status.
+        ("show s A0", unnoted, 2, ""),
+        ("show t A1:B2", unnoted, 5, ""),
+    ] {
+        let ended = run_with(&rt, rt.alloc(), WORKED.as_bytes(), line, limits)?;
+        assert!(rt;
+            ended.is_so(status, b"", notes),
+            "{line} with the note {notes}"
+        );
+    }
+    Ok(())
+}
+
+// The status of a run that is refused by its words over a shelf whose first fetch is to fail, and what two fetches
+// answer after it.
+fn fetches_after<R: Threads + Wait + Sync>(
+    rt: &R,
+    alloc: Global,
+) -> Result<(u8, Result<(), Fetch>, Result<(), Fetch>), Fail> {
+    let mut shelf = shelf_of(alloc, &[("s", WORKED.as_bytes())], 1)?;
+    let status = status_of(rt, alloc, "show s A0", &mut shelf)?;
+    let mut text = Vec::new(alloc);
+    let first = shelf.fetch("s", 100, &mut text);
+    let second = shelf.fetch("s", 100, &mut text);
+    Ok((status, first, second))
+}
+
+#[test]
+fn refused_words_fetch_nothing(rt: HostRuntime) -> Result<(), Fail> {
+    let told = fetches_after(&rt, rt.alloc())?;
+    // The call that is to fail is the first one, and it is still to come.
+    assert_eq!(rt; told, (2, Err(Fetch::Failed), Ok(())));
+    Ok(())
+}
+
+#[test]
+fn out_has_what_fits_in_its_room(rt: HostRuntime) -> Result<(), Fail> {
+    let text = SHOWN.as_bytes();
+    for (room, bytes) in (0..23u32).zip(0..23usize) {
+        let limits = Limits { room, ..FREE };
+        let ended = run_with(&rt, rt.alloc(), WORKED.as_bytes(), "show s A1:B2", limits)?;
+        let (status, notes) = if room < 22 { (6, UNWRITTEN) } else { (0, "") };
+        let out = &text[..bytes.min(text.len())];
+        assert!(rt; ended.is_so(status, out, notes), "{room} bytes");
+    }
+    Ok(())
+}
+
+// A label of 8,192 bytes and 40 formulas that name it, each behind what parts it from the cell before.
+fn label_shown_often(alloc: Global, formula: &str) -> Result<Vec<u8>, AllocError> {
+    let mut text = vec![in alloc; b'x'; 8_192]?;
+    for _ in 0..40 {
+        text.extend_from_slice(formula.as_bytes())?;
+    }
+    Ok(text)
+}
+
+// The status and the number of bytes that are written, where the put with this number is to fail.
+fn show_failing_at<R: Threads + Wait + Sync>(
+    rt: &R,
+    alloc: Global,
+    sheet: &[u8],
+    line: &str,
+    put: u32,
+) -> Result<(u8, usize), Fail> {
+    let limits = Limits {
+        put,
+        room: 400_000,
+        ..FREE
+    };
+    let ended = run_with(rt, alloc, sheet, line, limits)?;
+    Ok((ended.status, ended.out.written().len()))
+}
+
+// The text has 336,010 bytes, in 41 lines or in one: five full pieces, and a sixth one.
+#[test]
+fn a_long_text_is_written_in_pieces(rt: HostRuntime) -> Result<(), Fail> {
+    let alloc = rt.alloc();
+    for (formula, line) in [("\n=A$1", "show s A1:A41"), (",=$A1", "show s A1:AO1")] {
+        let text = label_shown_often(alloc, formula)?;
+        for (put, status, written) in [
+            (1, 6, 0),
+            (2, 6, 65_536),
+            (3, 6, 131_072),
+            (4, 6, 196_608),
+            (5, 6, 262_144),
+            (6, 6, 327_680),
+            (7, 0, 336_010),
+        ] {
+            let told = show_failing_at(&rt, alloc, &text, line, put)?;
+            assert_eq!(rt; told, (status, written), "put {put} of {line}");
+        }
+    }
+    Ok(())
+}
+
+// So many line feeds, and a text behind them.
+fn fed(alloc: Global, feeds: usize, end: &str) -> Result<Vec<u8>, AllocError> {
+    let mut text = vec![in alloc; b'\n'; feeds]?;
+    text.extend_from_slice(end.as_bytes())?;
+    Ok(text)
+}
+
+// The status of a run over so many line feeds and a text behind them, by a shelf and sinks that never fail.
+fn sure_status<R: Threads + Wait + Sync>(
+    rt: &R,
+    alloc: Global,
+    feeds: usize,
+    end: &str,
+) -> Result<u8, Fail> {
+    let mut texts = Vec::new(alloc);
+    texts.push((String::from_str(alloc, "s")?, fed(alloc, feeds, end)?))?;
+    status_of(rt, alloc, "show s A1:B2", &mut SureShelf::new(texts))
+}
+
+#[test]
+fn sheets_are_read_to_the_limit(rt: HostRuntime) -> Result<(), Fail> {
+    let alloc = rt.alloc();
+    // Line feeds alone are a sheet without rows.
+    for (feeds, end, status) in [(0, WORKED, 0), (16_777_216, "", 2)] {
+        let told = sure_status(&rt, alloc, feeds, end)?;
+        assert_eq!(rt; told, status, "{feeds} line feeds");
+    }
+    let past = fed(alloc, 16_777_217, "")?;
+    let ended = run_with(&rt, alloc, &past, "show s A1:B2", FREE)?;
+    assert!(rt;
+        ended.is_so(3, b"", "antifreeze: sheet: text too long\n"),
+        "one too many"
+    );
+    Ok(())
+}

@@ -1,0 +1,113 @@
+use crate::gates::{UntilClaimed, UntilTwo};
+use crate::script::{TWO_FORMULAS, printed};
+use recalc_workers::OpenGate;
+use sheet_refs::cell_of;
+use std::alloc::Global;
+use std::fmt::Write;
+use std::sync::Wait;
+use std::sync::atomic::{AtomicU64, Ordering};
+use std::test::Fail;
+use std::thread::Threads;
+
+// One worker computes A1 and claims B1 before the client looks.
+#[test]
+fn a_worker_computes_what_an_edit_marked(rt: HostRuntime) -> Result<(), Fail> {
+    let alloc = rt.alloc();
+    let gate = UntilClaimed {
+        client: 0,
+        number: 2,
+        cell: cell_of(b"B1").ok_or("no cell")?,
+        claims: AtomicU64::new(0),
+        late: AtomicU64::new(0),
+    };
+    let script = "client ann\nset A1 5\nlook A1\n";
+    let text = printed(&rt, alloc, TWO_FORMULAS, script, 1, &gate)?;
+    let wanted = "log 1\n1 ann set A1 5\nclient ann\nlook 1 A1:A1\n5\nsheet 1 A1:B2\n5,6\n2,8\n";
+    assert_eq!(rt;
+        (text.as_str(), gate.late.load(Ordering::SeqCst)),
+        (wanted, 0)
+    );
+    Ok(())
+}
+
+// A script by which one client sets so many cells, one edit each, and then looks.
+fn many_edits(alloc: Global, edits: u32) -> Result<String, Fail> {
+    let mut text = String::new(alloc);
+    for row in 1..=edits {
+        write!(text, "set A{row} {row}\n")?;
+    }
+    text.push_str("look A1\n")?;
+    Ok(text)
+}
+
+// The text of a sheet with these records, and so many with the number 7 below.
+fn numbers(alloc: Global, first: &str, rows: u32) -> Result<String, Fail> {
+    let mut text = String::new(alloc);
+    text.push_str(first)?;
+    for _ in 0..rows {
+        text.push_str("7\n")?;
+    }
+    Ok(text)
+}
+
+// What is printed of a hundred edits, each of a cell of its own, by four workers.
+fn hundred_edits<R: Threads + Wait + Sync>(
+    rt: &R,
+    alloc: Global,
+    gate: &UntilTwo,
+) -> Result<String, Fail> {
+    let script = many_edits(alloc, 100)?;
+    let sheet = numbers(alloc, "", 100)?;
+    printed(rt, alloc, &sheet, &script, 4, gate)
+}
+
+// Two workers are between a claim and a put at once, while the client waits.
+#[test]
+fn two_workers_compute_at_once(rt: HostRuntime) -> Result<(), Fail> {
+    let gate = UntilTwo {
+        client: 0,
+        number: 101,
+        claims: AtomicU64::new(0),
+        late: AtomicU64::new(0),
+    };
+    let text = hundred_edits(&rt, rt.alloc(), &gate)?;
+    let begins = text.starts_with("log 100\n1 main set A1 1\n2 main set A2 2\n");
+    let ends = text.ends_with("\n98\n99\n100\n");
+    assert_eq!(rt;
+        (begins, ends, gate.late.load(Ordering::SeqCst)),
+        (true, true, 0)
+    );
+    Ok(())
+}
+
+// A script of so many clients, each of which sets its own row and looks at the one before, in turn.
+fn many_clients(alloc: Global, clients: u32, commands: u32) -> Result<String, Fail> {
+    let mut text = String::new(alloc);
+    for client in 1..=clients {
+        write!(text, "client c{client}\n")?;
+        for command in 1..=commands {
+            if command % 2 == 0 {
+                write!(text, "look A1:C{client}\n")?;
+            } else {
+                write!(text, "set A{client} {command}\n")?;
+            }
+        }
+    }
+    Ok(text)
+}
+
+// What is printed of 32 clients with a hundred commands each, by 64 workers.
+fn busy_run<R: Threads + Wait + Sync>(rt: &R, alloc: Global) -> Result<String, Fail> {
+    let sheet = numbers(alloc, "7,=A1+A2,=SUM(B1:B2)\n7,=A32*2\n", 30)?;
+    let script = many_clients(alloc, 32, 100)?;
+    printed(rt, alloc, &sheet, &script, 64, &OpenGate)
+}
+
+#[test]
+fn many_clients_beside_many_workers(rt: HostRuntime) -> Result<(), Fail> {
+    let text = busy_run(&rt, rt.alloc())?;
+    let begins = text.starts_with("log 1600\n");
+    let shows = text.contains("\nsheet 1600 A1:C32\n99,198,396\n99,198,\n99,,\n");
+    assert_eq!(rt; (begins, shows), (true, true));
+    Ok(())
+}
