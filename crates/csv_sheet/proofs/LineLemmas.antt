@@ -2,13 +2,15 @@
 use Rattle.std.proofs.Common.{◌≡◌, ℕ, zero, suc, ◌+◌, ◌<◌, ◌≤◌, ◌⊎◌, Bool, true, false, List, [], ◌∷◌, ◌++◌, length, take, drop, get_or, Some}
 use Rattle.memchr.specs.Find.{IsFirstByte}
 use Rattle.std.proofs.Common.{◌≢◌, Option, None, inl, inr, refl, sym, ◌∙◌, ap, subst, arith, if◌then◌else◌, append_assoc, length-drop}
-use Rattle.std.proofs.Common.{length-append, get_or-drop, add-one}
+use Rattle.std.proofs.Common.{length-append, get_or-drop, add-one, ap₂, IsTrue}
 use Rattle.std.specs.Prelude.{◌==◌, ◌||◌, not, cond, count_by, max, slice_index}
 use Rattle.std.specs.Option.{unwrap_or}
 use Rattle.std.specs.List.{prefix_len}
 use Rattle.std.specs.Str.{IsAscii}
 use Rattle.std.proofs.lemmas.Bool.Decides.{nat_tests}
-use Rattle.std.proofs.lemmas.List.{append-nil}
+use Rattle.std.proofs.lemmas.List.{append-nil, take-append-drop}
+use Rattle.std.proofs.lemmas.List.Elements.{All-append}
+use Rattle.std.proofs.lemmas.List.Folds.{list_any-append}
 use Rattle.std.proofs.lemmas.List.Sums.{sum_by-cons}
 use Rattle.std.proofs.lemmas.Str.{IsUtf8-from_ascii}
 use Rattle.csv.specs.Machine.{Read, next_record, step, after_end}
@@ -19,11 +21,11 @@ use Rattle.csv.specs.declared.parser.State.{State}
 use Rattle.csv.specs.declared.parser.State.TheVariants as st
 use Rattle.csv.specs.declared.parser.Terminator.TheVariants as term
 use Rattle.csv.proofs.ReadFacts.{reached-more}
-use Rattle.csv_sheet.specs.Records.{Rows}
+use Rattle.csv_sheet.specs.Records.{Rows, longest}
 use Rattle.csv_sheet.specs.Results.{IsLong}
-use Rattle.csv_sheet.specs.Lines.{AreCounted, HasCounted, HasReadLines, IsPlain, goes_on, goes_on_field, has_quote, is_comma, line_fields, with_line}
+use Rattle.csv_sheet.specs.Lines.{AreCounted, HasCounted, IsCountOf, IsPlain, goes_on, goes_on_field, has_quote, is_comma, line_fields, rows_from, rows_in, text_rows}
 use Rattle.csv_sheet.specs.declared.lines.Lines.{Lines}
-use Rattle.csv_sheet.proofs.RowLemmas.{length-more, longest-more, none_more, text_more}
+use Rattle.csv_sheet.proofs.RowLemmas.{length-more, longest-more, longest_both, none_both, none_more, text_more}
 
 -- within a record, outside quotes
 abbrev Inside : State → Type 0
@@ -197,9 +199,10 @@ line_short field (b ∷ bs) col = by (b == 44) col (λ k. let more = line_short 
     by false col next same = let more = same col in let grown = length-append field (b ∷ []) in omega (arith, more, grown)
 
 -- one line more is counted
-pub counted_more : (rows : Rows) (line : List ℕ) (lines more : Lines) (some : 0 < length line) → IsAscii line → length line ≤ 8192
+pub counted_more : (rows : Rows) (line : List ℕ) (lines more : Lines) (some : 0 < length line) → IsAscii line
+    → (IsTrue more.short → IsTrue lines.short × (length line ≤ 8192))
     → more.rows ≡ lines.rows + 1 → more.cols ≡ max lines.cols (length (line_fields [] line))
-    → AreCounted rows lines → AreCounted (with_line rows line) more
+    → AreCounted rows lines → AreCounted (rows ++ rows_in line) more
 counted_more rows [] lines more some ascii short count cols is = absurd (omega (arith, some))
 counted_more rows (b ∷ bs) lines more some ascii short count cols is =
     let fields = line_fields [] (b ∷ bs) in
@@ -209,8 +212,26 @@ counted_more rows (b ∷ bs) lines more some ascii short count cols is =
       count = (let e = is.count in omega (arith, count, e, one));
       cols = cols ∙ ap (λ most. max most (length fields)) is.cols ∙ sym widest;
       text = text_more rows fields is.text (line_text [] (b ∷ bs) (λ i. omega arith) ascii);
-      short = none_more rows fields IsLong is.short (λ col within long. let most = line_short [] (b ∷ bs) col in omega (arith, most, long, short));
+      short = λ told.
+          let less = (short told).1 in
+          none_more rows fields IsLong (is.short (short told).0)
+          (λ col within long. let most = line_short [] (b ∷ bs) col in omega (arith, most, long, less));
     }
+
+-- and nothing of a line without bytes
+pub counted_same : (rows : Rows) (line : List ℕ) (lines : Lines) → length line ≡ 0 → AreCounted rows lines → AreCounted (rows ++ rows_in line) lines
+counted_same rows [] lines none is = subst (λ rs. AreCounted rs lines) (sym (append-nil rows)) is
+counted_same rows (b ∷ bs) lines none is = absurd (omega (arith, none))
+
+-- the lines behind others
+pub counted_both : (front back : Rows) (a b both : Lines) → AreCounted front a → AreCounted back b → both.rows ≡ a.rows + b.rows
+    → both.cols ≡ max a.cols b.cols → (IsTrue both.short → IsTrue a.short × IsTrue b.short) → AreCounted (front ++ back) both
+counted_both front back a b both first second rows cols short = record {
+  count = (let e = first.count in let f = second.count in let all = length-append front back in omega (arith, rows, e, f, all));
+  cols = cols ∙ ap (λ n. max n b.cols) first.cols ∙ ap (λ n. max (longest front) n) second.cols ∙ sym (longest_both front back);
+  text = All-append AllText front back first.text second.text;
+  short = λ told. none_both IsLong front back (first.short (short told).0) (second.short (short told).1);
+}
 
 -- a front ends where the first byte that passes a test stands, or with the text
 front_at : (test : ℕ → Bool) (text : List ℕ) (k : ℕ) → k < length text → ((j : ℕ) → j < k → test (slice_index text j) ≢ true)
@@ -241,15 +262,6 @@ pub front_found : (test : ℕ → Bool) (text : List ℕ) (found : Option ℕ) �
 front_found test text None none = whole_front test text (λ j less. none j (omega arith) less)
 front_found test text (Some k) first =
     front_at test text k first.0.high (λ j less. first.0.before j (omega arith) less) first.1
-
--- a line that has a byte is a record
-pub some_line : (rows : Rows) (line : List ℕ) → 0 < length line → with_line rows line ≡ rows ++ line_fields [] line ∷ []
-some_line rows [] some = absurd (omega (arith, some))
-some_line rows (b ∷ bs) some = refl
-
-pub no_line : (rows : Rows) (line : List ℕ) → length line ≡ 0 → with_line rows line ≡ rows
-no_line rows [] none = refl
-no_line rows (b ∷ bs) none = absurd (omega (arith, none))
 
 -- the fields behind the first one, by what is behind that one's bytes
 abbrev behind_comma : List ℕ → List (List ℕ)
@@ -299,8 +311,34 @@ module _ (fields : List (List ℕ)) (col : ℕ) (left : List ℕ) (behind : drop
       goes [] some = absurd (omega (arith, some))
       goes (b ∷ bs) some = refl
 
+-- a line that has a byte is a record
+pub some_row : (line : List ℕ) → 0 < length line → rows_in line ≡ line_fields [] line ∷ []
+some_row [] some = absurd (omega (arith, some))
+some_row (b ∷ bs) some = refl
+
+pub none_in : (line : List ℕ) → length line ≡ 0 → rows_in line ≡ []
+none_in [] none = refl
+none_in (b ∷ bs) none = absurd (omega (arith, none))
+
+-- records with that of a line more
+abbrev with_line : Rows → List ℕ → Rows
+with_line rows [] = rows
+with_line rows (b ∷ bs) = rows ++ line_fields [] (b ∷ bs) ∷ []
+
+with_rows : (rows : Rows) (line : List ℕ) → with_line rows line ≡ rows ++ rows_in line
+with_rows rows [] = sym (append-nil rows)
+with_rows rows (b ∷ bs) = refl
+
+-- these records were read of a text line by line, up to what is left of it
+record HasReadLines (text left : List ℕ) (rows : Rows) : Type 0 where
+  state : State
+  rest : List ℕ
+  reached : Reached default_config st.StartRecord text rows state rest
+  goes : next_record default_config state [] [] rest ≡ next_record default_config st.StartRecord [] [] left
+  plain : IsPlain left
+
 -- the whole text is left to be read
-pub reading_begins : (text : List ℕ) → IsPlain text → HasReadLines text text []
+reading_begins : (text : List ℕ) → IsPlain text → HasReadLines text text []
 unfolding Reached
 reading_begins text plain = record {
   state = st.StartRecord;
@@ -311,7 +349,7 @@ reading_begins text plain = record {
 }
 
 -- and less of it, once a line was
-pub reading_goes : (text left : List ℕ) (rows : Rows) → HasReadLines text left rows → 0 < length left
+reading_goes : (text left : List ℕ) (rows : Rows) → HasReadLines text left rows → 0 < length left
     → HasReadLines text (drop 1 (drop (prefix_len goes_on left) left)) (with_line rows (take (prefix_len goes_on left) left))
 reading_goes text [] rows has some = absurd (omega (arith, some))
 reading_goes text (b ∷ bs) rows has some =
@@ -364,7 +402,7 @@ reading_goes text (b ∷ bs) rows has some =
         ended_fields fs (x ∷ xs) = refl
 
 -- where nothing is left, all records were read
-pub reading_ends : (text left : List ℕ) (rows : Rows) → HasReadLines text left rows → length left ≡ 0 → AreRecords default_config st.StartRecord text rows
+reading_ends : (text left : List ℕ) (rows : Rows) → HasReadLines text left rows → length left ≡ 0 → AreRecords default_config st.StartRecord text rows
 unfolding next_record
 reading_ends text left rows has none =
     (has.state, has.rest, has.reached, has.goes ∙ ap (λ l. next_record default_config st.StartRecord [] [] l) (empty left none) ∙ nothing)
@@ -380,28 +418,161 @@ reading_ends text left rows has none =
 pub behind_shorter : (n : ℕ) (left : List ℕ) → 0 < length left → length (drop 1 (drop n left)) < length left
 behind_shorter n left some = (let behind = length-drop n left in let last = length-drop 1 (drop n left) in omega (arith, behind, last, some))
 
+-- where the records of a line end, those of the lines behind it begin
+abbrev IsFirst : List ℕ → List ℕ → ℕ → Type 0
+IsFirst line text n = rows_from line text ≡ rows_in (line ++ take n text) ++ text_rows (drop 1 (drop n text))
+
+pub first_line : (line text : List ℕ) → IsFirst line text (prefix_len goes_on text)
+unfolding rows_from
+first_line line [] = ap (λ l. rows_in l) (sym (append-nil line)) ∙ sym (append-nil (rows_in (line ++ [])))
+first_line line (b ∷ bs) =
+    subst (λ n. IsFirst line (b ∷ bs) n) (sym (prefix_of goes_on b bs)) (by (goes_on b) (first_line (line ++ b ∷ []) bs))
+  where
+    by : (on : Bool) → IsFirst (line ++ b ∷ []) bs (prefix_len goes_on bs)
+        → (if on then rows_from (line ++ b ∷ []) bs else rows_in line ++ rows_from [] bs)
+        ≡ rows_in (line ++ take (cond on (suc (prefix_len goes_on bs)) 0) (b ∷ bs))
+        ++ text_rows (drop 1 (drop (cond on (suc (prefix_len goes_on bs)) 0) (b ∷ bs)))
+    by true same =
+        same ∙ ap (λ l. rows_in l ++ text_rows (drop 1 (drop (prefix_len goes_on bs) bs)))
+        (append_assoc line (b ∷ []) (take (prefix_len goes_on bs) bs))
+    by false same = ap (λ l. rows_in l ++ text_rows bs) (sym (append-nil line))
+
+pub no_rows : (left : List ℕ) → length left ≡ 0 → text_rows left ≡ []
+unfolding rows_from
+no_rows [] none = refl
+no_rows (b ∷ bs) none = absurd (omega (arith, none))
+
+-- the records of a text are those of its lines
+pub plain_rows : (text : List ℕ) → IsPlain text → AreRecords default_config st.StartRecord text (text_rows text)
+plain_rows text plain = to_end (suc (length text)) text [] (omega arith) (reading_begins text plain)
+  where
+    to_end : (most : ℕ) (left : List ℕ) (rows : Rows) → length left < most → HasReadLines text left rows
+        → AreRecords default_config st.StartRecord text (rows ++ text_rows left)
+    to_end zero left rows less has = absurd (omega (arith, less))
+    to_end (suc most) [] rows less has =
+        subst (AreRecords default_config st.StartRecord text) (sym (append-nil rows) ∙ ap (λ rs. rows ++ rs) (sym (no_rows [] refl)))
+        (reading_ends text [] rows has refl)
+    to_end (suc most) (b ∷ bs) rows less has =
+        let left = b ∷ bs in
+        let n = prefix_len goes_on left in
+        let shorter = behind_shorter n left (omega arith) in
+        let rest = to_end most (drop 1 (drop n left)) (with_line rows (take n left)) (omega (arith, less, shorter))
+        (reading_goes text left rows has (omega arith)) in
+        subst (AreRecords default_config st.StartRecord text)
+        (ap (λ rs. rs ++ text_rows (drop 1 (drop n left))) (with_rows rows (take n left))
+        ∙ append_assoc rows (rows_in (take n left)) (text_rows (drop 1 (drop n left)))
+        ∙ ap (λ rs. rows ++ rs) (sym (first_line [] left)))
+        rest
+
+pub ascii_behind : (n : ℕ) (left : List ℕ) → IsAscii left → IsAscii (drop 1 (drop n left))
+ascii_behind n left all i = rw (get_or-drop 1 (drop n left) i 0, get_or-drop n left (1 + i) 0) (all (n + (1 + i)))
+
 -- none was counted yet
-pub counting_begins : (text : List ℕ) (lines : Lines) → IsPlain text → lines.rows ≡ 0 → lines.cols ≡ 0 → HasCounted text text lines
-counting_begins text lines plain rows cols = record {
+pub counting_begins : (text : List ℕ) (lines : Lines) → IsAscii text → lines.rows ≡ 0 → lines.cols ≡ 0 → HasCounted text text lines
+counting_begins text lines ascii rows cols = record {
   rows = [];
-  read = reading_begins text plain;
-  counted = record { count = rows; cols = cols; text = λ k d within. absurd (omega (arith, within)); short = λ row col within long. omega (arith, within) };
+  split = refl;
+  counted = record {
+    count = rows;
+    cols = cols;
+    text = λ k d within. absurd (omega (arith, within));
+    short = λ told row col within long. omega (arith, within);
+  };
   few = omega (arith, rows);
+  ascii = ascii;
 }
 
 -- and one line more
 pub counting_goes : (text left : List ℕ) (lines more : Lines) → HasCounted text left lines → 0 < length left
-    → ((rows : Rows) → AreCounted rows lines → AreCounted (with_line rows (take (prefix_len goes_on left) left)) more)
+    → ((rows : Rows) → AreCounted rows lines → AreCounted (rows ++ rows_in (take (prefix_len goes_on left) left)) more)
     → more.rows ≤ lines.rows + 1 → HasCounted text (drop 1 (drop (prefix_len goes_on left) left)) more
 counting_goes text left lines more has some counts few =
     let n = prefix_len goes_on left in
     record {
-      rows = with_line has.rows (take n left);
-      read = reading_goes text left has.rows has.read some;
+      rows = has.rows ++ rows_in (take n left);
+      split = has.split ∙ ap (λ rs. has.rows ++ rs) (first_line [] left)
+          ∙ sym (append_assoc has.rows (rows_in (take n left)) (text_rows (drop 1 (drop n left))));
       counted = counts has.rows has.counted;
       few = (let f = has.few in let behind = length-drop n left in let last = length-drop 1 (drop n left) in omega (arith, f, few, behind, last, some));
+      ascii = ascii_behind n left has.ascii;
     }
 
-pub counting_ends : (text left : List ℕ) (lines : Lines) → HasCounted text left lines → length left ≡ 0
-    → (rows : Rows) × AreRecords default_config st.StartRecord text rows × AreCounted rows lines
-counting_ends text left lines has none = (has.rows, reading_ends text left has.rows has.read none, has.counted)
+pub counting_ends : (text left : List ℕ) (lines : Lines) → HasCounted text left lines → length left ≡ 0 → AreCounted (text_rows text) lines
+counting_ends text left lines has none =
+    subst (λ rs. AreCounted rs lines) (sym (has.split ∙ ap (λ rs. has.rows ++ rs) (no_rows left none) ∙ append-nil has.rows)) has.counted
+
+-- behind the line in which a place is
+abbrev pub ending : List ℕ → ℕ → ℕ
+ending text place = place + prefix_len goes_on (drop place text) + 1
+
+abbrev IsCutAt : List ℕ → List ℕ → ℕ → Type 0
+IsCutAt line text n = rows_from line text ≡ rows_from line (take n text) ++ text_rows (drop n text)
+
+cut_none : (line : List ℕ) (n : ℕ) → IsCutAt line [] n
+unfolding rows_from
+cut_none line zero = sym (append-nil (rows_in line))
+cut_none line (suc n) = sym (append-nil (rows_in line))
+
+cut_more : (line : List ℕ) (b : ℕ) (bs : List ℕ) (n : ℕ) → IsCutAt (line ++ b ∷ []) bs n → IsCutAt [] bs n → IsCutAt line (b ∷ bs) (suc n)
+unfolding rows_from
+cut_more line b bs n on off = by (goes_on b)
+  where
+    by : (x : Bool)
+        → (if x then rows_from (line ++ b ∷ []) bs else rows_in line ++ rows_from [] bs)
+        ≡ (if x then rows_from (line ++ b ∷ []) (take n bs) else rows_in line ++ rows_from [] (take n bs)) ++ text_rows (drop n bs)
+    by true = on
+    by false =
+        ap (λ l. rows_in line ++ l) off ∙ sym (append_assoc (rows_in line) (rows_from [] (take n bs)) (text_rows (drop n bs)))
+
+cut_first : (line text : List ℕ) → IsCutAt line text (prefix_len goes_on text + 1)
+unfolding rows_from
+cut_first line [] = cut_none line (prefix_len goes_on [] + 1)
+cut_first line (b ∷ bs) =
+    subst (λ n. IsCutAt line (b ∷ bs) (n + 1)) (sym (prefix_of goes_on b bs))
+    (by (goes_on b) refl (cut_more line b bs (prefix_len goes_on bs + 1) (cut_first (line ++ b ∷ []) bs) (cut_first [] bs)))
+  where
+    by : (x : Bool) → goes_on b ≡ x → IsCutAt line (b ∷ bs) (suc (prefix_len goes_on bs + 1))
+        → IsCutAt line (b ∷ bs) (cond x (suc (prefix_len goes_on bs)) 0 + 1)
+    by true on more =
+        let same : suc (prefix_len goes_on bs) + 1 ≡ suc (prefix_len goes_on bs + 1) = omega arith in
+        subst (λ k. IsCutAt line (b ∷ bs) k) (sym same) more
+    by false ends more =
+        rw ends (ap (λ l. l ++ rows_from [] bs) (sym (append-nil (rows_in line))))
+
+pub cut_behind : (line text : List ℕ) (place : ℕ) → IsCutAt line text (ending text place)
+unfolding rows_from
+cut_behind line text zero =
+    let same : prefix_len goes_on text + 1 ≡ 0 + prefix_len goes_on text + 1 = omega arith in
+    subst (λ n. IsCutAt line text n) same (cut_first line text)
+cut_behind line [] (suc place) = cut_none line (ending [] (suc place))
+cut_behind line (b ∷ bs) (suc place) =
+    let same : suc (ending bs place) ≡ ending (b ∷ bs) (suc place) = omega arith in
+    subst (λ n. IsCutAt line (b ∷ bs) n) same
+    (cut_more line b bs (ending bs place) (cut_behind (line ++ b ∷ []) bs place) (cut_behind [] bs place))
+
+-- a text of two is plain where both are
+pub plain_both : (front back : List ℕ) → IsPlain front → IsPlain back → IsPlain (front ++ back)
+plain_both front back first second = record {
+  ascii = ascii_both front back first.ascii second.ascii;
+  unquoted = list_any-append (λ b. b == 34) front back ∙ rw (first.unquoted, second.unquoted) refl;
+}
+  where
+    ascii_both : (a b : List ℕ) → IsAscii a → IsAscii b → IsAscii (a ++ b)
+    ascii_both [] b all more i = more i
+    ascii_both (x ∷ xs) b all more zero = all 0
+    ascii_both (x ∷ xs) b all more (suc i) = ascii_both xs b (λ j. all (suc j)) more i
+
+pub plain_cut : (text front back : List ℕ) (n : ℕ) → front ≡ take n text → back ≡ drop n text → IsPlain front → IsPlain back → IsPlain text
+plain_cut text front back n first second a b =
+    subst IsPlain (ap₂ (λ x y. x ++ y) first second ∙ take-append-drop n text) (plain_both front back a b)
+
+-- what is counted of two texts that are cut from one
+pub count_both : (text front back : List ℕ) (a b both : Lines) → IsCountOf front a → IsCountOf back b
+    → (IsPlain front → IsPlain back → IsPlain text) → text_rows text ≡ text_rows front ++ text_rows back → length front + length back ≡ length text
+    → AreCounted (text_rows front ++ text_rows back) both → IsCountOf text both
+count_both text front back a b both first second plain split count is = record {
+  plain = plain first.plain second.plain;
+  counted = subst (λ rs. AreCounted rs both) (sym split) is;
+  few = (let e = is.count in let more = length-append (text_rows front) (text_rows back) in let f = first.counted.count in let s = second.counted.count in
+      let less = first.few in let rest = second.few in omega (arith, e, more, f, s, less, rest, count));
+}

@@ -2,7 +2,7 @@
 use Rattle.std.proofs.Common.{◌≡◌, ◌↔◌, ℕ, ◌+◌, ◌*◌, ◌<◌, ◌≤◌, List, [], length, inl, ◌∷◌, inr, ◌⊎◌, refl, sym, ◌∙◌, ap}
 use Rattle.std.proofs.Common.{subst, arith, Result, Err, Option, None, Some, Bool, true, false, true≢false, IsTrue}
 use Rattle.std.proofs.Common.{IfSome, drop, ◌==◌, ◌&&◌, if◌then◌else◌}
-use Rattle.std.specs.Prelude.{codes, nat_eq}
+use Rattle.std.specs.Prelude.{◌≢◌, Ok, IfErr, IfOk, codes, nat_eq}
 use Rattle.std.specs.List.{starts_with}
 use Rattle.std.proofs.lemmas.List.{length-drop}
 use Rattle.csv.specs.Reading.{AreRecords, default_config}
@@ -11,13 +11,14 @@ use Rattle.sheet_refs.specs.Cells.{Position, IsNamed}
 use Rattle.formula_syntax.specs.declared.edition.Edition.{Edition}
 use Rattle.formula_syntax.specs.declared.edition.Edition.TheVariants.{One, Two}
 use Rattle.sheet_model.specs.Sheets.{SheetValue, IsSheetSize}
+use Rattle.csv_sheet.specs.Filling.{IsFillRefusal, IsFilledWith}
 use Rattle.csv_sheet.specs.Reading.{Measures}
 use Rattle.csv_sheet.specs.Records.{Rows, cell_there, longest, without_marks}
 use Rattle.csv_sheet.specs.Results.{AreText, IsTooLarge, IsFirstField, IsLong, IsGivenByRecords, IsRecordsResult, IsHeadedResult, IsSheetResult}
 use Rattle.csv_sheet.specs.Headings.{HeadedText, behind_end, behind_first, if_named, unnamed, heading_of}
 use Rattle.csv_sheet.specs.declared.extent.Extent.{Extent}
 use Rattle.csv_sheet.specs.declared.refused.SheetRefused.{SheetRefused}
-use Rattle.csv_sheet.specs.declared.refused.SheetRefused.TheVariants.{UnknownEdition}
+use Rattle.csv_sheet.specs.declared.refused.SheetRefused.TheVariants.{Memory, UnknownEdition}
 use Rattle.csv_sheet.proofs.FieldLemmas.{few_rows}
 use Rattle.csv_sheet.proofs.MarkLemmas.{length-without_marks, without_marks_twice}
 use Rattle.csv_sheet.proofs.RecordLemmas.{has_columns}
@@ -27,6 +28,14 @@ pub result_from : (edition : Edition) (records : List ℕ) (rows : Rows) (result
     → AreRecords default_config StartRecord records rows → IsGivenByRecords edition rows result
     → IsRecordsResult edition records result
 result_from edition records rows result has answer = record { rows = rows; has = has; answer = answer }
+
+-- so is what filling gives
+pub filled_from : (edition : Edition) (records : List ℕ) (result : Result SheetValue SheetRefused) → IfOk result (IsFilledWith records edition)
+    → IfErr result (IsFillRefusal records edition) → result ≢ Err Memory → IsRecordsResult edition records result
+filled_from edition records (Ok sheet) filled why other = result_from edition records filled.0 (Ok sheet) filled.1 filled.2
+filled_from edition records (Err refused) filled why other =
+    let given = why (λ same. other (ap (λ e. Err e) same)) in
+    result_from edition records given.0 (Err refused) given.1 given.2
 
 -- what the records behind a heading give, a text gives
 pub headed_from : (text : List ℕ) (heading : HeadedText) (result : Result SheetValue SheetRefused)

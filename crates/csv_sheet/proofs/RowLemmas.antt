@@ -1,8 +1,9 @@
 -- Records with one record more.
-use Rattle.std.proofs.Common.{◌≡◌, ℕ, ◌+◌, ◌<◌, List, [], ◌∷◌, ◌++◌, length, get_or, inl, inr, refl, sym, ◌∙◌, ap, subst, arith, length-append}
-use Rattle.std.specs.Prelude.{max}
+use Rattle.std.proofs.Common.{◌≡◌, ℕ, ◌+◌, ◌-◌, ◌<◌, ◌≤◌, List, [], ◌∷◌, ◌++◌, length, get_or, inl, inr, refl, sym, ◌∙◌, ap, subst, arith, length-append}
+use Rattle.std.specs.Prelude.{fold, max}
 use Rattle.std.proofs.Math.ListN.{get_or-append}
-use Rattle.std.proofs.Math.Seq.{get_or-append_seam}
+use Rattle.std.proofs.Math.Nat.{max-zero, zero-max}
+use Rattle.std.proofs.Math.Seq.{get_or-append_right, get_or-append_seam}
 use Rattle.std.proofs.lemmas.Bool.{cases_order}
 use Rattle.std.proofs.lemmas.List.{get_or_past}
 use Rattle.std.proofs.lemmas.List.Elements.{All-push}
@@ -114,3 +115,33 @@ module _ (rows : Rows) (more : List (List ℕ)) where
         by r c (inr same) inside holds =
             let at : fields_at (rows ++ more ∷ []) r ≡ more = ap (λ k. fields_at (rows ++ more ∷ []) k) same.0 ∙ new_fields in
             earlier c same.1 (subst (λ fs. P (get_or fs c [])) at holds)
+
+max_thrice : (a b c : ℕ) → max (max a b) c ≡ max a (max b c)
+max_thrice a b c = omega arith
+
+-- the longest of records and of those behind them
+longest_on : (most : ℕ) (rows : Rows) → fold (λ m fields. max m (length fields)) most rows ≡ max most (longest rows)
+longest_on most [] = sym (max-zero most)
+longest_on most (fields ∷ rest) =
+    longest_on (max most (length fields)) rest ∙ max_thrice most (length fields) (longest rest)
+    ∙ ap (λ m. max most m) (sym (longest_on (max 0 (length fields)) rest ∙ ap (λ m. max m (longest rest)) (zero-max (length fields))))
+
+pub longest_both : (front back : Rows) → longest (front ++ back) ≡ max (longest front) (longest back)
+longest_both front back = fold-append (λ m fields. max m (length fields)) 0 front back ∙ longest_on (longest front) back
+
+-- of no field of either is something true
+pub none_both : (P : List ℕ → Type 0) (front back : Rows) → NoField P front → NoField P back → NoField P (front ++ back)
+none_both P front back first second row col within holds = elim (cases_order row (length front)) [
+  | inl at ↦ later (omega (arith, at))
+  | inr apart ↦ elim apart [
+    | inl before ↦
+        let same : fields_at (front ++ back) row ≡ fields_at front row = get_or-append front back [] row before in
+        first row col (subst (λ fs. col < length fs) same within) (subst (λ fs. P (get_or fs col [])) same holds)
+    | inr past ↦ later (omega (arith, past))
+  ]
+]
+  where
+    later : length front ≤ row → ⊥
+    later past =
+        let same : fields_at (front ++ back) row ≡ fields_at back (row - length front) = get_or-append_right front back row [] past in
+        second (row - length front) col (subst (λ fs. col < length fs) same within) (subst (λ fs. P (get_or fs col [])) same holds)

@@ -1,6 +1,8 @@
 -- Records that are read and put into a sheet one after the other.
 use Rattle.std.proofs.Common.{◌≡◌, ◌≢◌, ℕ, ◌+◌, ◌-◌, ◌*◌, ◌<◌, ◌≤◌, List, [], ◌∷◌, ◌++◌, length, get_or, inl, inr, refl}
 use Rattle.std.proofs.Common.{sym, ◌∙◌, ap, subst, arith, Err, length-append, append_assoc}
+use Rattle.std.proofs.Common.{ap₂, drop, take}
+use Rattle.std.specs.List.{prefix_len}
 use Rattle.std.proofs.Math.ListN.{get_or-append}
 use Rattle.std.proofs.Math.Seq.{get_or-append_seam}
 use Rattle.std.proofs.lemmas.List.{append-nil}
@@ -15,13 +17,15 @@ use Rattle.sheet_model.specs.Fields.{IsContent, IsDeepFormula}
 use Rattle.sheet_model.specs.Sheets.{SheetValue, IsSheetSize, content_of, blank_sheet}
 use Rattle.sheet_model.specs.Tables.{AddsLabels}
 use Rattle.sheet_model.proofs.ContentLemmas.{refused_none}
-use Rattle.csv_sheet.specs.Filling.{HoldsRecords, IsRecordFor, IsRowRefusal, ArePut}
+use Rattle.csv_sheet.specs.Filling.{HasPut, HoldsRecords, IsBlankFor, IsPartRefusal, IsRecordFor, IsRowRefusal, ArePut, PutsPart}
+use Rattle.csv_sheet.specs.Lines.{IsPlain, goes_on, line_fields, rows_in, text_rows}
 use Rattle.csv_sheet.specs.Records.{Rows, fields_at, field_at, all_fields, cell_there, longest, sizes_of}
 use Rattle.csv_sheet.specs.Results.{AreReadable, IsSheetOf, IsGivenByRecords, IsTooLarge, IsPlaceBefore, IsFirstField, IsFirstRefused, IsRefusedFormula, IsLong}
 use Rattle.csv_sheet.specs.declared.refused.SheetRefused.{SheetRefused}
 use Rattle.csv_sheet.specs.declared.refused.SheetRefused.TheVariants.{NotUtf8, TooManyCells, FieldTooLong, FormulaTooDeep, TooManyRefs, UnknownEdition, Memory}
-use Rattle.csv_sheet.proofs.FieldLemmas.{longest_at, longest_of}
+use Rattle.csv_sheet.proofs.FieldLemmas.{few_rows, longest_at, longest_of}
 use Rattle.csv_sheet.proofs.FillLemmas.{holds_nothing}
+use Rattle.csv_sheet.proofs.LineLemmas.{first_line, no_rows, none_in, plain_rows, some_row}
 use Rattle.csv_sheet.proofs.RecordLemmas.{rows_in_front, one_rows, has_columns}
 
 -- the record behind those that were read
@@ -118,6 +122,24 @@ module _ (all before rest : Rows) (fields : List (List ℕ)) (whole : all ≡ (b
   row_refused sheet holds sizes UnknownEdition other is = absurd is.why
   row_refused sheet holds sizes Memory other is = absurd (other refl)
 
+-- the records in front of one were put into a sheet that was blank
+module _ (all before rest : Rows) (fields : List (List ℕ)) (whole : all ≡ (before ++ fields ∷ []) ++ rest) (readable : AreReadable all)
+    (edition : Edition) (row : ℕ) (sheet : SheetValue) (put : ArePut before row (blank_sheet edition (sizes_of all)) sheet) where
+  -- it fits the sheet
+  pub fits_row : IsRecordFor sheet row fields
+  fits_row =
+      let few : length sheet.labels ≤ length before * sheet.sizes.cols =
+      subst (λ k. length sheet.labels ≤ k * sheet.sizes.cols) (sym put.count)
+      (subst (λ (s : Sizes). length sheet.labels ≤ row * s.cols) (sym put.sizes) put.few) in
+      subst (λ k. IsRecordFor sheet k fields) put.count (record_fits all before rest fields whole readable sheet put.holds put.sizes few)
+
+  -- where it is refused, that is what the text gives
+  pub refused_row : (refused : SheetRefused) → refused ≢ Memory → IsRowRefusal sheet.edition row fields refused → IsGivenByRecords edition all (Err refused)
+  refused_row refused other is =
+      subst (λ (e : Edition). IsGivenByRecords e all (Err refused)) put.edition
+      (row_refused all before rest fields whole readable sheet put.holds put.sizes refused other
+      (subst (λ k. IsRowRefusal sheet.edition k fields refused) (sym put.count) is))
+
 -- the sizes of records that fit a sheet are those of one
 readable_size : (text : List ℕ) (rows : Rows) → AreRecords default_config StartRecord text rows → ¬ IsTooLarge rows → IsSheetSize (sizes_of rows)
 readable_size text rows has fits =
@@ -196,24 +218,17 @@ module _ (text : List ℕ) (all : Rows) (has : AreRecords default_config StartRe
     front : (behind : Rows) × (all ≡ (rows ++ fields ∷ []) ++ behind) × AreRecords default_config state rest behind
     front = rows_in_front default_config StartRecord text (rows ++ fields ∷ []) all state rest reached has
 
+    blank_put : ArePut rows row (blank_sheet old.edition (sizes_of all)) between
+    blank_put = subst (λ s. ArePut rows row s between) blank put
+
     -- the next record fits the sheet
     pub put_fits : IsRecordFor between row fields
-    put_fits =
-        let sizes : between.sizes ≡ sizes_of all = put.sizes ∙ old_sizes in
-        let few : length between.labels ≤ length rows * between.sizes.cols =
-        subst (λ k. length between.labels ≤ k * between.sizes.cols) (sym put.count)
-        (subst (λ (s : Sizes). length between.labels ≤ row * s.cols) (sym put.sizes) put.few) in
-        subst (λ k. IsRecordFor between k fields) put.count
-        (record_fits all rows front.0 fields front.1 readable between put.holds sizes few)
+    put_fits = fits_row all rows front.0 fields front.1 readable old.edition row between blank_put
 
     -- where it is refused, that is what the text gives
     pub put_refused : (refused : SheetRefused) → refused ≢ Memory → IsRowRefusal between.edition row fields refused
         → IsGivenByRecords old.edition all (Err refused)
-    put_refused refused other is =
-        let sizes : between.sizes ≡ sizes_of all = put.sizes ∙ old_sizes in
-        subst (λ (e : Edition). IsGivenByRecords e all (Err refused)) put.edition
-        (row_refused all rows front.0 fields front.1 readable between put.holds sizes refused other
-        (subst (λ k. IsRowRefusal between.edition k fields refused) (sym put.count) is))
+    put_refused = refused_row all rows front.0 fields front.1 readable old.edition row between blank_put
 
 -- one record more
 pub put_more : (rows : Rows) (fields : List (List ℕ)) (row : ℕ) (old between new : SheetValue) → ArePut rows row old between
@@ -227,3 +242,89 @@ put_more rows fields row old between new put filled edition sizes few = record {
   sizes = sizes ∙ put.sizes;
   few = subst (λ (s : Sizes). length new.labels ≤ (row + 1) * s.cols) put.sizes few;
 }
+
+-- the next record, once those in front of it were put into a sheet that was blank
+module _ (edition : Edition) (all left : Rows) (fields : List (List ℕ)) (row : ℕ) (sheet : SheetValue) (has : HasPut edition all (fields ∷ left) row sheet) where
+  whole : all ≡ (has.rows ++ fields ∷ []) ++ left
+  whole = has.split ∙ sym (append_assoc has.rows (fields ∷ []) left)
+
+  pub next_fits : IsRecordFor sheet row fields
+  next_fits = fits_row all has.rows left fields whole has.readable edition row sheet has.put
+
+  -- its row has a number
+  pub next_row : 0 < length fields → row < 1048576
+  next_row some =
+      let fits = next_fits in
+      let sizes = has.put.sizes in
+      let within : row < length all = subst (λ (s : Sizes). row < s.rows) sizes fits.within in
+      let narrow : length fields ≤ longest all = subst (λ (s : Sizes). length fields ≤ s.cols) sizes fits.narrow in
+      let small : 1048576 < length all * longest all → ⊥ = λ more. has.readable.fits (inl more) in
+      let few = few_rows (length all) (longest all) 1048576 (omega (arith, small)) (omega (arith, some, narrow)) in
+      omega (arith, within, few)
+
+  pub next_refused : (refused : SheetRefused) → refused ≢ Memory → IsRowRefusal sheet.edition row fields refused → IsGivenByRecords edition all (Err refused)
+  next_refused = refused_row all has.rows left fields whole has.readable edition row sheet has.put
+
+  pub next_put : (new : SheetValue) → ((rows : Rows) → length rows ≡ row → HoldsRecords rows sheet → HoldsRecords (rows ++ fields ∷ []) new)
+      → new.edition ≡ sheet.edition → new.sizes ≡ sheet.sizes → length new.labels ≤ (row + 1) * sheet.sizes.cols → HasPut edition all left (row + 1) new
+  next_put new filled same sizes few = record {
+    readable = has.readable;
+    rows = has.rows ++ fields ∷ [];
+    split = whole;
+    put = put_more has.rows fields row (blank_sheet edition (sizes_of all)) sheet new has.put filled same sizes few;
+  }
+
+-- the records of a text that are left, where its first line is cut off
+module _ (edition : Edition) (all behind : Rows) (row : ℕ) (sheet : SheetValue) (left line rest : List ℕ) (is : line ≡ take (prefix_len goes_on left) left)
+    (after : rest ≡ drop 1 (drop (prefix_len goes_on left) left)) (has : HasPut edition all (text_rows left ++ behind) row sheet) where
+  cut : text_rows left ≡ rows_in line ++ text_rows rest
+  cut =
+      first_line [] left
+      ∙ ap (λ l. rows_in l ++ text_rows (drop 1 (drop (prefix_len goes_on left) left))) (sym is)
+      ∙ ap (λ l. rows_in line ++ text_rows l) (sym after)
+
+  pub next_line : 0 < length line → HasPut edition all (line_fields [] line ∷ (text_rows rest ++ behind)) row sheet
+  next_line some = subst (λ rs. HasPut edition all (rs ++ behind) row sheet) (cut ∙ ap (λ rs. rs ++ text_rows rest) (some_row line some)) has
+
+  pub no_line : length line ≡ 0 → HasPut edition all (text_rows rest ++ behind) row sheet
+  no_line none = subst (λ rs. HasPut edition all (rs ++ behind) row sheet) (cut ∙ ap (λ rs. rs ++ text_rows rest) (none_in line none)) has
+
+pub none_left : (edition : Edition) (all behind : Rows) (row : ℕ) (sheet : SheetValue) (left : List ℕ) → length left ≡ 0
+    → HasPut edition all (text_rows left ++ behind) row sheet → HasPut edition all behind row sheet
+none_left edition all behind row sheet left none has = subst (λ rs. HasPut edition all (rs ++ behind) row sheet) (no_rows left none) has
+
+-- nothing of a plain text was put yet
+pub put_begins : (text : List ℕ) (sheet : SheetValue) (blank : IsBlankFor text sheet) → IsPlain text
+    → HasPut sheet.edition blank.0 (text_rows [] ++ text_rows text) 0 sheet
+put_begins text sheet blank plain = record {
+  readable = blank.2;
+  rows = [];
+  split = one_rows default_config StartRecord text blank.0 (text_rows text) blank.1 (plain_rows text plain)
+      ∙ ap (λ rs. rs ++ text_rows text) (sym (no_rows [] refl));
+  put = subst (λ s. ArePut [] 0 s sheet) blank.3 (put_none text blank.0 blank.1 blank.2 sheet blank.3);
+}
+
+-- a part of a text was put, and the next one is cut from what is behind it
+module _ (edition : Edition) (all : Rows) (part behind : List ℕ) (row : ℕ) (sheet : SheetValue)
+    (has : HasPut edition all (text_rows part ++ text_rows behind) row sheet) where
+  one_edition : sheet.edition ≡ edition
+  one_edition = has.put.edition
+
+  has_part : HasPut sheet.edition all (text_rows part ++ text_rows behind) row sheet
+  has_part = subst (λ e. HasPut e all (text_rows part ++ text_rows behind) row sheet) (sym one_edition) has
+
+  pub part_put : (next rest : List ℕ) (done : SheetValue × ℕ) → PutsPart part row sheet done → text_rows behind ≡ text_rows next ++ text_rows rest
+      → HasPut edition all (text_rows next ++ text_rows rest) done.1 done.0
+  part_put next rest done puts split =
+      subst (λ e. HasPut e all (text_rows next ++ text_rows rest) done.1 done.0) one_edition
+      (subst (λ rs. HasPut sheet.edition all rs done.1 done.0) split (puts all (text_rows behind) has_part))
+
+  pub part_refused : (refused : SheetRefused) → IsPartRefusal part row sheet refused → refused ≢ Memory → IsGivenByRecords edition all (Err refused)
+  part_refused refused is other =
+      subst (λ (e : Edition). IsGivenByRecords e all (Err refused)) one_edition (is all (text_rows behind) has_part other)
+
+  -- at its end all of it was
+  pub put_ends : (text : List ℕ) → AreRecords default_config StartRecord text all → length part ≡ 0 → length behind ≡ 0 → IsSheetOf edition all sheet
+  put_ends text records first second =
+      put_all text all records has.readable (blank_sheet edition (sizes_of all)) refl has.rows row sheet
+      (sym (has.split ∙ ap₂ (λ a b. has.rows ++ (a ++ b)) (no_rows part first) (no_rows behind second) ∙ append-nil has.rows)) has.put

@@ -1,26 +1,19 @@
 -- What the fields of a text of lines write, read ahead of filling a sheet.
-use Rattle.std.specs.Prelude.{◌≡◌, if◌then◌else◌, ℕ, Bool, true, false, List, [], ◌∷◌, ◌++◌, length, Option, None, Some}
+use Rattle.std.specs.Prelude.{◌≡◌, ℕ, Bool, true, false, List, [], ◌∷◌, ◌++◌, length, Option, None, Some, flat_map}
 use Rattle.std.specs.Vec.Iter.{into_iter_items, into_iter_len}
-use Rattle.std.specs.declared.vec.IntoIter.{IntoIter}
+use Rattle.std.specs.Global.{Vec}
 use Rattle.value_core.specs.declared.value.Value.TheVariants.{Empty, Number, Truth, Error, Label}
 use Rattle.formula_syntax.specs.declared.edition.Edition.{Edition}
 use Rattle.sheet_model.specs.Fields.{IsContent, IsLabelField}
 use Rattle.sheet_model.specs.Sheets.{ContentValue, Constant, Computed, content_value}
 use Rattle.sheet_model.specs.declared.content.Content.{Content}
-use Rattle.csv_sheet.specs.Lines.{goes_on, line_fields}
+use Rattle.csv_sheet.specs.declared.known.Known.{Known}
+use Rattle.csv_sheet.specs.Lines.{text_rows}
+use Rattle.csv_sheet.specs.Records.{all_fields}
 
--- the fields of a line; one without bytes has none
-abbrev pub fields_in : List ℕ → List (List ℕ)
-fields_in [] = []
-fields_in (b ∷ bs) = line_fields [] (b ∷ bs)
-
--- the fields of all lines of a text, of whose first line some bytes are known
-unfoldable pub fields_from : List ℕ → List ℕ → List (List ℕ)
-fields_from line [] = fields_in line
-fields_from line (b ∷ bs) = if goes_on b then fields_from (line ++ b ∷ []) bs else fields_in line ++ fields_from [] bs
-
+-- the fields of all lines of a text
 abbrev pub text_fields : List ℕ → List (List ℕ)
-text_fields text = fields_from [] text
+text_fields text = all_fields (text_rows text)
 
 -- whether a content is a label
 abbrev pub is_label : ContentValue → Bool
@@ -54,10 +47,19 @@ Begin edition [] fields = Unit {0}
 Begin edition (known ∷ more) [] = ⊥
 Begin edition (known ∷ more) (field ∷ fields) = IsAhead edition field known × Begin edition more fields
 
--- the next ones of a list are of the first of these fields
-pub record AreNext {Z : Type 0} (edition : Edition) (ahead : IntoIter (Option Content) Z) (fields : List (List ℕ)) : Type 0 where
-  pub begin : Begin edition (into_iter_items ahead) fields
-  pub whole : into_iter_len ahead ≡ length (into_iter_items ahead)
+-- what is said in lists, one behind the other
+abbrev pub in_lists : List (Vec (Option Content)) → List (Option Content)
+in_lists lists = flat_map (λ list. list.items) lists
+
+-- what is still to be told
+abbrev pub told_next : Known → List (Option Content)
+told_next known = into_iter_items known.list ++ in_lists (into_iter_items known.others)
+
+-- it is of the first of these fields
+pub record AreNext (edition : Edition) (known : Known) (fields : List (List ℕ)) : Type 0 where
+  pub begin : Begin edition (told_next known) fields
+  pub list : into_iter_len known.list ≡ length (into_iter_items known.list)
+  pub others : into_iter_len known.others ≡ length (into_iter_items known.others)
 
 -- fields of a text were read up to what is left of it
 pub record HasReadAhead (edition : Edition) (text left : List ℕ) (ahead : List (Option Content)) : Type 0 where

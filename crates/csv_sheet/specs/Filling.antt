@@ -1,18 +1,20 @@
 -- Filling the cells of a blank sheet, field by field.
 use Rattle.std.specs.Prelude.{◌≡◌, ◌≢◌, Err, ℕ, ◌+◌, ◌*◌, ◌<◌, ◌≤◌, List, [], ◌∷◌, ◌++◌, length, take, drop, slice_index_or, Option}
+use Rattle.std.specs.Str.{IsAscii}
 use Rattle.csv.specs.Reading.{AreRecords, default_config}
 use Rattle.csv.specs.Records.{AllText}
 use Rattle.csv.specs.declared.parser.State.TheVariants.{StartRecord}
 use Rattle.csv.specs.declared.reader.Reader.{Reader}
-use Rattle.csv_sheet.specs.Ahead.{AreNext, text_fields}
-use Rattle.csv_sheet.specs.Lines.{HasReadLines, line_fields}
+use Rattle.csv_sheet.specs.Ahead.{AreNext, Begin, in_lists, text_fields}
+use Rattle.csv_sheet.specs.Lines.{line_fields, text_rows}
 use Rattle.csv_sheet.specs.Reading.{HasReadRecords}
 use Rattle.sheet_refs.specs.Cells.{Position}
 use Rattle.sheet_model.specs.Fields.{IsContent, IsDeepFormula, IsTableAfter}
 use Rattle.sheet_model.specs.Sheets.{SheetValue, ContentValue, IsSheet, blank_sheet, content_of, with_content, with_labels}
 use Rattle.sheet_model.specs.Tables.{AddsLabels}
 use Rattle.sheet_model.specs.declared.content.Content.{Content}
-use Rattle.std.specs.declared.vec.IntoIter.{IntoIter}
+use Rattle.std.specs.Global.{Vec}
+use Rattle.csv_sheet.specs.declared.known.Known.{Known}
 use Rattle.formula_syntax.specs.declared.edition.Edition.{Edition}
 use Rattle.formula_syntax.specs.Spelling.{HasTooManyRefs}
 use Rattle.csv_sheet.specs.Records.{Rows, all_fields, field_at, cell_there, sizes_of}
@@ -83,21 +85,51 @@ pub record HasFilled {R : Type 0} (left : R → Option (List ℕ)) (text : List 
   pub read : HasReadRecords left text rows reader
   pub put : ArePut rows row old new
 
--- so many lines of a text were, up to what is left of it, of whose first fields the next of a list tell what is known
-pub record HasFilledLines {Z : Type 0} (text left : List ℕ) (row : ℕ) (old new : SheetValue) (ahead : IntoIter (Option Content) Z) : Type 0 where
+-- the first of all records were put into the rows before this one of a sheet that was blank; these are left
+pub record HasPut (edition : Edition) (all left : Rows) (row : ℕ) (sheet : SheetValue) : Type 0 where
+  pub readable : AreReadable all
   pub rows : Rows
-  pub read : HasReadLines text left rows
-  pub put : ArePut rows row old new
-  pub few : row + length left ≤ length text
-  pub next : AreNext old.edition ahead (text_fields left)
+  pub split : all ≡ rows ++ left
+  pub put : ArePut rows row (blank_sheet edition (sizes_of all)) sheet
+
+-- the records of a part of the lines of a text are the next ones
+pub record IsNextPart (part : List ℕ) (row : ℕ) (sheet : SheetValue) : Type 0 where
+  pub all : Rows
+  pub behind : Rows
+  pub has : HasPut sheet.edition all (text_rows part ++ behind) row sheet
+
+-- they were put: this sheet holds them too, and this row is the next one
+abbrev pub PutsPart : List ℕ → ℕ → SheetValue → SheetValue × ℕ → Type 0
+PutsPart part row sheet done = (all behind : Rows)
+    → HasPut sheet.edition all (text_rows part ++ behind) row sheet → HasPut sheet.edition all behind done.1 done.0
+
+-- a refusal other than want of memory is what all records give
+abbrev pub IsPartRefusal : List ℕ → ℕ → SheetValue → SheetRefused → Type 0
+IsPartRefusal part row sheet refused = (all behind : Rows) → HasPut sheet.edition all (text_rows part ++ behind) row sheet
+    → refused ≢ Memory → IsGivenByRecords sheet.edition all (Err refused)
+
+-- some lines of a part were put, up to what is left of it, of whose first fields the next of a list tell what is known
+pub record HasPutLines (part left : List ℕ) (first row : ℕ) (old new : SheetValue) (known : Known) : Type 0 where
+  pub puts : (all behind : Rows) → HasPut old.edition all (text_rows part ++ behind) first old
+      → HasPut old.edition all (text_rows left ++ behind) row new
+  pub next : AreNext old.edition known (text_fields left)
+  pub few : length left ≤ length part
+
+-- the parts of a text that are neither put nor read ahead, and what is known of the first one
+pub record HasPutParts (text part behind : List ℕ) (ahead : List (Vec (Option Content))) (blank : SheetValue) (filled : SheetValue × ℕ) : Type 0 where
+  pub all : Rows
+  pub has : AreRecords default_config StartRecord text all
+  pub put : HasPut blank.edition all (text_rows part ++ text_rows behind) filled.1 filled.0
+  pub begin : Begin blank.edition (in_lists ahead) (text_fields part)
+  pub ascii : IsAscii behind
+  pub few : length part + length behind ≤ length text
 
 -- so many fields of a line were put into a row, and these bytes are left of it
-pub record IsLineFilled {Z : Type 0} (row : ℕ) (line left : List ℕ) (col : ℕ) (old new : SheetValue) (before ahead : IntoIter (Option Content) Z)
-    : Type 0 where
+pub record IsLineFilled (row : ℕ) (line left : List ℕ) (col : ℕ) (old new : SheetValue) (before known : Known) : Type 0 where
   pub part : IsPartFilled row (line_fields [] line) col old new
   pub behind : col < length (line_fields [] line) → drop col (line_fields [] line) ≡ line_fields [] left
   pub next : (more : List (List ℕ)) → AreNext old.edition before (line_fields [] line ++ more)
-      → AreNext old.edition ahead (drop col (line_fields [] line) ++ more)
+      → AreNext old.edition known (drop col (line_fields [] line) ++ more)
 
 -- a blank sheet of the sizes of a text's records, which can be read
 abbrev pub IsBlankFor : List ℕ → SheetValue → Type 0

@@ -1,11 +1,7 @@
 -- Texts without quotes, whose records are their lines.
-use Rattle.std.specs.Prelude.{◌≡◌, ◌==◌, ◌||◌, not, if◌then◌else◌, ℕ, ◌+◌, ◌≤◌, Bool, false, List, [], ◌∷◌, ◌++◌, length}
+use Rattle.std.specs.Prelude.{◌≡◌, ◌==◌, ◌||◌, not, if◌then◌else◌, ℕ, ◌+◌, ◌≤◌, Bool, false, List, [], ◌∷◌, ◌++◌, length, IsTrue}
 use Rattle.std.specs.List.{list_any}
 use Rattle.std.specs.Str.{IsAscii}
-use Rattle.csv.specs.Machine.{next_record}
-use Rattle.csv.specs.Reading.{Reached, default_config}
-use Rattle.csv.specs.declared.parser.State.{State}
-use Rattle.csv.specs.declared.parser.State.TheVariants.{StartRecord}
 use Rattle.csv_sheet.specs.Records.{Rows, longest}
 use Rattle.csv_sheet.specs.Results.{AreText, NoField, IsLong}
 use Rattle.csv_sheet.specs.declared.lines.Lines.{Lines}
@@ -31,34 +27,41 @@ unfoldable pub line_fields : List ℕ → List ℕ → List (List ℕ)
 line_fields field [] = field ∷ []
 line_fields field (b ∷ bs) = if b == 44 then field ∷ line_fields [] bs else line_fields (field ++ b ∷ []) bs
 
--- records with that of a line more; a line without bytes is none
-abbrev pub with_line : Rows → List ℕ → Rows
-with_line rows [] = rows
-with_line rows (b ∷ bs) = rows ++ line_fields [] (b ∷ bs) ∷ []
+-- the record of a line; one without bytes has none
+abbrev pub rows_in : List ℕ → Rows
+rows_in [] = []
+rows_in (b ∷ bs) = line_fields [] (b ∷ bs) ∷ []
 
--- the number of records and the length of the longest, of which each is text and has no field that is too long
+-- the records of all lines of a text, of whose first line some bytes are known
+unfoldable pub rows_from : List ℕ → List ℕ → Rows
+rows_from line [] = rows_in line
+rows_from line (b ∷ bs) = if goes_on b then rows_from (line ++ b ∷ []) bs else rows_in line ++ rows_from [] bs
+
+abbrev pub text_rows : List ℕ → Rows
+text_rows text = rows_from [] text
+
+-- the number of records and the length of the longest, of which each is text, and that no field is too long, if it is said
 pub record AreCounted (rows : Rows) (lines : Lines) : Type 0 where
   pub count : lines.rows ≡ length rows
   pub cols : lines.cols ≡ longest rows
   pub text : AreText rows
-  pub short : NoField IsLong rows
+  pub short : IsTrue lines.short → NoField IsLong rows
 
 -- a text whose records are its lines
 pub record IsPlain (text : List ℕ) : Type 0 where
   pub ascii : IsAscii text
   pub unquoted : has_quote text ≡ false
 
--- these records were read of a text line by line, up to what is left of it
-pub record HasReadLines (text left : List ℕ) (rows : Rows) : Type 0 where
-  pub state : State
-  pub rest : List ℕ
-  pub reached : Reached default_config StartRecord text rows state rest
-  pub goes : next_record default_config state [] [] rest ≡ next_record default_config StartRecord [] [] left
-  pub plain : IsPlain left
-
--- and so many lines were counted
+-- so many lines of a text were counted, up to what is left of it
 pub record HasCounted (text left : List ℕ) (lines : Lines) : Type 0 where
   pub rows : Rows
-  pub read : HasReadLines text left rows
+  pub split : text_rows text ≡ rows ++ text_rows left
   pub counted : AreCounted rows lines
   pub few : lines.rows + length left ≤ length text
+  pub ascii : IsAscii left
+
+-- and all of them, which are the records
+pub record IsCountOf (text : List ℕ) (lines : Lines) : Type 0 where
+  pub plain : IsPlain text
+  pub counted : AreCounted (text_rows text) lines
+  pub few : lines.rows ≤ length text

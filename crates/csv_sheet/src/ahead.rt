@@ -1,130 +1,69 @@
 // What the fields of a text of lines write, read ahead of filling a sheet, by several threads. Labels are left to
 // filling, since their texts go into the sheet's table in their order; all else stands without that table.
-ghost use Rattle.std.specs.Prelude.{◌≡◌, ◌≤◌, ◌<◌, ◌+◌, ◌++◌, [], ⊤, List, ℕ};
+ghost use Rattle.std.specs.Prelude.{◌≡◌, ◌≤◌, ◌<◌, ◌+◌, ◌++◌, [], List, ℕ};
 ghost use Rattle.std.specs.Prelude.{length, IfOk, OnOk};
 ghost use Rattle.std.specs.Str.{IsAscii};
 ghost use Rattle.std.specs.Thread.{IsSync};
-ghost use Rattle.csv_sheet.specs.Ahead.{AreAhead, Begin, IsAhead, is_label as is_label_value, text_fields};
-ghost use Rattle.csv_sheet.specs.Lines.{line_fields};
+ghost use Rattle.csv_sheet.specs.Ahead.{AreAhead, IsAhead, in_lists, is_label as is_label_value, text_fields};
+ghost use Rattle.formula_syntax.specs.declared.edition.Edition.{Edition};
+ghost use Rattle.csv_sheet.specs.Lines.{IsPlain, line_fields, text_rows};
 ghost use Rattle.sheet_model.specs.Sheets.{content_value};
 
+use crate::known::Ahead;
 use crate::lines::{field_count, line_length, split_field, split_line, text_of};
 use formula_syntax::{Edition, MAX_FIELD};
 use sheet_model::{Content, Labels, read_content};
 use sheet_refs::Memory;
 use std::alloc::Global;
-use std::thread::{Threads, available_parallelism, join};
+use std::thread::{Threads, join};
 
-/// How many bytes of a text each thread reads at once: enough that starting it takes little of the time, and so few
-/// that what is known ahead takes little of the memory.
-const PART: usize = 32_768;
-
-/// A way to learn what fields write before a sheet is filled with them.
-pub(crate) trait ReadAhead {
-    // Whether it may be asked.
-    ghost ready: { Type 0 } = { ⊤ };
-
-    /// What is known of the first fields of a text of lines, in their order; it may be nothing.
-    fn read_ahead(
-        &self,
-        alloc: Global,
-        edition: Edition,
-        text: &[u8],
-    ) -> Result<Vec<Option<Content>>, Memory>
-        requires ready { ready }
-        requires ascii { IsAscii text.now }
-        requires short { length text.now ≤ 16777216 }
-        ensures { IfOk result (λ ahead. Begin edition ahead.items (text_fields text.now)) };
-}
-
-/// Nothing is read ahead.
-#[derive(Drop)]
-pub(crate) struct Nothing;
-
-impl ReadAhead for Nothing {
-    fn read_ahead(
-        &self,
-        alloc: Global,
-        _: Edition,
-        _: &[u8],
-    ) -> Result<Vec<Option<Content>>, Memory> {
-        Ok(Vec::new(alloc))
-    }
-}
-
-/// The fields of the first lines are, by so many threads.
-#[derive(Drop)]
-pub(crate) struct InThreads<'a, R> {
-    rt: &'a R,
-    threads: usize,
-}
-
-impl<'a, R: Threads> InThreads<'a, R> {
-    /// By as many threads as there are processors.
-    pub(crate) fn new(rt: &'a R) -> InThreads<'a, R> {
-        let threads = match available_parallelism(rt) {
-            Ok(processors) => processors.get(),
-            Err(_) => 1,
-        };
-        InThreads { rt, threads }
-    }
-}
-
-impl<R: Threads + Sync> ReadAhead for InThreads<'_, R> {
-    ghost ready = { IsSync R.row };
-
-    fn read_ahead(
-        &self,
-        alloc: Global,
-        edition: Edition,
-        text: &[u8],
-    ) -> Result<Vec<Option<Content>>, Memory> {
-        if self.threads < 2 || text.len() < 2 * PART {
-            return Ok(Vec::new(alloc));
-        }
-        let place = text.len().min(PART.saturating_mul(self.threads));
-        let (block, _) = split_lines(text, place);
-        read_parts(self.rt, alloc, edition, block, self.threads)
-    }
-}
-
-// What is known of the fields of a text of lines, each part of which is read by one of so many threads.
-fn read_parts<R: Threads + Sync>(
+/// What is known of the fields of a text of lines, each part of which is read by one of so many threads.
+pub(crate) fn read_parts<R: Threads + Sync>(
     rt: &R,
     alloc: Global,
     edition: Edition,
     text: &[u8],
     threads: usize,
-) -> Result<Vec<Option<Content>>, Memory>
+) -> Result<Ahead, Memory>
     requires ascii { IsAscii text.now }
     requires short { length text.now ≤ 16777216 }
-    ensures { IfOk result (λ ahead. AreAhead edition (text_fields text.now) ahead.items) }
+    ensures { IfOk result (λ ahead. AreAhead edition (text_fields text.now) (in_lists ahead.items)) }
 {
     if threads < 2 {
-        return read_lines(alloc, edition, text);
+        return read_list(alloc, edition, text);
     }
     let half = threads / 2;
     let rest = threads - half;
     let (front, back) = split_lines(text, text.len() / threads * half);
     let (first, second) = join(
         rt,
-        || -> Result<Vec<Option<Content>>, Memory>
+        || -> Result<Ahead, Memory>
             requires { IsSync R.row × IsAscii front.now × (length front.now ≤ 16777216) }
-            ensures { IfOk result (λ ahead. AreAhead edition (text_fields front.entry.now) ahead.items) }
+            ensures { IfOk result (λ ahead. AreAhead edition (text_fields front.entry.now) (in_lists ahead.items)) }
         { read_parts(rt, alloc, edition, front, half) },
-        || -> Result<Vec<Option<Content>>, Memory>
+        || -> Result<Ahead, Memory>
             requires { IsSync R.row × IsAscii back.now × (length back.now ≤ 16777216) }
-            ensures { IfOk result (λ ahead. AreAhead edition (text_fields back.entry.now) ahead.items) }
+            ensures { IfOk result (λ ahead. AreAhead edition (text_fields back.entry.now) (in_lists ahead.items)) }
         { read_parts(rt, alloc, edition, back, rest) },
     );
+    joined(first, second)
+}
+
+/// What is known of the fields of a text and of those behind it.
+pub(crate) fn joined(
+    first: Result<Ahead, Memory>,
+    second: Result<Ahead, Memory>,
+) -> Result<Ahead, Memory>
+    ensures { (edition : Edition) (front back : List (List ℕ))
+        → IfOk first (λ ahead. AreAhead edition front (in_lists ahead.items))
+        → IfOk second (λ ahead. AreAhead edition back (in_lists ahead.items))
+        → IfOk result (λ ahead. AreAhead edition (front ++ back) (in_lists ahead.items)) }
+{
     one_behind_other(first?, second?)
 }
 
-// What is known of the fields of a text and of those behind it, of all in one list.
-fn one_behind_other(
-    first: Vec<Option<Content>>,
-    second: Vec<Option<Content>>,
-) -> Result<Vec<Option<Content>>, Memory>
+// The lists of both.
+fn one_behind_other(first: Ahead, second: Ahead) -> Result<Ahead, Memory>
     ensures { IfOk result (λ all. all.items ≡ first.items ++ second.items) }
 {
     let mut all = first;
@@ -133,20 +72,33 @@ fn one_behind_other(
     Ok(all)
 }
 
-// A text in two, cut behind the end of the line in which this place is.
-fn split_lines(text: &[u8], place: usize) -> (&[u8], &[u8])
-    requires within { place ≤ length text.now }
-    requires ascii { IsAscii text.now }
-    ensures fields { text_fields text.now ≡ text_fields result.0.now ++ text_fields result.1.now }
-    ensures front { IsAscii result.0.now }
-    ensures back { IsAscii result.1.now }
+/// A text in two, cut behind the end of the line in which this place is.
+pub(crate) fn split_lines(text: &[u8], place: usize) -> (&[u8], &[u8])
+    requires { place ≤ length text.now }
+    ensures rows { text_rows text.now ≡ text_rows result.0.now ++ text_rows result.1.now }
+    ensures front { IsAscii text.now → IsAscii result.0.now }
+    ensures back { IsAscii text.now → IsAscii result.1.now }
+    ensures plain { IsPlain result.0.now → IsPlain result.1.now → IsPlain text.now }
     ensures count { length result.0.now + length result.1.now ≡ length text.now }
+    ensures some { 0 < length text.now → 0 < length result.0.now }
 {
     let end = place + line_length(&text[place..]);
     text.split_at((end + 1).min(text.len()))
 }
 
-// What is known of the fields of a text of lines.
+/// What is known of the fields of a text of lines, in one list.
+pub(crate) fn read_list(alloc: Global, edition: Edition, text: &[u8]) -> Result<Ahead, Memory>
+    requires ascii { IsAscii text.now }
+    requires short { length text.now ≤ 16777216 }
+    ensures { IfOk result (λ ahead. AreAhead edition (text_fields text.now) (in_lists ahead.items)) }
+{
+    let list = read_lines(alloc, edition, text)?;
+    let mut lists = Vec::new(alloc);
+    lists.push(list)?;
+    Ok(lists)
+}
+
+// The list itself.
 fn read_lines(alloc: Global, edition: Edition, text: &[u8]) -> Result<Vec<Option<Content>>, Memory>
     requires ascii { IsAscii text.now }
     requires short { length text.now ≤ 16777216 }

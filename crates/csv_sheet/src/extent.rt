@@ -1,15 +1,15 @@
 ghost use Rattle.std.specs.Prelude.{◌≡◌, ◌↔◌, ◌<◌, ◌≤◌, ◌^◌, ◌-◌, ◌*◌};
 ghost use Rattle.std.specs.Prelude.{◌+◌, ◌⊎◌, [], ◌∷◌, ◌++◌, ℕ};
-ghost use Rattle.std.specs.Prelude.{length, slice_index_or, IfOk, IsTrue, MatchOption};
+ghost use Rattle.std.specs.Prelude.{length, slice_index_or, IfOk, IfSome, IsTrue, MatchOption};
 ghost use Rattle.csv.specs.Reading.{AreRecords, default_config};
 ghost use Rattle.csv.specs.Records.{fields_of, AllText};
 ghost use Rattle.csv.specs.declared.parser.State.TheVariants.{StartRecord};
-ghost use Rattle.csv_sheet.specs.Lines.{IsPlain};
+ghost use Rattle.csv_sheet.specs.Lines.{IsCountOf};
 ghost use Rattle.csv_sheet.specs.Reading.{Measures, AreShort, IsFirstLong};
 ghost use Rattle.csv_sheet.specs.Records.{Rows, cell_there, without_marks};
 ghost use Rattle.csv_sheet.specs.Results.{AreText, IsFirstNotText, IsFirstField, NoField, IsLong};
 
-use crate::lines::measure_lines;
+use crate::lines::Lines;
 use crate::records::{field, read_next, reader_of};
 use csv::ByteRecord;
 use formula_syntax::MAX_FIELD;
@@ -115,20 +115,23 @@ impl Extent {
 }
 
 /// The extent of all records of a text, in time proportional to its length; none of the fields is kept. Where these
-/// are known to be its lines, they are cut, and mostly no memory is taken.
-pub(crate) fn measure(alloc: Global, text: &[u8], plain: bool) -> Result<Extent, Memory>
+/// are its lines, which were counted, and none of them is longer than a field may be, that count tells it.
+pub(crate) fn measure(alloc: Global, text: &[u8], lines: Option<Lines>) -> Result<Extent, Memory>
     requires no_marks { without_marks text.now ≡ text.now }
     requires short { length text.now ≤ 16777216 }
-    requires plain { IsTrue plain → IsPlain text.now }
+    requires lines { IfSome lines (λ l. IsCountOf text.now l) }
     ensures { IfOk result (λ extent. (rows : Rows)
         × AreRecords default_config StartRecord text.now rows × Measures rows extent) }
 {
-    if plain {
-        if let Some(extent) = measure_lines(text) {
-            return Ok(extent);
-        }
+    match lines {
+        Some(lines) if lines.short => Ok(Extent {
+            rows: lines.rows,
+            cols: lines.cols,
+            not_text: None,
+            long: None,
+        }),
+        _ => measure_records(alloc, text),
     }
-    measure_records(alloc, text)
 }
 
 // The same, by reading each record.

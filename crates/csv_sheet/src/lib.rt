@@ -13,9 +13,11 @@
 mod ahead;
 mod extent;
 mod heading;
+mod known;
 mod laws;
 mod lines;
 mod loading;
+mod reader;
 mod records;
 mod refused;
 mod rows;

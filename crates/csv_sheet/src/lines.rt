@@ -1,23 +1,23 @@
 // The records of texts without quotes, which are their lines: cut without a record in memory.
-ghost use Rattle.std.specs.Prelude.{◌≡◌, ◌<◌, ◌≤◌, ◌+◌, ◌-◌, ◌^◌};
+ghost use Rattle.std.specs.Prelude.{◌≡◌, ◌<◌, ◌≤◌, ◌+◌, ◌-◌, ◌^◌, ◌++◌};
 ghost use Rattle.std.specs.Prelude.{[], length, take, drop, count_by, IfSome, IsTrue, IsUtf8};
 ghost use Rattle.std.specs.List.{prefix_len};
 ghost use Rattle.std.specs.Str.{IsAscii};
-ghost use Rattle.csv.specs.Reading.{AreRecords, default_config};
-ghost use Rattle.csv.specs.declared.parser.State.TheVariants.{StartRecord};
-ghost use Rattle.csv_sheet.specs.Lines.{AreCounted, IsPlain, goes_on, goes_on_field, is_comma, line_fields, with_line};
-ghost use Rattle.csv_sheet.specs.Reading.{Measures};
+ghost use Rattle.csv_sheet.specs.Lines.{AreCounted, IsCountOf, IsPlain, goes_on, goes_on_field, is_comma, line_fields, rows_in};
 ghost use Rattle.csv_sheet.specs.Records.{Rows};
 
-use crate::extent::Extent;
 use formula_syntax::MAX_FIELD;
 use memchr::{memchr, memchr2};
 
-/// How many lines have a byte, and how many fields the longest of them has.
+/// What is counted of lines.
 #[derive(Clone, Copy)]
 pub(crate) struct Lines {
-    rows: u32,
-    cols: usize,
+    /// How many of them have a byte.
+    pub(crate) rows: u32,
+    /// How many fields the longest has.
+    pub(crate) cols: usize,
+    /// Whether each is known to be no longer than a field may be.
+    pub(crate) short: bool,
 }
 
 /// How many bytes the line at the front has.
@@ -92,9 +92,9 @@ impl Lines {
     // The same with one line more.
     fn with(&self, line: &[u8]) -> Lines
         requires few { self.now.rows < 2 ^ 32 - 1 }
-        requires short { length line.now ≤ MAX_FIELD }
+        requires short { length line.now ≤ 16777216 }
         requires ascii { IsAscii line.now }
-        ensures counted { (rows : Rows) → AreCounted rows self.now → AreCounted (with_line rows line.now) result }
+        ensures counted { (rows : Rows) → AreCounted rows self.now → AreCounted (rows ++ rows_in line.now) result }
         ensures few { result.rows ≤ self.now.rows + 1 }
     {
         if line.is_empty() {
@@ -103,39 +103,50 @@ impl Lines {
         Lines {
             rows: self.rows + 1,
             cols: self.cols.max(field_count(line)),
+            short: self.short && line.len() <= MAX_FIELD,
+        }
+    }
+
+    /// The same with the lines behind them.
+    pub(crate) fn and(&self, behind: &Lines) -> Lines
+        requires { self.now.rows + behind.now.rows < 2 ^ 32 }
+        ensures { (front back : Rows) → AreCounted front self.now → AreCounted back behind.now
+            → AreCounted (front ++ back) result }
+    {
+        Lines {
+            rows: self.rows + behind.rows,
+            cols: self.cols.max(behind.cols),
+            short: self.short && behind.short,
         }
     }
 }
 
-/// Whether the records of a text are its lines: all its bytes are ASCII, and none is a quote.
-pub(crate) fn is_plain(text: &[u8]) -> bool
+// Whether the records of a text are its lines: all its bytes are ASCII, and none is a quote.
+fn is_plain(text: &[u8]) -> bool
     ensures { IsTrue result → IsPlain text.now }
 {
     text.is_ascii() && !text.contains(&b'"')
 }
 
-/// The extent of the records of a text, which are its lines, in time proportional to its length and without memory;
-/// None where a line is longer than a field may be.
-pub(crate) fn measure_lines(text: &[u8]) -> Option<Extent>
-    requires short { length text.now ≤ 16777216 }
-    requires plain { IsPlain text.now }
-    ensures { IfSome result (λ extent. (rows : Rows)
-        × AreRecords default_config StartRecord text.now rows × Measures rows extent) }
+/// What is counted of the lines of a text, in time proportional to its length and without memory; None where they may
+/// not be its records.
+pub(crate) fn count_lines(text: &[u8]) -> Option<Lines>
+    requires { length text.now ≤ 16777216 }
+    ensures { IfSome result (λ lines. IsCountOf text.now lines) }
 {
-    let mut lines = Lines { rows: 0, cols: 0 };
+    if !is_plain(text) {
+        return None;
+    }
+    let mut lines = Lines {
+        rows: 0,
+        cols: 0,
+        short: true,
+    };
     let mut left = text;
     while !left.is_empty() {
         let (line, behind) = split_line(left);
-        if line.len() > MAX_FIELD {
-            return None;
-        }
         lines = lines.with(line);
         left = behind;
     }
-    Some(Extent {
-        rows: lines.rows,
-        cols: lines.cols,
-        not_text: None,
-        long: None,
-    })
+    Some(lines)
 }

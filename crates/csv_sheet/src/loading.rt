@@ -5,10 +5,9 @@ ghost use Rattle.csv_sheet.specs.Records.{without_marks};
 ghost use Rattle.csv_sheet.specs.declared.refused.SheetRefused.{SheetRefused as Refusal};
 ghost use Rattle.csv_sheet.specs.declared.refused.SheetRefused.TheVariants as refused;
 
-use crate::ahead::{InThreads, Nothing, ReadAhead};
 use crate::extent::measure;
 use crate::heading::read_heading;
-use crate::lines::is_plain;
+use crate::reader::{Alone, InThreads, LineReader};
 use crate::records::behind_marks;
 use crate::refused::SheetRefused;
 use crate::rows::fill;
@@ -19,8 +18,8 @@ use std::alloc::Global;
 use std::thread::Threads;
 
 // The sheet of a text, or the first cause why it has none; some of its fields may be read ahead.
-fn load_text<A: ReadAhead>(alloc: Global, text: &[u8], reader: &A) -> Result<Sheet, SheetRefused>
-    requires ready { A.ready }
+fn load_text<R: LineReader>(alloc: Global, text: &[u8], reader: &R) -> Result<Sheet, SheetRefused>
+    requires ready { R.ready }
     requires short { length text.now ≤ 16777216 }
     ensures { result ≢ Err refused.Memory → IsSheetResult text.now result }
 {
@@ -31,19 +30,19 @@ fn load_text<A: ReadAhead>(alloc: Global, text: &[u8], reader: &A) -> Result<She
 }
 
 // The sheet of the text of records in an edition, or the first cause why it has none.
-fn load_records<A: ReadAhead>(
+fn load_records<R: LineReader>(
     alloc: Global,
     edition: Edition,
     records: &[u8],
-    reader: &A,
+    reader: &R,
 ) -> Result<Sheet, SheetRefused>
-    requires ready { A.ready }
+    requires ready { R.ready }
     requires short { length records.now ≤ 16777216 }
     requires no_marks { without_marks records.now ≡ records.now }
     ensures { result ≢ Err refused.Memory → IsRecordsResult edition records.now result }
 {
-    let plain = is_plain(records);
-    let extent = measure(alloc, records, plain)?;
+    let lines = reader.count(records);
+    let extent = measure(alloc, records, lines)?;
     if let Some(row) = extent.not_text {
         return Err(SheetRefused::NotUtf8 { number: row + 1 });
     }
@@ -58,11 +57,8 @@ fn load_records<A: ReadAhead>(
             cell: Cell::new(row + 1, col as u32 + 1).unwrap(),
         });
     }
-    let mut sheet = Sheet::blank(alloc, extent.rows, extent.cols as u32, edition)?;
-    match fill(alloc, records, plain, &mut sheet, reader) {
-        Ok(()) => Ok(sheet),
-        Err(refused) => Err(refused),
-    }
+    let sheet = Sheet::blank(alloc, extent.rows, extent.cols as u32, edition)?;
+    fill(alloc, records, lines.is_some(), sheet, reader)
 }
 
 /// Reads a sheet of a text of at most 16,777,216 bytes: CSV with no header row, records of any lengths and
@@ -81,13 +77,13 @@ pub fn load(alloc: Global, text: &[u8]) -> Result<Sheet, SheetRefused>
     ensures exact { result ≢ Err refused.Memory
         → (answer : Result SheetValue Refusal) → result ≡ answer ↔ IsSheetResult text.now answer }
 {
-    load_text(alloc, text, &Nothing)
+    load_text(alloc, text, &Alone)
 }
 
-/// The same by several threads: where 65,536 bytes or more are left of a text that is all ASCII and has no quote, as
-/// many threads as there are processors read what the fields of 32,768 bytes each write, which this one then puts into
-/// the sheet, and so on. It takes 24 bytes more for each field that is read ahead. Where a thread can't be made, this
-/// one does its part.
+/// The same by several threads, as many as there are processors, where the text has 65,536 bytes or more: they count its
+/// lines, and where it is all ASCII and has no quote, they read what the fields of one part of it write, 65,536 bytes
+/// each, while this one puts the part before it into the sheet and then reads 32,768 bytes too. It takes 24 bytes more
+/// for each field of two such parts. Where a thread can't be made, this one does its part.
 pub fn load_in_threads<R: Threads + Sync>(
     rt: &R,
     alloc: Global,

@@ -1,25 +1,25 @@
 ghost use Rattle.std.specs.Prelude.{◌≡◌, ◌≢◌, ◌<◌, ◌≤◌, ◌+◌, ◌-◌};
 ghost use Rattle.std.specs.Prelude.{◌*◌, ◌^◌, [], ◌∷◌, ◌++◌, length};
 ghost use Rattle.std.specs.Prelude.{IfErr, IfOk, OnOk, Err, IsTrue, List, ℕ};
-ghost use Rattle.std.specs.Str.{IsAscii};
 ghost use Rattle.csv.specs.Records.{fields_of};
 ghost use Rattle.sheet_refs.specs.Sizes.{is_inside};
-ghost use Rattle.csv_sheet.specs.Ahead.{AreNext, IsAhead, text_fields};
-ghost use Rattle.csv_sheet.specs.Filling.{HoldsRecords, PutsField, IsFieldRefusal, IsRecordFor};
+ghost use Rattle.csv_sheet.specs.Ahead.{AreNext, Begin, IsAhead, in_lists, text_fields};
+ghost use Rattle.csv_sheet.specs.Filling.{HoldsRecords, IsNextPart, IsPartRefusal, PutsField, PutsPart, IsFieldRefusal, IsRecordFor};
 ghost use Rattle.csv_sheet.specs.Filling.{IsBlankFor, IsFilledWith, IsFillRefusal, IsRowRefusal};
 ghost use Rattle.csv_sheet.specs.Lines.{IsPlain, line_fields};
 ghost use Rattle.csv_sheet.specs.Records.{Rows, without_marks};
 
-use crate::ahead::ReadAhead;
+use crate::ahead::split_lines;
+use crate::known::{Ahead, Known};
 use crate::lines::{field_count, split_field, split_line, text_of};
+use crate::reader::LineReader;
 use crate::records::{read_text, reader_of, text_field};
 use crate::refused::SheetRefused;
 use csv::StringRecord;
 use formula_syntax::Edition;
 use sheet_model::{Change, Content, ContentRefused, Sheet};
-use sheet_refs::{Cell, Memory};
+use sheet_refs::Cell;
 use std::alloc::Global;
-use std::vec::IntoIter;
 
 // Puts what a field writes into a cell, by what is known of it ahead.
 fn fill_cell(
@@ -85,15 +85,15 @@ fn fill_line(
     sheet: &mut Sheet,
     row: u32,
     line: &[u8],
-    ahead: &mut IntoIter<Option<Content>>,
+    known: &mut Known,
 ) -> Result<(), SheetRefused>
     requires short { length line.now ≤ 16777216 }
     requires record { IsRecordFor sheet.old row (line_fields [] line.now) }
     requires ahead { (behind : List (List ℕ))
-        × AreNext sheet.old.edition ahead.old (line_fields [] line.now ++ behind) }
+        × AreNext sheet.old.edition known.old (line_fields [] line.now ++ behind) }
     ensures ahead { OnOk result ((behind : List (List ℕ))
-        → AreNext sheet.old.edition ahead.old (line_fields [] line.now ++ behind)
-        → AreNext sheet.old.edition ahead.new behind) }
+        → AreNext sheet.old.edition known.old (line_fields [] line.now ++ behind)
+        → AreNext sheet.old.edition known.new behind) }
     ensures filled { OnOk result ((rows : Rows) → length rows ≡ row
         → HoldsRecords rows sheet.old → HoldsRecords (rows ++ line_fields [] line.now ∷ []) sheet.new) }
     ensures edition { OnOk result (sheet.new.edition ≡ sheet.old.edition) }
@@ -105,8 +105,7 @@ fn fill_line(
     for col in 0..field_count(line) {
         let (field, behind) = split_field(left);
         let cell = Cell::new(row + 1, col as u32 + 1).unwrap();
-        let known = ahead.next().flatten();
-        fill_cell(sheet, cell, text_of(field), known)?;
+        fill_cell(sheet, cell, text_of(field), known.next())?;
         left = behind;
     }
     Ok(())
@@ -114,76 +113,99 @@ fn fill_line(
 
 /// Fills a blank sheet of the right sizes with what the fields of all records of a text write; where these are known to
 /// be its lines, some fields may be read ahead.
-pub(crate) fn fill<A: ReadAhead>(
+pub(crate) fn fill<R: LineReader>(
     alloc: Global,
     text: &[u8],
     plain: bool,
-    sheet: &mut Sheet,
-    reader: &A,
-) -> Result<(), SheetRefused>
-    requires ready { A.ready }
+    sheet: Sheet,
+    reader: &R,
+) -> Result<Sheet, SheetRefused>
+    requires ready { R.ready }
     requires short { length text.now ≤ 16777216 }
     requires no_marks { without_marks text.now ≡ text.now }
     requires plain { IsTrue plain → IsPlain text.now }
-    requires blank { IsBlankFor text.now sheet.old }
-    ensures filled { OnOk result (IsFilledWith text.now sheet.old.edition sheet.new) }
-    ensures why { IfErr result (IsFillRefusal text.now sheet.old.edition) }
+    requires blank { IsBlankFor text.now sheet }
+    ensures filled { IfOk result (IsFilledWith text.now sheet.edition) }
+    ensures why { IfErr result (IsFillRefusal text.now sheet.edition) }
 {
     if plain {
-        fill_lines(alloc, text, sheet, reader)
-    } else {
-        fill_records(alloc, text, sheet)
+        return fill_lines(alloc, text, sheet, reader);
+    }
+    let mut sheet = sheet;
+    match fill_records(alloc, text, &mut sheet) {
+        Ok(()) => Ok(sheet),
+        Err(refused) => Err(refused),
     }
 }
 
-// The same by cutting lines, where these are the records.
-fn fill_lines<A: ReadAhead>(
+// The same by cutting lines, where these are the records. While a part of them is put into the sheet, the next one is
+// read ahead.
+fn fill_lines<R: LineReader>(
     alloc: Global,
     text: &[u8],
-    sheet: &mut Sheet,
-    reader: &A,
-) -> Result<(), SheetRefused>
-    requires ready { A.ready }
+    sheet: Sheet,
+    reader: &R,
+) -> Result<Sheet, SheetRefused>
+    requires ready { R.ready }
     requires short { length text.now ≤ 16777216 }
     requires plain { IsPlain text.now }
-    requires blank { IsBlankFor text.now sheet.old }
-    ensures filled { OnOk result (IsFilledWith text.now sheet.old.edition sheet.new) }
-    ensures why { IfErr result (IsFillRefusal text.now sheet.old.edition) }
+    requires blank { IsBlankFor text.now sheet }
+    ensures filled { IfOk result (IsFilledWith text.now sheet.edition) }
+    ensures why { IfErr result (IsFillRefusal text.now sheet.edition) }
 {
     let edition = sheet.edition();
-    let mut ahead = Vec::new(alloc).into_iter();
-    let mut left = text;
-    let mut row = 0;
+    let mut filled = (sheet, 0);
+    let mut part: &[u8] = &[];
+    let mut ahead = Vec::new(alloc);
+    let mut behind = text;
+    while part.len() + behind.len() > 0 {
+        let (sheet, row) = filled;
+        let (next, rest) = split_lines(behind, reader.at_once().min(behind.len()));
+        let (known, done) = reader.read_beside(
+            alloc,
+            edition,
+            next,
+            move || -> Result<(Sheet, u32), SheetRefused>
+                requires { (length part.now ≤ 16777216)
+                    × Begin sheet.edition (in_lists ahead.items) (text_fields part.now) × IsNextPart part.now row sheet }
+                ensures { IfOk result (PutsPart part.entry.now row sheet)
+                    × IfErr result (IsPartRefusal part.entry.now row sheet) }
+            { fill_part(alloc, sheet, row, part, ahead) },
+        );
+        filled = done?;
+        ahead = known?;
+        part = next;
+        behind = rest;
+    }
+    Ok(filled.0)
+}
+
+// Puts what the fields of some lines write into the rows from this one on, counted from 0, by what is known of the first
+// of them. Gives the sheet and the row behind them.
+fn fill_part(
+    alloc: Global,
+    mut sheet: Sheet,
+    mut row: u32,
+    part: &[u8],
+    ahead: Ahead,
+) -> Result<(Sheet, u32), SheetRefused>
+    requires short { length part.now ≤ 16777216 }
+    requires ahead { Begin sheet.edition (in_lists ahead.items) (text_fields part.now) }
+    requires next { IsNextPart part.now row sheet }
+    ensures put { IfOk result (PutsPart part.now row sheet) }
+    ensures why { IfErr result (IsPartRefusal part.now row sheet) }
+{
+    let mut known = Known::new(alloc, ahead);
+    let mut left = part;
     while !left.is_empty() {
         let (line, behind) = split_line(left);
         if !line.is_empty() {
-            ahead = known_ahead(alloc, edition, left, ahead, reader)?;
-            fill_line(sheet, row, line, &mut ahead)?;
+            fill_line(&mut sheet, row, line, &mut known)?;
             row += 1;
         }
         left = behind;
     }
-    Ok(())
-}
-
-// What is known of the next fields of a text of lines: what is left of what was, or what is read ahead now.
-fn known_ahead<A: ReadAhead>(
-    alloc: Global,
-    edition: Edition,
-    text: &[u8],
-    ahead: IntoIter<Option<Content>>,
-    reader: &A,
-) -> Result<IntoIter<Option<Content>>, Memory>
-    requires ready { A.ready }
-    requires ascii { IsAscii text.now }
-    requires short { length text.now ≤ 16777216 }
-    requires next { AreNext edition ahead (text_fields text.now) }
-    ensures { IfOk result (λ known. AreNext edition known (text_fields text.now)) }
-{
-    if ahead.len() > 0 {
-        return Ok(ahead);
-    }
-    Ok(reader.read_ahead(alloc, edition, text)?.into_iter())
+    Ok((sheet, row))
 }
 
 // The same of any text, by reading each record.

@@ -1,17 +1,16 @@
-use Rattle.std.proofs.Common.{◌≡◌, ◌++◌, rules, subst, sym}
-use Rattle.csv_sheet.specs.Ahead.{AreAhead, text_fields}
-use Rattle.csv_sheet.proofs.AheadLemmas.{ahead_behind, if_ok}
+use Rattle.std.proofs.Common.{rules, subst, sym}
+use Rattle.std.specs.Prelude.{IfOk}
+use Rattle.csv_sheet.specs.Ahead.{AreAhead, in_lists, text_fields}
+use Rattle.csv_sheet.proofs.AheadLemmas.{split_fields}
 use Rattle.csv_sheet.proofs.ahead.+fn-read_parts-join+arg2+fn-read_parts-join+arg3+read_parts.Goals as goal
 
 pub returns : goal.returns
 returns g t c =
     let edition = c.args.edition in
-    let front = text_fields c.split_lines.result.0.now in
-    let back = text_fields c.split_lines.result.1.now in
-    let first : AreAhead edition front c.in_ok-first.field-0.items = search rules in
-    let second : AreAhead edition back c.in_ok-second.field-0.items = search rules in
-    let both = ahead_behind edition front back c.in_ok-first.field-0.items c.in_ok-second.field-0.items first second in
-    if_ok (λ all. all.items ≡ c.in_ok-first.field-0.items ++ c.in_ok-second.field-0.items)
-    (λ all. AreAhead edition (text_fields c.args.text.now) all.items) c.one_behind_other.result
-    (λ all items. subst (λ fs. AreAhead edition fs all.items) (sym c.split_lines.ensures.fields)
-    (subst (AreAhead edition (front ++ back)) (sym items) both)) c.one_behind_other.ensures
+    let front = c.split_lines.result.0.now in
+    let back = c.split_lines.result.1.now in
+    let first : IfOk c.join-first.result.0 (λ ahead. AreAhead edition (text_fields front) (in_lists ahead.items)) = search rules in
+    let second : IfOk c.join-first.result.1 (λ ahead. AreAhead edition (text_fields back) (in_lists ahead.items)) = search rules in
+    subst (λ fs. IfOk c.joined.result (λ ahead. AreAhead edition fs (in_lists ahead.items)))
+    (sym (split_fields c.args.text.now front back c.split_lines.ensures.rows))
+    (c.joined.ensures edition (text_fields front) (text_fields back) first second)

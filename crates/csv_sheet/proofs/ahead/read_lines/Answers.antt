@@ -4,8 +4,8 @@ use Rattle.std.specs.Str.{IsAscii}
 use Rattle.std.proofs.lemmas.List.{append-nil}
 use Rattle.csv_sheet.specs.Ahead.{AreAhead, text_fields}
 use Rattle.csv_sheet.specs.Lines.{goes_on}
-use Rattle.csv_sheet.proofs.AheadLemmas.{ascii_behind, line_behind, no_fields_left, no_line_behind}
-use Rattle.csv_sheet.proofs.LineLemmas.{behind_shorter, is_byte}
+use Rattle.csv_sheet.proofs.AheadLemmas.{line_behind, no_fields_left, no_line_behind}
+use Rattle.csv_sheet.proofs.LineLemmas.{ascii_behind, behind_shorter, is_byte}
 use Rattle.csv_sheet.proofs.ahead.read_lines.Goals as goal
 
 shorter : (left behind : List ℕ) → 0 < length left → behind ≡ drop 1 (drop (prefix_len goes_on left) left) → length behind < length left

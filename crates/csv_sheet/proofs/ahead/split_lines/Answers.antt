@@ -1,13 +1,12 @@
 use Rattle.std.proofs.Common.{◌≡◌, ◌+◌, ◌-◌, ◌∙◌, ◌++◌, [], length, min, take, drop, sym, ap, ap₂, arith}
 use Rattle.std.specs.List.{prefix_len}
 use Rattle.std.proofs.lemmas.List.{take_all, take_min, drop_min, length-drop}
-use Rattle.csv_sheet.specs.Ahead.{text_fields}
-use Rattle.csv_sheet.specs.Lines.{goes_on}
-use Rattle.csv_sheet.proofs.AheadLemmas.{cut_behind, ending}
+use Rattle.csv_sheet.specs.Lines.{goes_on, text_rows}
+use Rattle.csv_sheet.proofs.LineLemmas.{cut_behind, ending, plain_cut}
 use Rattle.csv_sheet.proofs.ahead.split_lines.Goals as goal
 
-pub returns-clause-fields : goal.returns-clause-fields
-returns-clause-fields c =
+pub returns-clause-rows : goal.returns-clause-rows
+returns-clause-rows c =
     let text = c.args.text.now in
     let count = length-drop c.args.place text in
     let rest : take (length text - c.args.place) (drop c.args.place text) ≡ drop c.args.place text =
@@ -18,5 +17,9 @@ returns-clause-fields c =
     let front = c.split_at.ensures.front ∙ ap (λ n. take n text) end in
     let back = c.split_at.ensures.back ∙ ap (λ n. drop n text) end in
     cut_behind [] text c.args.place
-    ∙ ap₂ (λ a b. text_fields a ++ text_fields b) (sym (front ∙ take_min (ending text c.args.place) text))
+    ∙ ap₂ (λ a b. text_rows a ++ text_rows b) (sym (front ∙ take_min (ending text c.args.place) text))
     (sym (back ∙ drop_min (ending text c.args.place) text))
+
+pub returns-clause-plain : goal.returns-clause-plain
+returns-clause-plain c = λ front back.
+    plain_cut c.args.text.now c.split_at.result.0.now c.split_at.result.1.now c.min.result c.split_at.ensures.front c.split_at.ensures.back front back

@@ -1,9 +1,9 @@
-use Rattle.std.proofs.Common.{◌≡◌, ◌∙◌, sym, ap, subst, arith, Ok, Err}
+use Rattle.std.proofs.Common.{◌≡◌, ◌∙◌, sym, ap, subst, arith, Err}
 use Rattle.formula_syntax.specs.declared.edition.Edition.{Edition}
 use Rattle.sheet_model.specs.Sheets.{SheetValue}
-use Rattle.csv_sheet.specs.Results.{IsFirstField, IsGivenByRecords, IsLong, IsSheetOf}
+use Rattle.csv_sheet.specs.Results.{IsFirstField, IsLong, IsRecordsResult}
 use Rattle.csv_sheet.specs.declared.refused.SheetRefused.TheVariants as refused
-use Rattle.csv_sheet.proofs.LoadLemmas.{result_from, large, not_large, not_too_large, all_text, long_first, sheet_size, long_named}
+use Rattle.csv_sheet.proofs.LoadLemmas.{filled_from, result_from, large, not_large, not_too_large, all_text, long_first, sheet_size, long_named}
 use Rattle.csv_sheet.proofs.FillLemmas.{made_there}
 use Rattle.csv_sheet.proofs.loading.load_records.Goals as goal
 
@@ -64,15 +64,8 @@ blank-requires g c =
     let extent = c.in_ok-extent.extent in
     sheet_size m.0 extent m.2 c.args.records.now m.1 (not_large m.0 extent m.2 c.is_too_large.result c.is_too_large.ensures.1 c.if-is_too_large.false)
 
-pub returns-in-Ok : goal.returns-in-Ok
-returns-in-Ok g c = λ other.
-    let r = c.in-Ok.ensures.filled in
+pub returns : goal.returns
+returns g c = λ other.
     let edition : c.in_ok-sheet.sheet.edition ≡ c.args.edition = ap (λ (s : SheetValue). s.edition) c.in_ok-sheet.ensures in
-    result_from c.args.edition c.args.records.now r.0 (Ok c.fill.new.sheet) r.1 (subst (λ (e : Edition). IsSheetOf e r.0 c.fill.new.sheet) edition r.2)
-
-pub returns-in-Err : goal.returns-in-Err
-returns-in-Err g c = λ other.
-    let r = c.in-Err.ensures.why (λ same. other (ap (λ e. Err e) same)) in
-    let edition : c.in_ok-sheet.sheet.edition ≡ c.args.edition = ap (λ (s : SheetValue). s.edition) c.in_ok-sheet.ensures in
-    result_from c.args.edition c.args.records.now r.0 (Err c.in-Err.refused) r.1
-    (subst (λ (e : Edition). IsGivenByRecords e r.0 (Err c.in-Err.refused)) edition r.2)
+    subst (λ (e : Edition). IsRecordsResult e c.args.records.now c.fill.result) edition
+    (filled_from c.in_ok-sheet.sheet.edition c.args.records.now c.fill.result c.fill.ensures.filled c.fill.ensures.why other)

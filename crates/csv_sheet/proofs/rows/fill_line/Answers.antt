@@ -1,9 +1,9 @@
-use Rattle.std.proofs.Common.{◌<◌, ◌≤◌, ◌∙◌, ℕ, [], List, length, get_or, sym, ap, subst, arith, refl}
+use Rattle.std.proofs.Common.{◌+◌, ◌++◌, drop, ◌<◌, ◌≤◌, ◌∙◌, ℕ, [], List, length, get_or, sym, ap, subst, arith, refl}
 use Rattle.std.specs.Prelude.{IsUtf8}
 use Rattle.csv_sheet.specs.Ahead.{IsAhead}
 use Rattle.csv_sheet.specs.Filling.{IsFieldRefusal}
 use Rattle.csv_sheet.specs.Lines.{line_fields}
-use Rattle.csv_sheet.proofs.AheadLemmas.{known_of}
+use Rattle.csv_sheet.proofs.AheadLemmas.{at_next}
 use Rattle.csv_sheet.proofs.FillLemmas.{part_none, part_step, made_there}
 use Rattle.csv_sheet.proofs.LineLemmas.{next_field, next_left}
 use Rattle.csv_sheet.proofs.RecordLemmas.{err_handed, text_at}
@@ -40,11 +40,10 @@ fill_cell-requires-clause-ahead c =
     let within : c.loop-col.col < length fields = (let e = c.field_count-col-end.ensures in let t = c.loop-col-test.true in omega (arith, e, t)) in
     let field = c.text_of.ensures ∙ c.split_field.ensures.field ∙ sym (next_field fields c.loop-col.col c.loop-col.left.now (way.behind within)) in
     let start = way.next c.requires.ahead.0 c.requires.ahead.1 in
-    let known = known_of c.args.sheet.now.edition fields c.loop-col.col c.loop-col.ahead c.next.new.self c.next.result within
-    c.next.ensures.cases c.next.ensures.items c.requires.ahead.0 start in
-    subst (λ e. IsAhead e c.text_of.result.now c.flatten-known.result) (sym way.part.edition)
-    (subst (λ f. IsAhead c.args.sheet.now.edition f c.flatten-known.result) (sym field)
-    (subst (IsAhead c.args.sheet.now.edition (get_or fields c.loop-col.col [])) (sym c.flatten-known.ensures) known.0))
+    let told = c.next.ensures c.args.sheet.now.edition (get_or fields c.loop-col.col []) (drop (c.loop-col.col + 1) fields ++ c.requires.ahead.0)
+    (at_next c.args.sheet.now.edition fields c.loop-col.col c.loop-col.known c.requires.ahead.0 within start) in
+    subst (λ e. IsAhead e c.text_of.result.now c.next.result) (sym way.part.edition)
+    (subst (λ f. IsAhead c.args.sheet.now.edition f c.next.result) (sym field) told.0)
 
 pub loop-col-preserved : goal.loop-col-preserved
 loop-col-preserved c =
@@ -58,8 +57,8 @@ loop-col-preserved c =
           c.requires.record within way.part cell field c.in_ok-fill_cell.ensures.put;
       behind = λ more. next_left fields c.loop-col.col c.loop-col.left.now (way.behind within) more
           ∙ ap (λ l. line_fields [] l) (sym c.split_field.ensures.behind);
-      next = λ more start. (known_of c.args.sheet.now.edition fields c.loop-col.col c.loop-col.ahead c.next.new.self c.next.result within
-          c.next.ensures.cases c.next.ensures.items more (way.next more start)).1;
+      next = λ more start. (c.next.ensures c.args.sheet.now.edition (get_or fields c.loop-col.col []) (drop (c.loop-col.col + 1) fields ++ more)
+          (at_next c.args.sheet.now.edition fields c.loop-col.col c.loop-col.known more within (way.next more start))).1;
     }
 
 pub returns-in_err-fill_cell-clause-why : goal.returns-in_err-fill_cell-clause-why

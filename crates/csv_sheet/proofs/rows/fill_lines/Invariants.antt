@@ -1,9 +1,9 @@
-use Rattle.std.proofs.Common.{length}
-use Rattle.csv_sheet.specs.Filling.{HasFilledLines}
+use Rattle.std.proofs.Common.{◌+◌, ◌*◌, length}
+use Rattle.csv_sheet.specs.Filling.{HasPutParts}
 use Rattle.csv_sheet.proofs.rows.fill_lines.Given as goal
 
-abbrev pub invariant-loop-left : goal.invariant-loop-left
-invariant-loop-left g l = HasFilledLines l.fn.text l.left l.row l.fn.sheet l.sheet l.ahead
+abbrev pub invariant-loop-part : goal.invariant-loop-part
+invariant-loop-part g l = HasPutParts l.fn.text l.part l.behind l.ahead.items l.fn.sheet l.filled
 
-abbrev pub decreases-loop-left : goal.decreases-loop-left
-decreases-loop-left g l = length l.left
+abbrev pub decreases-loop-part : goal.decreases-loop-part
+decreases-loop-part g l = length l.part + 2 * length l.behind

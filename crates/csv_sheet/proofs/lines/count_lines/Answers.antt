@@ -1,11 +1,13 @@
-use Rattle.std.proofs.Common.{◌≡◌, ◌<◌, ◌∙◌, List, ℕ, rules, refl, subst, sym, length}
+use Rattle.std.proofs.Common.{◌≡◌, ◌<◌, ◌++◌, ◌∙◌, List, ℕ, arith, rules, refl, subst, sym, length}
 use Rattle.std.specs.List.{prefix_len}
-use Rattle.csv_sheet.specs.Lines.{AreCounted, HasCounted, goes_on, with_line}
+use Rattle.csv_sheet.specs.Lines.{AreCounted, HasCounted, IsPlain, goes_on, rows_in}
 use Rattle.csv_sheet.proofs.LineLemmas.{counting_begins, counting_goes, counting_ends, behind_shorter, is_byte}
-use Rattle.csv_sheet.proofs.lines.measure_lines.Goals as goal
+use Rattle.csv_sheet.proofs.lines.count_lines.Goals as goal
 
 pub loop-left-init : goal.loop-left-init
-loop-left-init c = counting_begins c.args.text.now _ (search rules) refl refl
+loop-left-init c =
+    let plain : IsPlain c.args.text.now = search rules in
+    counting_begins c.args.text.now _ plain.ascii refl refl
 
 pub loop-left-preserved : goal.loop-left-preserved
 loop-left-preserved c =
@@ -14,7 +16,7 @@ loop-left-preserved c =
     let cut = c.split_line.ensures in
     subst (λ (l : List ℕ). HasCounted c.args.text.now l c.with-lines.result) (sym cut.behind)
     (counting_goes c.args.text.now left c.loop-left.lines c.with-lines.result c.loop-left.invariant some
-    (λ rows is. subst (λ (l : List ℕ). AreCounted (with_line rows l) c.with-lines.result) cut.line (c.with-lines.ensures.counted rows is))
+    (λ rows is. subst (λ (l : List ℕ). AreCounted (rows ++ rows_in l) c.with-lines.result) cut.line (c.with-lines.ensures.counted rows is))
     c.with-lines.ensures.few)
 
 pub loop-left-smaller : goal.loop-left-smaller
@@ -24,6 +26,11 @@ loop-left-smaller c =
 
 pub returns : goal.returns
 returns c =
+    let plain : IsPlain c.args.text.now = search rules in
     let none : length c.loop-left.left.now ≡ 0 = is_byte (length c.loop-left.left.now) 0 (sym c.is_empty.ensures ∙ c.loop-left-test.false) in
-    let all = counting_ends c.args.text.now c.loop-left.left.now c.loop-left.lines c.loop-left.invariant none in
-    (all.0, all.1, record { count = all.2.count; cols = all.2.cols; text = all.2.text; short = all.2.short })
+    let few = c.loop-left.invariant.few in
+    record {
+      plain = plain;
+      counted = counting_ends c.args.text.now c.loop-left.left.now c.loop-left.lines c.loop-left.invariant none;
+      few = omega (arith, few);
+    }

@@ -1,6 +1,6 @@
 use Rattle.std.proofs.Common.{length}
 use Rattle.csv_sheet.specs.Lines.{HasCounted}
-use Rattle.csv_sheet.proofs.lines.measure_lines.Given as goal
+use Rattle.csv_sheet.proofs.lines.count_lines.Given as goal
 
 abbrev pub invariant-loop-left : goal.invariant-loop-left
 invariant-loop-left l = HasCounted l.fn.text l.left l.lines
