@@ -23,7 +23,8 @@ use Rattle.csv.specs.declared.parser.Terminator.TheVariants as term
 use Rattle.csv.proofs.ReadFacts.{reached-more}
 use Rattle.csv_sheet.specs.Records.{Rows, longest}
 use Rattle.csv_sheet.specs.Results.{IsLong}
-use Rattle.csv_sheet.specs.Lines.{AreCounted, HasCounted, IsCountOf, IsPlain, goes_on, goes_on_field, has_quote, is_comma, line_fields, rows_from, rows_in, text_rows}
+use Rattle.csv_sheet.specs.Lines.{AreCounted, HasCounted, IsCountOf, IsPlain, goes_on, goes_on_field, has_quote, is_comma}
+use Rattle.csv_sheet.specs.Lines.{line_fields, rows_from, rows_in, text_rows}
 use Rattle.csv_sheet.specs.declared.lines.Lines.{Lines}
 use Rattle.csv_sheet.proofs.RowLemmas.{length-more, longest-more, longest_both, none_both, none_more, text_more}
 

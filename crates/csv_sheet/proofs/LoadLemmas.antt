@@ -14,7 +14,7 @@ use Rattle.sheet_model.specs.Sheets.{SheetValue, IsSheetSize}
 use Rattle.csv_sheet.specs.Filling.{IsFillRefusal, IsFilledWith}
 use Rattle.csv_sheet.specs.Reading.{Measures}
 use Rattle.csv_sheet.specs.Records.{Rows, cell_there, longest, without_marks}
-use Rattle.csv_sheet.specs.Results.{AreText, IsTooLarge, IsFirstField, IsLong, IsGivenByRecords, IsRecordsResult, IsHeadedResult, IsSheetResult}
+use Rattle.csv_sheet.specs.Results.{AreText, IsTooLarge, IsFirstField, IsLong, NoField, IsGivenByRecords, IsRecordsResult, IsHeadedResult, IsSheetResult}
 use Rattle.csv_sheet.specs.Headings.{HeadedText, behind_end, behind_first, if_named, unnamed, heading_of}
 use Rattle.csv_sheet.specs.declared.extent.Extent.{Extent}
 use Rattle.csv_sheet.specs.declared.refused.SheetRefused.{SheetRefused}
@@ -132,6 +132,9 @@ module _ (rows : Rows) (extent : Extent) (is : Measures rows extent) where
 
   pub all_text : extent.not_text ≡ None → AreText rows
   all_text none = rw none at is.text
+
+  pub none_long : extent.long ≡ None → NoField IsLong rows
+  none_long none = rw none at is.short
 
   pub long_first : (row col : ℕ) → extent.long ≡ Some (row, col) → IsFirstField IsLong rows (cell_there row col)
   long_first row col found = rw found at is.short

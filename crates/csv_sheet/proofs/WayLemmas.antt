@@ -17,7 +17,7 @@ use Rattle.sheet_model.specs.Fields.{IsContent, IsDeepFormula}
 use Rattle.sheet_model.specs.Sheets.{SheetValue, IsSheetSize, content_of, blank_sheet}
 use Rattle.sheet_model.specs.Tables.{AddsLabels}
 use Rattle.sheet_model.proofs.ContentLemmas.{refused_none}
-use Rattle.csv_sheet.specs.Filling.{HasPut, HoldsRecords, IsBlankFor, IsPartRefusal, IsRecordFor, IsRowRefusal, ArePut, PutsPart}
+use Rattle.csv_sheet.specs.Filling.{AreSizesFor, HasPut, HoldsRecords, IsPartRefusal, IsRecordFor, IsRowRefusal, ArePut, PutsPart}
 use Rattle.csv_sheet.specs.Lines.{IsPlain, goes_on, line_fields, rows_in, text_rows}
 use Rattle.csv_sheet.specs.Records.{Rows, fields_at, field_at, all_fields, cell_there, longest, sizes_of}
 use Rattle.csv_sheet.specs.Results.{AreReadable, IsSheetOf, IsGivenByRecords, IsTooLarge, IsPlaceBefore, IsFirstField, IsFirstRefused, IsRefusedFormula, IsLong}
@@ -244,7 +244,8 @@ put_more rows fields row old between new put filled edition sizes few = record {
 }
 
 -- the next record, once those in front of it were put into a sheet that was blank
-module _ (edition : Edition) (all left : Rows) (fields : List (List ℕ)) (row : ℕ) (sheet : SheetValue) (has : HasPut edition all (fields ∷ left) row sheet) where
+module _ (edition : Edition) (all left : Rows) (fields : List (List ℕ)) (row : ℕ) (sheet : SheetValue)
+    (has : HasPut edition all (fields ∷ left) row sheet) where
   whole : all ≡ (has.rows ++ fields ∷ []) ++ left
   whole = has.split ∙ sym (append_assoc has.rows (fields ∷ []) left)
 
@@ -294,15 +295,18 @@ pub none_left : (edition : Edition) (all behind : Rows) (row : ℕ) (sheet : She
 none_left edition all behind row sheet left none has = subst (λ rs. HasPut edition all (rs ++ behind) row sheet) (no_rows left none) has
 
 -- nothing of a plain text was put yet
-pub put_begins : (text : List ℕ) (sheet : SheetValue) (blank : IsBlankFor text sheet) → IsPlain text
-    → HasPut sheet.edition blank.0 (text_rows [] ++ text_rows text) 0 sheet
-put_begins text sheet blank plain = record {
-  readable = blank.2;
-  rows = [];
-  split = one_rows default_config StartRecord text blank.0 (text_rows text) blank.1 (plain_rows text plain)
-      ∙ ap (λ rs. rs ++ text_rows text) (sym (no_rows [] refl));
-  put = subst (λ s. ArePut [] 0 s sheet) blank.3 (put_none text blank.0 blank.1 blank.2 sheet blank.3);
-}
+pub put_begins : (text part behind : List ℕ) (edition : Edition) (sizes : Sizes) (sheet : SheetValue) (known : AreSizesFor text sizes) → IsPlain text
+    → text_rows text ≡ text_rows part ++ text_rows behind → sheet ≡ blank_sheet edition sizes
+    → HasPut edition known.0 (text_rows part ++ text_rows behind) 0 sheet
+put_begins text part behind edition sizes sheet known plain split blank =
+    let old = blank_sheet edition (sizes_of known.0) in
+    let same : old ≡ sheet = ap (blank_sheet edition) (sym known.3) ∙ sym blank in
+    record {
+      readable = known.2;
+      rows = [];
+      split = one_rows default_config StartRecord text known.0 (text_rows text) known.1 (plain_rows text plain) ∙ split;
+      put = subst (λ s. ArePut [] 0 old s) same (put_none text known.0 known.1 known.2 old refl);
+    }
 
 -- a part of a text was put, and the next one is cut from what is behind it
 module _ (edition : Edition) (all : Rows) (part behind : List ℕ) (row : ℕ) (sheet : SheetValue)

@@ -9,8 +9,9 @@ use Rattle.csv_sheet.specs.Ahead.{AreNext, Begin, in_lists, text_fields}
 use Rattle.csv_sheet.specs.Lines.{line_fields, text_rows}
 use Rattle.csv_sheet.specs.Reading.{HasReadRecords}
 use Rattle.sheet_refs.specs.Cells.{Position}
+use Rattle.sheet_refs.specs.declared.sizes.Sizes.{Sizes}
 use Rattle.sheet_model.specs.Fields.{IsContent, IsDeepFormula, IsTableAfter}
-use Rattle.sheet_model.specs.Sheets.{SheetValue, ContentValue, IsSheet, blank_sheet, content_of, with_content, with_labels}
+use Rattle.sheet_model.specs.Sheets.{SheetValue, ContentValue, IsSheet, IsSheetSize, blank_sheet, content_of, with_content, with_labels}
 use Rattle.sheet_model.specs.Tables.{AddsLabels}
 use Rattle.sheet_model.specs.declared.content.Content.{Content}
 use Rattle.std.specs.Global.{Vec}
@@ -116,11 +117,11 @@ pub record HasPutLines (part left : List ℕ) (first row : ℕ) (old new : Sheet
   pub few : length left ≤ length part
 
 -- the parts of a text that are neither put nor read ahead, and what is known of the first one
-pub record HasPutParts (text part behind : List ℕ) (ahead : List (Vec (Option Content))) (blank : SheetValue) (filled : SheetValue × ℕ) : Type 0 where
+pub record HasPutParts (text part behind : List ℕ) (edition : Edition) (ahead : List (Vec (Option Content))) (filled : SheetValue × ℕ) : Type 0 where
   pub all : Rows
   pub has : AreRecords default_config StartRecord text all
-  pub put : HasPut blank.edition all (text_rows part ++ text_rows behind) filled.1 filled.0
-  pub begin : Begin blank.edition (in_lists ahead) (text_fields part)
+  pub put : HasPut edition all (text_rows part ++ text_rows behind) filled.1 filled.0
+  pub begin : Begin edition (in_lists ahead) (text_fields part)
   pub ascii : IsAscii behind
   pub few : length part + length behind ≤ length text
 
@@ -135,6 +136,11 @@ pub record IsLineFilled (row : ℕ) (line left : List ℕ) (col : ℕ) (old new 
 abbrev pub IsBlankFor : List ℕ → SheetValue → Type 0
 IsBlankFor text sheet = (rows : Rows) × AreRecords default_config StartRecord text rows × AreReadable rows
     × (sheet ≡ blank_sheet sheet.edition (sizes_of rows))
+
+-- the sizes of a text's records, which can be read
+abbrev pub AreSizesFor : List ℕ → Sizes → Type 0
+AreSizesFor text sizes = (rows : Rows) × AreRecords default_config StartRecord text rows × AreReadable rows
+    × (sizes ≡ sizes_of rows) × IsSheetSize sizes
 
 -- the sheet of a text's records in an edition
 abbrev pub IsFilledWith : List ℕ → Edition → SheetValue → Type 0

@@ -30,7 +30,8 @@ impl Known {
 
     /// The content that the next field writes, where it is known.
     pub(crate) fn next(&mut self) -> Option<Content>
-        ensures { (edition : Edition) (field : List ℕ) (fields : List (List ℕ)) → AreNext edition self.old (field ∷ fields)
+        ensures { (edition : Edition) (field : List ℕ) (fields : List (List ℕ))
+            → AreNext edition self.old (field ∷ fields)
             → IsAhead edition field result × AreNext edition self.new fields }
     {
         while self.list.len() == 0 {

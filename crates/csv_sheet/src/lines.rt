@@ -3,7 +3,8 @@ ghost use Rattle.std.specs.Prelude.{◌≡◌, ◌<◌, ◌≤◌, ◌+◌, ◌-
 ghost use Rattle.std.specs.Prelude.{[], length, take, drop, count_by, IfSome, IsTrue, IsUtf8};
 ghost use Rattle.std.specs.List.{prefix_len};
 ghost use Rattle.std.specs.Str.{IsAscii};
-ghost use Rattle.csv_sheet.specs.Lines.{AreCounted, IsCountOf, IsPlain, goes_on, goes_on_field, is_comma, line_fields, rows_in};
+ghost use Rattle.csv_sheet.specs.Lines.{AreCounted, IsCountOf, IsPlain, goes_on, goes_on_field};
+ghost use Rattle.csv_sheet.specs.Lines.{is_comma, line_fields, rows_in};
 ghost use Rattle.csv_sheet.specs.Records.{Rows};
 
 use formula_syntax::MAX_FIELD;

@@ -13,7 +13,7 @@ use crate::refused::SheetRefused;
 use crate::rows::fill;
 use formula_syntax::Edition;
 use sheet_model::Sheet;
-use sheet_refs::Cell;
+use sheet_refs::{Cell, Sizes};
 use std::alloc::Global;
 use std::thread::Threads;
 
@@ -57,8 +57,11 @@ fn load_records<R: LineReader>(
             cell: Cell::new(row + 1, col as u32 + 1).unwrap(),
         });
     }
-    let sheet = Sheet::blank(alloc, extent.rows, extent.cols as u32, edition)?;
-    fill(alloc, records, lines.is_some(), sheet, reader)
+    let sizes = Sizes {
+        rows: extent.rows,
+        cols: extent.cols as u32,
+    };
+    fill(alloc, edition, records, lines.is_some(), sizes, reader)
 }
 
 /// Reads a sheet of a text of at most 16,777,216 bytes: CSV with no header row, records of any lengths and
@@ -80,10 +83,10 @@ pub fn load(alloc: Global, text: &[u8]) -> Result<Sheet, SheetRefused>
     load_text(alloc, text, &Alone)
 }
 
-/// The same by several threads, as many as there are processors, where the text has 65,536 bytes or more: they count its
-/// lines, and where it is all ASCII and has no quote, they read what the fields of one part of it write, 65,536 bytes
-/// each, while this one puts the part before it into the sheet and then reads 32,768 bytes too. It takes 24 bytes more
-/// for each field of two such parts. Where a thread can't be made, this one does its part.
+/// The same by several threads, as many as there are processors, where the text has 131,072 bytes or more: they count
+/// its lines, and where it is all ASCII and has no quote, they read what the fields of one part of it write, 131,072
+/// bytes each, while this one puts the part before it into the sheet and then reads 65,536 bytes too. It takes 24 bytes
+/// more for each field of two such parts. Where a thread can't be made, this one does its part.
 pub fn load_in_threads<R: Threads + Sync>(
     rt: &R,
     alloc: Global,

@@ -13,9 +13,10 @@ use sheet_refs::Memory;
 use std::alloc::Global;
 use std::thread::{Threads, available_parallelism, join};
 
-/// How many bytes of a text the thread that fills a sheet reads at once, and half of what each other thread does: enough
-/// that starting a thread takes little of the time, and so few that what is known ahead takes little of the memory.
-const PART: usize = 32_768;
+/// How many bytes of a text the thread that fills a sheet reads at once, and half of what each other thread does:
+/// enough that starting a thread takes little of the time, and so few that what is known ahead takes little of the
+/// memory.
+const PART: usize = 65_536;
 
 /// A way to read the lines of a text.
 pub(crate) trait LineReader {
@@ -31,8 +32,8 @@ pub(crate) trait LineReader {
     /// How many bytes of a text are best read at once.
     fn at_once(&self) -> usize;
 
-    /// Does a work, and meanwhile learns what is known of the first fields of a text of lines, in their order; it may be
-    /// nothing.
+    /// Does a work, and meanwhile learns what is known of the first fields of a text of lines, in their order; it may
+    /// be nothing.
     fn read_beside<B, W: FnOnce() -> B>(
         &self,
         alloc: Global,
@@ -91,7 +92,7 @@ impl<'a, R: Threads> InThreads<'a, R> {
 
     // Whether a text is worth several threads.
     fn divides(&self, text: &[u8]) -> bool {
-        self.others > 0 && text.len() >= 2 * PART
+        self.others > 0 && text.len() >= PART
     }
 
     // How many shares a text is cut into: two for each other thread, and one for this one, which also fills the sheet.
@@ -133,7 +134,8 @@ impl<R: Threads + Sync> LineReader for InThreads<'_, R> {
             rt,
             || -> Result<Ahead, Memory>
                 requires { IsSync R.row × IsAscii front.now × (length front.now ≤ 16777216) }
-                ensures { IfOk result (λ ahead. AreAhead edition (text_fields front.entry.now) (in_lists ahead.items)) }
+                ensures { IfOk result
+                    (λ ahead. AreAhead edition (text_fields front.entry.now) (in_lists ahead.items)) }
             { read_parts(rt, alloc, edition, front, others) },
             || -> (B, Result<Ahead, Memory>)
                 requires { W.pre work × IsAscii back.now × (length back.now ≤ 16777216) }

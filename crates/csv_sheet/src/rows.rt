@@ -4,8 +4,10 @@ ghost use Rattle.std.specs.Prelude.{IfErr, IfOk, OnOk, Err, IsTrue, List, ℕ};
 ghost use Rattle.csv.specs.Records.{fields_of};
 ghost use Rattle.sheet_refs.specs.Sizes.{is_inside};
 ghost use Rattle.csv_sheet.specs.Ahead.{AreNext, Begin, IsAhead, in_lists, text_fields};
-ghost use Rattle.csv_sheet.specs.Filling.{HoldsRecords, IsNextPart, IsPartRefusal, PutsField, PutsPart, IsFieldRefusal, IsRecordFor};
-ghost use Rattle.csv_sheet.specs.Filling.{IsBlankFor, IsFilledWith, IsFillRefusal, IsRowRefusal};
+ghost use Rattle.csv_sheet.specs.Filling.{HoldsRecords, IsNextPart, IsPartRefusal, PutsField, PutsPart};
+ghost use Rattle.csv_sheet.specs.Filling.{IsFieldRefusal, IsRecordFor};
+ghost use Rattle.sheet_model.specs.Sheets.{IsSheetSize, blank_sheet};
+ghost use Rattle.csv_sheet.specs.Filling.{AreSizesFor, IsBlankFor, IsFilledWith, IsFillRefusal, IsRowRefusal};
 ghost use Rattle.csv_sheet.specs.Lines.{IsPlain, line_fields};
 ghost use Rattle.csv_sheet.specs.Records.{Rows, without_marks};
 
@@ -18,7 +20,7 @@ use crate::refused::SheetRefused;
 use csv::StringRecord;
 use formula_syntax::Edition;
 use sheet_model::{Change, Content, ContentRefused, Sheet};
-use sheet_refs::Cell;
+use sheet_refs::{Cell, Memory, Sizes};
 use std::alloc::Global;
 
 // Puts what a field writes into a cell, by what is known of it ahead.
@@ -111,53 +113,63 @@ fn fill_line(
     Ok(())
 }
 
-/// Fills a blank sheet of the right sizes with what the fields of all records of a text write; where these are known to
-/// be its lines, some fields may be read ahead.
+/// A sheet of the right sizes, filled with what the fields of all records of a text write; where these are known to be
+/// its lines, some fields may be read ahead.
 pub(crate) fn fill<R: LineReader>(
     alloc: Global,
+    edition: Edition,
     text: &[u8],
     plain: bool,
-    sheet: Sheet,
+    sizes: Sizes,
     reader: &R,
 ) -> Result<Sheet, SheetRefused>
     requires ready { R.ready }
     requires short { length text.now ≤ 16777216 }
     requires no_marks { without_marks text.now ≡ text.now }
     requires plain { IsTrue plain → IsPlain text.now }
-    requires blank { IsBlankFor text.now sheet }
-    ensures filled { IfOk result (IsFilledWith text.now sheet.edition) }
-    ensures why { IfErr result (IsFillRefusal text.now sheet.edition) }
+    requires sizes { AreSizesFor text.now sizes }
+    ensures filled { IfOk result (IsFilledWith text.now edition) }
+    ensures why { IfErr result (IsFillRefusal text.now edition) }
 {
     if plain {
-        return fill_lines(alloc, text, sheet, reader);
+        return fill_lines(alloc, edition, text, sizes, reader);
     }
-    let mut sheet = sheet;
+    let mut sheet = Sheet::blank(alloc, sizes.rows, sizes.cols, edition)?;
     match fill_records(alloc, text, &mut sheet) {
         Ok(()) => Ok(sheet),
         Err(refused) => Err(refused),
     }
 }
 
-// The same by cutting lines, where these are the records. While a part of them is put into the sheet, the next one is
-// read ahead.
+// The same by cutting lines, where these are the records. While the blank sheet is made, and then while a part of the
+// lines is put into it, the next part is read ahead.
 fn fill_lines<R: LineReader>(
     alloc: Global,
+    edition: Edition,
     text: &[u8],
-    sheet: Sheet,
+    sizes: Sizes,
     reader: &R,
 ) -> Result<Sheet, SheetRefused>
     requires ready { R.ready }
     requires short { length text.now ≤ 16777216 }
     requires plain { IsPlain text.now }
-    requires blank { IsBlankFor text.now sheet }
-    ensures filled { IfOk result (IsFilledWith text.now sheet.edition) }
-    ensures why { IfErr result (IsFillRefusal text.now sheet.edition) }
+    requires sizes { AreSizesFor text.now sizes }
+    ensures filled { IfOk result (IsFilledWith text.now edition) }
+    ensures why { IfErr result (IsFillRefusal text.now edition) }
 {
-    let edition = sheet.edition();
-    let mut filled = (sheet, 0);
-    let mut part: &[u8] = &[];
-    let mut ahead = Vec::new(alloc);
-    let mut behind = text;
+    let (mut part, mut behind) = split_lines(text, reader.at_once().min(text.len()));
+    let (known, blank) = reader.read_beside(
+        alloc,
+        edition,
+        part,
+        move || -> Result<Sheet, Memory>
+            requires { IsSheetSize (record { rows = sizes.rows; cols = sizes.cols }) }
+            ensures { IfOk result
+                (λ sheet. sheet ≡ blank_sheet edition (record { rows = sizes.rows; cols = sizes.cols })) }
+        { Sheet::blank(alloc, sizes.rows, sizes.cols, edition) },
+    );
+    let mut filled = (blank?, 0);
+    let mut ahead = known?;
     while part.len() + behind.len() > 0 {
         let (sheet, row) = filled;
         let (next, rest) = split_lines(behind, reader.at_once().min(behind.len()));
@@ -167,7 +179,8 @@ fn fill_lines<R: LineReader>(
             next,
             move || -> Result<(Sheet, u32), SheetRefused>
                 requires { (length part.now ≤ 16777216)
-                    × Begin sheet.edition (in_lists ahead.items) (text_fields part.now) × IsNextPart part.now row sheet }
+                    × Begin sheet.edition (in_lists ahead.items) (text_fields part.now)
+                    × IsNextPart part.now row sheet }
                 ensures { IfOk result (PutsPart part.entry.now row sheet)
                     × IfErr result (IsPartRefusal part.entry.now row sheet) }
             { fill_part(alloc, sheet, row, part, ahead) },
@@ -180,8 +193,8 @@ fn fill_lines<R: LineReader>(
     Ok(filled.0)
 }
 
-// Puts what the fields of some lines write into the rows from this one on, counted from 0, by what is known of the first
-// of them. Gives the sheet and the row behind them.
+// Puts what the fields of some lines write into the rows from this one on, counted from 0, by what is known of the
+// first of them. Gives the sheet and the row behind them.
 fn fill_part(
     alloc: Global,
     mut sheet: Sheet,
@@ -208,7 +221,7 @@ fn fill_part(
     Ok((sheet, row))
 }
 
-// The same of any text, by reading each record.
+// Fills a blank sheet with the records of any text, by reading each.
 fn fill_records(alloc: Global, text: &[u8], sheet: &mut Sheet) -> Result<(), SheetRefused>
     requires no_marks { without_marks text.now ≡ text.now }
     requires blank { IsBlankFor text.now sheet.old }

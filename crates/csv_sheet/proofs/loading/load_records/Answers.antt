@@ -1,9 +1,7 @@
-use Rattle.std.proofs.Common.{◌≡◌, ◌∙◌, sym, ap, subst, arith, Err}
-use Rattle.formula_syntax.specs.declared.edition.Edition.{Edition}
-use Rattle.sheet_model.specs.Sheets.{SheetValue}
-use Rattle.csv_sheet.specs.Results.{IsFirstField, IsLong, IsRecordsResult}
+use Rattle.std.proofs.Common.{◌∙◌, sym, ap₂, rules, subst, arith, Err}
+use Rattle.csv_sheet.specs.Results.{IsFirstField, IsLong}
 use Rattle.csv_sheet.specs.declared.refused.SheetRefused.TheVariants as refused
-use Rattle.csv_sheet.proofs.LoadLemmas.{filled_from, result_from, large, not_large, not_too_large, all_text, long_first, sheet_size, long_named}
+use Rattle.csv_sheet.proofs.LoadLemmas.{filled_from, none_long, result_from, large, not_large, not_too_large, all_text, long_first, sheet_size, long_named}
 use Rattle.csv_sheet.proofs.FillLemmas.{made_there}
 use Rattle.csv_sheet.proofs.loading.load_records.Goals as goal
 
@@ -58,14 +56,21 @@ returns-in-Some-long g c = λ other.
       subst (IsFirstField IsLong m.0) (sym cell) first,
     )
 
-pub blank-requires : goal.blank-requires
-blank-requires g c =
+pub fill-requires-clause-sizes : goal.fill-requires-clause-sizes
+fill-requires-clause-sizes g c =
     let m = c.in_ok-extent.ensures in
     let extent = c.in_ok-extent.extent in
-    sheet_size m.0 extent m.2 c.args.records.now m.1 (not_large m.0 extent m.2 c.is_too_large.result c.is_too_large.ensures.1 c.if-is_too_large.false)
+    let small = not_large m.0 extent m.2 c.is_too_large.result c.is_too_large.ensures.1 c.if-is_too_large.false in (
+      m.0,
+      m.1,
+      record {
+        text = all_text m.0 extent m.2 c.in_default.is;
+        fits = not_too_large m.0 extent m.2 small;
+        short = none_long m.0 extent m.2 (search rules);
+      },
+      ap₂ (λ r k. record { rows = r; cols = k }) m.2.count m.2.cols,
+      sheet_size m.0 extent m.2 c.args.records.now m.1 small,
+    )
 
 pub returns : goal.returns
-returns g c = λ other.
-    let edition : c.in_ok-sheet.sheet.edition ≡ c.args.edition = ap (λ (s : SheetValue). s.edition) c.in_ok-sheet.ensures in
-    subst (λ (e : Edition). IsRecordsResult e c.args.records.now c.fill.result) edition
-    (filled_from c.in_ok-sheet.sheet.edition c.args.records.now c.fill.result c.fill.ensures.filled c.fill.ensures.why other)
+returns g c = λ other. filled_from c.args.edition c.args.records.now c.fill.result c.fill.ensures.filled c.fill.ensures.why other
