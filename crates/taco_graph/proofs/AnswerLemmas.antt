@@ -17,14 +17,14 @@ use Rattle.edge_patterns.proofs.RectangleLemmas.{rectangle_has, run_asked}
 use Rattle.edge_patterns.specs.declared.edge.Pattern.{Pattern}
 use Rattle.edge_patterns.specs.declared.edge.Pattern.TheVariants.{Single, Rr, Rf, Fr, Ff, Chain}
 use Rattle.range_index.specs.Entries.{Entry, AddsOverlapping}
-use Rattle.taco_graph.specs.Stores.{edge_at, edges_of, AreStored, EdgesDiffer}
+use Rattle.taco_graph.specs.Filing.{Rectangles}
+use Rattle.taco_graph.specs.Stores.{edge_at, edges_of, AreEdges, AreStored, EdgesDiffer, NamesOverlapping, IsMetAt, NamesMet}
 use Rattle.taco_graph.specs.Answers.{IsMeant, ByPattern, IsMeantAt, IsAnswered, EdgeAnswer, edge_answer, answer_ranges}
 use Rattle.taco_graph.specs.Answers.{HasAnswer, IsAnswerAt, NamesAnswering, AddsAnswersOf, AddsAnswers, AddsOneEach}
 use Rattle.taco_graph.specs.declared.answers.Question.{Question}
 use Rattle.taco_graph.specs.declared.answers.Question.TheVariants.{Dependents, Precedents, Ahead, Behind}
 use Rattle.slab.proofs.SlabLemmas.{Contains-cons}
 use Rattle.taco_graph.proofs.GraphLemmas.{first_pair, kept_listed, listed_kept}
-use Rattle.taco_graph.proofs.StoreLemmas.{names}
 
 -- ---- an edge with an answer overlaps the query
 
@@ -56,25 +56,28 @@ behind_overlaps edge query cell is (inr (other, referred)) = referred_overlaps e
 
 -- ---- so the index names it
 
-module _ (slots : List (Option EdgeValue)) (runs rectangles : List Entry) (query : Corners) (old keys : List ℕ) (stored : AreStored slots runs rectangles) where
+module _ (slots : List (Option EdgeValue)) (query : Corners) (keys : List ℕ) (edges : AreEdges slots) where
   edge_is : (key : ℕ) (edge : EdgeValue) → edge_at slots key ≡ Some edge → IsEdge edge
-  edge_is key edge here = stored.edges edge (record { key = key; here = here })
+  edge_is key edge here = edges edge (record { key = key; here = here })
 
-  pub names_dependents : AddsOverlapping rectangles query old keys → NamesAnswering slots Dependents query keys
-  names_dependents adds key cell at = names slots (λ edge. edge.prec) rectangles query old keys stored.rectangles_filed
-      adds key at.edge at.here (direct_overlaps at.edge query cell (edge_is key at.edge at.here) at.meant)
+  met : (key : ℕ) (edge : EdgeValue) → edge_at slots key ≡ Some edge → Overlap edge.prec query → IsMetAt slots query key
+  met key edge here overlap = record { edge = edge; here = here; overlap = overlap }
 
-  pub names_ahead : AddsOverlapping rectangles query old keys → NamesAnswering slots Ahead query keys
-  names_ahead adds key cell at = names slots (λ edge. edge.prec) rectangles query old keys stored.rectangles_filed adds
-      key at.edge at.here (ahead_overlaps at.edge query cell (edge_is key at.edge at.here) at.meant)
+  pub names_dependents : NamesMet slots query keys → NamesAnswering slots Dependents query keys
+  names_dependents named key cell at =
+      named key (met key at.edge at.here (direct_overlaps at.edge query cell (edge_is key at.edge at.here) at.meant))
 
-  pub names_precedents : AddsOverlapping runs query old keys → NamesAnswering slots Precedents query keys
-  names_precedents adds key cell at = names slots (λ edge. edge.dep) runs query old keys stored.runs_filed adds key
-      at.edge at.here (referred_overlaps at.edge query cell (edge_is key at.edge at.here) at.meant)
+  pub names_ahead : NamesMet slots query keys → NamesAnswering slots Ahead query keys
+  names_ahead named key cell at =
+      named key (met key at.edge at.here (ahead_overlaps at.edge query cell (edge_is key at.edge at.here) at.meant))
 
-  pub names_behind : AddsOverlapping runs query old keys → NamesAnswering slots Behind query keys
-  names_behind adds key cell at = names slots (λ edge. edge.dep) runs query old keys stored.runs_filed adds key at.edge
-      at.here (behind_overlaps at.edge query cell (edge_is key at.edge at.here) at.meant)
+  pub names_precedents : NamesOverlapping slots query keys → NamesAnswering slots Precedents query keys
+  names_precedents named key cell at =
+      named key at.edge at.here (referred_overlaps at.edge query cell (edge_is key at.edge at.here) at.meant)
+
+  pub names_behind : NamesOverlapping slots query keys → NamesAnswering slots Behind query keys
+  names_behind named key cell at =
+      named key at.edge at.here (behind_overlaps at.edge query cell (edge_is key at.edge at.here) at.meant)
 
 -- ---- and it names each key once
 
@@ -85,7 +88,7 @@ all_once {entries} {query} {old} {keys} adds none =
 
 -- ---- edges under different keys differ, since each has a pair that no other has
 
-pub edges_differ : (slots : List (Option EdgeValue)) (runs rectangles : List Entry) → AreStored slots runs rectangles → EdgesDiffer slots
+pub edges_differ : (slots : List (Option EdgeValue)) (runs : List Entry) (rectangles : Rectangles) → AreStored slots runs rectangles → EdgesDiffer slots
 edges_differ slots runs rectangles stored key other a b differ here there same =
     let is = stored.edges a (record { key = key; here = here }) in
     let (range, pair) = first_pair a is in

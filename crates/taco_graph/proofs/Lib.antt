@@ -3,6 +3,7 @@ mod ChainLemmas
 mod ChangeLemmas
 mod EdgeListLemmas
 mod FilledLemmas
+mod FilingLemmas
 mod GraphLemmas
 pub mod GrowthLemmas
 mod JoinableLemmas

@@ -5,11 +5,12 @@ use Rattle.std.proofs.lemmas.List.{get_or_past, get_or-set_other, get_or-set_sam
 use Rattle.std.specs.Prelude.{slice_set}
 use Rattle.std.proofs.lemmas.Option.{same_Some, none-some}
 use Rattle.std.proofs.lemmas.List.Elements.{Contains-append_right}
-use Rattle.std.specs.Prelude.{Result, Ok, Err, OnOk}
+use Rattle.std.specs.Prelude.{Bool, IsTrue, Result, Ok, Err, OnOk}
 use Rattle.sheet_refs.specs.Cells.{Position, Corners}
 use Rattle.sheet_refs.specs.Rectangles.{Overlap}
 use Rattle.edge_patterns.specs.Edges.{EdgeValue, IsEdge, IsPair}
 use Rattle.range_index.specs.Entries.{Entry, entry_of, HasNoId, SameEntries, Inserts, Removes, ChangesRange, AddsOverlapping}
+use Rattle.taco_graph.specs.Filing.{Rectangles}
 use Rattle.taco_graph.specs.Pairs.{AreApart}
 use Rattle.taco_graph.specs.Stores.{edge_at, IsKeptEdge, IsKeptPair, IsApart, IsApartBeside, IsFiled, FilesAll}
 use Rattle.taco_graph.specs.Stores.{AreStored, PutsEdge, NamesOverlapping, LeavesApart}
@@ -38,14 +39,19 @@ not_free slots free key edge none here same = none-some edge (sym none ∙ (ap (
 same_entry : (entry : Entry) (id : ℕ) (range : Corners) → entry.id ≡ id → entry.range ≡ range → entry ≡ entry_of id range
 same_entry entry id range same_id same_range = rw (← same_id, ← same_range) refl
 
+-- ---- whether rectangles are kept stays
+
+pub as_before : {old new : Bool} → new ≡ old → IsTrue new → IsTrue old
+as_before same kept = subst IsTrue same kept
+
 -- ---- nothing is stored
 
-pub none_stored : (runs rectangles : List Entry) → runs ≡ [] → rectangles ≡ [] → AreStored [] runs rectangles
+pub none_stored : (runs : List Entry) (rectangles : Rectangles) → runs ≡ [] → rectangles.entries ≡ [] → AreStored [] runs rectangles
 none_stored runs rectangles no_run no_rectangle = record {
   edges = λ edge kept. absurd (none-some edge kept.here);
   apart = λ key other a b differ here there. absurd (none-some a here);
   runs_filed = rw no_run (none_filed (λ edge. edge.dep));
-  rectangles_filed = rw no_rectangle (none_filed (λ edge. edge.prec));
+  rectangles_filed = λ kept. rw no_rectangle (none_filed (λ edge. edge.prec));
 }
   where
     none_filed : (side : EdgeValue → Corners) → FilesAll [] side []
@@ -53,14 +59,16 @@ none_stored runs rectangles no_run no_rectangle = record {
 
 -- ---- the same is stored
 
-pub same_stored : (slots : List (Option EdgeValue)) (runs new_runs rectangles new_rectangles : List Entry)
-    → SameEntries runs new_runs → SameEntries rectangles new_rectangles → AreStored slots runs rectangles
+pub same_stored : (slots : List (Option EdgeValue)) (runs new_runs : List Entry) (rectangles new_rectangles : Rectangles)
+    → SameEntries runs new_runs → new_rectangles.kept ≡ rectangles.kept
+    → SameEntries rectangles.entries new_rectangles.entries → AreStored slots runs rectangles
     → AreStored slots new_runs new_rectangles
-same_stored slots runs new_runs rectangles new_rectangles same_runs same_rectangles stored = record {
+same_stored slots runs new_runs rectangles new_rectangles same_runs same_kept same_rectangles stored = record {
   edges = stored.edges;
   apart = stored.apart;
   runs_filed = same_filed (λ edge. edge.dep) runs new_runs same_runs stored.runs_filed;
-  rectangles_filed = same_filed (λ edge. edge.prec) rectangles new_rectangles same_rectangles stored.rectangles_filed;
+  rectangles_filed = λ kept. same_filed (λ edge. edge.prec) rectangles.entries new_rectangles.entries same_rectangles
+      (stored.rectangles_filed (as_before same_kept kept));
 }
   where
     same_filed : (side : EdgeValue → Corners) (entries more : List Entry) → SameEntries entries more → FilesAll slots side entries → FilesAll slots side more
@@ -83,15 +91,17 @@ filed_less old new side entries less key puts removes files entry = (to, from)
         let was = still_here old new key entry.id filed.edge puts filed.here in
         (removes entry).1 (was.0, (files entry).1 (record { edge = filed.edge; here = was.1; range_is = filed.range_is }))
 
-pub stored_less : (old new : List (Option EdgeValue)) (runs less_runs rectangles less_rectangles : List Entry) (key : ℕ)
-    → PutsEdge old new key None → Removes runs less_runs key → Removes rectangles less_rectangles key
+pub stored_less : (old new : List (Option EdgeValue)) (runs less_runs : List Entry) (rectangles less_rectangles : Rectangles)
+    (key : ℕ) → PutsEdge old new key None → Removes runs less_runs key → less_rectangles.kept ≡ rectangles.kept
+    → (IsTrue rectangles.kept → Removes rectangles.entries less_rectangles.entries key)
     → AreStored old runs rectangles → AreStored new less_runs less_rectangles
-stored_less old new runs less_runs rectangles less_rectangles key puts run_gone rectangle_gone stored = record {
+stored_less old new runs less_runs rectangles less_rectangles key puts run_gone same_kept rectangle_gone stored = record {
   edges = λ edge kept. stored.edges edge (record { key = kept.key; here = (still_here old new key kept.key edge puts kept.here).1 });
   apart = λ k other a b differ here there. stored.apart k other a b differ (still_here old new key k a puts here).1
       (still_here old new key other b puts there).1;
   runs_filed = filed_less old new (λ edge. edge.dep) runs less_runs key puts run_gone stored.runs_filed;
-  rectangles_filed = filed_less old new (λ edge. edge.prec) rectangles less_rectangles key puts rectangle_gone stored.rectangles_filed;
+  rectangles_filed = λ kept. let was = as_before same_kept kept in filed_less old new (λ edge. edge.prec)
+      rectangles.entries less_rectangles.entries key puts (rectangle_gone was) (stored.rectangles_filed was);
 }
 
 -- ---- one edge more
@@ -120,15 +130,17 @@ filed_more old new side entries more key one free puts inserts files entry = (to
       | inr (other, was) ↦ inl ((files entry).1 (record { edge = filed.edge; here = was; range_is = filed.range_is }))
     ])
 
-pub stored_more : (old new : List (Option EdgeValue)) (runs more_runs rectangles more_rectangles : List Entry) (key : ℕ)
-    (one : EdgeValue) → edge_at old key ≡ None → PutsEdge old new key (Some one) → IsEdge one → IsApart old one
-    → Inserts runs more_runs key one.dep → Inserts rectangles more_rectangles key one.prec
+pub stored_more : (old new : List (Option EdgeValue)) (runs more_runs : List Entry) (rectangles more_rectangles : Rectangles)
+    (key : ℕ) (one : EdgeValue) → edge_at old key ≡ None → PutsEdge old new key (Some one) → IsEdge one → IsApart old one
+    → Inserts runs more_runs key one.dep → more_rectangles.kept ≡ rectangles.kept
+    → (IsTrue rectangles.kept → Inserts rectangles.entries more_rectangles.entries key one.prec)
     → AreStored old runs rectangles → AreStored new more_runs more_rectangles
-stored_more old new runs more_runs rectangles more_rectangles key one free puts is_edge away run_came rectangle_came stored = record {
+stored_more old new runs more_runs rectangles more_rectangles key one free puts is_edge away run_came same_kept rectangle_came stored = record {
   edges = edges;
   apart = apart;
   runs_filed = filed_more old new (λ edge. edge.dep) runs more_runs key one free puts run_came stored.runs_filed;
-  rectangles_filed = filed_more old new (λ edge. edge.prec) rectangles more_rectangles key one free puts rectangle_came stored.rectangles_filed;
+  rectangles_filed = λ kept. let was = as_before same_kept kept in filed_more old new (λ edge. edge.prec)
+      rectangles.entries more_rectangles.entries key one free puts (rectangle_came was) (stored.rectangles_filed was);
 }
   where
     edges : (edge : EdgeValue) → IsKeptEdge new edge → IsEdge edge
@@ -187,15 +199,18 @@ puts_by_write slots key was one here = record {
       | inr past ↦ absurd (none-some was (sym (get_or_past slots key None past) ∙ here))
     ]
 
-pub stored_changed : (old new : List (Option EdgeValue)) (runs changed_runs rectangles changed_rectangles : List Entry)
-    (key : ℕ) (one : EdgeValue) → PutsEdge old new key (Some one) → IsEdge one → IsApartBeside old key one
-    → ChangesRange runs changed_runs key one.dep → ChangesRange rectangles changed_rectangles key one.prec
+pub stored_changed : (old new : List (Option EdgeValue)) (runs changed_runs : List Entry)
+    (rectangles changed_rectangles : Rectangles) (key : ℕ) (one : EdgeValue) → PutsEdge old new key (Some one)
+    → IsEdge one → IsApartBeside old key one → ChangesRange runs changed_runs key one.dep
+    → changed_rectangles.kept ≡ rectangles.kept
+    → (IsTrue rectangles.kept → ChangesRange rectangles.entries changed_rectangles.entries key one.prec)
     → AreStored old runs rectangles → AreStored new changed_runs changed_rectangles
-stored_changed old new runs changed_runs rectangles changed_rectangles key one puts is_edge away run_changed rectangle_changed stored = record {
+stored_changed old new runs changed_runs rectangles changed_rectangles key one puts is_edge away run_changed same_kept rectangle_changed stored = record {
   edges = edges;
   apart = apart;
   runs_filed = filed_changed old new (λ edge. edge.dep) runs changed_runs key one puts run_changed stored.runs_filed;
-  rectangles_filed = filed_changed old new (λ edge. edge.prec) rectangles changed_rectangles key one puts rectangle_changed stored.rectangles_filed;
+  rectangles_filed = λ kept. let was = as_before same_kept kept in filed_changed old new (λ edge. edge.prec)
+      rectangles.entries changed_rectangles.entries key one puts (rectangle_changed was) (stored.rectangles_filed was);
 }
   where
     edges : (edge : EdgeValue) → IsKeptEdge new edge → IsEdge edge
@@ -247,12 +262,12 @@ names slots side entries query old new files adds key edge here overlap =
     })))
 
 pub names_runs : {E : Type 0} (result : Result (Unit {0}) E) (slots : List (Option EdgeValue))
-    (runs rectangles : List Entry) (query : Corners) (old new : List ℕ) → AreStored slots runs rectangles
+    (runs : List Entry) (rectangles : Rectangles) (query : Corners) (old new : List ℕ) → AreStored slots runs rectangles
     → OnOk result (AddsOverlapping runs query old new) → OnOk result (NamesOverlapping slots query new)
 names_runs (Ok x) slots runs rectangles query old new stored adds = names slots (λ edge. edge.dep) runs query old new stored.runs_filed adds
 names_runs (Err e) slots runs rectangles query old new stored adds = adds
 
-pub leaves_apart : (old new : List (Option EdgeValue)) (runs rectangles : List Entry) (key : ℕ)
+pub leaves_apart : (old new : List (Option EdgeValue)) (runs : List Entry) (rectangles : Rectangles) (key : ℕ)
     → AreStored old runs rectangles → PutsEdge old new key None → LeavesApart old new key
 leaves_apart old new runs rectangles key stored puts edge here range cell pair kept =
     let was = still_here old new key kept.kept.key kept.edge puts kept.kept.here in

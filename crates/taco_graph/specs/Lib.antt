@@ -1,5 +1,6 @@
 pub mod Answers
 pub mod Changes
+pub mod Filing
 pub mod Filled
 pub mod Joinable
 pub mod Laws

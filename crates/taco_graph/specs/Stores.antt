@@ -1,10 +1,11 @@
 -- What a compressed graph keeps: edges under keys, and two indexes of them.
-use Rattle.std.specs.Prelude.{◌≡◌, ◌≢◌, ◌↔◌, ℕ, min, List, [], ◌∷◌, Option, Some, None, Contains, slice_index_or}
+use Rattle.std.specs.Prelude.{◌≡◌, ◌≢◌, ◌↔◌, ℕ, min, List, [], ◌∷◌, Option, Some, None, IsTrue, Contains, slice_index_or}
 use Rattle.sheet_refs.specs.Cells.{Position, Corners}
 use Rattle.sheet_refs.specs.Rectangles.{Overlap}
 use Rattle.edge_patterns.specs.Edges.{EdgeValue, IsEdge, IsPair}
 use Rattle.range_index.specs.Entries.{Entry}
 use Rattle.std.specs.Prelude.{All, AllPairs}
+use Rattle.taco_graph.specs.Filing.{Rectangles}
 use Rattle.taco_graph.specs.Pairs.{AreApart}
 
 -- the edges of a graph, or nothing, at each key from 0 on, and for how many more there is room
@@ -59,13 +60,13 @@ pub record IsFiled (slots : List (Option EdgeValue)) (side : EdgeValue → Corne
 abbrev pub FilesAll : List (Option EdgeValue) → (EdgeValue → Corners) → List Entry → Type 0
 FilesAll slots side entries = (entry : Entry) → Contains entries entry ↔ IsFiled slots side entry
 
--- what is kept are edges, no pair is in two of them, and each stands in both indexes under its key, in the one with its run
--- and in the other with its rectangle, and nothing else stands there
-pub record AreStored (slots : List (Option EdgeValue)) (runs rectangles : List Entry) : Type 0 where
+-- what is kept are edges, no pair is in two of them, and each stands under its key in an index with its run, and where
+-- rectangles are kept in another with its rectangle, and nothing else stands there
+pub record AreStored (slots : List (Option EdgeValue)) (runs : List Entry) (rectangles : Rectangles) : Type 0 where
   pub edges : AreEdges slots
   pub apart : (key other : ℕ) (a b : EdgeValue) → key ≢ other → edge_at slots key ≡ Some a → edge_at slots other ≡ Some b → AreApart a b
   pub runs_filed : FilesAll slots (λ edge. edge.dep) runs
-  pub rectangles_filed : FilesAll slots (λ edge. edge.prec) rectangles
+  pub rectangles_filed : IsTrue rectangles.kept → FilesAll slots (λ edge. edge.prec) rectangles.entries
 
 -- different keys have different edges
 abbrev pub EdgesDiffer : List (Option EdgeValue) → Type 0
@@ -97,6 +98,16 @@ pub record Gains (old new : List (Option EdgeValue)) (edge : EdgeValue) : Type 0
 abbrev pub NamesOverlapping : List (Option EdgeValue) → Corners → List ℕ → Type 0
 NamesOverlapping slots query keys =
     (key : ℕ) (edge : EdgeValue) → edge_at slots key ≡ Some edge → Overlap edge.dep query → Contains keys key
+
+-- the rectangle of the edge under a key overlaps a query
+pub record IsMetAt (slots : List (Option EdgeValue)) (query : Corners) (key : ℕ) : Type 0 where
+  pub edge : EdgeValue
+  pub here : edge_at slots key ≡ Some edge
+  pub overlap : Overlap edge.prec query
+
+-- the keys of all such edges are in a list
+abbrev pub NamesMet : List (Option EdgeValue) → Corners → List ℕ → Type 0
+NamesMet slots query keys = (key : ℕ) → IsMetAt slots query key → Contains keys key
 
 -- the edge that was under a key has no pair in common with those that are left
 abbrev pub LeavesApart : List (Option EdgeValue) → List (Option EdgeValue) → ℕ → Type 0

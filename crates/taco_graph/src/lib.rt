@@ -19,6 +19,7 @@
 mod answers;
 mod changes;
 mod counting;
+mod filing;
 mod laws;
 mod neighbours;
 mod order;

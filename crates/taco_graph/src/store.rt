@@ -1,12 +1,13 @@
 // The edges of a graph, and the two indexes of them.
 ghost use Rattle.std.specs.Prelude.{◌≡◌, ◌≢◌, ◌+◌, ◌≤◌, None, Some};
-ghost use Rattle.std.specs.Prelude.{IsSome, IfSome, IfOk, OnOk, AllPairs};
+ghost use Rattle.std.specs.Prelude.{IsTrue, IsFalse, IsSome, IfSome, IfOk, OnOk, AllPairs};
 ghost use Rattle.taco_graph.specs.Stores.{edge_at, edges_of, AreEdges, IsApart, IsApartBeside, EdgesDiffer};
-ghost use Rattle.taco_graph.specs.Stores.{PutsEdge, Gains, LeavesApart};
+ghost use Rattle.taco_graph.specs.Stores.{PutsEdge, Gains, LeavesApart, IsMetAt, NamesMet};
 ghost use Rattle.taco_graph.specs.Answers.{NamesAnswering, IsMeant, AnswersAt, AddsAnswers, AddsOneEach};
 ghost use Rattle.graph_walk.specs.Graphs.{Keeps};
 
 use crate::answers::{Question, answer};
+use crate::filing::RectangleIndex;
 use edge_patterns::Edge;
 use range_index::RangeIndex;
 use sheet_refs::{Memory, Range};
@@ -14,12 +15,13 @@ use slab::Slab;
 use std::alloc::Global;
 use std::marker::Model;
 
-/// Edges under keys, each in both indexes: in the one with its run, in the other with the rectangle of its ranges.
+/// Edges under keys, each in an index with its run, and in another with the rectangle of its ranges, where rectangles
+/// are kept. Where they aren't, what is asked by rectangle is asked of each edge.
 #[derive(Drop)]
 pub(crate) struct EdgeStore<I: RangeIndex> {
     edges: Slab<Edge>,
     runs: I,
-    rectangles: I,
+    rectangles: RectangleIndex<I>,
     alloc: Global,
 }
 
@@ -31,9 +33,9 @@ impl<I: RangeIndex> Model for EdgeStore<I> {
     ghost Value = { StoreValue };
 
     ghost view = { λ s. store_value s.edges.slots
-        (s.edges.capacity - slab_len s.edges) (I.spare s.runs) (I.spare s.rectangles) };
+        (s.edges.capacity - slab_len s.edges) (I.spare s.runs) s.rectangles.spare };
 
-    ghost invariant = { λ s. AreStored s.edges.slots (I.entries s.runs) (I.entries s.rectangles) };
+    ghost invariant = { λ s. AreStored s.edges.slots (I.entries s.runs) s.rectangles };
 }
 
 impl<I: RangeIndex> EdgeStore<I> {
@@ -41,14 +43,14 @@ impl<I: RangeIndex> EdgeStore<I> {
     ghost use Rattle.edge_patterns.specs.Edges.{IsEdge};
     ghost use Rattle.taco_graph.specs.Stores.{NamesOverlapping, AreEdgesApart};
 
-    /// The store of no edges.
-    pub(crate) fn new(alloc: Global) -> EdgeStore<I>
+    /// The store of no edges, which keeps rectangles or doesn't.
+    pub(crate) fn new(alloc: Global, keeps_rectangles: bool) -> EdgeStore<I>
         ensures { result.slots ≡ [] }
     {
         EdgeStore {
             edges: Slab::new(alloc),
             runs: I::empty(alloc),
-            rectangles: I::empty(alloc),
+            rectangles: RectangleIndex::new(alloc, keeps_rectangles),
             alloc,
         }
     }
@@ -150,19 +152,67 @@ impl<I: RangeIndex> EdgeStore<I> {
         Ok(edges)
     }
 
+    // Whether there is an edge under a key whose rectangle overlaps a query.
+    fn is_met(&self, key: usize, q: Range) -> bool
+        ensures met { IsTrue result → IsMetAt self.now.slots q key }
+        ensures missed { IsFalse result → ¬ IsMetAt self.now.slots q key }
+    {
+        match self.get(key) {
+            Some(edge) => edge.prec().overlaps(&q),
+            None => false,
+        }
+    }
+
+    // The keys of the edges whose rectangles overlap a query. It looks at each key that there is room for.
+    fn keys_of_all(&self, q: Range) -> Result<Vec<usize>, Memory>
+        ensures named { IfOk result (λ keys. NamesMet self.now.slots q keys.items) }
+        ensures once { IfOk result (λ keys. AllPairs (λ a b. a ≢ b) keys.items) }
+    {
+        let mut keys = Vec::new(self.alloc);
+        for key in 0..self.end() {
+            if self.is_met(key, q) {
+                keys.push(key)?;
+            }
+        }
+        Ok(keys)
+    }
+
+    // The same, by the index where it keeps rectangles.
+    fn keys_by_rectangle(&self, q: Range) -> Result<Vec<usize>, Memory>
+        ensures named { IfOk result (λ keys. NamesMet self.now.slots q keys.items) }
+        ensures once { IfOk result (λ keys. AllPairs (λ a b. a ≢ b) keys.items) }
+    {
+        if !self.rectangles.is_kept() {
+            return self.keys_of_all(q);
+        }
+        let mut keys = Vec::new(self.alloc);
+        self.rectangles.overlapping(q, &mut keys)?;
+        Ok(keys)
+    }
+
+    // The keys of the edges whose runs overlap a query, each once.
+    fn keys_of_runs(&self, q: Range) -> Result<Vec<usize>, Memory>
+        ensures named { IfOk result (λ keys. NamesOverlapping self.now.slots q keys.items) }
+        ensures once { IfOk result (λ keys. AllPairs (λ a b. a ≢ b) keys.items) }
+    {
+        let mut keys = Vec::new(self.alloc);
+        self.runs.overlapping(q, &mut keys)?;
+        Ok(keys)
+    }
+
     // The keys of the edges that have an answer, each once.
     fn keys_for(&self, question: Question, q: Range) -> Result<Vec<usize>, Memory>
         ensures named { IfOk result (λ keys. NamesAnswering self.now.slots question q keys.items) }
         ensures once { IfOk result (λ keys. AllPairs (λ a b. a ≢ b) keys.items) }
         ensures differ { OnOk result (EdgesDiffer self.now.slots) }
     {
-        let mut keys = Vec::new(self.alloc);
-        match question {
-            Question::Dependents => self.rectangles.overlapping(q, &mut keys)?,
-            Question::Precedents => self.runs.overlapping(q, &mut keys)?,
-            Question::Ahead => self.rectangles.overlapping(q, &mut keys)?,
-            Question::Behind => self.runs.overlapping(q, &mut keys)?,
-        }
+        let _ = &self.edges;
+        let keys = match question {
+            Question::Dependents => self.keys_by_rectangle(q)?,
+            Question::Precedents => self.keys_of_runs(q)?,
+            Question::Ahead => self.keys_by_rectangle(q)?,
+            Question::Behind => self.keys_of_runs(q)?,
+        };
         Ok(keys)
     }
 

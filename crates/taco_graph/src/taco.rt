@@ -64,7 +64,21 @@ impl<I: RangeIndex> Taco<I> {
         ensures { result.edges ≡ [] }
     {
         Taco {
-            store: EdgeStore::new(alloc),
+            store: EdgeStore::new(alloc, true),
+            ready: 0,
+            held: Vec::new(alloc),
+            sides: Sides::new(alloc),
+        }
+    }
+
+    /// The graph without pairs that finds its edges by their runs alone, and files no rectangle: for a graph whose
+    /// edges are listed, or that is asked for precedents. It answers the same as one that is `new`, but looks at each
+    /// edge where it is asked for dependents.
+    pub fn by_runs(alloc: Global) -> Taco<I>
+        ensures { result.edges ≡ [] }
+    {
+        Taco {
+            store: EdgeStore::new(alloc, false),
             ready: 0,
             held: Vec::new(alloc),
             sides: Sides::new(alloc),

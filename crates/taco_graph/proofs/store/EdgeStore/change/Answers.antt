@@ -15,23 +15,24 @@ change-requires-clause-there g c =
 
 pub change-requires-2-clause-there : goal.change-requires-2-clause-there
 change-requires-2-clause-there g c =
-    let rectangles = g.I.RangeIndex.entries c.self.inside.rectangles in
-    subst (λ (r : Corners). Contains rectangles (entry_of c.args.key r)) (sym c.prec.ensures.prec)
+    let rectangles = c.self.inside.rectangles.entries in
+    λ kept. subst (λ (r : Corners). Contains rectangles (entry_of c.args.key r)) (sym c.prec.ensures.prec)
     (is_listed c.self.inside.edges.slots (λ edge. edge.prec) rectangles c.args.key c.in-Some.slot.now
-    c.self.invariant.rectangles_filed (sym c.in-Some.ensures.value))
+    (c.self.invariant.rectangles_filed kept) (sym c.in-Some.ensures.value))
 
 pub invariant_of-self-2 : goal.invariant_of-self-2
 invariant_of-self-2 g c =
     let old = c.self.inside.edges.slots in
     let runs = g.I.RangeIndex.entries c.self.inside.runs in
-    let rectangles = g.I.RangeIndex.entries c.self.inside.rectangles in
+    let rectangles = c.self.inside.rectangles in
     let view : old ≡ c.args.self.now.slots = ap (λ (v : StoreValue). v.slots) c.self.view_is in
     stored_changed old (slice_set old c.args.key (Some c.args.edge)) runs (g.I.RangeIndex.entries c.change.new.self)
-    rectangles (g.I.RangeIndex.entries c.change-2.new.self) c.args.key c.args.edge
+    rectangles c.change-2.new.self c.args.key c.args.edge
     (puts_by_write old c.args.key c.in-Some.slot.now c.args.edge (sym c.in-Some.ensures.value))
     c.dep-2.ensures.edge
     (subst (λ (slots : List (Option EdgeValue)). IsApartBeside slots c.args.key c.args.edge) (sym view) c.requires.apart)
     (subst (λ (r : Corners). ChangesRange runs (g.I.RangeIndex.entries c.change.new.self) c.args.key r) c.dep-2.ensures.dep c.change.ensures.changed)
-    (subst (λ (r : Corners). ChangesRange rectangles (g.I.RangeIndex.entries c.change-2.new.self) c.args.key r)
-    c.prec-2.ensures.prec c.change-2.ensures.changed)
+    c.change-2.ensures.kept
+    (λ kept. subst (λ (r : Corners). ChangesRange rectangles.entries c.change-2.new.self.entries c.args.key r)
+    c.prec-2.ensures.prec (c.change-2.ensures.changed kept))
     c.self.invariant

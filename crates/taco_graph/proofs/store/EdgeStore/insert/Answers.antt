@@ -13,8 +13,8 @@ insert-requires-clause-absent g c =
 
 pub insert-requires-2-clause-absent : goal.insert-requires-2-clause-absent
 insert-requires-2-clause-absent g c =
-    has_no_id c.self.inside.edges.slots (λ edge. edge.prec) (g.I.RangeIndex.entries c.self.inside.rectangles)
-    c.insert_reserved-key.result c.self.invariant.rectangles_filed c.insert_reserved-key.ensures.was_vacant
+    λ kept. has_no_id c.self.inside.edges.slots (λ edge. edge.prec) c.self.inside.rectangles.entries
+    c.insert_reserved-key.result (c.self.invariant.rectangles_filed kept) c.insert_reserved-key.ensures.was_vacant
 
 pub invariant_of-self : goal.invariant_of-self
 invariant_of-self g c =
@@ -24,8 +24,8 @@ invariant_of-self g c =
     let one = c.args.edge in
     let runs = g.I.RangeIndex.entries c.self.inside.runs in
     let more_runs = g.I.RangeIndex.entries c.insert.new.self in
-    let rectangles = g.I.RangeIndex.entries c.self.inside.rectangles in
-    let more_rectangles = g.I.RangeIndex.entries c.insert-2.new.self in
+    let rectangles = c.self.inside.rectangles in
+    let more_rectangles = c.insert-2.new.self in
     let view : old ≡ c.args.self.now.slots = ap (λ (v : StoreValue). v.slots) c.self.view_is in
     let updates = c.insert_reserved-key.ensures.updates in
     stored_more old new runs more_runs rectangles more_rectangles key one
@@ -34,5 +34,7 @@ invariant_of-self g c =
     c.dep.ensures.edge
     (subst (λ (slots : List (Option EdgeValue)). IsApart slots one) (sym view) c.requires.apart)
     (subst (λ (r : Corners). Inserts runs more_runs key r) c.dep.ensures.dep c.insert.ensures.inserted)
-    (subst (λ (r : Corners). Inserts rectangles more_rectangles key r) c.prec.ensures.prec c.insert-2.ensures.inserted)
+    c.insert-2.ensures.kept
+    (λ kept. subst (λ (r : Corners). Inserts rectangles.entries more_rectangles.entries key r) c.prec.ensures.prec
+    (c.insert-2.ensures.inserted kept))
     c.self.invariant

@@ -10,7 +10,7 @@ returns-clause-named g c =
     let view : c.self.inside.edges.slots ≡ c.args.self.now.slots = ap (λ (v : StoreValue). v.slots) c.self.view_is in
     subst (λ (slots : List (Option EdgeValue)). OnOk c.overlapping.result (NamesOverlapping slots c.args.q c.overlapping.new.out.items)) view
     (names_runs c.overlapping.result c.self.inside.edges.slots (g.I.RangeIndex.entries c.self.inside.runs)
-    (g.I.RangeIndex.entries c.self.inside.rectangles) c.args.q c.args.keys.now.items c.overlapping.new.out.items
+    c.self.inside.rectangles c.args.q c.args.keys.now.items c.overlapping.new.out.items
     c.self.invariant c.overlapping.ensures.found)
 
 pub returns-clause-edges : goal.returns-clause-edges

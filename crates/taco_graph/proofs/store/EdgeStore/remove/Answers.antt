@@ -17,22 +17,19 @@ remove-requires g c =
 
 pub remove-requires-2 : goal.remove-requires-2
 remove-requires-2 g c =
-    let rectangles = g.I.RangeIndex.entries c.self.inside.rectangles in
-    record {
-      there =
-          subst (λ (r : Corners). Contains rectangles (entry_of c.args.key r)) (sym c.prec.ensures.prec)
-          (is_listed c.self.inside.edges.slots (λ edge. edge.prec) rectangles c.args.key c.remove-edge.result
-          c.self.invariant.rectangles_filed c.remove-edge.ensures.value);
-    }
+    let rectangles = c.self.inside.rectangles.entries in
+    λ kept. subst (λ (r : Corners). Contains rectangles (entry_of c.args.key r)) (sym c.prec.ensures.prec)
+    (is_listed c.self.inside.edges.slots (λ edge. edge.prec) rectangles c.args.key c.remove-edge.result
+    (c.self.invariant.rectangles_filed kept) c.remove-edge.ensures.value)
 
 pub invariant_of-self : goal.invariant_of-self
 invariant_of-self g c =
     let updates = c.remove-edge.ensures.updates in
     stored_less c.self.inside.edges.slots c.remove-edge.new.self.slots
     (g.I.RangeIndex.entries c.self.inside.runs) (g.I.RangeIndex.entries c.remove.new.self)
-    (g.I.RangeIndex.entries c.self.inside.rectangles) (g.I.RangeIndex.entries c.remove-2.new.self)
+    c.self.inside.rectangles c.remove-2.new.self
     c.args.key (record { changed = updates.changed; others = updates.others })
-    c.remove.ensures.removed c.remove-2.ensures.removed c.self.invariant
+    c.remove.ensures.removed c.remove-2.ensures.kept c.remove-2.ensures.removed c.self.invariant
 
 pub returns-clause-apart : goal.returns-clause-apart
 returns-clause-apart g c =
@@ -40,5 +37,5 @@ returns-clause-apart g c =
     let view : c.self.inside.edges.slots ≡ c.args.self.now.slots = ap (λ (v : StoreValue). v.slots) c.self.view_is in
     subst (λ (slots : List (Option EdgeValue)). LeavesApart slots c.remove-edge.new.self.slots c.args.key) view
     (leaves_apart c.self.inside.edges.slots c.remove-edge.new.self.slots
-    (g.I.RangeIndex.entries c.self.inside.runs) (g.I.RangeIndex.entries c.self.inside.rectangles)
+    (g.I.RangeIndex.entries c.self.inside.runs) c.self.inside.rectangles
     c.args.key c.self.invariant (record { changed = updates.changed; others = updates.others }))
