@@ -47,10 +47,10 @@ pub(crate) fn reply_of_check<R: Threads + Sync, F: Shelf>(
     }
 }
 
-// The text that `check` writes of a sheet.
+// The text that `check` writes of a sheet. Of the graph it wants the edges alone, which need no index of rectangles.
 fn check_output(alloc: Global, sheet: &Sheet) -> Result<Output, Memory>
     ensures { IfOk result (λ text. ListsEdges sheet.now text) }
 {
-    let graph = graph_of(alloc, SheetGraph::new(alloc), sheet)?;
+    let graph = graph_of(alloc, SheetGraph::by_runs(alloc), sheet)?;
     Output::of_edges(alloc, graph.edges()?)
 }

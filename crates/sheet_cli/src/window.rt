@@ -135,10 +135,11 @@ fn dependents_of(alloc: Global, sheet: &Sheet, range: Range) -> Result<Vec<Range
     dependents(alloc, &graph, range)?.columns()
 }
 
-// The vertical runs of the cells of a range and of all on which they depend.
+// The vertical runs of the cells of a range and of all on which they depend. Precedents are found by the cells that
+// refer, so that the graph needs no index of rectangles.
 fn precedents_of(alloc: Global, sheet: &Sheet, range: Range) -> Result<Vec<Range>, Memory>
     ensures { IfOk result (λ runs. ArePrecedents sheet.now range runs.items) }
 {
-    let graph = graph_of(alloc, SheetGraph::new(alloc), sheet)?;
+    let graph = graph_of(alloc, SheetGraph::by_runs(alloc), sheet)?;
     precedents(alloc, &graph, range)?.columns()
 }
