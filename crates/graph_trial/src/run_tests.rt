@@ -1,6 +1,6 @@
 // What no clause says: that runs come where memory is ample, and which edges there are then. Each case is tried over
-// two indexes, at once and cell by cell from the top, and held against the plain graph. The wanted edges were worked
-// out by hand.
+// two indexes, and by runs alone, at once and cell by cell from the top, and held against the plain graph. The wanted
+// edges were worked out by hand.
 use crate::edge_texts::{edges_shown, listed};
 use crate::runs::{Case, Ends, Standing, Way, fill};
 use crate::taco_random::{Pair, has_pairs};
@@ -92,6 +92,12 @@ fn taco<I: RangeIndex + Drop>(alloc: Global, case: &Case, way: Way) -> Result<Ta
     Ok(graph)
 }
 
+fn by_runs(alloc: Global, case: &Case, way: Way) -> Result<Taco<TreeIndex>, Fail> {
+    let mut graph = Taco::<TreeIndex>::by_runs(alloc);
+    fill(alloc, &mut graph, case, way)?;
+    Ok(graph)
+}
+
 // Whether edges have exactly the pairs of a plain graph.
 fn has_its_pairs(alloc: Global, edges: &[Edge], plain: &PlainGraph) -> Result<bool, Fail> {
     let pairs = pairs_of(alloc, plain)?;
@@ -111,15 +117,15 @@ fn are(alloc: Global, edges: &[Edge], wanted: &str) -> Result<bool, Fail> {
     Ok(text.as_str() == wanted)
 }
 
-// What the graph of edges over an index does wrong; nothing where it is right.
+// What a graph of edges does wrong; nothing where it is right.
 fn fault_over<I: RangeIndex + Drop>(
     alloc: Global,
+    graph: Taco<I>,
     case: &Case,
     way: Way,
     wanted: &str,
 ) -> Result<&'static str, Fail> {
     let plain = plain(alloc, case, way)?;
-    let graph = taco::<I>(alloc, case, way)?;
     let edges = graph.edges()?;
     if !has_its_pairs(alloc, &edges, &plain)? {
         return Ok("has other pairs");
@@ -133,13 +139,29 @@ fn fault_over<I: RangeIndex + Drop>(
     Ok("")
 }
 
-// The same over either of the two indexes.
+// The same over either of the two indexes, and by runs alone.
 fn fault_by(alloc: Global, case: &Case, way: Way, wanted: &str) -> Result<&'static str, Fail> {
-    let fault = fault_over::<TreeIndex>(alloc, case, way, wanted)?;
+    let fault = fault_over(
+        alloc,
+        taco::<TreeIndex>(alloc, case, way)?,
+        case,
+        way,
+        wanted,
+    )?;
     if !fault.is_empty() {
         return Ok(fault);
     }
-    fault_over::<ListIndex>(alloc, case, way, wanted)
+    let fault = fault_over(alloc, by_runs(alloc, case, way)?, case, way, wanted)?;
+    if !fault.is_empty() {
+        return Ok(fault);
+    }
+    fault_over(
+        alloc,
+        taco::<ListIndex>(alloc, case, way)?,
+        case,
+        way,
+        wanted,
+    )
 }
 
 // Whether plain graphs have the same pairs, whichever way the run comes.
