@@ -83,7 +83,7 @@ pub fn load(alloc: Global, text: &[u8]) -> Result<Sheet, SheetRefused>
     load_text(alloc, text, &Alone)
 }
 
-/// The same by several threads, as many as there are processors, where the text has 131,072 bytes or more: they count
+/// The same by several threads, as many as there are processors, where the text has 65,536 bytes or more: they count
 /// its lines, and where it is all ASCII and has no quote, they read what the fields of one part of it write, 131,072
 /// bytes each, while this one puts the part before it into the sheet and then reads 65,536 bytes too. It takes 24 bytes
 /// more for each field of two such parts. Where a thread can't be made, this one does its part.
