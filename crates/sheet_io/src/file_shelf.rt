@@ -14,7 +14,7 @@ use std::rt::Files;
 /// Files, whose names are their paths. It tells nothing of what they hold.
 ///
 /// A file that isn't opened is a fault, and so is a read that gives an error, an interrupted one too. A
-/// fetch reads at most one byte past its limit, in pieces of 8,192 bytes, and appends none past it. After a
+/// fetch reads at most one byte past its limit, in pieces of 65,536 bytes, and appends none past it. After a
 /// refusal the caller's vector may hold a part of the text behind what it held.
 #[derive(Drop)]
 pub struct FileShelf<'a, R: Files> {
@@ -59,7 +59,7 @@ impl<'a, R: Files> Shelf for FileShelf<'a, R> {
 }
 
 // How many bytes one read asks for.
-const PIECE: usize = 8192;
+const PIECE: usize = 65_536;
 
 /// Appends all that a reader has left, unless that is more than `limit` bytes, of which it then took one
 /// more. A read of no bytes is the end. It stops at the first error.
