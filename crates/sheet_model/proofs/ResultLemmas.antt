@@ -1,16 +1,17 @@
 -- What a walk that is done tells: the value of each cell.
-use Rattle.std.proofs.Common.{◌≡◌, ◌≢◌, ℕ, ◌≤◌, inl, inr, List, [], length, slice_get, Some, IsTrue, option_map}
+use Rattle.std.proofs.Common.{◌≡◌, ◌≢◌, inl, inr, ℕ, ◌+◌, ◌<◌, ◌≤◌, List, [], length, slice_get, Some, IsTrue, option_map}
 use Rattle.std.proofs.Common.{sym, ◌∙◌, ap, subst, arith}
 use Rattle.std.proofs.lemmas.List.{length-map}
-use Rattle.std.proofs.lemmas.Option.{slice_get_cases, slice_get-map}
-use Rattle.sheet_refs.specs.Cells.{Position}
+use Rattle.std.proofs.lemmas.Option.{slice_get_cases, slice_get-map, slice_get-get_or}
+use Rattle.sheet_refs.specs.Cells.{Position, Corners, ListsCells, cells_of}
 use Rattle.sheet_refs.specs.Sizes.{is_inside, place_of, cell_count}
-use Rattle.sheet_refs.proofs.Places.{place-lt}
+use Rattle.sheet_refs.specs.declared.sizes.Sizes.{Sizes}
+use Rattle.sheet_refs.proofs.Places.{HasComeTo, place-lt}
 use Rattle.value_core.specs.declared.value.Value.{Value}
 use Rattle.value_core.specs.Values.{IsValue, code_of}
-use Rattle.sheet_model.specs.Sheets.{SheetValue}
-use Rattle.sheet_model.specs.Values.{value_of, AreValues}
-use Rattle.sheet_model.specs.Walks.{IsWalkOf, SeenBelow}
+use Rattle.sheet_model.specs.Sheets.{SheetValue, IsWithinSheet}
+use Rattle.sheet_model.specs.Values.{value_of, AreValues, HaveCodes}
+use Rattle.sheet_model.specs.Walks.{IsWalkOf, KeepsSeen, SeenBelow, SeenWithin}
 use Rattle.sheet_model.specs.Words.{CellState, Unseen, Open, Known, cell_state, states_of, AreWords}
 
 module _ (sheet : SheetValue) (states : List CellState) (walk : IsWalkOf sheet states []) where
@@ -65,3 +66,39 @@ module _ (sheet : SheetValue) (words : List ℕ) (are : AreWords words) (walk : 
     where
       seen_there : (cell : Position) → IsTrue (is_inside sheet.sizes cell) → slice_get (states_of words) (place_of sheet.sizes cell) ≢ Some Unseen
       seen_there cell inside = seen (place_of sheet.sizes cell) (place-lt sheet.sizes cell inside)
+
+  pub words_are_codes : (range : Corners) → IsWithinSheet range sheet → SeenWithin sheet.sizes (states_of words) range → HaveCodes sheet words range
+  words_are_codes range within seen cell is_in =
+      let known = word_known cell (within cell is_in) (seen cell is_in) in
+      record { code = known.1; value = known.0 }
+
+-- a walk has seen so many of a range's cells, and comes to the next one
+pub record HasSeenFirst (sizes : Sizes) (range : Corners) (states : List CellState) (count : ℕ) (cell : Position) : Type 0 where
+  pub at : HasComeTo range count cell
+  pub seen : (k : ℕ) (earlier : Position) → k < count → slice_get (cells_of range) k ≡ Some earlier
+      → slice_get states (place_of sizes earlier) ≢ Some Unseen
+
+module _ (sizes : Sizes) (range : Corners) where
+  pub seen_none : (states : List CellState) (cell : Position) → HasComeTo range 0 cell → HasSeenFirst sizes range states 0 cell
+  seen_none states cell at = record { at = at; seen = λ k earlier below listed. absurd (omega (arith, below)) }
+
+  pub seen_next : (old new : List CellState) (count : ℕ) (cell next : Position) → HasSeenFirst sizes range old count cell
+      → count < length (cells_of range) → KeepsSeen old new → slice_get new (place_of sizes cell) ≢ Some Unseen
+      → HasComeTo range (count + 1) next → HasSeenFirst sizes range new (count + 1) next
+  seen_next old new count cell next so_far below kept known at = record {
+    at = at;
+    seen = λ k earlier within listed unseen.
+        let not_before : ¬ (k < count) = λ before. so_far.seen k earlier before listed (kept (place_of sizes earlier) unseen) in
+        let here : k ≡ count = omega (arith, within, not_before) in
+        let same : earlier ≡ cell = one (sym listed ∙ ap (slice_get (cells_of range)) here ∙ so_far.at.listed below) in
+        known (subst (λ c. slice_get new (place_of sizes c) ≡ Some Unseen) same unseen);
+  }
+    where
+      one : {a b : Position} → Some a ≡ Some b → a ≡ b
+      one is = cc
+
+  pub seen_all : (states : List CellState) (count : ℕ) (cell : Position) → HasSeenFirst sizes range states count cell
+      → length (cells_of range) ≤ count → ListsCells (cells_of range) range → SeenWithin sizes states range
+  seen_all states count cell so_far past lists other is_in =
+      let has = (lists other).1 is_in in
+      so_far.seen has.0 other (omega (arith, has.1, past)) (slice_get-get_or (cells_of range) has.0 other has.1 ∙ ap Some has.2)

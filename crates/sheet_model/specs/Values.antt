@@ -1,6 +1,6 @@
 -- What a cell's value is, by a budget of steps of evaluation.
 use Rattle.std.specs.Prelude.{◌≡◌, ◌↔◌, ℕ, suc, Bool, IsTrue, List, [], length, slice_get, Some}
-use Rattle.sheet_refs.specs.Cells.{Position}
+use Rattle.sheet_refs.specs.Cells.{Corners, IsIn, Position}
 use Rattle.sheet_refs.specs.Ends.{Reference}
 use Rattle.sheet_refs.specs.Sizes.{is_inside, cell_count, place_of}
 use Rattle.sheet_refs.specs.declared.sizes.Sizes.{Sizes}
@@ -48,6 +48,15 @@ pub record AreValues (sheet : SheetValue) (codes : List ℕ) : Type 0 where
   pub count : length codes ≡ cell_count sheet.sizes
   pub each : (cell : Position) → IsTrue (is_inside sheet.sizes cell) → slice_get codes (place_of sheet.sizes cell) ≡ Some (code_of (value_of sheet cell))
   pub values : (cell : Position) → IsTrue (is_inside sheet.sizes cell) → IsValue (value_of sheet cell)
+
+-- the code of a cell's value stands at the cell's place, row by row, and the value is in range
+pub record HasCode (sheet : SheetValue) (codes : List ℕ) (cell : Position) : Type 0 where
+  pub code : slice_get codes (place_of sheet.sizes cell) ≡ Some (code_of (value_of sheet cell))
+  pub value : IsValue (value_of sheet cell)
+
+-- the same of each cell of a range
+abbrev pub HaveCodes : SheetValue → List ℕ → Corners → Type 0
+HaveCodes sheet codes range = (cell : Position) → IsIn cell range → HasCode sheet codes cell
 
 -- in a sheet each cell's value is what one step gives over the values of the sheet
 abbrev pub ValuesAreOneStep : Type 0

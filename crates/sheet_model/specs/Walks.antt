@@ -1,7 +1,7 @@
 -- The walk over a sheet: what is known of each cell, the cells that are open, and what each of them is still to look at.
 use Rattle.std.specs.Prelude.{◌≡◌, ◌≢◌, ◌⊎◌, ℕ, suc, ◌+◌, ◌*◌, ◌<◌, ◌≤◌, Bool, true, false, IsTrue, IsFalse, List, []}
 use Rattle.std.specs.Prelude.{length, map, set, slice_get, slice_index_or, count_by, Some}
-use Rattle.sheet_refs.specs.Cells.{Position}
+use Rattle.sheet_refs.specs.Cells.{Corners, IsIn, Position}
 use Rattle.sheet_refs.specs.Ends.{Reference}
 use Rattle.sheet_refs.specs.Sizes.{is_inside, cell_count, place_of}
 use Rattle.sheet_refs.specs.declared.sizes.Sizes.{Sizes}
@@ -100,6 +100,10 @@ KeepsSeen old new = (p : ℕ) → slice_get new p ≡ Some Unseen → slice_get 
 -- every cell before the place has been seen
 abbrev pub SeenBelow : List CellState → ℕ → Type 0
 SeenBelow states end = (p : ℕ) → p < end → slice_get states p ≢ Some Unseen
+
+-- every cell of a range has been seen
+abbrev pub SeenWithin : Sizes → List CellState → Corners → Type 0
+SeenWithin sizes states range = (cell : Position) → IsIn cell range → slice_get states (place_of sizes cell) ≢ Some Unseen
 
 -- the newest open cell waits for this one, which evaluation can't read past
 pub record IsWaiting (sheet : SheetValue) (states : List CellState) (frames : List Frame) (cell : Position) : Type 0 where

@@ -9,8 +9,9 @@
 //! What the value of a cell is, `specs/Values.antt` says by a budget of steps of evaluation: with
 //! none every cell is circular, and with one more a formula has its value over the values with the
 //! rest. `all_values` gives the codes of these values by a walk over the cells that formulas name,
-//! with a list of open cells; `KeptValues` gives the value of one cell after the other by the same walk, and keeps
-//! through edits what they leave. `value_laws` says what is true of values, however they are computed.
+//! with a list of open cells, and `range_values` those of the cells of a range; `KeptValues` gives the value of one
+//! cell after the other by the same walk, and keeps through edits what they leave. `value_laws` says what is true of
+//! values, however they are computed.
 //!
 //! Below stand `sheet_refs`, `value_core`, `formula_syntax`, `formula_eval`, `mark_core` and the kit's `indexmap` and
 //! `arrayvec`; above, `csv_sheet`, `window_text`, `edit_log`, `edit_script`, `play_machine`, `sheet_cli`.
@@ -51,4 +52,4 @@ pub use parts::Part;
 pub use report::Report;
 pub use sheet::Sheet;
 pub use subject::SheetSubject;
-pub use walk::all_values;
+pub use walk::{all_values, range_values};

@@ -2,9 +2,9 @@ ghost use Rattle.std.specs.Prelude.{◌≡◌, ◌≢◌, ◌<◌, ◌≤◌, �
 ghost use Rattle.std.specs.Prelude.{map, set, length, slice_get, IfOk};
 ghost use Rattle.std.specs.Prelude.{OnOk, Some, IsTrue, IsFalse};
 ghost use Rattle.sheet_refs.specs.Sizes.{place_of, cell_count};
-ghost use Rattle.sheet_model.specs.Values.{AreValues};
-ghost use Rattle.sheet_model.specs.Sheets.{content_value};
-ghost use Rattle.sheet_model.specs.Walks.{IsStoredWalk, IsIdle, StaysSeen, SeenBelow, IsWaiting};
+ghost use Rattle.sheet_model.specs.Values.{AreValues, HaveCodes};
+ghost use Rattle.sheet_model.specs.Sheets.{content_value, IsWithinSheet};
+ghost use Rattle.sheet_model.specs.Walks.{IsStoredWalk, IsIdle, StaysSeen, SeenBelow, SeenWithin, IsWaiting};
 ghost use Rattle.sheet_model.specs.Walks.{IsClosing, IsNextToOpen, IsDone, cells_left, closed_state};
 ghost use Rattle.sheet_model.specs.Walks.{walk_states, content_there, KnowsOneMore};
 ghost use Rattle.sheet_model.specs.Words.{AreWords, Open, Unseen};
@@ -16,7 +16,7 @@ use crate::ready::is_ready;
 use crate::sheet::Sheet;
 use crate::words::{OPEN, UNSEEN, look};
 use formula_eval::{CIRCULAR, Stack};
-use sheet_refs::{Cell, Memory};
+use sheet_refs::{Cell, Memory, Range};
 use std::alloc::{AllocError, Global};
 
 /// An open cell, and where its parts begin among all that is left to look at.
@@ -207,6 +207,23 @@ impl Walk {
         }
         Ok(())
     }
+
+    /// Settles every cell of a range.
+    fn run_within(&mut self, sheet: &Sheet, range: Range) -> Result<(), AllocError>
+        requires sound { IsStoredWalk sheet.now self.old }
+        requires idle { IsIdle self.old }
+        requires within { IsWithinSheet range sheet.now }
+        ensures sound { OnOk result (IsStoredWalk sheet.now self.new) }
+        ensures idle { OnOk result (IsIdle self.new) }
+        ensures known { OnOk result (SeenWithin sheet.now.sizes (walk_states self.new) range) }
+    {
+        let mut cell = range.head();
+        for _place in 0..range.cells() {
+            self.settle(sheet, sheet.place(cell))?;
+            cell = range.cell_behind(cell);
+        }
+        Ok(())
+    }
 }
 
 /// The code of the value of each cell, row by row.
@@ -224,5 +241,19 @@ pub fn all_values(alloc: Global, sheet: &Sheet) -> Result<Vec<u64>, Memory>
 {
     let mut walk = Walk::new(alloc, sheet)?;
     walk.run(sheet)?;
+    Ok(walk.words)
+}
+
+/// The codes of the values of a range's cells, each at the place that `all_values` gives it; what stands at the places
+/// of other cells means nothing.
+///
+/// It evaluates the formulas of the range and those to which they lead, in the time that `all_values` takes for these
+/// formulas, and looks once at each cell of the sheet. It takes as much memory as `all_values`.
+pub fn range_values(alloc: Global, sheet: &Sheet, range: Range) -> Result<Vec<u64>, Memory>
+    requires { IsWithinSheet range sheet.now }
+    ensures { IfOk result (λ codes. HaveCodes sheet.now codes.items range) }
+{
+    let mut walk = Walk::new(alloc, sheet)?;
+    walk.run_within(sheet, range)?;
     Ok(walk.words)
 }

@@ -5,8 +5,8 @@ ghost use Rattle.sheet_model.specs.KeptValues.{KeepsValuesOf};
 ghost use Rattle.sheet_model.specs.Sheets.{IsSheetSize};
 
 use formula_syntax::Edition;
-use sheet_model::{Change, KeptValues, Sheet, all_values};
-use sheet_refs::Cell;
+use sheet_model::{Change, KeptValues, Sheet, all_values, range_values};
+use sheet_refs::{Cell, Range};
 use std::alloc::Global;
 use std::fmt::Write;
 use std::test::Fail;
@@ -217,5 +217,35 @@ fn values_one_after_the_other(rt: HostRuntime) -> Result<(), Fail> {
     let sheet = column(rt.alloc())?;
     let text = asked_in_turn(rt.alloc(), &sheet)?;
     assert_eq!(rt; text.as_str(), "10,#CIRC!,15,10,");
+    Ok(())
+}
+
+// What the codes of one cell of the first column tell of each cell; a dash where no value has the code.
+fn told_of(alloc: Global, sheet: &Sheet, row: u32) -> Result<String, Fail> {
+    let Some(cell) = Cell::new(row, 1) else {
+        return Err(Fail::from("no such cell"));
+    };
+    let range = Range::of(cell, cell);
+    if !sheet.holds(range.head()) || !sheet.holds(range.tail()) {
+        return Err(Fail::from("a cell outside"));
+    }
+    let mut text = String::new(alloc);
+    for code in &range_values(alloc, sheet, range)? {
+        match decode(*code) {
+            Some(value) => write_value(value, &mut text)?,
+            None => text.push_str("-,")?,
+        }
+    }
+    Ok(text)
+}
+
+// Of a range the formulas to which it leads are evaluated, and no others.
+#[test]
+fn values_of_a_range_alone(rt: HostRuntime) -> Result<(), Fail> {
+    let sheet = column(rt.alloc())?;
+    assert_eq!(rt; told_of(rt.alloc(), &sheet, 1)?.as_str(), "15,10,5,-,");
+    assert_eq!(rt; told_of(rt.alloc(), &sheet, 2)?.as_str(), "-,10,5,-,");
+    assert_eq!(rt; told_of(rt.alloc(), &sheet, 3)?.as_str(), "-,-,5,-,");
+    assert_eq!(rt; told_of(rt.alloc(), &sheet, 4)?.as_str(), "-,-,5,#CIRC!,");
     Ok(())
 }
