@@ -1,5 +1,5 @@
 ghost use Rattle.std.specs.Prelude.{All};
-ghost use Rattle.sheet_model.specs.Values.{AreValues};
+ghost use Rattle.sheet_model.specs.Values.{HaveCodes};
 ghost use Rattle.text_pieces.specs.Pieces.{HandsOut};
 ghost use Rattle.window_text.specs.Changes.{batch_text};
 ghost use Rattle.window_text.specs.Reports.{play_text};
@@ -27,8 +27,9 @@ pub struct Printer;
 
 impl Printer {
     /// What `show` prints of a range of a sheet: a line `sheet 0 RANGE`, and a line for each row, with its
-    /// values between commas. The values are the codes of all cells of the sheet, row by row. It takes time
-    /// in proportion to the cells of the range and to the texts of their labels.
+    /// values between commas. The values are codes, each at the place of its cell in the sheet, row by row; only those
+    /// of the range's cells are read. It takes time in proportion to the cells of the range and to the texts of their
+    /// labels.
     pub fn show<F: FnMut(&[u8]) -> bool>(
         sheet: &Sheet,
         range: Range,
@@ -36,7 +37,7 @@ impl Printer {
         to: &mut F,
     ) -> bool
         requires callable { F.IsAlwaysCallable to.old }
-        requires values { AreValues sheet.now values.now }
+        requires values { HaveCodes sheet.now values.now range }
         requires within { IsWithinSheet range sheet.now }
         ensures sent { HandsOut F.FnMut to.old (show_text sheet.now range) result to.new }
     {

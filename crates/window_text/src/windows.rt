@@ -1,7 +1,7 @@
 // Windows of a sheet's values.
 ghost use Rattle.std.specs.Prelude.{◌≡◌, ◌≤◌, IsTrue};
 ghost use Rattle.sheet_refs.specs.Sizes.{is_inside};
-ghost use Rattle.sheet_model.specs.Values.{AreValues, value_of};
+ghost use Rattle.sheet_model.specs.Values.{HasCode, HaveCodes, value_of};
 ghost use Rattle.text_pieces.specs.Pieces.{HandsOut};
 ghost use Rattle.window_text.specs.Texts.{row_text, sheet_head, sheet_window, shown_cell};
 ghost use Rattle.sheet_model.specs.Sheets.{IsWithinSheet};
@@ -27,7 +27,8 @@ pub(crate) fn send_sheet_head<F: FnMut(&[u8]) -> bool>(number: u64, to: &mut F) 
     send(b" ", to)
 }
 
-/// Hands out a range of a sheet and its rows. The values are the codes of all cells of the sheet, row by row.
+/// Hands out a range of a sheet and its rows. Each cell of the range has its code among the values, at its place in the
+/// sheet, row by row.
 pub(crate) fn send_window<F: FnMut(&[u8]) -> bool>(
     sheet: &Sheet,
     range: Range,
@@ -35,7 +36,7 @@ pub(crate) fn send_window<F: FnMut(&[u8]) -> bool>(
     to: &mut F,
 ) -> bool
     requires callable { F.IsAlwaysCallable to.old }
-    requires values { AreValues sheet.now values.now }
+    requires values { HaveCodes sheet.now values.now range }
     requires within { IsWithinSheet range sheet.now }
     ensures sent { HandsOut F.FnMut to.old (sheet_window sheet.now range) result to.new }
     ensures callable { F.IsAlwaysCallable to.new }
@@ -63,7 +64,7 @@ fn send_row<F: FnMut(&[u8]) -> bool>(
     to: &mut F,
 ) -> bool
     requires callable { F.IsAlwaysCallable to.old }
-    requires values { AreValues sheet.now values.now }
+    requires values { HaveCodes sheet.now values.now range }
     requires within { IsWithinSheet range sheet.now }
     requires from { range.head.row ≤ row }
     requires to { row ≤ range.tail.row }
@@ -87,9 +88,9 @@ fn send_row<F: FnMut(&[u8]) -> bool>(
     send(b"\n", to)
 }
 
-// The value of a cell of the sheet.
+// The value of a cell of the sheet, of which the values have the code.
 fn value_at(sheet: &Sheet, values: &[u64], cell: Cell) -> Value
-    requires values { AreValues sheet.now values.now }
+    requires code { HasCode sheet.now values.now cell }
     requires inside { IsTrue (is_inside sheet.now.sizes cell) }
     ensures { result ≡ value_of sheet.now cell }
 {
