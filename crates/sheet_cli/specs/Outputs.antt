@@ -1,6 +1,6 @@
 -- The texts that commands write, by what they are printed of.
 use Rattle.std.specs.Prelude.{◌≡◌, ℕ, List, [], All}
-use Rattle.sheet_model.specs.Values.{AreValues}
+use Rattle.sheet_model.specs.Values.{HaveCodes}
 use Rattle.window_text.specs.Changes.{batch_text}
 use Rattle.window_text.specs.Reports.{play_text}
 use Rattle.sheet_model.specs.Boards.{IsFull}
@@ -23,10 +23,10 @@ parts_text (Run transcript) = live_text (transcript_value transcript)
 parts_text (Summary number edits sum) = generated_text number edits sum
 parts_text (Batch sheet edit) = batch_text sheet.labels edit
 
--- it can be printed: the values are the sheet's and the range lies in it, the reports tell of all their cells, and so does
--- a whole run
+-- it can be printed: the values of the range are the sheet's and the range lies in it, the reports tell of all their cells,
+-- and so does a whole run
 abbrev pub CanBePrinted : Parts → Type 0
-CanBePrinted (Window sheet range values) = AreValues sheet values.items × IsWithinSheet range sheet
+CanBePrinted (Window sheet range values) = HaveCodes sheet values.items range × IsWithinSheet range sheet
 CanBePrinted (Runs runs) = Unit {0}
 CanBePrinted (Edges pairs edges) = Unit {0}
 CanBePrinted (Chain cells) = Unit {0}

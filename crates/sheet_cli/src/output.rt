@@ -20,7 +20,7 @@ use edge_patterns::Edge;
 use edit_log::Book;
 use live_gen::sum_of_numbers;
 use sheet_io::{Failed, Sink};
-use sheet_model::{Edit, Report, Sheet, all_values};
+use sheet_model::{Edit, Report, Sheet, range_values};
 use sheet_refs::{Cell, Memory, Range};
 use sink_buffer::SinkBuffer;
 use std::alloc::Global;
@@ -33,7 +33,7 @@ use window_text::{Printer, Transcript};
 /// What a text is printed of.
 #[derive(Drop)]
 pub(crate) enum Parts {
-    /// A range of a sheet, and the codes of all of the sheet's cells.
+    /// A range of a sheet, and the codes of its cells, at their places among all of the sheet's.
     Window {
         sheet: Sheet,
         range: Range,
@@ -102,12 +102,13 @@ impl Output {
         }
     }
 
-    /// The text of the values of a range of a sheet.
+    /// The text of the values of a range of a sheet. The formulas of the range are evaluated, and those to which they
+    /// lead.
     pub(crate) fn of_window(alloc: Global, sheet: Sheet, range: Range) -> Result<Output, Memory>
         requires { IsWithinSheet range sheet }
         ensures { IfOk result (λ text. text ≡ show_text sheet range) }
     {
-        let values = all_values(alloc, &sheet)?;
+        let values = range_values(alloc, &sheet, range)?;
         Output::of_parts(
             alloc,
             Parts::Window {
