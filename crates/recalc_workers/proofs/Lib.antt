@@ -6,6 +6,7 @@ pub mod LevelLemmas
 mod ListedLemmas
 mod LookupLemmas
 mod PartLemmas
+mod PlainLemmas
 mod QueueLemmas
 pub mod ReadingLemmas
 pub mod SeatLemmas

@@ -5,7 +5,9 @@ use Rattle.sheet_refs.specs.Cells.{Position, Corners, IsIn, cells_of, width}
 use Rattle.sheet_refs.specs.Ends.{Reference}
 use Rattle.sheet_refs.specs.Sizes.{is_inside, place_of}
 use Rattle.sheet_refs.specs.declared.sizes.Sizes.{Sizes}
+use Rattle.value_core.specs.declared.value.ErrorKind.TheVariants.{Circ}
 use Rattle.value_core.specs.declared.value.Value.{Value}
+use Rattle.value_core.specs.declared.value.Value.TheVariants.{Error}
 use Rattle.value_core.specs.Decoding.{value_of_word}
 use Rattle.value_core.specs.Values.{IsValue, code_of}
 use Rattle.formula_eval.specs.Meaning.{IsNamedBy}
@@ -52,6 +54,10 @@ BeginsWithRange codes range words = (cell : Position) → IsIn cell range → co
 -- each of the words is the code of a value
 abbrev pub AreCodes : List ℕ → Type 0
 AreCodes words = (i word : ℕ) → slice_get words i ≡ Some word → IsValue (value_of_word word) × (code_of (value_of_word word) ≡ word)
+
+-- none of the words is the code of #CIRC!
+abbrev pub HaveNoCircular : List ℕ → Type 0
+HaveNoCircular words = (i word : ℕ) → slice_get words i ≡ Some word → word ≢ code_of (Error Circ)
 
 -- the list has the parts of the ranges of these references, within a rectangle, and for each of their cells this word
 pub record HasListed (sizes : Sizes) (references : List Reference) (word_of : Position → ℕ) (list : InputList) : Type 0 where

@@ -1,4 +1,4 @@
-ghost use Rattle.std.specs.Prelude.{◌≡◌};
+ghost use Rattle.std.specs.Prelude.{◌≡◌, false};
 ghost use Rattle.sheet_refs.specs.Cells.{Position};
 ghost use Rattle.value_core.specs.declared.value.Value.{Value as AnyValue};
 ghost use Rattle.value_core.specs.Values.{code_of};
@@ -6,23 +6,34 @@ ghost use Rattle.formula_syntax.specs.Tree.{references_of};
 ghost use Rattle.formula_eval.specs.Meaning.{IsFormulaValue};
 ghost use Rattle.sheet_model.specs.Sheets.{content_value};
 ghost use Rattle.sheet_model.specs.Values.{content_references, step_content};
-ghost use Rattle.recalc_workers.specs.Inputs.{AreCodes, AgreeWith, HaveWords, word_in};
+ghost use Rattle.recalc_workers.specs.Inputs.{AreCodes, AgreeWith, HaveNoCircular, HaveWords, word_in};
 
 use crate::inputs::InputList;
 use crate::lookups::Listed;
-use formula_eval::{Stack, eval};
+use formula_eval::{CIRCULAR, Stack, eval, eval_known};
 use formula_syntax::Formula;
 use sheet_model::Content;
 use sheet_refs::Sizes;
 use value_core::{Value, code};
 
-/// The value of a formula over the words in the list, which has one for each cell that the formula names.
+/// Whether one of the words is the code of `#CIRC!`.
+fn has_circular_word(words: &[u64]) -> bool
+    ensures { result ≡ false → HaveNoCircular words.now }
+{
+    words.contains(&CIRCULAR)
+}
+
+/// The value of a formula over the words in the list, which has one for each cell that the formula names. Where none is
+/// that of `#CIRC!`, no cell stops the evaluation, which then needs no look at each beforehand.
 fn evaluate_formula(sizes: Sizes, formula: &Formula, list: &InputList, stack: &mut Stack) -> Value
     requires codes { AreCodes list.now.words.items }
     requires known { HaveWords sizes (references_of formula.now) list.now.parts.items list.now.words.items }
     ensures { IsFormulaValue sizes (word_in list.now.parts.items list.now.words.items) formula.now result }
 {
     let listed = Listed::new(sizes, &list.parts, &list.words);
+    if !has_circular_word(&list.words) {
+        return eval_known(formula, &listed, stack);
+    }
     match eval(formula, &listed, stack) {
         Ok(value) => value,
         Err(_) => unreachable!(),
