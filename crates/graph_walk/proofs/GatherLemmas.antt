@@ -10,7 +10,7 @@ use Rattle.sheet_refs.specs.Rectangles.{IsAmong, IsNew, Joins, AreDisjoint, Tile
 use Rattle.sheet_refs.proofs.ColumnLemmas.{among_cons, none_among}
 use Rattle.sheet_refs.proofs.Grid.{cells_listed}
 use Rattle.sheet_refs.proofs.Tiles.{among_append, among_one, among_at}
-use Rattle.graph_walk.specs.Gathers.{is_in, is_among, count_where, all_cells, absent, Gathers}
+use Rattle.graph_walk.specs.Gathers.{is_in, is_among, count_where, all_cells, absent, Gathers, IsUnionOf, IsRunFrom}
 
 and_true : (a b : Bool) → (a && b) ≡ true → (a ≡ true) × (b ≡ true)
 and_true true b both = (refl, both)
@@ -250,24 +250,20 @@ gathers_none set waiting = record {
   fewer = omega arith;
 }
 
--- one more range has been admitted
-pub gathers_more : (old now new waited waiting later found : List Corners) (place : ℕ) (range : Corners)
-    → place < length found → range ≡ get_or found place range
-    → Gathers old now waited waiting (IsAmong (take place found))
-    → Gathers now new waiting later (λ cell. IsIn cell range)
-    → Gathers old new waited later (IsAmong (take (place + 1) found))
-gathers_more old now new waited waiting later found place range within here first second = record {
+-- the ranges of a run have been admitted as one
+pub gathers_run : (old now new waited waiting later found : List Corners) (from end : ℕ) (run : Corners) → IsRunFrom found from end run
+    → Gathers old now waited waiting (IsAmong (take from found))
+    → Gathers now new waiting later (λ cell. IsIn cell run)
+    → Gathers old new waited later (IsAmong (take end found))
+gathers_run old now new waited waiting later found from end run is_run first second = record {
   added = first.added ++ second.added;
   waits = second.waits ∙ (ap (λ (w : List Corners). w ++ second.added) first.waits ∙ append_assoc waited first.added second.added);
-  gained = λ cell. (to cell, from cell);
+  gained = λ cell. (to cell, from_either cell);
   only = only;
   all = all;
   fewer = let lengths = length-append first.added second.added in omega (arith, lengths, first.fewer, second.fewer);
 }
   where
-    next : take (place + 1) found ≡ take place found ++ range ∷ []
-    next = take_next found place range within here
-
     to : (cell : Position) → IsAmong new cell → IsAmong old cell ⊎ IsAmong (first.added ++ second.added) cell
     to cell among = elim ((second.gained cell).0 among) [
       | inl before ↦ elim ((first.gained cell).0 before) [
@@ -277,24 +273,63 @@ gathers_more old now new waited waiting later found place range within here firs
       | inr added ↦ inr ((among_append first.added second.added cell).1 (inr added))
     ]
 
-    from : (cell : Position) → IsAmong old cell ⊎ IsAmong (first.added ++ second.added) cell → IsAmong new cell
-    from cell (inl is_old) = (second.gained cell).1 (inl ((first.gained cell).1 (inl is_old)))
-    from cell (inr added) = elim ((among_append first.added second.added cell).0 added) [
+    from_either : (cell : Position) → IsAmong old cell ⊎ IsAmong (first.added ++ second.added) cell → IsAmong new cell
+    from_either cell (inl is_old) = (second.gained cell).1 (inl ((first.gained cell).1 (inl is_old)))
+    from_either cell (inr added) = elim ((among_append first.added second.added cell).0 added) [
       | inl one ↦ (second.gained cell).1 (inl ((first.gained cell).1 (inr one)))
       | inr two ↦ (second.gained cell).1 (inr two)
     ]
 
-    only : (cell : Position) → IsAmong (first.added ++ second.added) cell → IsAmong (take (place + 1) found) cell
-    only cell added = elim ((among_append first.added second.added cell).0 added) [
-      | inl one ↦ among_same _ _ cell (sym next) ((among_next (take place found) range cell).1 (inl (first.only cell one)))
-      | inr two ↦ among_same _ _ cell (sym next) ((among_next (take place found) range cell).1 (inr (second.only cell two)))
-    ]
+    only : (cell : Position) → IsAmong (first.added ++ second.added) cell → IsAmong (take end found) cell
+    only cell added = (is_run cell).1 (elim ((among_append first.added second.added cell).0 added) [
+      | inl one ↦ inl (first.only cell one)
+      | inr two ↦ inr (second.only cell two)
+    ])
 
-    all : (cell : Position) → IsAmong (take (place + 1) found) cell → IsAmong new cell
-    all cell among = elim ((among_next (take place found) range cell).0 (among_same _ _ cell next among)) [
+    all : (cell : Position) → IsAmong (take end found) cell → IsAmong new cell
+    all cell among = elim ((is_run cell).0 among) [
       | inl before ↦ (second.gained cell).1 (inl (first.all cell before))
       | inr inside ↦ second.all cell inside
     ]
+
+-- one range is a run
+pub run_begins : (found : List Corners) (from : ℕ) (range : Corners) → from < length found → range ≡ get_or found from range
+    → IsRunFrom found from (from + 1) range
+run_begins found from range within here cell =
+    let next : take (from + 1) found ≡ take from found ++ range ∷ [] = take_next found from range within here in
+    let both = among_next (take from found) range cell in (
+      λ among. both.0 (among_same _ _ cell next among),
+      λ either. among_same _ _ cell (sym next) (both.1 either),
+    )
+
+-- a run with the next range, where they have the cells of one
+pub run_goes_on : (found : List Corners) (from place : ℕ) (run range longer : Corners) → place < length found
+    → range ≡ get_or found place range → IsUnionOf run range longer → IsRunFrom found from place run
+    → IsRunFrom found from (place + 1) longer
+run_goes_on found from place run range longer within here union is_run cell =
+    let one = run_begins found place range within here cell in (
+      λ among. elim (one.0 among) [
+        | inl before ↦ elim ((is_run cell).0 before) [ inl first ↦ inl first | inr inside ↦ inr ((union cell).1 (inl inside)) ]
+        | inr inside ↦ inr ((union cell).1 (inr inside))
+      ],
+      λ either. elim either [
+        | inl first ↦ one.1 (inl ((is_run cell).1 (inl first)))
+        | inr inside ↦ elim ((union cell).0 inside) [
+          | inl in_run ↦ one.1 (inl ((is_run cell).1 (inr in_run)))
+          | inr in_range ↦ one.1 (inr in_range)
+        ]
+      ],
+    )
+
+-- a run up to the last range
+pub run_ends : (found : List Corners) (from place : ℕ) (run : Corners) → length found ≤ place → IsRunFrom found from place run
+    → IsRunFrom found from (length found) run
+run_ends found from place run past is_run =
+    let same : take place found ≡ take (length found) found = take_all place found past ∙ sym (take_all (length found) found (omega arith)) in
+    λ cell. (
+      λ among. (is_run cell).0 (among_same _ _ cell (sym same) among),
+      λ either. among_same _ _ cell same ((is_run cell).1 either),
+    )
 
 -- all items of a list are its first so many
 pub admitted_end : (old new waited waiting parts : List Corners) (place : ℕ) → length parts ≤ place

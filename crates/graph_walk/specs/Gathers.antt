@@ -1,5 +1,5 @@
 -- How a set of cells and a list of ranges to be walked on from grow.
-use Rattle.std.specs.Prelude.{◌≡◌, ℕ, ◌+◌, ◌≤◌, ◌⊎◌, ◌↔◌, ◌&&◌, not, nat_le, Bool, List, [], ◌∷◌, ◌++◌, length, if◌then◌else◌}
+use Rattle.std.specs.Prelude.{◌≡◌, ℕ, ◌+◌, ◌≤◌, ◌⊎◌, ◌↔◌, ◌&&◌, not, nat_le, Bool, List, [], ◌∷◌, ◌++◌, length, take, if◌then◌else◌}
 use Rattle.std.specs.List.{list_any}
 use Rattle.sheet_refs.specs.Cells.{Position, Corners, IsIn, cells_of}
 use Rattle.sheet_refs.specs.Rectangles.{IsAmong}
@@ -39,3 +39,11 @@ Admits old new waited waiting range = Gathers old new waited waiting (λ cell. I
 
 abbrev pub GathersAll : List Corners → List Corners → List Corners → List Corners → List Corners → Type 0
 GathersAll old new waited waiting found = Gathers old new waited waiting (IsAmong found)
+
+-- a range has the cells of two others, and no other
+abbrev pub IsUnionOf : Corners → Corners → Corners → Type 0
+IsUnionOf one other whole = (cell : Position) → IsIn cell whole ↔ (IsIn cell one ⊎ IsIn cell other)
+
+-- the cells of the first so many ranges of a list are those of fewer of them and of one range
+abbrev pub IsRunFrom : List Corners → ℕ → ℕ → Corners → Type 0
+IsRunFrom found from end run = (cell : Position) → IsAmong (take end found) cell ↔ (IsAmong (take from found) cell ⊎ IsIn cell run)

@@ -1,5 +1,5 @@
-ghost use Rattle.std.specs.Prelude.{OnOk};
-ghost use Rattle.graph_walk.specs.Gathers.{Admits, GathersAll};
+ghost use Rattle.std.specs.Prelude.{◌<◌, ◌≤◌, length, IfSome, OnOk};
+ghost use Rattle.graph_walk.specs.Gathers.{Admits, GathersAll, IsUnionOf, IsRunFrom};
 
 use sheet_refs::{Memory, Range, RectSet};
 
@@ -18,13 +18,52 @@ fn admit(set: &mut RectSet, waiting: &mut Vec<Range>, range: Range) -> Result<()
     Ok(())
 }
 
-/// Adds the cells of some ranges to a set, and the ranges of those that are new to the waiting ones.
+// The range of the cells of two, where the second has the columns of the first, and begins in it or right below it.
+fn joined(range: Range, next: Range) -> Option<Range>
+    ensures { IfSome result (IsUnionOf range next) }
+{
+    let (head, tail) = (range.head(), range.tail());
+    let (next_head, next_tail) = (next.head(), next.tail());
+    if next_head.col() != head.col() || next_tail.col() != tail.col() {
+        return None;
+    }
+    if next_head.row() < head.row() || tail.row() + 1 < next_head.row() {
+        return None;
+    }
+    if next_tail.row() < tail.row() {
+        return None;
+    }
+    Some(Range::of(head, next_tail))
+}
+
+// The range of the cells of the ranges from one place of a list on, up to another, and that place: as far as each goes
+// on below those before it.
+fn run_from(found: &[Range], from: usize) -> (Range, usize)
+    requires { from < length found.now }
+    ensures within { (from < result.1) × (result.1 ≤ length found.now) }
+    ensures run { IsRunFrom found.now from result.1 result.0 }
+{
+    let mut run = found[from];
+    for place in from + 1..found.len() {
+        let Some(longer) = joined(run, found[place]) else {
+            return (run, place);
+        };
+        run = longer;
+    }
+    (run, found.len())
+}
+
+/// Adds the cells of some ranges to a set, and the ranges of those that are new to the waiting ones. Where ranges of a
+/// column follow one another in the list, it looks for their cells at one go, and so does who asks for what waits.
 pub fn gather(set: &mut RectSet, waiting: &mut Vec<Range>, found: &[Range]) -> Result<(), Memory>
     ensures { OnOk result
         (GathersAll set.old set.new waiting.old.items waiting.new.items found.now) }
 {
-    for range in found {
-        admit(set, waiting, *range)?;
+    let mut place = 0;
+    while place < found.len() {
+        let (run, end) = run_from(found, place);
+        admit(set, waiting, run)?;
+        place = end;
     }
     Ok(())
 }
