@@ -2,7 +2,7 @@
 ghost use Rattle.std.specs.Prelude.{◌≡◌, ◌<◌, length, None, Some};
 ghost use Rattle.index_trial.specs.Trials.{range_at};
 
-use range_index::{GridIndex, ListIndex, RangeIndex};
+use range_index::{GridIndex, InsertOrder, ListIndex, RangeIndex};
 use sheet_refs::{Cell, Memory, Range};
 use std::alloc::Global;
 use std::marker::Model;
@@ -96,6 +96,11 @@ impl<I: RangeIndex> Trial<I> {
         Ok(())
     }
 
+    // Says in which order the inserts to come are, rightly or wrongly.
+    fn expect(&mut self, order: InsertOrder) {
+        self.index.expect(order);
+    }
+
     // Puts an id in that isn't there, where there is room.
     fn insert(&mut self, id: usize, range: Range)
         requires absent { range_at self.old.ranges id ≡ None }
@@ -179,6 +184,12 @@ impl Trials {
         self.list.reserve(room)
     }
 
+    fn expect(&mut self, order: InsertOrder) {
+        self.tree.expect(order);
+        self.grid.expect(order);
+        self.list.expect(order);
+    }
+
     fn call(&mut self, id: usize, range: Range, goes: bool) {
         self.tree.call(id, range, goes);
         self.grid.call(id, range, goes);
@@ -194,13 +205,23 @@ impl Trials {
     }
 }
 
+// What is said of the inserts around a call: a thousand are said to be by place, the next thousand in no order.
+fn order_at(call: u32) -> InsertOrder {
+    if call / 1_000 % 2 == 0 {
+        InsertOrder::ByPlace
+    } else {
+        InsertOrder::Any
+    }
+}
+
 // Makes so many calls to the three indexes, over so many ids, each with a query after it, where room is made for so
 // many inserts at a time. How many of the queries all three answered alike.
 fn walk(alloc: Global, seed: u32, calls: u32, ids: u32, room: u32) -> Result<u32, Fail> {
     let mut numbers = Numbers { last: seed };
     let mut trials = Trials::new(alloc, ids as usize)?;
     let mut alike = 0u32;
-    for _ in 0..calls {
+    for call in 0..calls {
+        trials.expect(order_at(call));
         let id = numbers.below(ids);
         let range = numbers.range()?;
         let goes = numbers.below(2) == 0;

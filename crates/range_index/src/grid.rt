@@ -1,5 +1,5 @@
 // The index by tiles.
-use crate::index::RangeIndex;
+use crate::index::{InsertOrder, RangeIndex};
 use crate::tables::Tables;
 use sheet_refs::{Memory, Range};
 use std::alloc::Global;
@@ -49,6 +49,8 @@ impl RangeIndex for GridIndex {
     fn reserve(&mut self, inserts: u32) -> Result<(), Memory> {
         self.tables.reserve(inserts as usize)
     }
+
+    fn expect(&mut self, order: InsertOrder) {}
 
     fn insert(&mut self, id: usize, range: Range) {
         self.tables.add(id, range);

@@ -5,6 +5,15 @@ ghost use Rattle.range_index.specs.Entries.{Inserts, Removes, ChangesRange, Adds
 use sheet_refs::{Memory, Range};
 use std::alloc::Global;
 
+/// In which order inserts come. Nothing that an index answers rests on it.
+#[derive(Clone, Copy, Drop)]
+pub enum InsertOrder {
+    /// In no order that is known.
+    Any,
+    /// Those that come one after another lie near one another, as where ranges are sorted by their places.
+    ByPlace,
+}
+
 /// Ids, each with one range, and which of them overlap a query.
 pub trait RangeIndex {
     /// The entries, as a list in which the order means nothing.
@@ -22,6 +31,11 @@ pub trait RangeIndex {
         ensures room { OnOk result (inserts ≤ spare self.new) }
         ensures keeps_room { spare self.old ≤ spare self.new }
         ensures same { SameEntries (entries self.old) (entries self.new) };
+
+    /// Says in which order the inserts to come are. It changes no entry, and takes no memory.
+    fn expect(&mut self, order: InsertOrder)
+        ensures same { SameEntries (entries self.old) (entries self.new) }
+        ensures room { spare self.old ≤ spare self.new };
 
     /// Adds an id with its range. It takes no memory.
     fn insert(&mut self, id: usize, range: Range)

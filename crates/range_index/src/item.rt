@@ -3,9 +3,11 @@ use std::marker::Model;
 
 /// An id with its range.
 #[derive(Clone, Copy, Drop)]
-pub(crate) struct Item {
-    pub(crate) id: usize,
-    pub(crate) range: Range,
+pub struct Item {
+    /// What the range stands under.
+    pub id: usize,
+    /// The range.
+    pub range: Range,
 }
 
 impl Model for Item {

@@ -17,6 +17,7 @@ mod tables;
 mod tiles;
 
 pub use grid::GridIndex;
-pub use index::RangeIndex;
+pub use index::{InsertOrder, RangeIndex};
+pub use item::Item;
 pub use laws::index_laws;
 pub use list::ListIndex;

@@ -2,7 +2,7 @@
 ghost use Rattle.std.specs.Prelude.{◌≡◌, ◌<◌, ◌↔◌, MatchOption, length, slice_index_or};
 ghost use Rattle.range_index.specs.Entries.{HasNoId, IsPlaceOf};
 
-use crate::index::RangeIndex;
+use crate::index::{InsertOrder, RangeIndex};
 use crate::item::Item;
 use sheet_refs::{Memory, Range};
 use std::alloc::Global;
@@ -54,6 +54,8 @@ impl RangeIndex for ListIndex {
         self.slots.reserve(inserts as usize)?;
         Ok(())
     }
+
+    fn expect(&mut self, order: InsertOrder) {}
 
     fn insert(&mut self, id: usize, range: Range) {
         self.slots.push_reserved(Item { id, range });

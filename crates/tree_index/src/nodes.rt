@@ -16,13 +16,15 @@ use crate::node::Node;
 use crate::notes::{Note, Place};
 use crate::rectangles::covers;
 use arrayvec::ArrayVec;
+use range_index::InsertOrder;
 use sheet_refs::Range;
 use slab::Slab;
 use std::alloc::Global;
 use std::collections::HashMap;
 
 /// The nodes, the key of the root, the entries that are still to come into the tree, and what is noted of each id.
-/// `newest` says with which range an entry came last, and which leaf took it in; what is promised doesn't rest on it.
+/// `newest` says with which range an entry came last, and which leaf took it in, and `order` in which order entries
+/// come; what is promised doesn't rest on them.
 #[derive(Drop)]
 pub(crate) struct Tree {
     pub(crate) nodes: Slab<Node>,
@@ -30,6 +32,7 @@ pub(crate) struct Tree {
     pub(crate) late: Vec<Item>,
     pub(crate) notes: HashMap<usize, Note>,
     pub(crate) newest: Item,
+    pub(crate) order: InsertOrder,
 }
 
 // Whether a key is that of the last child.
@@ -69,6 +72,7 @@ impl Tree {
             late: Vec::new(alloc),
             notes: HashMap::new(alloc),
             newest: Item::default(),
+            order: InsertOrder::Any,
         }
     }
 

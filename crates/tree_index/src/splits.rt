@@ -22,7 +22,7 @@ impl Tree {
             return None;
         };
         let level = node.level;
-        let halves = halves_of(node.children.as_slice(), added);
+        let halves = halves_of(self.order, node.children.as_slice(), added);
         let Some(to) = self.make_beside(above, place) else {
             return None;
         };

@@ -1,6 +1,6 @@
 // The index by a tree of rectangles.
 use crate::nodes::Tree;
-use range_index::RangeIndex;
+use range_index::{InsertOrder, RangeIndex};
 use sheet_refs::{Memory, Range};
 use std::alloc::Global;
 use std::marker::Model;
@@ -15,6 +15,9 @@ use std::marker::Model;
 /// made room for; where there is none left, the entry goes to a list that each query looks through, and the next
 /// `reserve` puts it into the tree. A removal makes the rectangles above it as small as they can be, and takes nodes
 /// without children out.
+///
+/// Where inserts are said to come by place, each goes into the leaf of the one before it, wherever that lies, or down
+/// by the last children, and a full node keeps all children but the last: so nodes are as good as full.
 ///
 /// Costs: an insert, a removal and a change look at a node a level, and a query at the nodes whose rectangles overlap
 /// it. A level of the tree takes eight to sixteen times the entries of the one below it.
@@ -46,6 +49,10 @@ impl RangeIndex for TreeIndex {
 
     fn reserve(&mut self, inserts: u32) -> Result<(), Memory> {
         self.tree.reserve(inserts as usize)
+    }
+
+    fn expect(&mut self, order: InsertOrder) {
+        self.tree.order = order;
     }
 
     fn insert(&mut self, id: usize, range: Range) {

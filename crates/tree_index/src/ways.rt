@@ -95,7 +95,7 @@ impl Tree {
         let Some(node) = self.nodes.get(key) else {
             return None;
         };
-        let place = place_for(node.children.as_slice(), range);
+        let place = place_for(self.order, node.children.as_slice(), range);
         match self.place_if_room(key, place) {
             Some(place) => Some(place),
             None => self.place_after_split(key, place, range),
@@ -200,7 +200,7 @@ impl Tree {
         ensures leaf { IfSome result (λ key. TakesIn self.new key range) }
     {
         let leaf = self.newest.id;
-        if !is_next(self.newest.range, range) || !self.is_open_leaf(leaf) {
+        if !is_next(self.order, self.newest.range, range) || !self.is_open_leaf(leaf) {
             return None;
         }
         if self.widen(TOP + 1, leaf, range) && self.is_open_leaf(leaf) {
