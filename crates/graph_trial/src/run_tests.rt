@@ -98,6 +98,13 @@ fn by_runs(alloc: Global, case: &Case, way: Way) -> Result<Taco<TreeIndex>, Fail
     Ok(graph)
 }
 
+// One by runs whose rectangles are filed once it has all pairs.
+fn filed(alloc: Global, case: &Case, way: Way) -> Result<Taco<TreeIndex>, Fail> {
+    let mut graph = by_runs(alloc, case, way)?;
+    graph.file_rectangles()?;
+    Ok(graph)
+}
+
 // Whether edges have exactly the pairs of a plain graph.
 fn has_its_pairs(alloc: Global, edges: &[Edge], plain: &PlainGraph) -> Result<bool, Fail> {
     let pairs = pairs_of(alloc, plain)?;
@@ -139,7 +146,7 @@ fn fault_over<I: RangeIndex + Drop>(
     Ok("")
 }
 
-// The same over either of the two indexes, and by runs alone.
+// The same over either of the two indexes, and by runs, without rectangles and with them.
 fn fault_by(alloc: Global, case: &Case, way: Way, wanted: &str) -> Result<&'static str, Fail> {
     let fault = fault_over(
         alloc,
@@ -152,6 +159,10 @@ fn fault_by(alloc: Global, case: &Case, way: Way, wanted: &str) -> Result<&'stat
         return Ok(fault);
     }
     let fault = fault_over(alloc, by_runs(alloc, case, way)?, case, way, wanted)?;
+    if !fault.is_empty() {
+        return Ok(fault);
+    }
+    let fault = fault_over(alloc, filed(alloc, case, way)?, case, way, wanted)?;
     if !fault.is_empty() {
         return Ok(fault);
     }

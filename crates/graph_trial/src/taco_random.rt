@@ -1,12 +1,12 @@
 // Thousands of changes of a small grid in no order, over an index that answers and over one that never does: after each
 // of them no two edges can be joined, by a look at all two, and the pairs are those of a plain list.
 use edge_patterns::{Edge, Pattern, back, join};
-use graph_walk::Graph;
-use range_index::{ListIndex, RangeIndex};
+use graph_walk::{Graph, dependents};
+use range_index::{InsertOrder, ListIndex, RangeIndex};
 use sheet_refs::{Cell, Memory, Range, Refs};
 use std::alloc::Global;
 use std::test::Fail;
-use taco_graph::Taco;
+use taco_graph::{SheetGraph, Taco};
 use tree_index::TreeIndex;
 
 // An index whose queries want memory, always, after they have answered.
@@ -28,6 +28,10 @@ impl RangeIndex for Refusing {
 
     fn reserve(&mut self, inserts: u32) -> Result<(), Memory> {
         self.list.reserve(inserts)
+    }
+
+    fn expect(&mut self, order: InsertOrder) {
+        self.list.expect(order);
     }
 
     fn insert(&mut self, id: usize, range: Range) {
@@ -179,8 +183,9 @@ pub(crate) fn has_pairs(edges: &[Edge], pairs: &[Pair]) -> bool {
     count == pairs.len() as u64
 }
 
-// Makes a change of a graph and of a list of pairs, and tells whether the edges are right afterwards.
-fn change<I: RangeIndex>(
+// Makes a change of a graph and of a list of pairs, and tells whether the edges are right afterwards. After some
+// changes it files the rectangles of all edges.
+fn change<I: RangeIndex + Drop>(
     alloc: Global,
     graph: &mut Taco<I>,
     pairs: &mut Vec<Pair>,
@@ -192,6 +197,9 @@ fn change<I: RangeIndex>(
     let refs = refs_of(alloc, one, other)?;
     graph.reserve(1)?;
     graph.replace(cell, &refs);
+    if seed / 1024 % 64 == 0 {
+        graph.file_rectangles()?;
+    }
     *pairs = replaced(alloc, pairs, cell, refs.ranges())?;
     let edges = graph.edges()?;
     Ok(has_pairs(&edges, pairs) && !joins_two(&edges))
@@ -245,5 +253,56 @@ fn nor_where_it_wants_memory_in_a_fourth_part(rt: HostRuntime) -> Result<(), Fai
 #[test]
 fn nor_where_it_wants_memory_in_a_fifth_part(rt: HostRuntime) -> Result<(), Fail> {
     assert!(rt; walk::<Refusing>(rt.alloc(), 1000, 5)?);
+    Ok(())
+}
+
+// A cell of a grid of sixty rows and columns.
+fn far_cell(place: u32) -> Result<Cell, Fail> {
+    Ok(Cell::new(place / 60 % 60 + 1, place % 60 + 1).ok_or("no cell")?)
+}
+
+// Gives a cell of that grid one range, of up to four cells.
+fn refer(alloc: Global, graph: &mut SheetGraph, seed: u32) -> Result<(), Fail> {
+    let head = far_cell(seed / 1024)?;
+    let (down, right) = (seed / 4096 % 2, seed / 8192 % 2);
+    let tail = Cell::new(head.row() + down, head.col() + right).ok_or("no cell")?;
+    let refs = refs_of_one(alloc, Some(Range::of(head, tail)))?;
+    graph.reserve(1)?;
+    graph.replace(far_cell(next(seed) / 1024)?, &refs);
+    Ok(())
+}
+
+// Whether two graphs answer the same dependents of each cell of that grid.
+fn answer_alike(alloc: Global, graph: &SheetGraph, other: &SheetGraph) -> Result<bool, Fail> {
+    for place in 0..3600 {
+        let cell = far_cell(place)?;
+        let asked = Range::of(cell, cell);
+        let found = dependents(alloc, graph, asked)?.columns()?;
+        let others = dependents(alloc, other, asked)?.columns()?;
+        if found.as_slice() != others.as_slice() {
+            return Ok(false);
+        }
+    }
+    Ok(true)
+}
+
+// A graph whose rectangles are filed at one go answers as one that files each as it comes, also after more changes.
+#[test]
+fn rectangles_are_filed_at_one_go(rt: HostRuntime) -> Result<(), Fail> {
+    let alloc = rt.alloc();
+    let mut graph = SheetGraph::new(alloc);
+    let mut later = SheetGraph::by_runs(alloc);
+    let mut seed = 1;
+    for round in 0..3 {
+        for _ in 0..700 {
+            seed = next(next(seed));
+            refer(alloc, &mut graph, seed)?;
+            refer(alloc, &mut later, seed)?;
+        }
+        if round == 0 {
+            later.file_rectangles()?;
+        }
+        assert!(rt; answer_alike(alloc, &graph, &later)?);
+    }
     Ok(())
 }

@@ -36,7 +36,7 @@ here_more old new came key one edge puts here = elim (cases_eq key came) [
 pub not_free : (slots : List (Option EdgeValue)) (free key : ℕ) (edge : EdgeValue) → edge_at slots free ≡ None → edge_at slots key ≡ Some edge → key ≢ free
 not_free slots free key edge none here same = none-some edge (sym none ∙ (ap (edge_at slots) (sym same) ∙ here))
 
-same_entry : (entry : Entry) (id : ℕ) (range : Corners) → entry.id ≡ id → entry.range ≡ range → entry ≡ entry_of id range
+pub same_entry : (entry : Entry) (id : ℕ) (range : Corners) → entry.id ≡ id → entry.range ≡ range → entry ≡ entry_of id range
 same_entry entry id range same_id same_range = rw (← same_id, ← same_range) refl
 
 -- ---- whether rectangles are kept stays

@@ -1,9 +1,9 @@
 // The rectangles of edges, where a graph keeps them.
-ghost use Rattle.std.specs.Prelude.{◌≡◌, ◌+◌, ◌≤◌, [], Contains, IsTrue, OnOk};
+ghost use Rattle.std.specs.Prelude.{◌≡◌, ◌+◌, ◌≤◌, [], Contains, IsTrue, IfOk, OnOk};
 ghost use Rattle.range_index.specs.Entries.{entry_of, HasNoId, SameEntries, AddsOverlapping, KeepsIds};
-ghost use Rattle.range_index.specs.Entries.{Inserts, Removes, ChangesRange};
+ghost use Rattle.range_index.specs.Entries.{Inserts, Removes, ChangesRange, HaveOneRange};
 
-use range_index::RangeIndex;
+use range_index::{InsertOrder, Item, RangeIndex};
 use sheet_refs::{Memory, Range};
 use std::alloc::Global;
 use std::marker::Model;
@@ -25,6 +25,36 @@ impl<I: RangeIndex> Model for RectangleIndex<I> {
       entries = I.entries r.index;
       spare = I.spare r.index;
     } };
+}
+
+/// For how many entries room is made ahead where an index is filled.
+const MOST_AHEAD: usize = 1_048_576;
+
+// An index with some entries, which stand by place.
+fn index_of<I: RangeIndex + Drop>(alloc: Global, items: &[Item]) -> Result<I, Memory>
+    requires { HaveOneRange items.now }
+    ensures { IfOk result (λ index. SameEntries items.now (I.entries index)) }
+{
+    let mut index = I::empty(alloc);
+    index.reserve(items.len().min(MOST_AHEAD) as u32)?;
+    index.expect(InsertOrder::ByPlace);
+    for item in items {
+        index.reserve(1)?;
+        index.insert(item.id, item.range);
+    }
+    index.expect(InsertOrder::Any);
+    Ok(index)
+}
+
+impl<I: RangeIndex + Drop> RectangleIndex<I> {
+    /// The index that keeps what comes, with some entries, which stand by place.
+    pub(crate) fn of(alloc: Global, items: &[Item]) -> Result<RectangleIndex<I>, Memory>
+        requires { HaveOneRange items.now }
+        ensures { IfOk result (λ filed. SameEntries items.now filed.entries) }
+    {
+        let index = index_of(alloc, items)?;
+        Ok(RectangleIndex { index, kept: true })
+    }
 }
 
 impl<I: RangeIndex> RectangleIndex<I> {

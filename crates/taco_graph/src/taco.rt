@@ -105,6 +105,20 @@ impl<I: RangeIndex> Taco<I> {
     }
 }
 
+impl<I: RangeIndex + Drop> Taco<I> {
+    /// Files the rectangles of all edges at one go, by which dependents are found from then on. A graph that is made
+    /// `by_runs` and then does so is made in less time than one that is `new`, most of all where references are drawn
+    /// at random, and its index is the better one, since rectangles that are near one another come together. It changes
+    /// no edge, but may use up what room has been made for `replace`; after Memory rectangles are kept as they were.
+    /// It sorts the edges' rectangles, and takes some steps for each.
+    pub fn file_rectangles(&mut self) -> Result<(), Memory>
+        ensures { self.new.edges ≡ self.old.edges }
+    {
+        self.ready = 0;
+        self.store.file_rectangles()
+    }
+}
+
 // Makes room for the keys of the edges that can hold one cell.
 fn reserve_lists(held: &mut Vec<usize>, sides: &mut Sides) -> Result<(), Memory> {
     held.clear();
