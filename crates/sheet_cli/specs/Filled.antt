@@ -1,5 +1,5 @@
 -- What `fill` is asked for and writes.
-use Rattle.std.specs.Prelude.{◌≡◌, ◌≢◌, ℕ, List, IsTrue, Ok}
+use Rattle.std.specs.Prelude.{◌≢◌, ℕ, List, IsTrue, Ok}
 use Rattle.sheet_refs.specs.Cells.{Corners, IsOrdered, Position}
 use Rattle.sheet_refs.specs.Sizes.{is_inside}
 use Rattle.value_core.specs.declared.value.Value.TheVariants.{Label}

@@ -24,6 +24,7 @@ mod cells;
 mod check;
 mod fill;
 mod generated;
+mod graphs;
 mod laws;
 mod live;
 mod options;

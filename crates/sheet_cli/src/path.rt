@@ -6,19 +6,18 @@ ghost use Rattle.sheet_cli.specs.Replies.{RepliesTo, answer_of};
 ghost use Rattle.sheet_cli.specs.Requests.Request.{of_path};
 ghost use Rattle.sheet_cli.specs.Words.{IsAskedBy, bytes_of};
 
+use crate::graphs::filed_graph;
 use crate::output::Output;
 use crate::positions::three_words;
 use crate::reply::{Reply, outside};
 use crate::texts::fetch_sheet;
 use crate::words::Asked;
 use dep_path::path;
-use edit_log::graph_of;
 use sheet_io::Shelf;
 use sheet_model::Sheet;
 use sheet_refs::{Cell, Memory, cell_of};
 use std::alloc::Global;
 use std::thread::Threads;
-use taco_graph::SheetGraph;
 
 /// What `path` and the words after it ask for.
 pub(crate) fn read_path(alloc: Global, words: &[String]) -> Result<Asked, Memory>
@@ -79,7 +78,7 @@ fn has_both(sheet: &Sheet, from: Cell, to: Cell) -> bool
 fn path_output(alloc: Global, sheet: &Sheet, from: Cell, to: Cell) -> Result<Output, Memory>
     ensures { IfOk result (λ text. ShowsPath sheet.now from to text) }
 {
-    let graph = graph_of(alloc, SheetGraph::new(alloc), sheet)?;
+    let graph = filed_graph(alloc, sheet)?;
     match path(alloc, &graph, from, to)? {
         Some(chain) => Output::of_chain(alloc, chain),
         None => Output::of_no_chain(alloc),

@@ -8,6 +8,7 @@ ghost use Rattle.sheet_cli.specs.Replies.{RepliesTo, answer_of};
 ghost use Rattle.sheet_cli.specs.Requests.Request.{of_window};
 ghost use Rattle.sheet_cli.specs.Words.{IsAskedBy, bytes_of, command_word};
 
+use crate::graphs::filed_graph;
 use crate::output::Output;
 use crate::positions::two_words;
 use crate::reply::{Reply, outside};
@@ -131,7 +132,7 @@ fn window_output(
 fn dependents_of(alloc: Global, sheet: &Sheet, range: Range) -> Result<Vec<Range>, Memory>
     ensures { IfOk result (λ runs. AreDependents sheet.now range runs.items) }
 {
-    let graph = graph_of(alloc, SheetGraph::new(alloc), sheet)?;
+    let graph = filed_graph(alloc, sheet)?;
     dependents(alloc, &graph, range)?.columns()
 }
 
