@@ -1,6 +1,6 @@
 -- The pairs of a sheet: each cell whose formula refers to a range, with that range.
-use Rattle.std.specs.Prelude.{◌≡◌, ◌↔◌, ◌⊎◌, ◌<◌, ℕ, List, [], length, Contains}
-use Rattle.sheet_refs.specs.Cells.{Position, Corners}
+use Rattle.std.specs.Prelude.{◌≡◌, ◌↔◌, ◌⊎◌, ◌<◌, ℕ, List, length, Contains}
+use Rattle.sheet_refs.specs.Cells.{Position}
 use Rattle.sheet_refs.specs.Sizes.{cell_count}
 use Rattle.sheet_model.specs.Ranges.{ranges_in}
 use Rattle.sheet_model.specs.Sheets.{SheetValue, content_of}

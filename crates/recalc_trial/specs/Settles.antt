@@ -1,5 +1,5 @@
 -- Cells of a sheet that have no inputs.
-use Rattle.std.specs.Prelude.{◌≡◌, List, All, IsTrue}
+use Rattle.std.specs.Prelude.{List, All, IsTrue}
 use Rattle.sheet_refs.specs.Cells.{Position}
 use Rattle.sheet_refs.specs.Sizes.{is_inside}
 use Rattle.sheet_model.specs.Sheets.{SheetValue}
