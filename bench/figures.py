@@ -6,8 +6,8 @@ Run by hand, on a machine that does nothing else: bench/figures.py [RUNS] [NAME]
 default), those of one line in turn; NAME draws the figures whose names contain it alone. Each figure says of which machine
 it is, with its processors, its load before the first run and the day.
 
-    commands    show of one cell, deps of A1 and check, over the number of cells: a chain, a fan, a ledger
-    peers       show of one cell of a ledger, over its cells, beside the programs that are installed, as bench/peers.py finds
+    commands    show of all cells, deps of A1 and check, over the number of cells: a chain, a fan, a ledger
+    peers       show of all cells of a ledger, over their number, beside the programs that are installed, as bench/peers.py finds
                 them: ssconvert of Gnumeric, LibreOffice, and a small program over libixion
     edges       the edges of check beside its pairs, over the number of cells
     workers     live without commands over the number of workers: a ledger of which all is computed as the run closes
@@ -40,6 +40,11 @@ def of_rows(count):
 
 
 SHAPES = {"chain": chain, "fan": fan, "ledger": of_rows}
+
+
+def all_cells(shape, count):
+    """The range of all cells of a sheet of so many."""
+    return f"A1:F{count // 6}" if shape == "ledger" else f"A1:A{count}"
 
 
 def escaped(text):
@@ -107,7 +112,11 @@ def commands(folder, runs, where):
     for shape, text in SHAPES.items():
         for count in SIZES:
             (folder / "sheet.csv").write_text(text(count))
-            asked = {"show": ("show", "sheet.csv", "A1"), "deps": ("deps", "sheet.csv", "A1"), "check": ("check", "sheet.csv")}
+            asked = {
+                "show": ("show", "sheet.csv", all_cells(shape, count)),
+                "deps": ("deps", "sheet.csv", "A1"),
+                "check": ("check", "sheet.csv"),
+            }
             taken = {what: [] for what in asked}
             for _ in range(runs):
                 for what, words in asked.items():
@@ -125,7 +134,7 @@ def peers(folder, runs, where):
         (folder / "sheet.csv").write_text(of_rows(count))
         taken = {"antifreeze": [], **{name: [] for name in found}}
         for _ in range(runs):
-            taken["antifreeze"].append(started(folder, "show", "sheet.csv", f"F{count // 6}")[1])
+            taken["antifreeze"].append(started(folder, "show", "sheet.csv", all_cells("ledger", count))[1])
             for name, words in found.items():
                 status, _, clock, _ = told(STARTER, folder, *words)
                 if status:

@@ -1,10 +1,10 @@
 #!/usr/bin/env python3
-"""Times `deps` and `check` of the built program beside `show` of one cell of the same sheet, which reads and evaluates it.
+"""Times `deps` and `check` of the built program beside `show` of the same sheet.
 
 Run by hand: bench/graph.py [RUNS] [WORD]. A line for each sheet whose name contains WORD (all by default), with the least of RUNS
 runs each (5 by default), the commands in turn:
 
-    show      seconds of processor time of `show` of one cell
+    show      seconds of processor time of `show` of a cell below all others that adds them up, so that all are computed
     deps      the time of `deps` of one cell, divided by that
     check     the time of `check`, divided by that
     us/pair   microseconds of `check` for each pair
@@ -20,7 +20,7 @@ import pathlib
 import random
 import tempfile
 
-from measuring import LETTERS, build, called_with, chain, head, lines, name, started
+from measuring import LETTERS, build, called_with, chain, head, lines, name, started, with_total
 
 
 def books(row):
@@ -73,27 +73,30 @@ def alike(references):
     return lines(5_000, lambda r: "=SUM(" + ";".join(name(r, col) for col in range(2, references + 2)) + ")")
 
 
-# What is measured: the sheet's text, the cell that is shown, and the cell whose dependents are asked for, where it isn't A1.
+# The sheets that are measured.
 MEASURED = {
-    "100,000 formulas =$A$1*2": (lambda: lines(100_000, lambda r: f"{r},=$A$1*2"), "B100000"),
-    "a chain of 100,000": (lambda: chain(100_000), "A100000"),
-    "5,000 sums =SUM($A$1:Ar)": (lambda: lines(5_000, lambda r: f"{r},=SUM($A$1:A{r})"), "B5000"),
-    "a ledger of 50,000 rows with five formulas": (lambda: lines(50_000, books), "G50000"),
-    "5,000 rows of 32 references": (lambda: alike(32), "A5000"),
-    "5,000 rows of 128 references": (lambda: alike(128), "A5000"),
-    "5,000 rows of 255 references": (lambda: alike(255), "A5000"),
-    "a fan of 10,000": (lambda: fan(10_000), "A10000"),
-    "a fan of 1,000,000": (lambda: fan(1_000_000), "A1000000"),
-    "a chain of 10,000": (lambda: chain(10_000), "A10000"),
-    "a chain of 1,000,000": (lambda: chain(1_000_000), "A1000000"),
-    "100,000 formulas with references drawn at random": (lambda: lines(100_000, at_random), "A1"),
-    "1,000,000 cells of which each eight share a reference": (lambda: shared(1_000_000, 8), "A1000000"),
-    "1,000,000 cells of which each ten share a reference": (lambda: shared(1_000_000, 10), "A1000000"),
-    "100,000 sums of the 2 to 7 cells above": (lambda: sums_above(100_000, 2, 7), "A1"),
-    "100,000 sums of the 9 to 30 cells above": (lambda: sums_above(100_000, 9, 30), "A1"),
-    "a drawn chain of 40,000 beside 20,000 numbers": (lambda: drawn_chain(False), "A1", "C1"),
-    "a drawn chain of 40,000 beside 20,000 sums =SUM($A$1:Bk)": (lambda: drawn_chain(True), "A1", "C1"),
+    "100,000 formulas =$A$1*2": lambda: lines(100_000, lambda r: f"{r},=$A$1*2"),
+    "a chain of 100,000": lambda: chain(100_000),
+    "5,000 sums =SUM($A$1:Ar)": lambda: lines(5_000, lambda r: f"{r},=SUM($A$1:A{r})"),
+    "a ledger of 50,000 rows with five formulas": lambda: lines(50_000, books),
+    "5,000 rows of 32 references": lambda: alike(32),
+    "5,000 rows of 128 references": lambda: alike(128),
+    "5,000 rows of 255 references": lambda: alike(255),
+    "a fan of 10,000": lambda: fan(10_000),
+    "a fan of 1,000,000": lambda: fan(1_000_000),
+    "a chain of 10,000": lambda: chain(10_000),
+    "a chain of 1,000,000": lambda: chain(1_000_000),
+    "100,000 formulas with references drawn at random": lambda: lines(100_000, at_random),
+    "1,000,000 cells of which each eight share a reference": lambda: shared(1_000_000, 8),
+    "1,000,000 cells of which each ten share a reference": lambda: shared(1_000_000, 10),
+    "100,000 sums of the 2 to 7 cells above": lambda: sums_above(100_000, 2, 7),
+    "100,000 sums of the 9 to 30 cells above": lambda: sums_above(100_000, 9, 30),
+    "a drawn chain of 40,000 beside 20,000 numbers": lambda: drawn_chain(False),
+    "a drawn chain of 40,000 beside 20,000 sums =SUM($A$1:Bk)": lambda: drawn_chain(True),
 }
+
+# The cells whose dependents are asked for, where it isn't A1.
+ASKED = {what: "C1" for what in MEASURED if "drawn chain" in what}
 
 # Lines of which the second's command is to take little more than the first's.
 COMPARED = [
@@ -109,11 +112,14 @@ def timed(folder, *words):
     return taken, peak
 
 
-def measure(folder, runs, cell, asked="A1"):
+def measure(folder, runs, text, asked):
     """The least times of the three commands, in as many runs, in turn, and what the last `check` says and takes."""
+    (folder / "sheet.csv").write_text(text)
+    added_up, total = with_total(text)
+    (folder / "total.csv").write_text(added_up)
     shows, deps, checks = [], [], []
     for _ in range(runs):
-        shows.append(timed(folder, "show", "sheet.csv", cell)[0])
+        shows.append(timed(folder, "show", "total.csv", total)[0])
         deps.append(timed(folder, "deps", "sheet.csv", asked)[0])
         taken, peak = timed(folder, "check", "sheet.csv")
         checks.append(taken)
@@ -130,11 +136,10 @@ def main():
     with tempfile.TemporaryDirectory(prefix="antifreeze-bench-") as folder:
         folder = pathlib.Path(folder)
         taken = {}
-        for what, (text, *cells) in MEASURED.items():
+        for what, text in MEASURED.items():
             if word not in what:
                 continue
-            (folder / "sheet.csv").write_text(text())
-            show, deps, check, pairs, edges, peak = measure(folder, runs, *cells)
+            show, deps, check, pairs, edges, peak = measure(folder, runs, text(), ASKED.get(what, "A1"))
             taken["deps", what], taken["check", what] = deps, check
             print(f"{show:8.3f} {deps / show:7.2f} {check / show:7.2f} {check / pairs * 1e6:8.2f} {peak / pairs:8.0f}  {edges:,} of {pairs:,}: {what}", flush=True)
     for command, first, second in COMPARED:

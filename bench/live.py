@@ -59,7 +59,7 @@ def wide():
 
 # What is measured: sheet, the words and the script of the one run, and those of the other.
 MEASURED = {
-    "an empty script on a ledger of 50,000 rows, 4 workers; show of one cell": (ledger, FOUR, "", "show sheet.csv F50000", ""),
+    "an empty script on a ledger of 50,000 rows, 4 workers; show of all cells": (ledger, FOUR, "", "show sheet.csv A1:F50000", ""),
     "the same; with 1 worker": (ledger, FOUR, "", ONE, ""),
     "100,000 edits of a number with one dependent, 4 workers; play": (pairs, FOUR, edits(100_000), "play sheet.csv script.txt", edits(100_000)),
     "the same, 1 worker; play": (pairs, ONE, edits(100_000), "play sheet.csv script.txt", edits(100_000)),

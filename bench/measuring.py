@@ -62,6 +62,12 @@ def chain(count):
     return lines(count, lambda r: f"=A{r - 1}+1" if r > 1 else "1")
 
 
+def with_total(text):
+    """The sheet with one more row, and the cell there, which adds up all cells above it: to show that one computes them all."""
+    rows = text.count("\n")
+    return f"{text}=SUM(A1:XFD{rows})\n", f"A{rows + 1}"
+
+
 def sums(row, col):
     """The first row and column are numbers; each other cell adds the heads of its row and its column."""
     return f"={name(1, col)}+{name(row, 1)}+1" if row > 1 and col > 1 else str(row + col)

@@ -1,6 +1,6 @@
 #!/usr/bin/env python3
-"""Times `show` of one cell beside the spreadsheet programs that are installed, each of which reads the same CSV file and computes all
-its values: ssconvert of Gnumeric and LibreOffice, which write them as CSV too, and a small program over libixion.
+"""Times `show` of all cells beside the spreadsheet programs that are installed, each of which reads the same CSV file and computes all
+its values: ssconvert of Gnumeric and LibreOffice, which write them as CSV too, and a small program over libixion, which writes none.
 
 Run by hand: bench/peers.py [RUNS] [WORD]. A line for each sheet whose name contains WORD (all by default), with the least of RUNS
 runs each (3 by default), the programs in turn:
@@ -41,14 +41,14 @@ def windows(count):
     return lines(count, lambda row: f"{row},=SUM(A{row}:A{row + 9})")
 
 
-# The sheets: what they are, their text, and the cell that is shown, which is the last formula.
+# The sheets: what they are, their text, and the range of all their cells.
 SHEETS = {
-    "a chain of 100,000 cells": (lambda: chain(100_000), "A100000"),
-    "5,000 growing sums": (lambda: sums(5_000), "B5000"),
-    "100,000 windows of ten": (lambda: windows(100_000), "B100000"),
-    "a fan of 100,000 cells": (lambda: lines(100_000, lambda row: "=$A$1*2" if row > 1 else "1"), "A100000"),
-    "500,000 rows of two columns": (lambda: lines(500_000, lambda row: f"{row},=A{row}+1"), "B500000"),
-    "a ledger of 50,000 rows": (lambda: lines(50_000, ledger), "F50000"),
+    "a chain of 100,000 cells": (lambda: chain(100_000), "A1:A100000"),
+    "5,000 growing sums": (lambda: sums(5_000), "A1:B5000"),
+    "100,000 windows of ten": (lambda: windows(100_000), "A1:B100000"),
+    "a fan of 100,000 cells": (lambda: lines(100_000, lambda row: "=$A$1*2" if row > 1 else "1"), "A1:A100000"),
+    "500,000 rows of two columns": (lambda: lines(500_000, lambda row: f"{row},=A{row}+1"), "A1:B500000"),
+    "a ledger of 50,000 rows": (lambda: lines(50_000, ledger), "A1:F50000"),
 }
 
 
@@ -85,12 +85,12 @@ def taken(folder, words):
     return (clock, peak) if not status else None
 
 
-def measure(folder, sheet, cell, found, runs):
+def measure(folder, sheet, cells, found, runs):
     """The least time and the peak of each program that could do it, over one sheet."""
     (folder / "sheet.csv").write_text(sheet)
     best, failed = {}, set()
     for _ in range(runs):
-        best.setdefault("show", []).append(started(folder, "show", "sheet.csv", cell)[1:])
+        best.setdefault("show", []).append(started(folder, "show", "sheet.csv", cells)[1:])
         for what, words in found.items():
             one = None if what in failed else taken(folder, words)
             failed |= {what} if one is None else set()
@@ -114,10 +114,10 @@ def main():
     for what in found:
         print(f"{what}: {version(what)}")
     print("  ".join(f"{what[:11]:>11} s   MB" for what in ("show", *found)) + "    times")
-    for what, (text, cell) in SHEETS.items():
+    for what, (text, cells) in SHEETS.items():
         if word in what:
             with tempfile.TemporaryDirectory(prefix="antifreeze-peers-") as folder:
-                line(what, measure(pathlib.Path(folder), text(), cell, found, runs))
+                line(what, measure(pathlib.Path(folder), text(), cells, found, runs))
 
 
 if __name__ == "__main__":

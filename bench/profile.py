@@ -23,8 +23,8 @@ from measuring import PROGRAM, build, lines, machine
 
 # What is counted: the sheet's text, the script's, and the words.
 COUNTED = {
-    "show: 40,000 cells, half of them =Ar*2": (lambda: lines(20_000, lambda r: f"{r},=A{r}*2"), "", "show sheet.csv B20000"),
-    "show: 2,000 growing sums": (lambda: lines(2_000, lambda r: f"{r},=SUM($A$1:A{r})"), "", "show sheet.csv B2000"),
+    "show: 40,000 cells, half of them =Ar*2": (lambda: lines(20_000, lambda r: f"{r},=A{r}*2"), "", "show sheet.csv A1:B20000"),
+    "show: 2,000 growing sums": (lambda: lines(2_000, lambda r: f"{r},=SUM($A$1:A{r})"), "", "show sheet.csv A1:B2000"),
     "check: a ledger of 10,000 rows": (lambda: lines(10_000, books), "", "check sheet.csv"),
     "check: 20,000 formulas with references drawn at random": (lambda: lines(20_000, at_random), "", "check sheet.csv"),
     "play: 10,000 edits beside 10,000 formulas": (
