@@ -1,21 +1,19 @@
 -- What `fill` is answered.
-use Rattle.std.proofs.Common.{◌≡◌, ◌≢◌, ◌⊎◌, inl, inr, ℕ, ◌+◌, ◌-◌, ◌<◌, ◌≤◌, List, refl, sym, ◌∙◌, ap, subst, arith, IsTrue}
+use Rattle.std.proofs.Common.{◌≡◌, ◌≢◌, ℕ, ◌+◌, ◌-◌, List, refl, sym, subst, arith, IsTrue}
 use Rattle.std.specs.Prelude.{Err, None, Ok, Option, Result, Some}
-use Rattle.sheet_refs.specs.Cells.{Corners, Position, IsIn, IsOrdered}
+use Rattle.sheet_refs.specs.Cells.{Corners, Position}
 use Rattle.sheet_refs.specs.Sizes.{is_inside}
 use Rattle.sheet_refs.specs.declared.sizes.Sizes.{Sizes}
 use Rattle.sheet_refs.proofs.Places.{inside_bounds}
 use Rattle.value_core.specs.declared.value.Value.TheVariants as value
 use Rattle.formula_syntax.specs.declared.edition.Edition.{Edition}
 use Rattle.csv_sheet.specs.Headings.{HeadedText, heading_of}
-use Rattle.csv_sheet.specs.Records.{Rows, cell_there, field_at, longest, sizes_of, without_marks}
-use Rattle.csv_sheet.specs.Results.{IsHeadedResult, IsRecordsResult, IsSheetOf, IsSheetResult}
+use Rattle.csv_sheet.specs.Records.{Rows, cell_there, field_at, sizes_of, without_marks}
+use Rattle.csv_sheet.specs.Results.{IsHeadedResult, IsSheetOf}
 use Rattle.csv_sheet.specs.declared.refused.SheetRefused.{SheetRefused}
 use Rattle.csv_sheet.specs.declared.refused.SheetRefused.TheVariants.{UnknownEdition}
-use Rattle.edit_script.specs.Scripts.{IsScript, ScriptValue, ground_of}
-use Rattle.edit_script.specs.declared.script.Mode.{Mode}
-use Rattle.sheet_fill.specs.FilledTexts.{SaysEdit, WritesItself}
-use Rattle.sheet_fill.specs.Filling.{HasNoOthers, HasTooMany, filled}
+use Rattle.sheet_fill.specs.FilledTexts.{WritesItself}
+use Rattle.sheet_fill.specs.Filling.{HasNoOthers, HasTooMany}
 use Rattle.sheet_fill.specs.declared.refused.FillRefused.{FillRefused}
 use Rattle.sheet_fill.specs.declared.refused.FillRefused.TheVariants as refused
 use Rattle.sheet_fill.proofs.FillTextLemmas.{fill_says}
@@ -23,9 +21,9 @@ use Rattle.sheet_model.specs.Edits.{EditValue}
 use Rattle.sheet_model.specs.Fields.{IsContent}
 use Rattle.sheet_model.specs.Sheets.{Computed, Constant, ContentValue, IsSheet, SheetValue, content_of}
 use Rattle.sheet_cli.specs.Answers.{Answer, AnswersFill}
-use Rattle.sheet_cli.specs.Answers.Answer.{output, refusal}
+use Rattle.sheet_cli.specs.Answers.Answer.{refusal}
 use Rattle.sheet_cli.specs.Answers.AnswersFill.{filled_range, elsewhere, none_to_fill, many_to_fill}
-use Rattle.sheet_cli.specs.Filled.{CanFill, FilledTextIsItsEdit, HasPlaces, filled_text}
+use Rattle.sheet_cli.specs.Filled.{FilledTextIsItsEdit, HasPlaces}
 use Rattle.sheet_cli.specs.Lines.{fill_line}
 
 -- in one way

@@ -1,12 +1,12 @@
 -- The words of `gen`, and what is written for them.
-use Rattle.std.proofs.Common.{◌≡◌, ◌≢◌, ℕ, ◌≤◌, List, [], All, refl, sym, ◌∙◌, ap, subst, arith}
+use Rattle.std.proofs.Common.{◌≡◌, ℕ, List, [], All, refl, sym, ap, subst, arith}
 use Rattle.std.specs.Prelude.{Option, Some}
 use Rattle.sheet_cli.specs.Answers.{Answer, AnswersGenerated, AnswersRequest, Owes, TellsTexts}
-use Rattle.sheet_cli.specs.Answers.Answer.{output, refusal}
+use Rattle.sheet_cli.specs.Answers.Answer.{refusal}
 use Rattle.sheet_cli.specs.Answers.AnswersGenerated.{summed}
 use Rattle.sheet_cli.specs.Answers.Owes.{usage, answers}
 use Rattle.sheet_cli.specs.Laws.{GenIsNotRefused, TellsOfGen}
-use Rattle.sheet_cli.specs.Requests.{Request, texts_named}
+use Rattle.sheet_cli.specs.Requests.{texts_named}
 use Rattle.sheet_cli.specs.Requests.Request.{of_generated}
 use Rattle.sheet_cli.specs.Words.{Asks, NamesNoText}
 use Rattle.sheet_cli.proofs.LawLemmas.{no_refusal}

@@ -23,7 +23,7 @@ use Rattle.sheet_cli.specs.Answers.{Answer, AnswersUndo}
 use Rattle.sheet_cli.specs.Answers.Answer.{output, refusal}
 use Rattle.sheet_cli.specs.Answers.AnswersUndo.{undone, no_edit, overtaken}
 use Rattle.sheet_cli.specs.Lines.{overtaken_line, undo_line}
-use Rattle.sheet_cli.specs.Undone.{UndoesEdit, entries_of, entry_by}
+use Rattle.sheet_cli.specs.Undone.{entries_of, entry_by}
 
 -- the entries of steps that are fit for a sheet are for it
 entry_for : (sheet : SheetValue) (client : ℕ) (command : Command) → IsCommandOfSheet sheet command → AreFor sheet (entry_by client command)

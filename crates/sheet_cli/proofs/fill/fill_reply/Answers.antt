@@ -1,4 +1,4 @@
-use Rattle.std.proofs.Common.{◌≡◌, ap, sym, ◌∙◌, subst}
+use Rattle.std.proofs.Common.{ap, sym, ◌∙◌, subst}
 use Rattle.sheet_fill.specs.declared.refused.FillRefused.TheVariants as refused
 use Rattle.window_text.specs.Changes.{batch_text}
 use Rattle.sheet_cli.specs.Answers.{AnswersFill}

@@ -1,4 +1,4 @@
-use Rattle.std.proofs.Common.{◌≡◌, [], ◌∷◌, List, ℕ, refl, rules, subst}
+use Rattle.std.proofs.Common.{◌≡◌, [], ◌∷◌, List, ℕ, rules, subst}
 use Rattle.sheet_cli.specs.Words.{IsAskedBy, bytes_of}
 use Rattle.sheet_cli.proofs.CommandLemmas.{generated_workers, has_workers}
 use Rattle.sheet_cli.proofs.ReplyLemmas.{if_reply, owed_usage, to_words}

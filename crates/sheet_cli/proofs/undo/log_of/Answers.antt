@@ -1,4 +1,4 @@
-use Rattle.std.proofs.Common.{◌≡◌, ◌∙◌, ◌++◌, ◌+◌, drop, sym, ap}
+use Rattle.std.proofs.Common.{◌∙◌, ◌++◌, ◌+◌, drop, sym, ap}
 use Rattle.sheet_cli.specs.Undone.{entries_of}
 use Rattle.sheet_cli.proofs.UndoLemmas.{entries_end, entries_more}
 use Rattle.sheet_cli.proofs.undo.log_of.Goals as goal

@@ -1,4 +1,4 @@
-use Rattle.std.proofs.Common.{◌≡◌, ◌+◌, ◌++◌, drop}
+use Rattle.std.proofs.Common.{◌≡◌, ◌++◌, drop}
 use Rattle.sheet_cli.specs.Undone.{entries_of}
 use Rattle.sheet_cli.proofs.undo.log_of.Given as goal
 

@@ -1,4 +1,4 @@
-use Rattle.std.proofs.Common.{◌≡◌, ap, sym, ◌∙◌, subst}
+use Rattle.std.proofs.Common.{ap, sym, ◌∙◌, subst}
 use Rattle.sheet_undo.specs.Undoing.{AreFor, HasNoEntry, IsOvertaken, Undoes}
 use Rattle.sheet_undo.specs.declared.refused.UndoRefused.TheVariants as refused
 use Rattle.sheet_cli.specs.Answers.{AnswersUndo}
