@@ -17,36 +17,72 @@ use sheet_refs::Memory;
 use std::alloc::Global;
 use std::thread::{Threads, join};
 
-/// What is known of the fields of a text of lines, each part of which is read by one of so many threads.
-pub(crate) fn read_parts<R: Threads + Sync>(
+// What is known of the fields of a text of lines, of which each of so many threads reads a part, and what a work gives
+// that this thread does once it has started them.
+fn read_each<R: Threads + Sync, B, W: FnOnce() -> B>(
     rt: &R,
     alloc: Global,
     edition: Edition,
     text: &[u8],
     threads: usize,
-) -> Result<Ahead, Memory>
+    work: W,
+) -> (Result<Ahead, Memory>, B)
     requires ascii { IsAscii text.now }
     requires short { length text.now ≤ 16777216 }
-    ensures { IfOk result (λ ahead. AreAhead edition (text_fields text.now) (in_lists ahead.items)) }
+    requires work { W.pre work }
+    ensures ahead { IfOk result.0 (λ ahead. AreAhead edition (text_fields text.now) (in_lists ahead.items)) }
+    ensures work { W.post work result.1 }
 {
-    if threads < 2 {
-        return read_list(alloc, edition, text);
+    if threads == 0 {
+        let done = work();
+        return (read_list(alloc, edition, text), done);
     }
-    let half = threads / 2;
-    let rest = threads - half;
-    let (front, back) = split_lines(text, text.len() / threads * half);
-    let (first, second) = join(
+    let (front, back) = split_lines(text, text.len() / threads);
+    let left = threads - 1;
+    let (first, (second, done)) = join(
         rt,
         || -> Result<Ahead, Memory>
-            requires { IsSync R.row × IsAscii front.now × (length front.now ≤ 16777216) }
+            requires { IsAscii front.now × (length front.now ≤ 16777216) }
             ensures { IfOk result (λ ahead. AreAhead edition (text_fields front.entry.now) (in_lists ahead.items)) }
-        { read_parts(rt, alloc, edition, front, half) },
-        || -> Result<Ahead, Memory>
-            requires { IsSync R.row × IsAscii back.now × (length back.now ≤ 16777216) }
-            ensures { IfOk result (λ ahead. AreAhead edition (text_fields back.entry.now) (in_lists ahead.items)) }
-        { read_parts(rt, alloc, edition, back, rest) },
+        { read_list(alloc, edition, front) },
+        || -> (Result<Ahead, Memory>, B)
+            requires { IsSync R.row × W.pre work × IsAscii back.now × (length back.now ≤ 16777216) }
+            ensures { IfOk result.0 (λ ahead. AreAhead edition (text_fields back.entry.now) (in_lists ahead.items))
+                × W.post work result.1 }
+        { read_each(rt, alloc, edition, back, left, work) },
     );
-    joined(first, second)
+    (joined(first, second), done)
+}
+
+/// What is known of the fields of a text of lines, of which each of so many threads reads a part, and what a work gives
+/// that this thread does meanwhile.
+///
+/// The first thread that a thread starts is given that one's own processor by Linux, and stands behind it for as long
+/// as it works. So this thread first starts one that does nothing: those that read find processors that are idle.
+pub(crate) fn read_parts<R: Threads + Sync, B, W: FnOnce() -> B>(
+    rt: &R,
+    alloc: Global,
+    edition: Edition,
+    text: &[u8],
+    threads: usize,
+    work: W,
+) -> (Result<Ahead, Memory>, B)
+    requires ascii { IsAscii text.now }
+    requires short { length text.now ≤ 16777216 }
+    requires work { W.pre work }
+    ensures ahead { IfOk result.0 (λ ahead. AreAhead edition (text_fields text.now) (in_lists ahead.items)) }
+    ensures work { W.post work result.1 }
+{
+    let (_, all) = join(
+        rt,
+        || {},
+        || -> (Result<Ahead, Memory>, B)
+            requires { IsSync R.row × W.pre work × IsAscii text.now × (length text.now ≤ 16777216) }
+            ensures { IfOk result.0 (λ ahead. AreAhead edition (text_fields text.entry.now) (in_lists ahead.items))
+                × W.post work result.1 }
+        { read_each(rt, alloc, edition, text, threads, work) },
+    );
+    all
 }
 
 /// What is known of the fields of a text and of those behind it.

@@ -129,48 +129,47 @@ impl<R: Threads + Sync> LineReader for InThreads<'_, R> {
         }
         let own = text.len() / self.shares();
         let (front, back) = split_lines(text, text.len() - own);
-        let (rt, others) = (self.rt, self.others);
-        let (first, (done, second)) = join(
-            rt,
-            || -> Result<Ahead, Memory>
-                requires { IsSync R.row × IsAscii front.now × (length front.now ≤ 16777216) }
-                ensures { IfOk result
-                    (λ ahead. AreAhead edition (text_fields front.entry.now) (in_lists ahead.items)) }
-            { read_parts(rt, alloc, edition, front, others) },
-            || -> (B, Result<Ahead, Memory>)
-                requires { W.pre work × IsAscii back.now × (length back.now ≤ 16777216) }
-                ensures { W.post work result.0
-                    × IfOk result.1 (λ ahead. AreAhead edition (text_fields back.entry.now) (in_lists ahead.items)) }
-            {
-                let done = work();
-                (done, read_list(alloc, edition, back))
-            },
+        let fill_and_read = || -> (B, Result<Ahead, Memory>)
+            requires { W.pre work × IsAscii back.now × (length back.now ≤ 16777216) }
+            ensures { W.post work result.0
+                × IfOk result.1 (λ ahead. AreAhead edition (text_fields back.entry.now) (in_lists ahead.items)) }
+        {
+            let done = work();
+            (done, read_list(alloc, edition, back))
+        };
+        let (first, (done, second)) = read_parts(
+            self.rt,
+            alloc,
+            edition,
+            front,
+            self.others,
+            fill_and_read,
         );
         (joined(first, second), done)
     }
 }
 
-// What is counted of the lines of a text, each part of which is read by one of so many threads.
+// What is counted of the lines of a text, of which each of so many threads reads a part. This one starts them, one
+// after the other, and waits, so that each finds a processor.
 fn count_parts<R: Threads + Sync>(rt: &R, text: &[u8], threads: usize) -> Option<Lines>
     requires { length text.now ≤ 16777216 }
     ensures { IfSome result (λ lines. IsCountOf text.now lines) }
 {
-    if threads < 2 {
+    if threads == 0 {
         return count_lines(text);
     }
-    let half = threads / 2;
-    let rest = threads - half;
-    let (front, back) = split_lines(text, text.len() / threads * half);
+    let (front, back) = split_lines(text, text.len() / threads);
+    let left = threads - 1;
     let (first, second) = join(
         rt,
         || -> Option<Lines>
-            requires { IsSync R.row × (length front.now ≤ 16777216) }
+            requires { length front.now ≤ 16777216 }
             ensures { IfSome result (λ lines. IsCountOf front.entry.now lines) }
-        { count_parts(rt, front, half) },
+        { count_lines(front) },
         || -> Option<Lines>
             requires { IsSync R.row × (length back.now ≤ 16777216) }
             ensures { IfSome result (λ lines. IsCountOf back.entry.now lines) }
-        { count_parts(rt, back, rest) },
+        { count_parts(rt, back, left) },
     );
     Some(first?.and(&second?))
 }
