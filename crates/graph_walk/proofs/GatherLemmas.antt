@@ -240,6 +240,57 @@ admitted_all old new waited waiting parts range known tiled = record {
   fewer = known.fewer;
 }
 
+same_position : (a b : Position) → a.row ≡ b.row → a.col ≡ b.col → a ≡ b
+same_position a b row col = rw (row, col) refl
+
+-- a range of one cell that a set has adds nothing
+pub one_is_there : (set waiting : List Corners) (range : Corners) → range.head ≡ range.tail → IsAmong set range.head
+    → Gathers set set waiting waiting (λ cell. IsIn cell range)
+one_is_there set waiting range one among = record {
+  added = [];
+  waits = sym (append-nil waiting);
+  gained = λ cell. (λ is. inl is, λ found. elim found [ inl is ↦ is | inr none ↦ absurd (none_among cell none) ]);
+  only = λ cell none. absurd (none_among cell none);
+  all = λ cell inside. subst (λ (p : Position). IsAmong set p) (head_is cell inside) among;
+  fewer = omega arith;
+}
+  where
+    rows : range.head.row ≡ range.tail.row
+    rows = ap (λ (p : Position). p.row) one
+
+    cols : range.head.col ≡ range.tail.col
+    cols = ap (λ (p : Position). p.col) one
+
+    head_is : (cell : Position) → IsIn cell range → range.head ≡ cell
+    head_is cell inside =
+        same_position range.head cell (omega (arith, rows, inside.row_from, inside.row_to))
+        (omega (arith, cols, inside.col_from, inside.col_to))
+
+-- a range whose first cell a set lacks has joined it, and waits
+pub one_is_new : (old new waited waiting : List Corners) (range : Corners) → (IsAmong old range.head → ⊥)
+    → IsOrdered range.head range.tail → IsNamed range.head.row range.head.col → Joins old new range → waiting ≡ waited ++ range ∷ []
+    → Gathers old new waited waiting (λ cell. IsIn cell range)
+one_is_new old new waited waiting range none ordered named joined pushed = record {
+  added = range ∷ [];
+  waits = pushed;
+  gained = λ cell. (
+    λ among. elim ((joined cell).0 among) [ inl is_old ↦ inl is_old | inr inside ↦ inr (alone cell inside) ],
+    λ found. elim found [ inl is_old ↦ (joined cell).1 (inl is_old) | inr new ↦ (joined cell).1 (inr (among_one range cell new)) ],
+  );
+  only = λ cell new. among_one range cell new;
+  all = λ cell inside. (joined cell).1 (inr inside);
+  fewer =
+      let falls : absent new < absent old = absent-falls old new range.head (λ c among. (joined c).1 (inl among)) named none
+      ((joined range.head).1 (inr head_in)) in
+      omega (arith, falls);
+}
+  where
+    alone : (cell : Position) → IsIn cell range → IsAmong (range ∷ []) cell
+    alone cell inside = record { range = range; listed = (0, omega arith, refl); inside = inside }
+
+    head_in : IsIn range.head range
+    head_in = record { row_from = omega arith; row_to = ordered.rows; col_from = omega arith; col_to = ordered.cols }
+
 pub gathers_none : (set waiting : List Corners) → Gathers set set waiting waiting (IsAmong [])
 gathers_none set waiting = record {
   added = [];

@@ -1,12 +1,32 @@
-ghost use Rattle.std.specs.Prelude.{◌<◌, ◌≤◌, length, IfSome, OnOk};
+ghost use Rattle.std.specs.Prelude.{◌≡◌, ◌<◌, ◌≤◌, length, IfSome, OnOk};
 ghost use Rattle.graph_walk.specs.Gathers.{Admits, GathersAll, IsUnionOf, IsRunFrom};
 
 use sheet_refs::{Memory, Range, RectSet};
+
+// Adds a range of one cell to a set, and to the waiting ones if it is new. It takes no list for the parts that are new.
+fn admit_cell(set: &mut RectSet, waiting: &mut Vec<Range>, range: Range) -> Result<(), Memory>
+    requires { range.head ≡ range.tail }
+    ensures { OnOk result (Admits set.old set.new waiting.old.items waiting.new.items range) }
+{
+    let cell = range.head();
+    if set.contains(cell) {
+        return Ok(());
+    }
+    // A new cell has a name, of which there are finitely many: so a walk ends.
+    let row = cell.row();
+    prove!(row >= 1);
+    set.add(range)?;
+    waiting.push(range)?;
+    Ok(())
+}
 
 // Adds the cells of a range to a set, and the ranges of those that are new to the waiting ones.
 fn admit(set: &mut RectSet, waiting: &mut Vec<Range>, range: Range) -> Result<(), Memory>
     ensures { OnOk result (Admits set.old set.new waiting.old.items waiting.new.items range) }
 {
+    if range.head() == range.tail() {
+        return admit_cell(set, waiting, range);
+    }
     let parts = set.new_part(range)?;
     for part in &parts {
         // A part has a cell with a name, of which there are finitely many: so a walk ends.

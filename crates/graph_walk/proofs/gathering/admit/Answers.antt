@@ -7,11 +7,11 @@ use Rattle.graph_walk.proofs.gathering.admit.Goals as goal
 pub loop-part-preserved : goal.loop-part-preserved
 loop-part-preserved c =
     let tiled : Tile c.deref-part-items.result.now (IsNew c.args.set.now c.args.range) = rw c.deref-part-items.ensures.value c.in_ok-parts.ensures in
-    let head : c.head.result ≡ c.part-item.result.head = c.head.ensures.head in
+    let head : c.head-in-loop-part.result ≡ c.part-item.result.head = c.head-in-loop-part.ensures.head in
     let named : IsNamed c.part-item.result.head.row c.part-item.result.head.col = rw (← head) c.row-row.ensures.named in
     admitted_more c.args.set.now c.loop-part.set c.add.new.self c.args.waiting.now.items c.loop-part.waiting.items
     c.push.new.self.items c.deref-part-items.result.now c.args.range c.loop-part.part-index c.part-item.result
-    c.loop-part.invariant tiled (search rules) c.part-item.is c.head.ensures.ordered named c.in_ok-add.ensures.joined c.in_ok-push.ensures.items
+    c.loop-part.invariant tiled (search rules) c.part-item.is c.head-in-loop-part.ensures.ordered named c.in_ok-add.ensures.joined c.in_ok-push.ensures.items
 
 pub returns : goal.returns
 returns c =
