@@ -1,6 +1,6 @@
 ghost use Rattle.std.specs.Prelude.{◌≡◌, ◌↔◌, ◌<◌, ◌≤◌, ◌^◌, ◌-◌, ◌*◌};
-ghost use Rattle.std.specs.Prelude.{◌+◌, ◌⊎◌, [], ◌∷◌, ◌++◌, ℕ};
-ghost use Rattle.std.specs.Prelude.{length, slice_index_or, IfOk, IfSome, IsTrue, MatchOption};
+ghost use Rattle.std.specs.Prelude.{◌+◌, ◌⊎◌, [], ◌∷◌, ◌++◌};
+ghost use Rattle.std.specs.Prelude.{length, IfOk, IfSome, IsTrue, MatchOption};
 ghost use Rattle.csv.specs.Reading.{AreRecords, default_config};
 ghost use Rattle.csv.specs.Records.{fields_of, AllText};
 ghost use Rattle.csv.specs.declared.parser.State.TheVariants.{StartRecord};

@@ -1,4 +1,4 @@
-ghost use Rattle.std.specs.Prelude.{◌≡◌, map, reverse, IfOk, MatchOption};
+ghost use Rattle.std.specs.Prelude.{map, reverse, IfOk, MatchOption};
 ghost use Rattle.graph_walk.specs.Graphs.{Reach};
 ghost use Rattle.dep_path.specs.Chains.{IsShortest};
 ghost use Rattle.dep_path.specs.Levels.{LeadOut, one_cell};

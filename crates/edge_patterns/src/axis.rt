@@ -1,6 +1,5 @@
 // The two directions of a run, so that a row is treated as a column is.
 ghost use Rattle.std.specs.Prelude.{◌≡◌, ◌+◌, ◌-◌, ◌<◌, ◌≤◌, ◌↔◌, IsTrue};
-ghost use Rattle.sheet_refs.specs.Cells.{IsOrdered};
 ghost use Rattle.edge_patterns.specs.Axes.{along, across, position_at, slice_of, IsLine, axis_of};
 ghost use Rattle.edge_patterns.specs.Axes.{count_along};
 ghost use Rattle.edge_patterns.specs.Edges.{HasName, IsRange};

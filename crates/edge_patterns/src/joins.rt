@@ -2,7 +2,7 @@
 ghost use Rattle.std.specs.Prelude.{◌≡◌, ◌≢◌, ◌+◌, ◌-◌, ◌<◌, ◌≤◌, ◌↔◌, IsTrue};
 ghost use Rattle.sheet_refs.specs.Names.{Finds};
 ghost use Rattle.edge_patterns.specs.Axes.{IsLine, along, count_along};
-ghost use Rattle.edge_patterns.specs.Edges.{run_length, IsBeside, steps_if, head_moves, tail_moves};
+ghost use Rattle.edge_patterns.specs.Edges.{run_length, IsBeside, head_moves, tail_moves};
 ghost use Rattle.edge_patterns.specs.Joins.{Follows, HasBothPairs, IsJoin, HasEnds, HasInnerRanges};
 ghost use Rattle.edge_patterns.specs.Joins.{IsAsWide, Moves, GoesDown};
 ghost use Rattle.edge_patterns.specs.declared.axis.Axis.TheVariants.{Down};

@@ -1,10 +1,7 @@
 // What an edge tells of its dependents and its precedents.
-ghost use Rattle.std.specs.Prelude.{◌≡◌, ◌≢◌, ℕ, ◌<◌, ◌≤◌, ◌↔◌, MatchOption};
-ghost use Rattle.sheet_refs.specs.Cells.{IsIn};
-ghost use Rattle.sheet_refs.specs.Rectangles.{Overlap};
+ghost use Rattle.std.specs.Prelude.{◌≡◌, ◌≢◌, ◌<◌, ◌≤◌};
 ghost use Rattle.edge_patterns.specs.Axes.{along, axis_of};
-ghost use Rattle.edge_patterns.specs.Edges.{IsEdge, run_length, first_along, last_along, run_cell};
-ghost use Rattle.edge_patterns.specs.Edges.{range_at};
+ghost use Rattle.edge_patterns.specs.Edges.{IsEdge, run_length};
 ghost use Rattle.edge_patterns.specs.Indices.{IsFirst, IsLast, EndsFrom, BeginsBy, FindsIndices};
 ghost use Rattle.edge_patterns.specs.Indices.{IsHit, IsAsked};
 ghost use Rattle.edge_patterns.specs.Queries.{Covers, IsDirect, IsSpreadTo, IsReferred, IsLedTo};

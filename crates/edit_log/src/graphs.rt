@@ -1,4 +1,4 @@
-ghost use Rattle.std.specs.Prelude.{◌≡◌, ◌≤◌, ◌+◌, IfOk, OnOk};
+ghost use Rattle.std.specs.Prelude.{◌≤◌, ◌+◌, IfOk, OnOk};
 ghost use Rattle.graph_walk.specs.Graphs.{Replaces};
 ghost use Rattle.edit_log.specs.Pairs.{ArePairsOf, HasNoPairs, HasPairsBefore};
 ghost use Rattle.edit_log.specs.Runs.{AreAdded, IsListed, IsRunOf};

@@ -1,5 +1,4 @@
-ghost use Rattle.std.specs.Prelude.{◌≡◌, ◌≤◌, length};
-ghost use Rattle.sheet_refs.specs.Sizes.{cell_count};
+ghost use Rattle.std.specs.Prelude.{◌≤◌, length};
 ghost use Rattle.sheet_model.specs.Edits.{AreInSheet, after_edit};
 ghost use Rattle.sheet_model.specs.Sheets.{SheetValue};
 ghost use Rattle.edit_log.specs.Books.{HaveRefs};

@@ -1,4 +1,4 @@
-ghost use Rattle.std.specs.Prelude.{◌≡◌, ◌<◌, ◌≤◌, ◌+◌, ◌^◌, IfOk, IfErr, IfSome};
+ghost use Rattle.std.specs.Prelude.{◌<◌, ◌≤◌, ◌+◌, ◌^◌, IfOk, IfErr, IfSome};
 ghost use Rattle.formula_eval.specs.Blocks.{IsLine, line_of};
 ghost use Rattle.formula_eval.specs.Sums.{AddsWords, IsFirstError, tally_of};
 ghost use Rattle.formula_eval.specs.Tallies.{IsBounded};

@@ -1,5 +1,5 @@
 ghost use Rattle.std.specs.Prelude.{◌≡◌, ◌++◌, ◌+◌, ◌<◌, ◌∷◌, []};
-ghost use Rattle.std.specs.Prelude.{List, IfOk, OnOk, IsSome};
+ghost use Rattle.std.specs.Prelude.{List, IfOk, OnOk};
 ghost use Rattle.sheet_refs.specs.Cells.{Corners};
 ghost use Rattle.formula_syntax.specs.Tree.{tree_of, trees_of, references_of, all_references};
 ghost use Rattle.formula_syntax.specs.Listing.{IsOnceEach, head_place as place_of_head, ranges_of};

@@ -1,6 +1,5 @@
-ghost use Rattle.std.specs.Prelude.{◌≡◌, ◌≤◌, ◌+◌, ◌∷◌, [], false, IfOk, MatchOption};
-ghost use Rattle.formula_syntax.specs.Formula.{IsFormula};
-ghost use Rattle.formula_syntax.specs.Grammar.{level_of, sign_written};
+ghost use Rattle.std.specs.Prelude.{◌≡◌, ◌≤◌, ◌+◌, false, IfOk, MatchOption};
+ghost use Rattle.formula_syntax.specs.Grammar.{sign_written};
 ghost use Rattle.formula_syntax.specs.Lexing.{operator_text};
 ghost use Rattle.formula_syntax.specs.Left.{HasLeft, HasNoLeft, SendsFront, below, level_below};
 ghost use Rattle.formula_syntax.specs.Left.{closing, leaf_text, opening, right_text, text_behind};

@@ -1,7 +1,7 @@
 ghost use Rattle.std.specs.Prelude.{◌≡◌, ◌+◌, ◌<◌, ◌++◌, map, string_bytes, IfOk, OnOk};
 ghost use Rattle.live_gen.specs.Draws.{draws_after};
 ghost use Rattle.live_gen.specs.Generated.{client_names, drawn_edit, firm_window};
-ghost use Rattle.live_gen.specs.Generated.{drawn_before, edit_steps, generated_script, steps_of};
+ghost use Rattle.live_gen.specs.Generated.{drawn_before, edit_steps, generated_script};
 
 use crate::draws::Draws;
 use edit_script::{Command, Script, Step};

@@ -4,12 +4,11 @@ use Rattle.std.specs.List.{AllZip}
 use Rattle.std.proofs.lemmas.Bool.{cases_eq}
 use Rattle.std.proofs.Math.Seq.{take-nil}
 use Rattle.std.proofs.lemmas.List.Elements.{All-head, All-tail}
-use Rattle.sheet_model.specs.Edits.{EditValue}
 use Rattle.sheet_model.specs.Sheets.{SheetValue}
 use Rattle.sheet_model.specs.declared.entry.Entry.{Entry}
 use Rattle.edit_script.specs.declared.script.Command.{Command}
 use Rattle.sheet_model.specs.declared.report.Report.{Report}
-use Rattle.live_run.specs.Legal.{Answers, HasFollowed, LookAsked, edits_asked, edits_by, looks_asked, numbers_from, numbers_by}
+use Rattle.live_run.specs.Legal.{Answers, HasFollowed, edits_by, looks_asked, numbers_from}
 use Rattle.live_run.specs.Laws.{CoversOwnEdits}
 use Rattle.live_run.proofs.NumberLemmas.{number_first, number_later, own_first, own_later}
 use Rattle.live_run.proofs.ZipLemmas.{zip_map}

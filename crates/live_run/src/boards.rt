@@ -1,4 +1,4 @@
-ghost use Rattle.std.specs.Prelude.{◌≡◌, ◌≤◌, length, IfOk, OnOk};
+ghost use Rattle.std.specs.Prelude.{◌≤◌, length, IfOk, OnOk};
 ghost use Rattle.sheet_refs.specs.Cells.{cells_of};
 ghost use Rattle.live_run.specs.Parts.{AddsReport, IsAnswerable, IsReportOf};
 

@@ -1,4 +1,4 @@
-ghost use Rattle.std.specs.Prelude.{◌≡◌, ◌<◌, ◌≤◌, length, map, string_bytes, All, IfOk};
+ghost use Rattle.std.specs.Prelude.{◌≡◌, ◌<◌, ◌≤◌, map, string_bytes, IfOk};
 ghost use Rattle.window_text.specs.Transcripts.{IsWhole, transcript_value};
 ghost use Rattle.live_run.specs.Legal.{IsLegalTranscript};
 ghost use Rattle.live_run.specs.Runs.{IsRunnable};

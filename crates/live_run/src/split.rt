@@ -1,4 +1,4 @@
-ghost use Rattle.std.specs.Prelude.{◌≡◌, length, IfOk};
+ghost use Rattle.std.specs.Prelude.{◌≡◌, IfOk};
 ghost use Rattle.live_run.specs.Legal.{commands_by as commands_of_client};
 ghost use Rattle.live_run.specs.Parts.{AreAnswerable, ArePartsOf, AreStepsAnswerable, IsPartOf};
 ghost use Rattle.live_run.specs.Runs.{AreReportsFor};

@@ -1,4 +1,4 @@
-ghost use Rattle.std.specs.Prelude.{◌≡◌, length, All};
+ghost use Rattle.std.specs.Prelude.{All};
 ghost use Rattle.std.specs.Thread.{IsSync};
 ghost use Rattle.live_run.specs.Client.{Begins};
 ghost use Rattle.live_run.specs.Tasks.{AllEnd, IsEndOf};

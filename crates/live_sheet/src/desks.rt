@@ -1,4 +1,4 @@
-ghost use Rattle.std.specs.Prelude.{◌≡◌, ◌≤◌, ◌<◌, ◌+◌, [], length, All, IfOk};
+ghost use Rattle.std.specs.Prelude.{◌≡◌, ◌<◌, length, All, IfOk};
 ghost use Rattle.live_sheet.specs.Held.{IsDeskIn};
 ghost use Rattle.live_sheet.specs.Opened.{IsNewDesk, IsNewSeat};
 ghost use Rattle.recalc_workers.specs.Hands.{IsNewHand};

@@ -1,7 +1,7 @@
 ghost use Rattle.std.specs.Prelude.{◌≡◌, ◌≤◌, ◌<◌, length, IsTrue};
 ghost use Rattle.edit_log.specs.Rows.{IsInside};
 ghost use Rattle.sheet_refs.specs.Cells.{IsIn, Position, cells_of};
-ghost use Rattle.sheet_refs.specs.Sizes.{cell_count, is_inside, place_of};
+ghost use Rattle.sheet_refs.specs.Sizes.{cell_count, is_inside};
 ghost use Rattle.mark_words.specs.Tokens.{IsSeatOf, subject_of, places_of, view_of, log_of};
 ghost use Rattle.recalc_workers.specs.Settling.{KeepsEditor, KnowsPlace};
 ghost use Rattle.sheet_model.specs.Logs.{after, IsOfSheet};

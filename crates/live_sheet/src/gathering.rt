@@ -1,4 +1,4 @@
-ghost use Rattle.std.specs.Prelude.{◌≡◌, ◌≤◌, ◌+◌, [], length, All, vec_len, vec_capacity, Contains};
+ghost use Rattle.std.specs.Prelude.{◌≡◌, ◌≤◌, ◌+◌, [], length, All, vec_capacity, Contains};
 ghost use Rattle.live_sheet.specs.Closed.{IsPassIn, accepted_count};
 ghost use Rattle.live_sheet.specs.Held.{IsFreeSeat};
 

@@ -1,4 +1,4 @@
-ghost use Rattle.std.specs.Prelude.{◌≡◌, ◌<◌, length, map, All, OnOk};
+ghost use Rattle.std.specs.Prelude.{◌<◌, length, map, All, OnOk};
 ghost use Rattle.mark_words.specs.Tokens.{IsSeatOf, subject_of, view_of};
 ghost use Rattle.recalc_workers.specs.Settling.{AreDesksOf, AreInside, Each, IsDeskAfter};
 ghost use Rattle.recalc_workers.specs.Settling.{IsEditorOf, KeepsEditor, KnowsCells};

@@ -7,15 +7,14 @@ ghost use Rattle.sheet_refs.specs.Sizes.{is_inside};
 ghost use Rattle.edit_log.specs.Refusals.{IsCause, IsFirstOutside};
 ghost use Rattle.edit_log.specs.declared.refused.PrepareRefused.TheVariants as refused;
 ghost use Rattle.sheet_refs.specs.Cells.{Position};
-ghost use Rattle.sheet_model.specs.Edits.{AreInSheet, HaveLabels};
+ghost use Rattle.sheet_model.specs.Edits.{HaveLabels};
 ghost use Rattle.mark_core.specs.Marks.{IsPrefix};
-ghost use Rattle.mark_words.specs.Tokens.{own_steps, log_of, seen_of, edits_of, doing_of};
+ghost use Rattle.mark_words.specs.Tokens.{own_steps, log_of, seen_of, edits_of};
 ghost use Rattle.live_sheet.specs.Edited.{IsCommitted, IsRefusal, IsRefusedAs, IsSamePass, IsToldLog};
 ghost use Rattle.live_sheet.specs.declared.committed.EditRefused.TheVariants as refusal;
 ghost use Rattle.live_sheet.specs.Edits.{marks_of};
 ghost use Rattle.live_sheet.specs.Graphs.{live_pairs};
 ghost use Rattle.live_sheet.specs.Held.{AreWordsOf};
-ghost use Rattle.live_sheet.specs.Passes.{client_of};
 ghost use Rattle.live_sheet.specs.Steps.{StepsAre, saw, committed};
 
 use crate::committed::EditRefused;

@@ -1,9 +1,9 @@
-ghost use Rattle.std.specs.Prelude.{◌≡◌, ◌≤◌, ◌<◌, length, take};
+ghost use Rattle.std.specs.Prelude.{◌≡◌, ◌≤◌, ◌<◌, length};
 ghost use Rattle.edit_log.specs.Rows.{IsInside};
 ghost use Rattle.sheet_refs.specs.Cells.{cells_of};
 ghost use Rattle.sheet_refs.specs.Sizes.{cell_count};
 ghost use Rattle.sheet_model.specs.Boards.{begun_board};
-ghost use Rattle.mark_words.specs.Tokens.{IsSeatOf, places_of, seen_of};
+ghost use Rattle.mark_words.specs.Tokens.{IsSeatOf, places_of};
 ghost use Rattle.live_sheet.specs.Looks.{HasLooked, HasReadCells};
 ghost use Rattle.live_sheet.specs.Passes.{IsLookOf};
 

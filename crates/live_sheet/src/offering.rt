@@ -1,4 +1,4 @@
-ghost use Rattle.std.specs.Prelude.{◌≡◌, All, IsTrue};
+ghost use Rattle.std.specs.Prelude.{All, IsTrue};
 ghost use Rattle.sheet_refs.specs.Sizes.{is_inside};
 ghost use Rattle.recalc_workers.specs.Hands.{IsHandOf, sizes_of};
 ghost use Rattle.live_sheet.specs.Edited.{AreOffered};

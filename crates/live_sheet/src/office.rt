@@ -1,5 +1,4 @@
-ghost use Rattle.std.specs.Prelude.{◌≡◌, ◌≤◌, length, IfOk, IsTrue};
-ghost use Rattle.sheet_refs.specs.Sizes.{is_inside};
+ghost use Rattle.std.specs.Prelude.{◌≡◌, ◌≤◌, length, IfOk};
 ghost use Rattle.mark_words.specs.Tokens.{log_of, seen_of};
 ghost use Rattle.recalc_workers.specs.Offices.{IsTaskFor, TellsCycle};
 ghost use Rattle.recalc_workers.specs.Seats.{HasDoneNothing, Keeps};

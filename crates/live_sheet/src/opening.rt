@@ -1,9 +1,6 @@
-ghost use Rattle.std.specs.Prelude.{◌≡◌, ◌≤◌, ◌<◌, ◌+◌, length, All, IfOk};
-ghost use Rattle.edit_log.specs.Books.{IsOpenedWith};
-ghost use Rattle.live_sheet.specs.Held.{IsDeskIn};
+ghost use Rattle.std.specs.Prelude.{◌≡◌, ◌<◌, length, All, IfOk};
 ghost use Rattle.live_sheet.specs.Opened.{AreNewPasses, IsNewDesk, OpensWith};
 ghost use Rattle.live_sheet.specs.Setups.{IsNamedBy, setup_workers};
-ghost use Rattle.live_sheet.specs.Starts.{IsStart};
 
 use crate::desks::{new_desks, settling_desks};
 use crate::graph::LiveGraph;

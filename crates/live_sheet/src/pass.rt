@@ -1,5 +1,5 @@
-ghost use Rattle.std.specs.Prelude.{◌≡◌, ◌<◌, false, vec_len};
-ghost use Rattle.mark_words.specs.Tokens.{log_of, is_editor};
+ghost use Rattle.std.specs.Prelude.{◌≡◌, ◌<◌, vec_len};
+ghost use Rattle.mark_words.specs.Tokens.{log_of};
 ghost use Rattle.live_sheet.specs.Accepted.{AreAccepted};
 ghost use Rattle.live_sheet.specs.Held.{IsFreeSeat, IsHandIn};
 

@@ -1,11 +1,6 @@
-ghost use Rattle.std.specs.Prelude.{◌≡◌, ◌≤◌, ◌<◌, ◌+◌, [], length, true, false, IfOk, OnErr};
-ghost use Rattle.sheet_refs.specs.Sizes.{cell_count};
-ghost use Rattle.mark_words.specs.Opened.{HasOpened};
-ghost use Rattle.mark_words.specs.Tokens.{IsSeatOf, table_of, subject_of, topic_of, doing_of};
-ghost use Rattle.mark_words.specs.Tokens.{places_of, is_editor};
-ghost use Rattle.mark_words.specs.Doing.{first_doing};
-ghost use Rattle.recalc_workers.specs.Hands.{IsHandOf, IsNewHand, sizes_of};
-ghost use Rattle.live_sheet.specs.Held.{IsFreeSeat, IsHandIn, queue_of};
+ghost use Rattle.std.specs.Prelude.{◌≡◌, ◌≤◌, ◌<◌, ◌+◌, length, IfOk};
+ghost use Rattle.recalc_workers.specs.Hands.{IsNewHand};
+ghost use Rattle.live_sheet.specs.Held.{IsFreeSeat, IsHandIn};
 ghost use Rattle.live_sheet.specs.Opened.{IsNewPass, IsNewSeat, AreNewPasses};
 ghost use Rattle.live_sheet.specs.Starts.{IsStart};
 

@@ -1,4 +1,4 @@
-ghost use Rattle.std.specs.Prelude.{◌≡◌, ◌<◌, ◌++◌};
+ghost use Rattle.std.specs.Prelude.{◌≡◌, ◌<◌};
 ghost use Rattle.mark_words.specs.Tokens.{IsSeatOf, places_of, doing_of, own_steps};
 ghost use Rattle.live_sheet.specs.Looks.{after_read, loads_made, ShowsLoads};
 ghost use Rattle.live_sheet.specs.Steps.{StepsAre};

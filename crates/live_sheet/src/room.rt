@@ -1,4 +1,4 @@
-ghost use Rattle.std.specs.Prelude.{◌≡◌, IfOk};
+ghost use Rattle.std.specs.Prelude.{IfOk};
 ghost use Rattle.live_sheet.specs.Rooms.{IsRoomFor};
 
 use edit_log::OverSheet;

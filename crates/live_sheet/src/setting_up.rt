@@ -1,4 +1,4 @@
-ghost use Rattle.std.specs.Prelude.{◌≡◌, ◌≤◌, ℕ, IfOk};
+ghost use Rattle.std.specs.Prelude.{◌≤◌, IfOk};
 ghost use Rattle.mark_words.specs.Opened.{HasOpened};
 ghost use Rattle.sheet_refs.specs.Sizes.{cell_count};
 ghost use Rattle.live_sheet.specs.Openings.{opening_codes as codes_at_opening};

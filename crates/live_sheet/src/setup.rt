@@ -1,4 +1,4 @@
-ghost use Rattle.std.specs.Prelude.{◌≡◌, ◌≤◌, ◌+◌, []};
+ghost use Rattle.std.specs.Prelude.{◌≡◌, ◌≤◌, ◌+◌};
 ghost use Rattle.edit_log.specs.Books.{IsOpenedWith};
 ghost use Rattle.mark_words.specs.Opened.{HasOpened};
 ghost use Rattle.recalc_workers.specs.Hands.{sizes_of, IsHandOf};

@@ -2,7 +2,7 @@ ghost use Rattle.std.specs.Bool.{OnTrue};
 ghost use Rattle.std.specs.Prelude.{◌≡◌, ◌≤◌, ◌<◌, IfOk, IsTrue, OnOk};
 ghost use Rattle.sheet_refs.specs.Cells.{IsIn, Position};
 ghost use Rattle.sheet_refs.specs.Rectangles.{AreDisjoint, IsAmong};
-ghost use Rattle.sheet_refs.specs.Sizes.{cell_count, is_inside, place_of};
+ghost use Rattle.sheet_refs.specs.Sizes.{cell_count, is_inside};
 ghost use Rattle.mark_words.specs.Tokens.{IsSeatOf, subject_of, places_of, view_of};
 ghost use Rattle.recalc_workers.specs.Settling.{KeepsEditor, KnowsPlace};
 ghost use Rattle.live_sheet.specs.Stale.{AddsStale, IsFree, IsListedOr, KnowsAllBut, KnowsCell};

@@ -1,4 +1,3 @@
-ghost use Rattle.std.specs.Prelude.{◌≤◌};
 ghost use Rattle.live_sheet.specs.Setups.{IsNamedBy};
 
 use crate::fields::{four_cells, sheet_of};

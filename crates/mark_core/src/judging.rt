@@ -1,14 +1,12 @@
 #![tactic(auto)]
 
 ghost use Rattle.std.specs.Prelude.{◌≡◌, ◌<◌, ◌+◌, ◌↔◌, ◌⊎◌};
-ghost use Rattle.std.specs.Prelude.{◌^◌, ◌≤◌, ℕ, length, IsTrue, IfOk};
+ghost use Rattle.std.specs.Prelude.{◌≤◌, ℕ, length, IsTrue, IfOk};
 ghost use Rattle.std.specs.Prelude.{Contains, Any, Some, None};
 ghost use Rattle.mark_core.specs.declared.events.Event.{Event};
 ghost use Rattle.mark_core.specs.Marks.{IsTouched, IsLastMark, NoneTouches};
-ghost use Rattle.mark_core.specs.States.{State, view_at};
 ghost use Rattle.mark_core.specs.Cores.{state_of, Allows};
-ghost use Rattle.mark_core.specs.Permissions.{IsLive, MayMark, MayCommit, MayJoin, MayClaim, MayPut};
-ghost use Rattle.mark_core.specs.Permissions.{MayFinish, IsWorthKnown, IsWorthMarked, IsGround};
+ghost use Rattle.mark_core.specs.Permissions.{IsWorthKnown, IsWorthMarked, IsGround};
 ghost use Rattle.mark_core.specs.Permissions.{IsMarkedHold, Belong};
 
 use crate::events::Event;

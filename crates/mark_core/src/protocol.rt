@@ -1,7 +1,7 @@
 #![tactic(auto)]
 
 ghost use Rattle.std.specs.Prelude.{◌≡◌, ◌↔◌, IsTrue, ◌<◌, ◌^◌, length, IfOk, OnErr};
-ghost use Rattle.mark_core.specs.States.{State, opening_state};
+ghost use Rattle.mark_core.specs.States.{opening_state};
 ghost use Rattle.mark_core.specs.Cores.{state_of, subject_of, Allows, Steps};
 ghost use Rattle.mark_core.specs.Permissions.{HasRoom};
 ghost use Rattle.mark_core.specs.Runs.{IsOpening};

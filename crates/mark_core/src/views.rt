@@ -1,8 +1,8 @@
 #![tactic(auto)]
 
-ghost use Rattle.std.specs.Prelude.{◌≡◌, ◌+◌, ◌<◌, ◌^◌, ◌∷◌, []};
+ghost use Rattle.std.specs.Prelude.{◌≡◌, ◌+◌, ◌<◌, ◌^◌, []};
 ghost use Rattle.std.specs.Prelude.{max, ℕ, All, IfOk, OnOk, OnErr};
-ghost use Rattle.std.specs.Prelude.{IsTrue, map, length};
+ghost use Rattle.std.specs.Prelude.{map};
 ghost use Rattle.mark_core.specs.declared.actors.View.{View};
 ghost use Rattle.mark_core.specs.States.{spent_with, new_view};
 ghost use Rattle.mark_core.specs.Views.{with_count, split_off, union_with, floor_of, with_half};

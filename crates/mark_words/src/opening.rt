@@ -1,7 +1,7 @@
 #![tactic(auto)]
 
 ghost use Rattle.std.specs.Prelude.{◌≡◌, ◌≤◌, ◌++◌, ◌∷◌, []};
-ghost use Rattle.std.specs.Prelude.{Option, ℕ, length, map, IfOk, OnOk};
+ghost use Rattle.std.specs.Prelude.{Option, length, map, IfOk, OnOk};
 ghost use Rattle.mark_core.specs.Runs.{IsOpening};
 ghost use Rattle.mark_words.specs.Words.{opening_words};
 ghost use Rattle.mark_words.specs.Opened.{HasOpened};

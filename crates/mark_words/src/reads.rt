@@ -1,7 +1,6 @@
 #![tactic(auto)]
 
-ghost use Rattle.std.specs.Prelude.{◌≡◌, ◌≤◌, ◌<◌, length, Some, None, true};
-ghost use Rattle.mark_core.specs.declared.words.Half.{Half};
+ghost use Rattle.std.specs.Prelude.{◌≡◌, ◌≤◌, ◌<◌, length, None, true};
 ghost use Rattle.mark_core.specs.Views.{new_half};
 ghost use Rattle.mark_core.specs.Growth.{BeginsRead};
 ghost use Rattle.mark_words.specs.Doing.{with_clean_read, with_value_read, with_mark_read};
@@ -9,7 +8,7 @@ ghost use Rattle.mark_words.specs.Tokens.{IsSeatOf, subject_of, places_of};
 ghost use Rattle.mark_core.specs.declared.events.Event.TheVariants.{ReadClean, ReadValue, ReadMark};
 ghost use Rattle.mark_words.specs.Steps.{OneMore};
 ghost use Rattle.mark_words.specs.Words.{word_of_clean};
-ghost use Rattle.mark_words.specs.Tokens.{doing_of, own_steps, view_of, log_of, edits_of, half_of, is_editor};
+ghost use Rattle.mark_words.specs.Tokens.{doing_of, own_steps, view_of, log_of, edits_of, is_editor};
 ghost use Rattle.mark_words.specs.Reads.{GoesOn, Ends, TellsOfRead, LearnsClean};
 
 use crate::codes::clean_of;

@@ -1,7 +1,6 @@
 #![tactic(auto)]
 
-ghost use Rattle.std.specs.Prelude.{◌≡◌, ◌<◌, [], true, false, length, slice_index_or, slice_set};
-ghost use Rattle.std.specs.Option.{ForSome};
+ghost use Rattle.std.specs.Prelude.{◌≡◌, ◌<◌, [], false, length, slice_index_or, slice_set};
 ghost use Rattle.mark_words.specs.EditorMarks.{HasEditorMarks, KnowsAll, FitsWords};
 
 use crate::tables::History;

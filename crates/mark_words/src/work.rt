@@ -1,6 +1,6 @@
 #![tactic(auto)]
 
-ghost use Rattle.std.specs.Prelude.{◌≡◌, ◌≢◌, ◌<◌, ◌+◌, ◌*◌, ℕ, List, IfOk, IfErr};
+ghost use Rattle.std.specs.Prelude.{◌≡◌, ◌≢◌, ◌<◌, ◌+◌, ◌*◌, List, IfOk, IfErr};
 ghost use Rattle.mark_core.specs.Knows.{KnowsClean};
 ghost use Rattle.mark_core.specs.Marks.{IsLastMark};
 ghost use Rattle.mark_core.specs.Permissions.{MayClaim, MayPut, MayFinish};

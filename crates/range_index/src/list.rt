@@ -1,5 +1,5 @@
 // The slow and plain index.
-ghost use Rattle.std.specs.Prelude.{◌≡◌, ◌<◌, ◌↔◌, MatchOption, length, slice_index_or};
+ghost use Rattle.std.specs.Prelude.{◌<◌, MatchOption};
 ghost use Rattle.range_index.specs.Entries.{HasNoId, IsPlaceOf};
 
 use crate::index::{InsertOrder, RangeIndex};

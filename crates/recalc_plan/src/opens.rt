@@ -1,5 +1,5 @@
 ghost use Rattle.std.specs.Prelude.{◌≡◌, ◌≤◌, MatchOption};
-ghost use Rattle.sheet_refs.specs.Cells.{IsIn, IsNamed, Position};
+ghost use Rattle.sheet_refs.specs.Cells.{IsIn, IsNamed};
 ghost use Rattle.recalc_plan.specs.Opens.{AreCells, IsLastIn, IsLastUpTo, IsNowhereIn, IsOpen};
 ghost use Rattle.recalc_plan.specs.Opens.{NoneUpTo};
 ghost use Rattle.recalc_plan.specs.Opens.{name_place, place_at};

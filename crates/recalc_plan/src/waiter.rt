@@ -1,4 +1,4 @@
-ghost use Rattle.std.specs.Prelude.{◌≡◌, MatchOption};
+ghost use Rattle.std.specs.Prelude.{MatchOption};
 ghost use Rattle.recalc_plan.specs.Opens.{AreCells, FindsOpen, HasNoneLeft, LooksOn};
 
 use crate::opens::{Open, open_in};

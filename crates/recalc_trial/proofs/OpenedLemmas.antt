@@ -1,9 +1,9 @@
 -- Words over a sheet as they open.
-use Rattle.std.proofs.Common.{◌≡◌, [], ◌∙◌, sym, ap, subst}
+use Rattle.std.proofs.Common.{◌≡◌, ◌∙◌, sym, ap}
 use Rattle.sheet_refs.specs.Sizes.{cell_count}
 use Rattle.mark_words.specs.declared.marks.Marks.{Marks}
 use Rattle.mark_words.specs.declared.seats.Seat.{Seat}
-use Rattle.mark_words.specs.Tokens.{log_of, places_of, subject_of}
+use Rattle.mark_words.specs.Tokens.{places_of, subject_of}
 use Rattle.sheet_model.specs.Logs.{after}
 use Rattle.sheet_model.specs.Sheets.{SheetValue}
 use Rattle.sheet_model.specs.declared.entry.Entry.{Entry}

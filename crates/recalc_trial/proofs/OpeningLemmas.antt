@@ -1,11 +1,11 @@
 -- The codes with which the words of a sheet open.
-use Rattle.std.proofs.Common.{◌≡◌, ◌<◌, ◌+◌, ℕ, List, [], ◌∷◌, ◌++◌, Option, Some, None, length, refl, sym, ◌∙◌, ap, subst, inl, inr, arith, length-append}
-use Rattle.std.specs.Prelude.{slice_get, IfSome, IsTrue}
+use Rattle.std.proofs.Common.{◌≡◌, ◌+◌, ℕ, List, [], ◌∷◌, ◌++◌, Option, Some, None, refl, sym, ◌∙◌, ap, subst, inl, inr, arith, length-append}
+use Rattle.std.specs.Prelude.{IfSome, IsTrue}
 use Rattle.std.proofs.lemmas.Option.{same_Some, none-some}
 use Rattle.sheet_refs.specs.Cells.{Position}
 use Rattle.sheet_refs.specs.Sizes.{is_inside, place_of}
 use Rattle.value_core.specs.Values.{code_of}
-use Rattle.sheet_model.specs.Sheets.{SheetValue, ContentValue, Constant, IsSheet, content_of}
+use Rattle.sheet_model.specs.Sheets.{SheetValue, IsSheet, content_of}
 use Rattle.sheet_model.specs.Values.{value_of, step_content}
 use Rattle.sheet_model.proofs.ListLemmas.{slice_get-pushed}
 use Rattle.sheet_model.proofs.SheetValues.{one_step}

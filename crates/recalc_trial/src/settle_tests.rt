@@ -1,6 +1,6 @@
 // What no clause says: that settling answers Ok where memory is ample, with one desk and with many, and that the words
 // are the values' then.
-ghost use Rattle.std.specs.Prelude.{◌≡◌, ◌<◌, ◌≤◌, length, All, IfOk, OnOk, IsTrue, None, vec_len};
+ghost use Rattle.std.specs.Prelude.{◌≡◌, ◌<◌, All, IfOk, OnOk, IsTrue, None, vec_len};
 ghost use Rattle.sheet_refs.specs.Sizes.{cell_count};
 ghost use Rattle.mark_words.specs.Tokens.{IsSeatOf, doing_of, places_of};
 ghost use Rattle.recalc_workers.specs.Desks.{seat_of};

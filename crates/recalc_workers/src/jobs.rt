@@ -1,4 +1,4 @@
-ghost use Rattle.std.specs.Prelude.{◌≡◌, true, false, [], IfOk, OnOk, OnErr, IfErr, IfSome, IfNone};
+ghost use Rattle.std.specs.Prelude.{◌≡◌, true, false, IfOk, OnOk, OnErr, IfErr, IfSome, IfNone};
 ghost use Rattle.recalc_workers.specs.Rule.{FitsSheet};
 ghost use Rattle.recalc_workers.specs.Hands.{sizes_of, is_sole, IsHandOf, IsNewHand};
 ghost use Rattle.recalc_workers.specs.Hands.{HasPut, HasRefused, HasTaken, HasFoundNone, HasSameLists};

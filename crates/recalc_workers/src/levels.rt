@@ -1,4 +1,4 @@
-ghost use Rattle.std.specs.Prelude.{◌≡◌, ◌<◌, ◌≤◌, ◌*◌, ℕ, true, length, All, OnOk};
+ghost use Rattle.std.specs.Prelude.{◌≡◌, ◌<◌, ◌≤◌, true, length, All, OnOk};
 ghost use Rattle.std.specs.Thread.{IsSync};
 ghost use Rattle.mark_words.specs.Tokens.{IsSeatOf, subject_of, view_of, log_of, is_editor};
 ghost use Rattle.recalc_workers.specs.Settling.{AllSettledShares, AreDesksOf, Each, HasSettledShare};

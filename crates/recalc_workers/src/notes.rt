@@ -1,5 +1,5 @@
 ghost use Rattle.std.specs.Prelude.{◌≡◌, ◌++◌, ◌∷◌, [], IfOk};
-ghost use Rattle.crossbeam_queue.specs.Passes.{view, IsSamePass, IsPassOf};
+ghost use Rattle.crossbeam_queue.specs.Passes.{view, IsPassOf};
 
 use crate::job::Job;
 use crossbeam_queue::protocol::{Outcome, Protocol};

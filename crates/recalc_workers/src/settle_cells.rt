@@ -1,5 +1,5 @@
 ghost use Rattle.std.specs.Prelude.{◌≡◌, ◌≤◌, ◌<◌, ◌+◌, ◌*◌, ℕ};
-ghost use Rattle.std.specs.Prelude.{false, length, All, IsTrue, IfOk, OnOk};
+ghost use Rattle.std.specs.Prelude.{false, length, IsTrue, IfOk, OnOk};
 ghost use Rattle.sheet_refs.specs.Sizes.{is_inside, cell_count, place_of};
 ghost use Rattle.mark_words.specs.Tokens.{IsSeatOf, subject_of, view_of, log_of};
 ghost use Rattle.recalc_workers.specs.Desks.{seat_of, wants_memory};

@@ -1,12 +1,11 @@
 ghost use Rattle.std.specs.Prelude.{◌≡◌, ◌≢◌, ◌≤◌, ◌<◌, ◌+◌};
-ghost use Rattle.std.specs.Prelude.{length, take, true, false, IsTrue, IsNone};
+ghost use Rattle.std.specs.Prelude.{length, IsTrue, IsNone};
 ghost use Rattle.std.specs.Prelude.{IfSome};
 ghost use Rattle.sheet_refs.specs.Sizes.{is_inside, cell_count, place_of};
 ghost use Rattle.mark_core.specs.Marks.{IsLastMark};
 ghost use Rattle.mark_core.specs.Permissions.{MayClaim};
 ghost use Rattle.mark_words.specs.Tokens.{IsSeatOf, subject_of, places_of, view_of, log_of};
 ghost use Rattle.sheet_model.specs.Logs.{after, IsOfSheet};
-ghost use Rattle.sheet_model.specs.Sheets.{IsSheet};
 ghost use Rattle.sheet_model.specs.Values.{IsInput};
 ghost use Rattle.recalc_workers.specs.Desks.{seat_of, hand_of};
 ghost use Rattle.recalc_workers.specs.Offices.{words_for, IsTaskAt};

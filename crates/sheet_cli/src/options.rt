@@ -4,7 +4,7 @@ ghost use Rattle.std.specs.Prelude.{String, codes, string_bytes};
 ghost use Rattle.std.specs.declared.alloc.Global.{Global as Heap};
 ghost use Rattle.sheet_refs.specs.Names.{Finds};
 ghost use Rattle.sheet_cli.specs.Options.{HasTaken};
-ghost use Rattle.sheet_cli.specs.Words.{IsOption, IsWorkers, TakesWorkers, bytes_of};
+ghost use Rattle.sheet_cli.specs.Words.{IsOption, IsWorkers, bytes_of};
 
 use crate::positions::is_option;
 use sheet_refs::{Memory, decimal_of};

@@ -1,11 +1,11 @@
-ghost use Rattle.std.specs.Prelude.{◌≡◌, ◌≢◌, ◌⊎◌};
+ghost use Rattle.std.specs.Prelude.{◌≡◌, ◌≢◌};
 ghost use Rattle.sheet_io.specs.Faults.{Rose};
 ghost use Rattle.sheet_cli.specs.Lines.{write_failed_line, no_memory_line};
 ghost use Rattle.sheet_cli.specs.Replies.{IsRefusedStatus};
 ghost use Rattle.sheet_cli.specs.Runs.{IsStatus, HasWritten, HasBegun, IsRefused, IsUnfetched};
 ghost use Rattle.sheet_cli.specs.Runs.{FillsAsAsked, LivesAsAsked, ShowsAsAsked, SumsAsAsked, TakesLine};
 ghost use Rattle.sheet_cli.specs.Runs.{IsCalm, IsComplete, AcceptsAll, RefusesAll, UndoesAsAsked};
-ghost use Rattle.sheet_cli.specs.Words.{NamesNoText, bytes_of, AsksNothing};
+ghost use Rattle.sheet_cli.specs.Words.{NamesNoText, bytes_of};
 
 use crate::reply::{Reply, reply_to};
 use recalc_workers::Gate;

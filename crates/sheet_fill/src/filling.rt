@@ -1,9 +1,9 @@
-ghost use Rattle.std.specs.Prelude.{◌≡◌, ◌↔◌, ◌≤◌, ℕ, length, map, Err, IfOk, IsTrue};
+ghost use Rattle.std.specs.Prelude.{◌≡◌, ◌↔◌, ℕ, length, Err, IfOk, IsTrue};
 ghost use Rattle.sheet_refs.specs.Cells.{Position, IsIn, IsOrdered};
 ghost use Rattle.sheet_refs.specs.Sizes.{is_inside};
 ghost use Rattle.sheet_model.specs.Edits.{IsFor};
 ghost use Rattle.sheet_model.specs.Sheets.{HasLabel, IsWritten, content_of, content_value};
-ghost use Rattle.sheet_fill.specs.Filling.{HasNoOthers, HasTooMany, copied, filled, fills_cell, others_of};
+ghost use Rattle.sheet_fill.specs.Filling.{HasNoOthers, HasTooMany, copied, filled, others_of};
 ghost use Rattle.sheet_fill.specs.declared.refused.FillRefused.TheVariants as refused;
 
 use crate::refused::FillRefused;

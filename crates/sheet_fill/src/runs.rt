@@ -1,8 +1,8 @@
 // The edge of a run of cells that is filled with the reference of its first cell.
 ghost use Rattle.std.specs.Prelude.{◌≡◌, ◌<◌, IsSome, MatchOption, None, Some};
-ghost use Rattle.sheet_refs.specs.Ends.{IsReference, corners_of};
+ghost use Rattle.sheet_refs.specs.Ends.{IsReference};
 ghost use Rattle.sheet_refs.specs.Names.{Finds};
-ghost use Rattle.edge_patterns.specs.Axes.{IsLine, axis_of, cell_along};
+ghost use Rattle.edge_patterns.specs.Axes.{IsLine, axis_of};
 ghost use Rattle.edge_patterns.specs.Edges.{IsRange};
 ghost use Rattle.sheet_fill.specs.FilledRuns.{IsFilledEdge, KeepsOrder, StaysNamed};
 ghost use Rattle.sheet_fill.specs.FilledRuns.{cell_count_of, reference_along};

@@ -1,12 +1,10 @@
-ghost use Rattle.std.specs.Prelude.{◌≡◌, length, map, IfOk, OnOk, IsTrue};
-ghost use Rattle.sheet_refs.specs.Cells.{Position};
-ghost use Rattle.sheet_refs.specs.Sizes.{is_inside, cell_count};
-ghost use Rattle.formula_eval.specs.Meaning.{IsNamedBy};
+ghost use Rattle.std.specs.Prelude.{◌≡◌, length, map, IfOk, OnOk};
+ghost use Rattle.sheet_refs.specs.Sizes.{cell_count};
 ghost use Rattle.sheet_model.specs.Parts.{AddsParts};
 ghost use Rattle.sheet_model.specs.Sheets.{content_value};
 ghost use Rattle.sheet_model.specs.Values.{content_references, step_content};
 ghost use Rattle.sheet_model.specs.Walks.{ArePlainInputs, first_state, known_values};
-ghost use Rattle.sheet_model.specs.Words.{AreWords, IsCodeWord, Known as KnownState, is_plain};
+ghost use Rattle.sheet_model.specs.Words.{AreWords, IsCodeWord, Known as KnownState};
 ghost use Rattle.sheet_model.specs.Words.{cell_state, states_of};
 
 use crate::content::Content;

@@ -1,5 +1,4 @@
 ghost use Rattle.std.specs.Prelude.{◌≡◌, ◌≤◌, ◌++◌, length, take, drop, reverse, OnOk};
-ghost use Rattle.sheet_refs.specs.Cells.{Corners};
 ghost use Rattle.formula_syntax.specs.Tree.{tree_of, trees_of, references_of, all_references};
 ghost use Rattle.sheet_model.specs.Parts.{AddsParts, AddsRange};
 

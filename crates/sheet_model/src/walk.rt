@@ -1,5 +1,5 @@
-ghost use Rattle.std.specs.Prelude.{◌≡◌, ◌≢◌, ◌<◌, ◌≤◌, ℕ, []};
-ghost use Rattle.std.specs.Prelude.{map, set, length, slice_get, IfOk};
+ghost use Rattle.std.specs.Prelude.{◌≡◌, ◌≢◌, ◌<◌, []};
+ghost use Rattle.std.specs.Prelude.{map, set, slice_get, IfOk};
 ghost use Rattle.std.specs.Prelude.{OnOk, Some, IsTrue, IsFalse};
 ghost use Rattle.sheet_refs.specs.Sizes.{place_of, cell_count};
 ghost use Rattle.sheet_model.specs.Values.{AreValues, HaveCodes};

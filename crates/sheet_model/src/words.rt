@@ -1,4 +1,4 @@
-ghost use Rattle.std.specs.Prelude.{◌≡◌, ◌<◌, ◌≤◌, ◌*◌, ℕ, length, slice_get, Some};
+ghost use Rattle.std.specs.Prelude.{◌≡◌, ◌<◌, ◌≤◌, ◌*◌, length, slice_get, Some};
 ghost use Rattle.std.specs.Prelude.{IsTrue, IsFalse, MatchOption};
 ghost use Rattle.sheet_refs.specs.Cells.{Position, IsIn, cells_of};
 ghost use Rattle.sheet_refs.specs.Sizes.{cell_count, is_inside};

@@ -1,8 +1,7 @@
 // What no clause says: that values mean what a person expects of them. They were worked out by
 // hand.
-ghost use Rattle.std.specs.Prelude.{◌≡◌, OnOk};
+ghost use Rattle.std.specs.Prelude.{OnOk};
 ghost use Rattle.sheet_model.specs.KeptValues.{KeepsValuesOf};
-ghost use Rattle.sheet_model.specs.Sheets.{IsSheetSize};
 
 use formula_syntax::Edition;
 use sheet_model::{Change, KeptValues, Sheet, all_values, range_values};

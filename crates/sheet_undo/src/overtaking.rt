@@ -1,6 +1,5 @@
 ghost use Rattle.std.specs.Prelude.{IsTrue, MatchOption, All, IsNone};
 ghost use Rattle.sheet_refs.specs.Sizes.{is_inside};
-ghost use Rattle.sheet_model.specs.Edits.{IsWholeEdit};
 ghost use Rattle.sheet_undo.specs.Found.{AreCellsOf, IsFirstSharer, SharesNone};
 ghost use Rattle.sheet_undo.specs.Undoing.{AreWhole, IsFirstAmong, ShareACell, changed_cells};
 

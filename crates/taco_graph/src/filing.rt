@@ -1,6 +1,6 @@
 // The rectangles of edges, where a graph keeps them.
 ghost use Rattle.std.specs.Prelude.{◌≡◌, ◌+◌, ◌≤◌, [], Contains, IsTrue, IfOk, OnOk};
-ghost use Rattle.range_index.specs.Entries.{entry_of, HasNoId, SameEntries, AddsOverlapping, KeepsIds};
+ghost use Rattle.range_index.specs.Entries.{entry_of, HasNoId, SameEntries, AddsOverlapping};
 ghost use Rattle.range_index.specs.Entries.{Inserts, Removes, ChangesRange, HaveOneRange};
 
 use range_index::{InsertOrder, Item, RangeIndex};

@@ -1,4 +1,3 @@
-ghost use Rattle.std.specs.Prelude.{◌≤◌, ◌≡◌, length};
 ghost use Rattle.sheet_refs.specs.Ends.{reference_text};
 ghost use Rattle.sheet_refs.specs.Names.{cell_text, range_text};
 ghost use Rattle.text_pieces.specs.Pieces.{HandsOut};

@@ -1,5 +1,4 @@
 // The lines of changes.
-ghost use Rattle.std.specs.Prelude.{◌≡◌};
 ghost use Rattle.sheet_model.specs.Sheets.{content_value};
 ghost use Rattle.text_pieces.specs.Pieces.{HandsOut};
 ghost use Rattle.window_text.specs.Changes.{change_line, changes_text, clear_line, content_text, set_line};

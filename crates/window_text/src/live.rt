@@ -5,7 +5,7 @@ ghost use Rattle.text_pieces.specs.Pieces.{HandsOut};
 ghost use Rattle.sheet_model.specs.Values.{AreValues};
 ghost use Rattle.sheet_model.specs.Boards.{IsFull};
 ghost use Rattle.window_text.specs.Transcripts.{client_text, clients_text, closing_rows, closing_text};
-ghost use Rattle.window_text.specs.Transcripts.{edit_head, edit_text, entries_text, entry_text};
+ghost use Rattle.window_text.specs.Transcripts.{edit_head, edit_text, entries_text};
 
 use crate::changes::send_changes;
 use crate::pieces::send_decimal;

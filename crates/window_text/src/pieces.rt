@@ -1,8 +1,8 @@
-ghost use Rattle.std.specs.Prelude.{◌≡◌, ◌++◌, ◌≤◌, ◌<◌, ◌≢◌};
-ghost use Rattle.std.specs.Prelude.{◌∷◌, [], codes, All, MatchOption};
-ghost use Rattle.std.specs.Prelude.{length, take, slice_get, Some};
-ghost use Rattle.std.specs.Fmt.{decimal, signed_decimal};
-ghost use Rattle.value_core.specs.Values.{error_text, in_quotes};
+ghost use Rattle.std.specs.Prelude.{◌≡◌, ◌<◌};
+ghost use Rattle.std.specs.Prelude.{MatchOption};
+ghost use Rattle.std.specs.Prelude.{length, Some};
+ghost use Rattle.std.specs.Fmt.{decimal};
+ghost use Rattle.value_core.specs.Values.{in_quotes};
 ghost use Rattle.text_pieces.specs.Pieces.{HandsOut};
 ghost use Rattle.window_text.specs.Texts.{shown_value};
 ghost use Rattle.sheet_model.specs.Labels.{label_text};

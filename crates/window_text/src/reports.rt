@@ -1,4 +1,4 @@
-ghost use Rattle.std.specs.Prelude.{◌≡◌, ◌∷◌, ◌++◌, ◌<◌, ◌≤◌, length, slice_index_or, All};
+ghost use Rattle.std.specs.Prelude.{◌≡◌, ◌++◌, ◌<◌, ◌≤◌, length, slice_index_or, All};
 ghost use Rattle.std.specs.Fmt.{decimal};
 ghost use Rattle.sheet_refs.specs.Cells.{IsIn, cells_of};
 ghost use Rattle.sheet_model.specs.declared.board.Shown.TheVariants as shown;

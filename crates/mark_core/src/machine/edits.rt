@@ -1,7 +1,6 @@
 #![tactic(auto)]
 
 ghost use Rattle.std.specs.Prelude.{◌≡◌, ◌<◌, ◌+◌, length, IfOk, OnOk, OnErr};
-ghost use Rattle.mark_core.specs.States.{State, view_at};
 ghost use Rattle.mark_core.specs.Steps.{after_see, after_mark, after_commit};
 
 use crate::machine::Machine;

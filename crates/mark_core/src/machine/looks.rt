@@ -2,7 +2,7 @@
 
 ghost use Rattle.std.specs.Prelude.{◌≡◌, ◌<◌, ◌↔◌, ◌-◌, ◌^◌, length, IsTrue, MatchOption, Some};
 ghost use Rattle.std.specs.Prelude.{None};
-ghost use Rattle.mark_core.specs.States.{State, view_at};
+ghost use Rattle.mark_core.specs.States.{view_at};
 ghost use Rattle.mark_core.specs.Permissions.{IsLive, MayStepAt};
 
 use crate::machine::Machine;

@@ -2,7 +2,6 @@
 
 ghost use Rattle.std.specs.Prelude.{◌≡◌, ◌<◌, length, IfOk, OnErr};
 ghost use Rattle.mark_core.specs.Places.{place_at};
-ghost use Rattle.mark_core.specs.States.{State, view_at};
 ghost use Rattle.mark_core.specs.Steps.{after_read_clean, after_read_value, after_read_mark};
 
 use crate::machine::Machine;

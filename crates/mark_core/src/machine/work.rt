@@ -2,7 +2,7 @@
 
 ghost use Rattle.std.specs.Prelude.{◌≡◌, ◌<◌, ◌≤◌, length, IfOk, OnOk, OnErr};
 ghost use Rattle.mark_core.specs.Places.{place_at};
-ghost use Rattle.mark_core.specs.States.{State, view_at};
+ghost use Rattle.mark_core.specs.States.{view_at};
 ghost use Rattle.mark_core.specs.declared.events.Event.{Event};
 ghost use Rattle.mark_core.specs.declared.events.Outcome.{Outcome};
 ghost use Rattle.mark_core.specs.Steps.{Gives, after_claim, after_refusal, after_put, after_finish};

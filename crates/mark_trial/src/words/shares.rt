@@ -1,4 +1,4 @@
-ghost use Rattle.std.specs.Prelude.{◌≡◌, ◌<◌, All, IfOk};
+ghost use Rattle.std.specs.Prelude.{◌<◌, All, IfOk};
 ghost use Rattle.mark_words.specs.Tokens.{IsSeatOf, subject_of};
 
 use crate::two_cells::TwoTestCells;

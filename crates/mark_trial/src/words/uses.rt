@@ -1,10 +1,9 @@
-ghost use Rattle.std.specs.Prelude.{◌≡◌, ◌<◌, ◌≤◌, ℕ, length, true, IfSome};
-ghost use Rattle.mark_core.specs.declared.answers.Seen.{Seen as Shown};
+ghost use Rattle.std.specs.Prelude.{◌≡◌, ◌<◌, ◌≤◌, length, true, IfSome};
 ghost use Rattle.mark_core.specs.Knows.{KnowsClean};
 ghost use Rattle.mark_core.specs.Marks.{IsLastMark};
 ghost use Rattle.mark_core.specs.Permissions.{MayClaim};
 ghost use Rattle.mark_core.specs.Runs.{IsOpening};
-ghost use Rattle.mark_words.specs.Tokens.{IsSeatOf, subject_of, places_of, doing_of, view_of, log_of, seen_of};
+ghost use Rattle.mark_words.specs.Tokens.{IsSeatOf, subject_of, places_of, doing_of, view_of, log_of};
 ghost use Rattle.mark_words.specs.Tokens.{closed_places, closed_place};
 ghost use Rattle.mark_trial.specs.Threads.{HasReadPlace, IsWorthOf, IsStaleAfter, AreLedTo};
 

@@ -1,6 +1,6 @@
 use Rattle.std.proofs.Common.{subst}
 use Rattle.std.proofs.lemmas.List.{take_all}
-use Rattle.sheet_model.specs.Edits.{EditValue, IsFor}
+use Rattle.sheet_model.specs.Edits.{IsFor}
 use Rattle.sheet_model.specs.declared.entry.Entry.{Entry}
 use Rattle.sheet_model.proofs.ListLemmas.{all_taken_more}
 use Rattle.sheet_undo.specs.Undoing.{AreFor}

@@ -2,7 +2,7 @@ use Rattle.std.proofs.Common.{◌≡◌, IsTrue, ap, length, subst, sym, ◌∙�
 use Rattle.sheet_refs.specs.Cells.{Position}
 use Rattle.sheet_refs.specs.Sizes.{is_inside}
 use Rattle.sheet_model.specs.Changes.{ChangeValue}
-use Rattle.sheet_model.specs.Sheets.{ContentValue, HasLabel, content_value}
+use Rattle.sheet_model.specs.Sheets.{HasLabel, content_value}
 use Rattle.live_trial.proofs.undoing.is_for.Goals as goal
 
 pub returns : goal.returns

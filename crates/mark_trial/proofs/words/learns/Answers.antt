@@ -1,7 +1,6 @@
 -- The viewer knew nothing, and knows the editor's log.
-use Rattle.std.proofs.Common.{ℕ, length, ◌∙◌, ap, inl, inr, arith}
+use Rattle.std.proofs.Common.{length, ◌∙◌, ap, inl, inr, arith}
 use Rattle.mark_core.proofs.Prefixes.{prefix_length}
-use Rattle.mark_words.specs.declared.tables.Doing.{Doing}
 use Rattle.mark_words.specs.Tokens.{log_of}
 use Rattle.mark_trial.proofs.TestLemmas.{ready_still}
 use Rattle.mark_trial.proofs.words.learns.Goals as goal

@@ -1,5 +1,5 @@
 -- The editor's seat is as it was, and the new one knows what it knows.
-use Rattle.std.proofs.Common.{length, ◌∙◌, ap, arith}
+use Rattle.std.proofs.Common.{length, ap, arith}
 use Rattle.mark_words.specs.declared.tables.Doing.{Doing}
 use Rattle.mark_trial.proofs.TestLemmas.{ready_still}
 use Rattle.mark_trial.proofs.words.pair.Goals as goal

@@ -1,4 +1,4 @@
-use Rattle.std.proofs.Common.{rules, ◌≡◌, ◌<◌, ◌∙◌, ℕ, length, get_or, sym, ap, subst}
+use Rattle.std.proofs.Common.{rules}
 use Rattle.mark_words.specs.Tokens.{log_of, subject_of}
 use Rattle.recalc_trial.proofs.OfficeLemmas.{touches_first}
 use Rattle.recalc_trial.proofs.office.mark_first.Goals as goal

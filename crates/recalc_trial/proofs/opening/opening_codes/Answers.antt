@@ -1,4 +1,4 @@
-use Rattle.std.proofs.Common.{◌≡◌, ◌+◌, ◌∙◌, sym, ap, subst}
+use Rattle.std.proofs.Common.{◌+◌, ◌∙◌, sym, ap, subst}
 use Rattle.std.specs.Prelude.{IfSome, IsTrue}
 use Rattle.sheet_refs.specs.Sizes.{is_inside, place_of}
 use Rattle.recalc_trial.specs.Offices.{AreOpeningCodes, IsCodeOfConstant}

@@ -1,4 +1,4 @@
-use Rattle.std.proofs.Common.{rules, ◌≡◌}
+use Rattle.std.proofs.Common.{rules}
 use Rattle.recalc_trial.proofs.SettleLemmas.{no_code}
 use Rattle.recalc_trial.proofs.settle_tests.opened.Goals as goal
 
