@@ -116,7 +116,7 @@ pub record HasPutLines (part left : List ℕ) (first row : ℕ) (old new : Sheet
   pub next : AreNext old.edition known (text_fields left)
   pub few : length left ≤ length part
 
--- the parts of a text that are neither put nor read ahead, and what is known of the first one
+-- the part of a text that is put next, what is known of it, and the parts behind it
 pub record HasPutParts (text part behind : List ℕ) (edition : Edition) (ahead : List (Vec (Option Content))) (filled : SheetValue × ℕ) : Type 0 where
   pub all : Rows
   pub has : AreRecords default_config StartRecord text all

@@ -17,8 +17,8 @@ use sheet_refs::Memory;
 use std::alloc::Global;
 use std::thread::{Threads, join};
 
-// What is known of the fields of a text of lines, of which each of so many threads reads a part, and what a work gives
-// that this thread does once it has started them.
+// What is known of the fields of a text of lines, of which each of so many threads reads a part, and what `work` gives,
+// which this thread runs once it has started them.
 fn read_each<R: Threads + Sync, B, W: FnOnce() -> B>(
     rt: &R,
     alloc: Global,
@@ -54,11 +54,11 @@ fn read_each<R: Threads + Sync, B, W: FnOnce() -> B>(
     (joined(first, second), done)
 }
 
-/// What is known of the fields of a text of lines, of which each of so many threads reads a part, and what a work gives
-/// that this thread does meanwhile.
+/// What is known of the fields of a text of lines, of which each of so many threads reads a part, and what `work`
+/// gives, which this thread runs meanwhile.
 ///
-/// The first thread that a thread starts is given that one's own processor by Linux, and stands behind it for as long
-/// as it works. So this thread first starts one that does nothing: those that read find processors that are idle.
+/// Linux puts the first thread that a thread starts on its starter's processor, where it waits while the starter works.
+/// So one that does nothing is started first, and the readers behind it find idle processors.
 pub(crate) fn read_parts<R: Threads + Sync, B, W: FnOnce() -> B>(
     rt: &R,
     alloc: Global,

@@ -73,7 +73,8 @@ fn load_records<R: LineReader>(
 /// Refuses, by the first of these causes: another first line where the text begins with `#edition `; a field
 /// that isn't UTF-8; more than 1,048,576 cells or 16,384 columns; a field of more than 8,192 bytes; a formula
 /// that `read_content` refuses. Memory may come before any. It reads the text twice, first for
-/// the sizes, in time proportional to its length and to the number of cells.
+/// the sizes, or three times where a line without quotes is longer than a field may be, in time proportional to its
+/// length and to the number of cells.
 pub fn load(alloc: Global, text: &[u8]) -> Result<Sheet, SheetRefused>
     requires { length text.now ≤ 16777216 }
     ensures result { result ≢ Err refused.Memory → IsSheetResult text.now result }
@@ -83,10 +84,10 @@ pub fn load(alloc: Global, text: &[u8]) -> Result<Sheet, SheetRefused>
     load_text(alloc, text, &Alone)
 }
 
-/// The same by several threads, as many as there are processors, where the text has 65,536 bytes or more: they count
-/// its lines, and where it is all ASCII and has no quote, they read what the fields of one part of it write, 131,072
-/// bytes each, while this one puts the part before it into the sheet and then reads 65,536 bytes too. It takes 24 bytes
-/// more for each field of two such parts. Where a thread can't be made, this one does its part.
+/// The same by several threads, of which as many work as there are processors, where the text has 65,536 bytes or more:
+/// they count its lines, and where it is all ASCII and has no quote, they read what the fields of one part of it write,
+/// up to 131,072 bytes each, while this one puts the part before it into the sheet and then reads up to 65,536 bytes
+/// too. It takes 24 bytes more for each field of two such parts. Where a thread can't be made, this one does its part.
 pub fn load_in_threads<R: Threads + Sync>(
     rt: &R,
     alloc: Global,

@@ -32,7 +32,7 @@ pub(crate) trait LineReader {
     /// How many bytes of a text are best read at once.
     fn at_once(&self) -> usize;
 
-    /// Does a work, and meanwhile learns what is known of the first fields of a text of lines, in their order; it may
+    /// Runs `work`, and meanwhile learns what is known of the first fields of a text of lines, in their order; it may
     /// be nothing.
     fn read_beside<B, W: FnOnce() -> B>(
         &self,

@@ -30,8 +30,8 @@ impl RangeIndex for Refusing {
         self.list.reserve(inserts)
     }
 
-    fn expect(&mut self, order: InsertOrder) {
-        self.list.expect(order);
+    fn set_insert_order(&mut self, order: InsertOrder) {
+        self.list.set_insert_order(order);
     }
 
     fn insert(&mut self, id: usize, range: Range) {

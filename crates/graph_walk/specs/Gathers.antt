@@ -44,6 +44,6 @@ GathersAll old new waited waiting found = Gathers old new waited waiting (IsAmon
 abbrev pub IsUnionOf : Corners → Corners → Corners → Type 0
 IsUnionOf one other whole = (cell : Position) → IsIn cell whole ↔ (IsIn cell one ⊎ IsIn cell other)
 
--- the cells of the first so many ranges of a list are those of fewer of them and of one range
+-- the cells of the ranges of a list before one place are those of the ranges before another, and of a run
 abbrev pub IsRunFrom : List Corners → ℕ → ℕ → Corners → Type 0
 IsRunFrom found from end run = (cell : Position) → IsAmong (take end found) cell ↔ (IsAmong (take from found) cell ⊎ IsIn cell run)

@@ -38,7 +38,8 @@ fn admit(set: &mut RectSet, waiting: &mut Vec<Range>, range: Range) -> Result<()
     Ok(())
 }
 
-// The range of the cells of two, where the second has the columns of the first, and begins in it or right below it.
+// The range of the cells of two that have the same columns, where the second begins in the first or right below it, and
+// doesn't end above it.
 fn joined(range: Range, next: Range) -> Option<Range>
     ensures { IfSome result (IsUnionOf range next) }
 {
@@ -56,8 +57,8 @@ fn joined(range: Range, next: Range) -> Option<Range>
     Some(Range::of(head, next_tail))
 }
 
-// The range of the cells of the ranges from one place of a list on, up to another, and that place: as far as each goes
-// on below those before it.
+// The range of the cells of the ranges from one place of a list on, for as long as each can be joined with those before
+// it, and the place behind them.
 fn run_from(found: &[Range], from: usize) -> (Range, usize)
     requires { from < length found.now }
     ensures within { (from < result.1) × (result.1 ≤ length found.now) }
@@ -73,8 +74,9 @@ fn run_from(found: &[Range], from: usize) -> (Range, usize)
     (run, found.len())
 }
 
-/// Adds the cells of some ranges to a set, and the ranges of those that are new to the waiting ones. Where ranges of a
-/// column follow one another in the list, it looks for their cells at one go, and so does who asks for what waits.
+/// Adds the cells of some ranges to a set, and the ranges of those that are new to the waiting ones. Ranges of the same
+/// columns that follow one another in the list are joined first: the set is searched once for them, and a walk asks
+/// once for what is new in them.
 pub fn gather(set: &mut RectSet, waiting: &mut Vec<Range>, found: &[Range]) -> Result<(), Memory>
     ensures { OnOk result
         (GathersAll set.old set.new waiting.old.items waiting.new.items found.now) }

@@ -97,8 +97,8 @@ impl<I: RangeIndex> Trial<I> {
     }
 
     // Says in which order the inserts to come are, rightly or wrongly.
-    fn expect(&mut self, order: InsertOrder) {
-        self.index.expect(order);
+    fn set_insert_order(&mut self, order: InsertOrder) {
+        self.index.set_insert_order(order);
     }
 
     // Puts an id in that isn't there, where there is room.
@@ -184,10 +184,10 @@ impl Trials {
         self.list.reserve(room)
     }
 
-    fn expect(&mut self, order: InsertOrder) {
-        self.tree.expect(order);
-        self.grid.expect(order);
-        self.list.expect(order);
+    fn set_insert_order(&mut self, order: InsertOrder) {
+        self.tree.set_insert_order(order);
+        self.grid.set_insert_order(order);
+        self.list.set_insert_order(order);
     }
 
     fn call(&mut self, id: usize, range: Range, goes: bool) {
@@ -221,7 +221,7 @@ fn walk(alloc: Global, seed: u32, calls: u32, ids: u32, room: u32) -> Result<u32
     let mut trials = Trials::new(alloc, ids as usize)?;
     let mut alike = 0u32;
     for call in 0..calls {
-        trials.expect(order_at(call));
+        trials.set_insert_order(order_at(call));
         let id = numbers.below(ids);
         let range = numbers.range()?;
         let goes = numbers.below(2) == 0;

@@ -50,7 +50,7 @@ impl RangeIndex for GridIndex {
         self.tables.reserve(inserts as usize)
     }
 
-    fn expect(&mut self, order: InsertOrder) {}
+    fn set_insert_order(&mut self, order: InsertOrder) {}
 
     fn insert(&mut self, id: usize, range: Range) {
         self.tables.add(id, range);

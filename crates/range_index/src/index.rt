@@ -10,7 +10,8 @@ use std::alloc::Global;
 pub enum InsertOrder {
     /// In no order that is known.
     Any,
-    /// Those that come one after another lie near one another, as where ranges are sorted by their places.
+    /// Those that come one after another lie near one another and are about as large, as where they are sorted by
+    /// `packing_key`.
     ByPlace,
 }
 
@@ -33,7 +34,7 @@ pub trait RangeIndex {
         ensures same { SameEntries (entries self.old) (entries self.new) };
 
     /// Says in which order the inserts to come are. It changes no entry, and takes no memory.
-    fn expect(&mut self, order: InsertOrder)
+    fn set_insert_order(&mut self, order: InsertOrder)
         ensures same { SameEntries (entries self.old) (entries self.new) }
         ensures room { spare self.old ≤ spare self.new };
 

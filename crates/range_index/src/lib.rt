@@ -13,6 +13,7 @@ mod index;
 mod item;
 mod laws;
 mod list;
+mod packing;
 mod tables;
 mod tiles;
 
@@ -21,3 +22,4 @@ pub use index::{InsertOrder, RangeIndex};
 pub use item::Item;
 pub use laws::index_laws;
 pub use list::ListIndex;
+pub use packing::{packing_key, size_class};

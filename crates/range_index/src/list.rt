@@ -55,7 +55,7 @@ impl RangeIndex for ListIndex {
         Ok(())
     }
 
-    fn expect(&mut self, order: InsertOrder) {}
+    fn set_insert_order(&mut self, order: InsertOrder) {}
 
     fn insert(&mut self, id: usize, range: Range) {
         self.slots.push_reserved(Item { id, range });

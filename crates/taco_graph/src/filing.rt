@@ -8,7 +8,8 @@ use sheet_refs::{Memory, Range};
 use std::alloc::Global;
 use std::marker::Model;
 
-/// An index of the rectangles of edges, or none: then a call that changes it does nothing.
+/// An index of the rectangles of edges, or none: then inserts, removals and changes do nothing. Room is made in either
+/// case, so that `insert` asks for it always.
 #[derive(Drop)]
 pub(crate) struct RectangleIndex<I: RangeIndex> {
     index: I,
@@ -27,30 +28,32 @@ impl<I: RangeIndex> Model for RectangleIndex<I> {
     } };
 }
 
-/// For how many entries room is made ahead where an index is filled.
+/// For how many entries room is made at one go where an index is filled, which a number of 32 bits has to say. Room for
+/// what is beyond is made one by one.
 const MOST_AHEAD: usize = 1_048_576;
 
-// An index with some entries, which stand by place.
+// An index with some entries, best in the order of `packing_key`: then it packs them.
 fn index_of<I: RangeIndex + Drop>(alloc: Global, items: &[Item]) -> Result<I, Memory>
     requires { HaveOneRange items.now }
     ensures { IfOk result (λ index. SameEntries items.now (I.entries index)) }
 {
     let mut index = I::empty(alloc);
     index.reserve(items.len().min(MOST_AHEAD) as u32)?;
-    index.expect(InsertOrder::ByPlace);
+    index.set_insert_order(InsertOrder::ByPlace);
     for item in items {
         index.reserve(1)?;
         index.insert(item.id, item.range);
     }
-    index.expect(InsertOrder::Any);
+    index.set_insert_order(InsertOrder::Any);
     Ok(index)
 }
 
 impl<I: RangeIndex + Drop> RectangleIndex<I> {
-    /// The index that keeps what comes, with some entries, which stand by place.
+    /// The index that keeps what comes, with some entries, best in the order of `packing_key`.
     pub(crate) fn of(alloc: Global, items: &[Item]) -> Result<RectangleIndex<I>, Memory>
         requires { HaveOneRange items.now }
-        ensures { IfOk result (λ filed. SameEntries items.now filed.entries) }
+        ensures entries { IfOk result (λ filed. SameEntries items.now filed.entries) }
+        ensures kept { IfOk result (λ filed. IsTrue filed.kept) }
     {
         let index = index_of(alloc, items)?;
         Ok(RectangleIndex { index, kept: true })

@@ -9,13 +9,13 @@ ghost use Rattle.graph_walk.specs.Graphs.{Keeps};
 use crate::answers::{Question, answer};
 use crate::filing::RectangleIndex;
 use edge_patterns::Edge;
-use range_index::{Item, RangeIndex};
-use sheet_refs::{MAX_ROWS, Memory, Range};
+use range_index::{Item, RangeIndex, packing_key};
+use sheet_refs::{Memory, Range};
 use slab::Slab;
 use std::alloc::Global;
 use std::marker::Model;
 
-/// For how many keys a query makes room at first.
+/// For how many keys a query makes room at first: most queries find fewer edges, and take memory once.
 const LIKELY_KEYS: usize = 32;
 
 /// Edges under keys, each in an index with its run, and in another with the rectangle of its ranges, where rectangles
@@ -180,8 +180,9 @@ impl<I: RangeIndex> EdgeStore<I> {
         Ok(keys)
     }
 
-    // The same, by the index where it keeps rectangles, and then by size: a graph that is made of a sheet has keys that
-    // rise from cell to cell, so that dependents which follow one another in a column do so among the answers.
+    // The same, by the index where it keeps rectangles, and then by rising key: a graph that is made of a sheet has
+    // keys that rise from cell to cell, so that dependents which follow one another in a column do so among the
+    // answers.
     fn keys_by_rectangle(&self, q: Range) -> Result<Vec<usize>, Memory>
         ensures named { IfOk result (λ keys. NamesMet self.now.slots q keys.items) }
         ensures once { IfOk result (λ keys. AllPairs (λ a b. a ≢ b) keys.items) }
@@ -231,7 +232,8 @@ impl<I: RangeIndex> EdgeStore<I> {
         answer(question, &edge, q)
     }
 
-    /// Adds what the edges answer to a list: at most one range for each. It looks at the edges that an index names.
+    /// Adds what the edges answer to a list: at most one range for each. It looks at the edges that an index names, and
+    /// where no rectangles are kept, for dependents at each key that there is room for.
     pub(crate) fn ask(
         &self,
         question: Question,
@@ -254,24 +256,9 @@ impl<I: RangeIndex> EdgeStore<I> {
     }
 }
 
-// How large a number of rows or columns is: which power of two it comes to, above sixteen.
-fn size_of(lines: u32) -> u32 {
-    (lines / 16).leading_zeros()
-}
-
-// By what rectangles are put in order: first by how high and how wide they are, since among small ones a large one
-// would widen what holds them; and then by their places on a path that goes down the first column, up the second one,
-// and so on, on which neighbours lie near one another also where one column ends and the next one begins.
-fn place_of(item: &Item) -> (u32, u32, u32, u32) {
-    let (head, tail) = (item.range.head(), item.range.tail());
-    let row = if head.col() % 2 == 0 {
-        MAX_ROWS - head.row()
-    } else {
-        head.row()
-    };
-    let high = size_of(tail.row() - head.row());
-    let wide = size_of(tail.col() - head.col());
-    (high, wide, head.col(), row)
+// By what an edge's rectangle is put in order.
+fn packing_key_of(item: &Item) -> (u32, u32, u32, u32) {
+    packing_key(item.range)
 }
 
 impl<I: RangeIndex> EdgeStore<I> {
@@ -295,25 +282,25 @@ impl<I: RangeIndex> EdgeStore<I> {
         Ok(items)
     }
 
-    // The same, by place.
-    fn rectangles_by_place(&self) -> Result<Vec<Item>, Memory>
+    // The same, in the order in which an index packs them.
+    fn packed_rectangles(&self) -> Result<Vec<Item>, Memory>
         ensures all { IfOk result
             (λ items. FilesAll self.now.slots (λ (edge : EdgeValue). edge.prec) items.items) }
         ensures once { IfOk result (λ items. HaveOneRange items.items) }
     {
         let mut items = self.rectangles_by_key()?;
-        items.sort_unstable_by_key(place_of);
+        items.sort_unstable_by_key(packing_key_of);
         Ok(items)
     }
 }
 
 impl<I: RangeIndex + Drop> EdgeStore<I> {
-    /// Files the rectangles of all edges anew, by place, and keeps rectangles from then on. After Memory all is as it
+    /// Files the rectangles of all edges anew, packed, and keeps rectangles from then on. After Memory all is as it
     /// was. It sorts them, and takes some steps for each.
     pub(crate) fn file_rectangles(&mut self) -> Result<(), Memory>
         ensures { self.new.slots ≡ self.old.slots }
     {
-        let items = self.rectangles_by_place()?;
+        let items = self.packed_rectangles()?;
         self.rectangles = RectangleIndex::of(self.alloc, &items)?;
         Ok(())
     }

@@ -71,9 +71,10 @@ impl<I: RangeIndex> Taco<I> {
         }
     }
 
-    /// The graph without pairs that finds its edges by their runs alone, and files no rectangle: for a graph whose
-    /// edges are listed, or that is asked for precedents. It answers the same as one that is `new`, but looks at each
-    /// edge where it is asked for dependents.
+    /// The graph without pairs that finds its edges by their runs alone, and files no rectangle until
+    /// `file_rectangles`: for a graph whose edges are listed, that is asked for precedents, or whose rectangles are
+    /// filed at the end. It answers the same as one that is `new`, but until then it looks at each edge where it is
+    /// asked for dependents.
     pub fn by_runs(alloc: Global) -> Taco<I>
         ensures { result.edges ≡ [] }
     {
@@ -109,8 +110,8 @@ impl<I: RangeIndex + Drop> Taco<I> {
     /// Files the rectangles of all edges at one go, by which dependents are found from then on. A graph that is made
     /// `by_runs` and then does so is made in less time than one that is `new`, most of all where references are drawn
     /// at random, and its index is the better one, since rectangles that are near one another come together. It changes
-    /// no edge, but may use up what room has been made for `replace`; after Memory rectangles are kept as they were.
-    /// It sorts the edges' rectangles, and takes some steps for each.
+    /// no edge. What room has been made for `replace` is given up, after Memory too, where rectangles stay filed as
+    /// they were. It sorts the edges' rectangles, and takes some steps for each.
     pub fn file_rectangles(&mut self) -> Result<(), Memory>
         ensures { self.new.edges ≡ self.old.edges }
     {

@@ -6,11 +6,11 @@ ghost use Rattle.tree_index.specs.Indexes.{HoldTree, entries_in, room_of, node_a
 ghost use Rattle.tree_index.specs.Changes.{Rearranges, Admits, IsNotedAt, note_at, place_noted};
 
 use crate::choices::stays;
-use crate::item::Item;
 use crate::node::TOP;
 use crate::nodes::Tree;
 use crate::notes::Place;
 use crate::rectangles::covers;
+use range_index::Item;
 use sheet_refs::{Memory, Range};
 
 /// How many nodes are made ready for so many inserts; what finds no node waits for the next `reserve`.

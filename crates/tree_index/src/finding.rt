@@ -5,9 +5,9 @@ ghost use Rattle.tree_index.specs.Indexes.{HoldTree, entries_in, node_at};
 ghost use Rattle.tree_index.specs.Trees.{IsInTree, IsUnder};
 ghost use Rattle.tree_index.specs.Changes.{AddsThose};
 
-use crate::item::Item;
 use crate::nodes::Tree;
 use crate::rectangles::meet;
+use range_index::Item;
 use sheet_refs::{Memory, Range};
 
 // Adds the ids of some entries whose ranges overlap a query.

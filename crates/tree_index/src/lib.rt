@@ -8,13 +8,12 @@
 //! child an entry goes into and how a full node is split is decided by rectangles alone (`src/choices.rt`), and
 //! nothing that is promised rests on it.
 //!
-//! Below stand `sheet_refs`, `range_index` with the trait, and the kit's `slab`.
+//! Below stand `sheet_refs`, `range_index` with the trait, and the kit's `slab` and `arrayvec`.
 #![tactic(auto)]
 
 mod changes;
 mod choices;
 mod finding;
-mod item;
 mod node;
 mod nodes;
 mod notes;

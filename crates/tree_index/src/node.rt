@@ -1,5 +1,5 @@
-use crate::item::Item;
 use arrayvec::ArrayVec;
+use range_index::Item;
 use std::marker::Model;
 
 /// How many children a node has at most.

@@ -11,12 +11,11 @@ ghost use Rattle.tree_index.specs.Indexes.{HoldTree, entries_in, node_at};
 ghost use Rattle.tree_index.specs.Changes.{note_at, SetsKey, SetsNode, SetsChildren, SetsRange};
 ghost use Rattle.tree_index.specs.Changes.{Admits, HasPlace, IsPlaceAbove, child_of};
 
-use crate::item::Item;
 use crate::node::Node;
 use crate::notes::{Note, Place};
 use crate::rectangles::covers;
 use arrayvec::ArrayVec;
-use range_index::InsertOrder;
+use range_index::{InsertOrder, Item};
 use sheet_refs::Range;
 use slab::Slab;
 use std::alloc::Global;

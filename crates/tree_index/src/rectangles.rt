@@ -3,7 +3,7 @@ ghost use Rattle.std.specs.Prelude.{◌↔◌, ◌≡◌, IsTrue, IsNone, IfSome
 ghost use Rattle.sheet_refs.specs.Rectangles.{Overlap};
 ghost use Rattle.tree_index.specs.Rectangles.{AreCrossed, Covers, CoverAll, IsLeast, IsSpan};
 
-use crate::item::Item;
+use range_index::Item;
 use sheet_refs::{Cell, Range};
 
 // The cell at the top left of two. It makes no cell anew where one of them is it, as where entries come in order.

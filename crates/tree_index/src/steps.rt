@@ -7,11 +7,11 @@ ghost use Rattle.tree_index.specs.Changes.{Rearranges, Admits, HasPlace, HasNoCh
 ghost use Rattle.tree_index.specs.Changes.{KeepsNode, KeepAllNodes, KeepNodesBut};
 ghost use Rattle.tree_index.specs.Changes.{EndsWith, IsBeside, IsNotedAt, TakesIn};
 
-use crate::item::Item;
 use crate::node::TOP;
 use crate::nodes::{Tree, place_of};
 use crate::notes::{Note, Place};
 use crate::rectangles::span_of_all;
+use range_index::Item;
 use sheet_refs::Range;
 
 impl Tree {

@@ -5,7 +5,7 @@ use sheet_refs::{Memory, Range};
 use std::alloc::Global;
 use std::marker::Model;
 
-/// An index by a tree of rectangles, an R-tree (Guttman, 1984).
+/// An index by a tree of rectangles, an R-tree (Guttman, 1984), which can be packed (Roussopoulos and Leifker, 1985).
 ///
 /// A node has up to sixteen children, each with a rectangle; in a leaf they are the entries. An insert goes into the
 /// leaf that took in the entry before it, where that has room and the two ranges are next to each other and about as
@@ -17,10 +17,11 @@ use std::marker::Model;
 /// without children out.
 ///
 /// Where inserts are said to come by place, each goes into the leaf of the one before it, wherever that lies, or down
-/// by the last children, and a full node keeps all children but the last: so nodes are as good as full.
+/// by the last children, and a full node keeps all children but the last: so the tree is packed, with nodes that are as
+/// good as full.
 ///
 /// Costs: an insert, a removal and a change look at a node a level, and a query at the nodes whose rectangles overlap
-/// it. A level of the tree takes eight to sixteen times the entries of the one below it.
+/// it. A level of the tree takes at most sixteen times the entries of the one below it, and most often eight or more.
 #[derive(Drop)]
 pub struct TreeIndex {
     tree: Tree,
@@ -51,7 +52,7 @@ impl RangeIndex for TreeIndex {
         self.tree.reserve(inserts as usize)
     }
 
-    fn expect(&mut self, order: InsertOrder) {
+    fn set_insert_order(&mut self, order: InsertOrder) {
         self.tree.order = order;
     }
 

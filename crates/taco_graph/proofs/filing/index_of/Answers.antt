@@ -6,8 +6,8 @@ use Rattle.taco_graph.proofs.filing.index_of.Goals as goal
 pub loop-item-init : goal.loop-item-init
 loop-item-init g c =
     let entries = g.I.RangeIndex.entries in
-    filled_none (entries c.empty-index.result) (entries c.reserve.new.self) (entries c.expect.new.self) c.args.items.now
-    c.empty-index.ensures c.reserve.ensures.same c.expect.ensures.same
+    filled_none (entries c.empty-index.result) (entries c.reserve.new.self) (entries c.set_insert_order.new.self) c.args.items.now
+    c.empty-index.ensures c.reserve.ensures.same c.set_insert_order.ensures.same
 
 pub insert-requires-clause-absent : goal.insert-requires-clause-absent
 insert-requires-clause-absent g c =
@@ -34,5 +34,5 @@ loop-item-preserved g c =
 pub returns : goal.returns
 returns g c =
     let entries = g.I.RangeIndex.entries in
-    filled_all c.args.items.now (entries c.loop-item.index) (entries c.expect-2.new.self) c.loop-item.item-index
-    c.loop-item-test.false c.loop-item.invariant c.expect-2.ensures.same
+    filled_all c.args.items.now (entries c.loop-item.index) (entries c.set_insert_order-2.new.self) c.loop-item.item-index
+    c.loop-item-test.false c.loop-item.invariant c.set_insert_order-2.ensures.same

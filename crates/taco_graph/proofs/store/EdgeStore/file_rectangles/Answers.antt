@@ -13,7 +13,7 @@ invariant_of-self g c =
     let all : FilesAll c.self.inside.edges.slots (λ edge. edge.prec) items =
     subst (λ (slots : List (Option EdgeValue)). FilesAll slots (λ edge. edge.prec) items) (sym view) c.in_ok-items.ensures.all in
     let same : SameEntries items entries =
-    subst (λ (es : List Entry). SameEntries es entries) c.deref.ensures.value c.in_ok-self-inside.ensures in
+    subst (λ (es : List Entry). SameEntries es entries) c.deref.ensures.value c.in_ok-self-inside.ensures.entries in
     record {
       edges = c.self.invariant.edges;
       apart = c.self.invariant.apart;

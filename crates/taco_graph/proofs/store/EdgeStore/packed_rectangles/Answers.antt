@@ -1,5 +1,5 @@
 use Rattle.taco_graph.proofs.FilingLemmas.{files_moved, once_moved}
-use Rattle.taco_graph.proofs.store.EdgeStore.rectangles_by_place.Goals as goal
+use Rattle.taco_graph.proofs.store.EdgeStore.packed_rectangles.Goals as goal
 
 pub returns-clause-all : goal.returns-clause-all
 returns-clause-all g c =
