@@ -63,7 +63,8 @@ def chain(count):
 
 
 def with_total(text):
-    """The sheet with one more row, and the cell there, which adds up all cells above it: to show that one computes them all."""
+    """The sheet with one more row, and the cell there, which adds up all cells above it: to show that one computes them all, but where
+    they lead into circles."""
     rows = text.count("\n")
     return f"{text}=SUM(A1:XFD{rows})\n", f"A{rows + 1}"
 

@@ -4,9 +4,10 @@
 Run by hand: bench/play.py [RUNS] [WORD]. A line for each sheet and script whose name contains WORD (all by default), with the least
 of RUNS runs each (3 by default), the two commands in turn:
 
-    show      seconds of processor time of `show` of a cell below all others that adds them up, so that all are computed
+    show      seconds of processor time of `show` of a cell below all others that adds them up, so that all are computed;
+              where they lead into circles, which such a cell would share, of all cells
     play      seconds of processor time of `play`
-    ratio     the one divided by the other
+    ratio     play divided by show
 
 How it starts the program is that of bench/measuring.py.
 """
@@ -37,6 +38,10 @@ def growing_sums(count):
     return lines(count, lambda r: f"{r},=SUM(A$1:A{r}),")
 
 
+# A cell that adds up circles is circular itself, and is so at the first one that it comes to: there all cells are shown.
+CIRCLES = "50,000 circles of two, half of their turns"
+ALL_OF_CIRCLES = "A1:B50001"
+
 # What is measured: the sheet's text and the script's.
 MEASURED = {
     "a chain of 100,000, all its turns": (lambda: chain(100_000), lambda: "set A1 2\nlook A1\nwork 100000\nlook A100000\n"),
@@ -44,7 +49,7 @@ MEASURED = {
     "a chain of 100,000, a firm look": (lambda: chain(100_000), lambda: "set A1 2\nfirm A100000\n"),
     "a total above 100,000 cells, half of their turns": (
         lambda: total_on_top(100_000), lambda: "set A2 2\nwork 50000\nlook A1\n"),
-    "50,000 circles of two, half of their turns": (lambda: circles(50_000), lambda: "set A1 2\nwork 50000\nlook A2\n"),
+    CIRCLES: (lambda: circles(50_000), lambda: "set A1 2\nwork 50000\nlook A2\n"),
     "100,000 lines of one turn over a chain of 100,000": (
         lambda: chain(100_000), lambda: "set A1 2\n" + "work 1\n" * 100_000 + "look A100000\n"),
     "100 edits and turns by turns beside a chain of 100,000": (
@@ -63,15 +68,15 @@ MEASURED = {
 }
 
 
-def measure(folder, runs, text, script):
+def measure(folder, runs, what, text, script):
     """The least times of the two commands, in as many runs, in turn."""
     (folder / "sheet.csv").write_text(text)
     (folder / "script.txt").write_text(script)
-    added_up, total = with_total(text)
-    (folder / "total.csv").write_text(added_up)
+    shown, window = (text, ALL_OF_CIRCLES) if what == CIRCLES else with_total(text)
+    (folder / "shown.csv").write_text(shown)
     shows, plays = [], []
     for _ in range(runs):
-        shows.append(started(folder, "show", "total.csv", total)[0])
+        shows.append(started(folder, "show", "shown.csv", window)[0])
         plays.append(started(folder, "play", "sheet.csv", "script.txt")[0])
     return min(shows), min(plays)
 
@@ -86,7 +91,7 @@ def main():
         for what, (text, script) in MEASURED.items():
             if word not in what:
                 continue
-            show, play = measure(folder, runs, text(), script())
+            show, play = measure(folder, runs, what, text(), script())
             print(f"{show:8.3f} {play:8.3f} {play / show:7.2f}  {what}", flush=True)
 
 

@@ -5,8 +5,8 @@ Run by hand: bench/profile.py [WORD]. The first line has the kind of machine, it
 table for each sheet and command whose name contains WORD (all by default), under the number of instructions in all: the share of each crate that has at least one in a hundred, with those of its functions that have most.
 `memory` is the C library's part, mostly allocation. Code that the compiler put into its caller counts as the caller's.
 
-It needs valgrind, which counts the same for the same program and input, whatever else the machine does. How the program is found
-is that of bench/measuring.py.
+It needs valgrind, which counts the same for the same program, input and number of processors, whatever else the machine does. How
+the program is found is that of bench/measuring.py.
 """
 
 import argparse

@@ -9,6 +9,8 @@ RUNS runs each (3 by default), program and csv in turn:
     ratio     the one divided by the other
     B/cell    the most memory that the program had resident, divided by the cells of the sheet
 
+Behind the name of a sheet whose formulas look at very many cells stands the program's time divided by that number.
+
 A last line, for a label of 8,192 bytes that is shown 100,001 times, has beside the program's time that in which as many bytes are
 written to the same file in pieces of 65,536, and the most memory that the program had resident, in MB.
 """
