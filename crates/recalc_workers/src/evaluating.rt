@@ -16,15 +16,16 @@ use sheet_model::Content;
 use sheet_refs::Sizes;
 use value_core::{Value, code};
 
-/// Whether one of the words is the code of `#CIRC!`.
+// Whether one of the words is the code of `#CIRC!`.
 fn has_circular_word(words: &[u64]) -> bool
     ensures { result ≡ false → HaveNoCircular words.now }
 {
     words.contains(&CIRCULAR)
 }
 
-/// The value of a formula over the words in the list, which has one for each cell that the formula names. Where none is
-/// that of `#CIRC!`, no cell stops the evaluation, which then needs no look at each beforehand.
+// The value of a formula over the words in the list, which has one for each cell that the formula names. One look
+// through the words tells whether any is that of `#CIRC!`; where none is, no cell stops the evaluation, and the formula
+// isn't gone through before it is evaluated.
 fn evaluate_formula(sizes: Sizes, formula: &Formula, list: &InputList, stack: &mut Stack) -> Value
     requires codes { AreCodes list.now.words.items }
     requires known { HaveWords sizes (references_of formula.now) list.now.parts.items list.now.words.items }

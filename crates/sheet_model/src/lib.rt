@@ -14,7 +14,7 @@
 //! values, however they are computed.
 //!
 //! Below stand `sheet_refs`, `value_core`, `formula_syntax`, `formula_eval`, `mark_core` and the kit's `indexmap` and
-//! `arrayvec`; above, `csv_sheet`, `window_text`, `edit_log`, `edit_script`, `play_machine`, `sheet_cli`.
+//! `arrayvec`; above, all that reads, holds, edits, computes or prints a sheet.
 #![tactic(auto)]
 
 mod board;
