@@ -24,8 +24,6 @@ mod shelf;
 mod sink;
 mod stream_sink;
 mod sure;
-#[cfg(test)]
-mod tests;
 mod texts;
 
 pub use cuts::Cut;

@@ -12,8 +12,6 @@
 
 mod buffer;
 mod laws;
-#[cfg(test)]
-mod tests;
 
 pub use buffer::SinkBuffer;
 pub use laws::buffer_laws;

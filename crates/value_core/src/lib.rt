@@ -14,8 +14,6 @@ mod codes;
 mod convert;
 mod laws;
 mod operators;
-#[cfg(test)]
-mod tests;
 mod value;
 mod whole;
 

@@ -1,5 +1,7 @@
 // What no clause says: that calls succeed with ample memory, and what real files and writers do.
-use super::*;
+use sheet_io::{
+    Cut, Fetch, FileShelf, MemoryShelf, MemorySink, Shelf, Sink, StreamSink, SureShelf, SureSink,
+};
 use std::alloc::{AllocError, Global};
 use std::fs;
 use std::io::{self, ErrorKind, Write};

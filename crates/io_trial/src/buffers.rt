@@ -1,6 +1,6 @@
 // What no clause says: how many puts a text takes, and that the first that fails is the last one.
-use crate::SinkBuffer;
 use sheet_io::MemorySink;
+use sink_buffer::SinkBuffer;
 use std::alloc::{AllocError, Global};
 use std::test::Fail;
 

@@ -1,7 +1,10 @@
 // What no clause says: that codes and printed forms mean what they should. The expected values were worked
 // out by hand.
-use super::*;
 use std::test::Fail;
+use value_core::{
+    BinaryOp, ErrorKind, PrefixOp, Value, Whole, as_truth, binary, code, decode, prefix,
+    truth_number,
+};
 
 // Stands in a row for a number that is out of range. No call gives it, so that no row that wants it passes.
 const OUTSIDE: Value = Value::Label(1_000);
