@@ -212,7 +212,7 @@ fn long_formulas_have_values(rt: HostRuntime) -> Result<(), Fail> {
         values: &[],
     };
     let mut stack = Stack::new(alloc)?;
-    for (start, count, front, middle, end, wanted) in [
+    for &(start, count, front, middle, end, wanted) in &[
         ("=", 8_190, "-", "1", "", "1"),
         ("=", 8_189, "-", "1", "", "-1"),
         ("=", 4_000, "8+", "8", "", "32008"),
@@ -223,9 +223,8 @@ fn long_formulas_have_values(rt: HostRuntime) -> Result<(), Fail> {
         let text = repeated(alloc, start, count, front, middle, end)?;
         let answer = answered(alloc, text.as_str(), &known, &mut stack)?;
         assert_eq!(rt;
-            answer.as_str(),
-            wanted,
-            "{start} and {count} times {front}"
+            (start, count, front, answer.as_str()),
+            (start, count, front, wanted)
         );
     }
     Ok(())

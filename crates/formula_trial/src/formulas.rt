@@ -78,7 +78,7 @@ fn ranges_of(alloc: Global, text: &str) -> Result<String, Fail> {
 
 #[test]
 fn formulas_are_printed(rt: HostRuntime) -> Result<(), Fail> {
-    for (text, expected) in [
+    for &(text, expected) in &[
         ("=0", "=0"),
         ("=007", "=7"),
         ("=9007199254740991", "=9007199254740991"),
@@ -127,14 +127,17 @@ fn formulas_are_printed(rt: HostRuntime) -> Result<(), Fail> {
         ("=MATCH(1;A1)", "NotFormula"),
         ("=SUM(a5:$A$3 ; (1+2)*(-3))", "=SUM(A$3:$A5;(1+2)*-3)"),
     ] {
-        assert_eq!(rt; reprinted(rt.alloc(), text)?.as_str(), expected, "{text}");
+        assert_eq!(rt;
+            (text, reprinted(rt.alloc(), text)?.as_str()),
+            (text, expected)
+        );
     }
     Ok(())
 }
 
 #[test]
 fn references_are_printed(rt: HostRuntime) -> Result<(), Fail> {
-    for (text, expected) in [
+    for &(text, expected) in &[
         ("=a1", "=A1"),
         ("=$a1", "=$A1"),
         ("=a$1", "=A$1"),
@@ -149,14 +152,17 @@ fn references_are_printed(rt: HostRuntime) -> Result<(), Fail> {
         ("=[.$A1:.B$2]", "=$A1:B$2"),
         ("=[.B2:.A1]", "=A1:B2"),
     ] {
-        assert_eq!(rt; reprinted(rt.alloc(), text)?.as_str(), expected, "{text}");
+        assert_eq!(rt;
+            (text, reprinted(rt.alloc(), text)?.as_str()),
+            (text, expected)
+        );
     }
     Ok(())
 }
 
 #[test]
 fn references_are_shifted(rt: HostRuntime) -> Result<(), Fail> {
-    for (text, down, right, expected) in [
+    for &(text, down, right, expected) in &[
         ("=A1+1", 1, 0, "=A2+1"),
         ("=A1+1", -1, 0, "=#REF!+1"),
         ("=A1+1", 0, -1, "=#REF!+1"),
@@ -179,9 +185,8 @@ fn references_are_shifted(rt: HostRuntime) -> Result<(), Fail> {
         ("=TRUE=#N/A", 5, 5, "=TRUE=#N/A"),
     ] {
         assert_eq!(rt;
-            shifted(rt.alloc(), text, down, right)?.as_str(),
-            expected,
-            "{text}"
+            (text, shifted(rt.alloc(), text, down, right)?.as_str()),
+            (text, expected)
         );
     }
     Ok(())
@@ -189,7 +194,7 @@ fn references_are_shifted(rt: HostRuntime) -> Result<(), Fail> {
 
 #[test]
 fn ranges_are_listed(rt: HostRuntime) -> Result<(), Fail> {
-    for (text, expected) in [
+    for &(text, expected) in &[
         ("=1", ""),
         ("=A1", " A1:A1"),
         ("=B2+A1*B2", " B2:B2 A1:A1"),
@@ -200,14 +205,17 @@ fn ranges_are_listed(rt: HostRuntime) -> Result<(), Fail> {
         ("=A1+$A$1+[.A1:.A1]", " A1:A1"),
         ("=IF(A1:B2=A1;B1;A1:A2)", " A1:B2 A1:A1 B1:B1 A1:A2"),
     ] {
-        assert_eq!(rt; ranges_of(rt.alloc(), text)?.as_str(), expected, "{text}");
+        assert_eq!(rt;
+            (text, ranges_of(rt.alloc(), text)?.as_str()),
+            (text, expected)
+        );
     }
     Ok(())
 }
 
 #[test]
 fn other_texts_are_no_formulas(rt: HostRuntime) {
-    for text in [
+    for &text in &[
         "",
         "=",
         "1",
@@ -276,14 +284,14 @@ fn other_texts_are_no_formulas(rt: HostRuntime) {
         "=1 < = 2",
     ] {
         let refused = answer(rt.alloc(), text);
-        assert_eq!(rt; refused, Some(ReadRefused::NotFormula), "{text}");
+        assert_eq!(rt; (text, refused), (text, Some(ReadRefused::NotFormula)));
     }
 }
 
 #[test]
 fn limits_hold(rt: HostRuntime) -> Result<(), Fail> {
     let alloc = rt.alloc();
-    for (count, front, middle, end, refused) in [
+    for &(count, front, middle, end, refused) in &[
         (64, "(", "1", ")", None),
         (65, "(", "1", ")", Some(ReadRefused::TooDeep)),
         (65, "(", "", "", Some(ReadRefused::TooDeep)),
@@ -293,9 +301,8 @@ fn limits_hold(rt: HostRuntime) -> Result<(), Fail> {
     ] {
         let text = repeated(alloc, count, front, middle, end)?;
         assert_eq!(rt;
-            answer(alloc, text.as_str()),
-            refused,
-            "{count} times {front} before {middle:?}"
+            (count, front, middle, answer(alloc, text.as_str())),
+            (count, front, middle, refused)
         );
     }
     Ok(())
@@ -320,7 +327,7 @@ fn kept(alloc: Global, text: &str) -> Result<(bool, bool, bool), Fail> {
 #[test]
 fn long_formulas_need_no_deep_stack(rt: HostRuntime) -> Result<(), Fail> {
     let alloc = rt.alloc();
-    for (count, front, middle, end, length) in [
+    for &(count, front, middle, end, length) in &[
         (8_190, "-", "1", "", MAX_FIELD),
         (4_000, "8+", "8", "", 8_002),
         (64, "IF(1=1+1*1^", "A1", ";2)", 899),
@@ -328,9 +335,8 @@ fn long_formulas_need_no_deep_stack(rt: HostRuntime) -> Result<(), Fail> {
     ] {
         let text = repeated(alloc, count, front, middle, end)?;
         assert_eq!(rt;
-            (text.len(), kept(alloc, text.as_str())?),
-            (length, (true, true, true)),
-            "{count} times {front}"
+            (count, front, text.len(), kept(alloc, text.as_str())?),
+            (count, front, length, (true, true, true))
         );
     }
     Ok(())

@@ -7,7 +7,7 @@ use std::test::Fail;
 
 #[test]
 fn cells_have_names(rt: HostRuntime) -> Result<(), Fail> {
-    for (name, lower, row, col) in [
+    for &(name, lower, row, col) in &[
         ("A1", "a1", 1, 1),
         ("Z26", "z26", 26, 26),
         ("AA10", "aA10", 10, 27),
@@ -30,7 +30,7 @@ fn cells_have_names(rt: HostRuntime) -> Result<(), Fail> {
 
 #[test]
 fn other_texts_name_no_cell(rt: HostRuntime) {
-    for text in [
+    for &text in &[
         "",
         "A",
         "1",
@@ -59,13 +59,13 @@ fn other_texts_name_no_cell(rt: HostRuntime) {
         "A/",
         "A:",
     ] {
-        assert_eq!(rt; cell_of(text.as_bytes()), None, "{text}");
+        assert_eq!(rt; (text, cell_of(text.as_bytes())), (text, None));
     }
 }
 
 #[test]
 fn ranges_have_names(rt: HostRuntime) -> Result<(), Fail> {
-    for (name, printed, cells) in [
+    for &(name, printed, cells) in &[
         ("B7", "B7:B7", 1),
         ("A1:A1", "A1:A1", 1),
         ("a1:b3", "A1:B3", 6),
@@ -77,24 +77,27 @@ fn ranges_have_names(rt: HostRuntime) -> Result<(), Fail> {
     ] {
         let range = range_of(name.as_bytes()).ok_or("no range")?;
         let text = format!(in rt.alloc(); "{range}")?;
-        assert_eq!(rt; (text.as_str(), range.cells()), (printed, cells), "{name}");
+        assert_eq!(rt;
+            (name, text.as_str(), range.cells()),
+            (name, printed, cells)
+        );
     }
     Ok(())
 }
 
 #[test]
 fn other_texts_name_no_range(rt: HostRuntime) {
-    for text in [
+    for &text in &[
         "", ":", "A1:", ":A1", "A1::B2", "A1:B2:C3", "A1 :B2", "A1;B2", "$A$1:B2", "A0:B2",
         "A1:XFE1", "A:B", "1:2",
     ] {
-        assert_eq!(rt; range_of(text.as_bytes()), None, "{text}");
+        assert_eq!(rt; (text, range_of(text.as_bytes())), (text, None));
     }
 }
 
 #[test]
 fn digits_write_numbers(rt: HostRuntime) {
-    for (text, number) in [
+    for &(text, number) in &[
         ("0", Some(0)),
         ("000", Some(0)),
         ("10", Some(10)),
@@ -110,7 +113,10 @@ fn digits_write_numbers(rt: HostRuntime) {
         ("/", None),
         (":", None),
     ] {
-        assert_eq!(rt; decimal_of(text.as_bytes(), u64::MAX - 1), number, "{text}");
+        assert_eq!(rt;
+            (text, decimal_of(text.as_bytes(), u64::MAX - 1)),
+            (text, number)
+        );
     }
     assert_eq!(rt;
         (
@@ -129,7 +135,7 @@ fn ranges_hold_cells(rt: HostRuntime) -> Result<(), Fail> {
         (Some(range.head()), Some(range.tail())),
         (cell_of(b"B3"), cell_of(b"C4"))
     );
-    for (name, inside) in [
+    for &(name, inside) in &[
         ("B3", true),
         ("C3", true),
         ("B4", true),
@@ -139,7 +145,7 @@ fn ranges_hold_cells(rt: HostRuntime) -> Result<(), Fail> {
         ("B2", false),
         ("C5", false),
     ] {
-        assert_eq!(rt; range.contains(named(name)?), inside, "{name}");
+        assert_eq!(rt; (name, range.contains(named(name)?)), (name, inside));
     }
     Ok(())
 }
@@ -159,7 +165,7 @@ fn reprinted(alloc: Global, dotted: bool, text: &str) -> Result<String, Fail> {
 
 #[test]
 fn references_are_read_and_printed(rt: HostRuntime) -> Result<(), Fail> {
-    for (dotted, text, printed) in [
+    for &(dotted, text, printed) in &[
         (false, "a1", "A1"),
         (false, "$xfd$1048576", "$XFD$1048576"),
         (false, "A1:A1", "A1:A1"),
@@ -184,7 +190,7 @@ fn references_are_read_and_printed(rt: HostRuntime) -> Result<(), Fail> {
         (false, "XFE1", ""),
     ] {
         let shown = reprinted(rt.alloc(), dotted, text)?;
-        assert_eq!(rt; shown.as_str(), printed, "{text}");
+        assert_eq!(rt; (text, shown.as_str()), (text, printed));
     }
     Ok(())
 }

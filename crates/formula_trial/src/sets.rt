@@ -4,9 +4,15 @@ use std::alloc::Global;
 use std::fmt::Write;
 use std::test::Fail;
 
+// What each of two ranges has in common with the other, and whether they overlap.
+fn common(a: &str, b: &str) -> Result<(Option<Range>, Option<Range>, bool), Fail> {
+    let (a, b) = (range(a)?, range(b)?);
+    Ok((a.meet(&b), b.meet(&a), a.overlaps(&b)))
+}
+
 #[test]
 fn ranges_share_cells(rt: HostRuntime) -> Result<(), Fail> {
-    for (a, b, shared) in [
+    for &(a, b, shared) in &[
         ("A1:C3", "B2:D4", "B2:C3"),
         ("A1:C3", "C3:D4", "C3:C3"),
         ("B1:B9", "A5:C5", "B5:B5"),
@@ -16,12 +22,10 @@ fn ranges_share_cells(rt: HostRuntime) -> Result<(), Fail> {
         ("A1:C3", "A4:C4", ""),
         ("A1:A1", "B2:B2", ""),
     ] {
-        let (a, b) = (range(a)?, range(b)?);
         let shared = range_of(shared.as_bytes());
         assert_eq!(rt;
-            (a.meet(&b), b.meet(&a), a.overlaps(&b)),
-            (shared, shared, shared.is_some()),
-            "{a} and {b}"
+            (a, b, common(a, b)?),
+            (a, b, (shared, shared, shared.is_some()))
         );
     }
     Ok(())
@@ -29,7 +33,7 @@ fn ranges_share_cells(rt: HostRuntime) -> Result<(), Fail> {
 
 #[test]
 fn pieces_are_left(rt: HostRuntime) -> Result<(), Fail> {
-    for (a, b, left) in [
+    for &(a, b, left) in &[
         ("A1:C3", "B2:B2", "A1:C1 A3:C3 A2:A2 C2:C2"),
         ("A1:C3", "D1:D3", "A1:C3"),
         ("A1:C3", "A1:C3", ""),
@@ -70,7 +74,7 @@ fn holds(set: &RectSet, name: &str) -> Result<bool, Fail> {
 #[test]
 fn a_set_gains_ranges(rt: HostRuntime) -> Result<(), Fail> {
     let mut set = RectSet::new(rt.alloc());
-    for (added, new, runs) in [
+    for &(added, new, runs) in &[
         ("B2:B3", "B2:B3", "B2:B3"),
         ("B5", "B5:B5", "B2:B3 B5:B5"),
         ("B4", "B4:B4", "B2:B5"),
@@ -90,13 +94,12 @@ fn a_set_gains_ranges(rt: HostRuntime) -> Result<(), Fail> {
     ] {
         let (part, columns, is_held) = gained(rt.alloc(), &mut set, added)?;
         assert_eq!(rt;
-            (part.as_str(), columns.as_str(), is_held),
-            (new, runs, true),
-            "{added}"
+            (added, part.as_str(), columns.as_str(), is_held),
+            (added, new, runs, true)
         );
     }
-    for (cell, inside) in [("A7", true), ("E7", true), ("A8", false), ("F7", false)] {
-        assert_eq!(rt; holds(&set, cell)?, inside, "{cell}");
+    for &(cell, inside) in &[("A7", true), ("E7", true), ("A8", false), ("F7", false)] {
+        assert_eq!(rt; (cell, holds(&set, cell)?), (cell, inside));
     }
     Ok(())
 }

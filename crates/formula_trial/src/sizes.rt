@@ -24,7 +24,7 @@ fn place_of(cell: Cell) -> Option<usize> {
 
 #[test]
 fn cells_have_places(rt: HostRuntime) -> Result<(), Fail> {
-    for (row, col, place) in [
+    for &(row, col, place) in &[
         (1, 1, Some(0)),
         (1, 4, Some(3)),
         (2, 1, Some(4)),
@@ -33,14 +33,14 @@ fn cells_have_places(rt: HostRuntime) -> Result<(), Fail> {
         (1, 5, None),
         (1_048_576, 16_384, None),
     ] {
-        assert_eq!(rt; place_of(cell(row, col)?), place, "row {row}, column {col}");
+        assert_eq!(rt; (row, col, place_of(cell(row, col)?)), (row, col, place));
     }
     Ok(())
 }
 
 #[test]
 fn ranges_are_clipped(rt: HostRuntime) -> Result<(), Fail> {
-    for (rows, cols, whole, part) in [
+    for &(rows, cols, whole, part) in &[
         (3, 4, "A1:XFD1048576", "A1:D3"),
         (3, 4, "B2:C3", "B2:C3"),
         (3, 4, "D3:I9", "D3:D3"),
@@ -50,9 +50,8 @@ fn ranges_are_clipped(rt: HostRuntime) -> Result<(), Fail> {
     ] {
         let sizes = Sizes { rows, cols };
         assert_eq!(rt;
-            sizes.clip(range(whole)?),
-            range_of(part.as_bytes()),
-            "{whole} in {rows} rows"
+            (rows, whole, sizes.clip(range(whole)?)),
+            (rows, whole, range_of(part.as_bytes()))
         );
     }
     Ok(())
@@ -70,11 +69,10 @@ fn cell_at(window: Range, place: u64) -> Option<Cell> {
 #[test]
 fn cells_of_a_range_have_places(rt: HostRuntime) -> Result<(), Fail> {
     let window = range("C2:D4")?;
-    for (place, row, col) in [(0, 2, 3), (1, 2, 4), (2, 3, 3), (5, 4, 4)] {
+    for &(place, row, col) in &[(0, 2, 3), (1, 2, 4), (2, 3, 3), (5, 4, 4)] {
         assert_eq!(rt;
-            (window.cells(), cell_at(window, place)),
-            (6, Cell::new(row, col)),
-            "place {place}"
+            (place, window.cells(), cell_at(window, place)),
+            (place, 6, Cell::new(row, col))
         );
     }
     Ok(())
@@ -92,11 +90,15 @@ fn cell_behind(window: Range, cell: Cell) -> Option<Cell> {
 #[test]
 fn cells_of_a_range_follow_one_another(rt: HostRuntime) -> Result<(), Fail> {
     let window = range("C2:D4")?;
-    for (row, col, next_row, next_col) in [(2, 3, 2, 4), (2, 4, 3, 3), (4, 3, 4, 4), (4, 4, 2, 3)] {
+    for &(row, col, next_row, next_col) in &[
+        (2, 3, 2, 4),
+        (2, 4, 3, 3),
+        (4, 3, 4, 4),
+        (4, 4, 2, 3),
+    ] {
         assert_eq!(rt;
-            cell_behind(window, cell(row, col)?),
-            Cell::new(next_row, next_col),
-            "row {row}, column {col}"
+            (row, col, cell_behind(window, cell(row, col)?)),
+            (row, col, Cell::new(next_row, next_col))
         );
     }
     Ok(())

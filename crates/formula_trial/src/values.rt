@@ -1,5 +1,6 @@
 // What no clause says: that codes and printed forms mean what they should. The expected values were worked
 // out by hand.
+use std::process::Abort;
 use std::test::Fail;
 use value_core::{
     BinaryOp, ErrorKind, PrefixOp, Value, Whole, as_truth, binary, code, decode, prefix,
@@ -48,7 +49,7 @@ fn values_have_codes(rt: HostRuntime) {
 
 #[test]
 fn other_words_stand_for_no_value(rt: HostRuntime) {
-    for word in [
+    for &word in &[
         1,
         5,
         6,
@@ -63,13 +64,13 @@ fn other_words_stand_for_no_value(rt: HostRuntime) {
         144_115_188_075_855_873,
         u64::MAX,
     ] {
-        assert_eq!(rt; decode(word), None, "{word}");
+        assert_eq!(rt; (word, decode(word)), (word, None));
     }
 }
 
 #[test]
 fn errors_print_their_names(rt: HostRuntime) -> Result<(), Fail> {
-    for (kind, name) in [
+    for &(kind, name) in &[
         (ErrorKind::Null, "#NULL!"),
         (ErrorKind::Div0, "#DIV/0!"),
         (ErrorKind::Value, "#VALUE!"),
@@ -86,7 +87,7 @@ fn errors_print_their_names(rt: HostRuntime) -> Result<(), Fail> {
 
 #[test]
 fn whole_numbers_have_ends(rt: HostRuntime) {
-    for (n, inside) in [
+    for &(n, inside) in &[
         (9_007_199_254_740_991, true),
         (9_007_199_254_740_992, false),
         (-9_007_199_254_740_991, true),
@@ -94,7 +95,7 @@ fn whole_numbers_have_ends(rt: HostRuntime) {
         (i64::MAX, false),
         (i64::MIN, false),
     ] {
-        assert_eq!(rt; Whole::new(n).is_some(), inside, "{n}");
+        assert_eq!(rt; (n, Whole::new(n).is_some()), (n, inside));
     }
 }
 
@@ -136,6 +137,15 @@ fn number_or_error(n: Option<i64>) -> Value {
     }
 }
 
+// Compares what an operator gives for two operands with what it should give.
+fn judge(rt: &impl Abort, left: Value, op: BinaryOp, right: Value, wanted: Value) {
+    assert_eq!(rt;
+        binary(op, left, right),
+        wanted,
+        "{left:?} {op:?} {right:?}"
+    );
+}
+
 #[test]
 fn numbers_are_calculated(rt: HostRuntime) {
     let greatest = 9_007_199_254_740_991;
@@ -163,10 +173,12 @@ fn numbers_are_calculated(rt: HostRuntime) {
         (-1, POWER, greatest - 1, Some(1)),
         (3, POWER, greatest, None),
     ] {
-        assert_eq!(rt;
-            binary(op, number(left), number(right)),
+        judge(
+            &rt,
+            number(left),
+            op,
+            number(right),
             number_or_error(wanted),
-            "{left} {op:?} {right}"
         );
     }
 }
@@ -185,11 +197,7 @@ fn kinds_are_converted(rt: HostRuntime) {
         (NA, BinaryOp::Equal, REF, NA),
         (LABEL, BinaryOp::Less, REF, REF),
     ] {
-        assert_eq!(rt;
-            binary(op, left, right),
-            wanted,
-            "{left:?} {op:?} {right:?}"
-        );
+        judge(&rt, left, op, right, wanted);
     }
 }
 
@@ -273,6 +281,6 @@ fn values_are_truths(rt: HostRuntime) {
 #[test]
 fn truths_are_numbers(rt: HostRuntime) {
     for (truth, wanted) in [(true, number(1)), (false, number(0))] {
-        assert_eq!(rt; Value::Number(truth_number(truth)), wanted, "{truth}");
+        assert_eq!(rt; Value::Number(truth_number(truth)), wanted);
     }
 }
