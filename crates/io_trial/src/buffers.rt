@@ -36,7 +36,7 @@ fn send_pieces(
 #[test]
 fn a_text_takes_as_few_puts_as_it_may(rt: HostRuntime) -> Result<(), Fail> {
     let alloc = rt.alloc();
-    for (pieces, length, failing, whole, written) in [
+    for &(pieces, length, failing, whole, written) in &[
         // The put that is to fail is the one after the last, which doesn't come.
         (3, 10, 2, true, 30),
         (0, 10, 2, true, 0),
@@ -54,9 +54,8 @@ fn a_text_takes_as_few_puts_as_it_may(rt: HostRuntime) -> Result<(), Fail> {
         let mut sink = sink_failing_at(alloc, failing)?;
         let sent = send_pieces(alloc, pieces, length, &mut sink)?;
         assert_eq!(rt;
-            (sent, sink.written().len()),
-            (whole, written),
-            "{pieces} of {length}, put {failing}"
+            (pieces, length, failing, sent, sink.written().len()),
+            (pieces, length, failing, whole, written)
         );
     }
     Ok(())

@@ -40,7 +40,7 @@ fn some_texts(alloc: Global) -> Result<Vec<(String, Vec<u8>)>, AllocError> {
 fn a_shelf_in_memory_fails_by_its_list(rt: HostRuntime) -> Result<(), Fail> {
     let alloc = rt.alloc();
     let mut shelf = MemoryShelf::new(some_texts(alloc)?, [2, 6].to_vec(alloc)?);
-    for (name, limit, refusal, into) in [
+    for &(name, limit, refusal, into) in &[
         ("s", 3, None, ">one"),
         ("s", 3, Some(Fetch::Failed), ">"),
         ("s", 2, Some(Fetch::TooLong), ">"),
@@ -51,9 +51,8 @@ fn a_shelf_in_memory_fails_by_its_list(rt: HostRuntime) -> Result<(), Fail> {
     ] {
         let (refused, held) = fetched(alloc, &mut shelf, name, limit)?;
         assert_eq!(rt;
-            (refused, held.as_slice()),
-            (refusal, into.as_bytes()),
-            "{name} within {limit}"
+            (name, limit, refused, held.as_slice()),
+            (name, limit, refusal, into.as_bytes())
         );
     }
     Ok(())
@@ -63,16 +62,15 @@ fn a_shelf_in_memory_fails_by_its_list(rt: HostRuntime) -> Result<(), Fail> {
 fn a_sure_shelf_has_the_empty_text_under_other_names(rt: HostRuntime) -> Result<(), Fail> {
     let alloc = rt.alloc();
     let mut shelf = SureShelf::new(some_texts(alloc)?);
-    for (name, limit, refusal, into) in [
+    for &(name, limit, refusal, into) in &[
         ("s", 3, None, ">one"),
         ("t", 8, Some(Fetch::TooLong), ">"),
         ("u", 0, None, ">"),
     ] {
         let (refused, held) = fetched(alloc, &mut shelf, name, limit)?;
         assert_eq!(rt;
-            (refused, held.as_slice()),
-            (refusal, into.as_bytes()),
-            "{name} within {limit}"
+            (name, limit, refused, held.as_slice()),
+            (name, limit, refusal, into.as_bytes())
         );
     }
     Ok(())
@@ -82,7 +80,7 @@ fn a_sure_shelf_has_the_empty_text_under_other_names(rt: HostRuntime) -> Result<
 fn a_sink_in_memory_fails_by_its_list_and_at_its_room(rt: HostRuntime) -> Result<(), Fail> {
     let alloc = rt.alloc();
     let mut sink = MemorySink::new(alloc, 7, [2].to_vec(alloc)?)?;
-    for (piece, is_taken, written) in [
+    for &(piece, is_taken, written) in &[
         ("abc", true, "abc"),
         ("d", false, "abc"),
         ("de", true, "abcde"),
@@ -92,9 +90,8 @@ fn a_sink_in_memory_fails_by_its_list_and_at_its_room(rt: HostRuntime) -> Result
     ] {
         let taken = put_through(&mut sink, piece);
         assert_eq!(rt;
-            (taken, sink.written()),
-            (is_taken, written.as_bytes()),
-            "putting {piece}"
+            (piece, taken, sink.written()),
+            (piece, is_taken, written.as_bytes())
         );
     }
     Ok(())
@@ -117,7 +114,7 @@ fn some_cuts(alloc: Global) -> Result<Vec<Cut>, AllocError> {
 fn a_cut_put_takes_first_bytes_and_fails(rt: HostRuntime) -> Result<(), Fail> {
     let alloc = rt.alloc();
     let mut sink = MemorySink::cutting(alloc, 9, some_cuts(alloc)?)?;
-    for (piece, is_taken, written) in [
+    for &(piece, is_taken, written) in &[
         ("ab", true, "ab"),
         ("cde", false, "abc"),
         ("d", true, "abcd"),
@@ -128,9 +125,8 @@ fn a_cut_put_takes_first_bytes_and_fails(rt: HostRuntime) -> Result<(), Fail> {
     ] {
         let taken = put_through(&mut sink, piece);
         assert_eq!(rt;
-            (taken, sink.written()),
-            (is_taken, written.as_bytes()),
-            "putting {piece}"
+            (piece, taken, sink.written()),
+            (piece, is_taken, written.as_bytes())
         );
     }
     Ok(())
@@ -158,7 +154,7 @@ fn first_bytes(text: &[u8]) -> &[u8] {
 fn files_are_read_to_their_end_within_the_limit(rt: HostRuntime) -> Result<(), Fail> {
     make_files(&rt)?;
     let mut shelf = FileShelf::new(&rt);
-    for (name, limit, refusal, first, count) in [
+    for &(name, limit, refusal, first, count) in &[
         ("short", 9, None, ">some text", 10),
         ("short", 8, Some(Fetch::TooLong), ">", 1),
         ("short", usize::MAX, None, ">some text", 10),
@@ -168,9 +164,8 @@ fn files_are_read_to_their_end_within_the_limit(rt: HostRuntime) -> Result<(), F
     ] {
         let (refused, held) = fetched(rt.alloc(), &mut shelf, name, limit)?;
         assert_eq!(rt;
-            (refused, held.len()),
-            (refusal, count),
-            "{name} within {limit}"
+            (name, limit, refused, held.len()),
+            (name, limit, refusal, count)
         );
         assert_eq!(rt; first_bytes(&held), first.as_bytes());
     }
@@ -212,7 +207,7 @@ impl Write for Narrow {
 #[test]
 fn a_stream_takes_a_whole_piece_or_fails(rt: HostRuntime) -> Result<(), Fail> {
     let alloc = rt.alloc();
-    for (at_once, room, fails, flushes, is_taken, written) in [
+    for &(at_once, room, fails, flushes, is_taken, written) in &[
         (3, 99, true, true, true, "a whole piece"),
         (99, 99, true, true, true, "a whole piece"),
         (3, 7, true, true, false, "a whole"),
@@ -229,9 +224,8 @@ fn a_stream_takes_a_whole_piece_or_fails(rt: HostRuntime) -> Result<(), Fail> {
         };
         let taken = put_through(&mut StreamSink::new(&mut writer), "a whole piece");
         assert_eq!(rt;
-            taken,
-            is_taken,
-            "{at_once} at once of {room}, fails {fails}, flushes {flushes}"
+            (at_once, room, fails, flushes, taken),
+            (at_once, room, fails, flushes, is_taken)
         );
         assert_eq!(rt; writer.taken.as_slice(), written.as_bytes());
     }
