@@ -1,9 +1,9 @@
 -- What the tests of reads and work rest on.
 use Rattle.std.proofs.Common.{◌≡◌, ◌≢◌, ◌<◌, ◌≤◌, ◌+◌, ◌==◌, ℕ, zero, suc, List, [], ◌∷◌, ◌++◌, Some, None, map, length}
 use Rattle.std.proofs.Common.{false, true, refl, sym, ◌∙◌, ap, subst, inl, inr, arith, length-append}
-use Rattle.std.specs.Prelude.{Contains, IfOk, Result, Ok, Err, if◌then◌else◌, ◌%◌}
+use Rattle.std.specs.Prelude.{All, Contains, IfOk, Result, Ok, Err, if◌then◌else◌, ◌%◌}
 use Rattle.std.proofs.Math.Seq.{take-length}
-use Rattle.std.proofs.lemmas.List.Elements.{Contains-push}
+use Rattle.std.proofs.lemmas.List.Elements.{Contains-push, All-push}
 use Rattle.std.proofs.lemmas.Bool.{cond_both, cases_lt, eq-eqb}
 use Rattle.mark_core.specs.declared.words.Clean.{Clean}
 use Rattle.mark_core.specs.declared.words.Half.{Half}
@@ -203,6 +203,7 @@ module _ {S E : Type 0} (worth : List E → ℕ → ℕ) (touches : List E → E
 
 -- the script has as many entries as it says
 pub script_length : (number : ℕ) → length (script number) ≡ number
+unfolding script
 script_length zero = refl
 script_length (suc number) =
     let before : length (script number) ≡ number = script_length number in
@@ -272,3 +273,7 @@ module _ {S E : Type 0} {G : Ghosts S E} (marks : Marks S E) (before first secon
 pub ok_both : {A B : Type 0} (r : Result A B) (P Q Z : A → Type 0) → IfOk r P → IfOk r Q → ((x : A) → P x → Q x → Z x) → IfOk r Z
 ok_both (Ok x) P Q Z p q f = f x p q
 ok_both (Err e) P Q Z p q f = p
+
+-- what holds of all, and of the one that was put after them, holds of all then
+pub all_pushed : {X : Type 0} (P : X → Type 0) (before after : List X) (last : X) → after ≡ before ++ last ∷ [] → All P before → P last → All P after
+all_pushed P before after last is all one = subst (All P) (sym is) (All-push P before last all one)

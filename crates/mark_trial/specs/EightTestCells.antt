@@ -26,7 +26,7 @@ last_stays place found (next ∷ entries) entry spared =
     last_stays place (if next % 8 == place then next else found) entries entry spared
 
 -- the entries 1 to this one
-abbrev pub script : ℕ → List ℕ
+unfoldable pub script : ℕ → List ℕ
 script zero = []
 script (suc number) = script number ++ suc number ∷ []
 

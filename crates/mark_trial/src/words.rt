@@ -191,6 +191,15 @@ fn round<R: Threads + Sync>(
     )
 }
 
+/// A seat that was split from the editor's, and knows as many entries.
+fn splits(marks: &Table, editor: &mut Token, _count: u64) -> Token
+    requires ready { IsReadyEditor marks.now editor.old _count }
+    ensures ready { IsReadyEditor marks.now editor.new _count }
+    ensures seat { KnowsMany marks.now result _count }
+{
+    marks.split(editor)
+}
+
 /// The viewer with a seat that was split from the editor's.
 fn pair(marks: &Table, editor: &mut Token, viewer: Token, _count: u64) -> Pair
     requires ready { IsReadyEditor marks.now editor.old _count }
@@ -198,7 +207,7 @@ fn pair(marks: &Table, editor: &mut Token, viewer: Token, _count: u64) -> Pair
     ensures ready { IsReadyEditor marks.now editor.new _count }
     ensures pair { AreTwoSeats marks.now result _count }
 {
-    (viewer, marks.split(editor))
+    (viewer, splits(marks, editor, _count))
 }
 
 /// Each viewer with a seat that was split from the editor's.
@@ -256,7 +265,7 @@ fn viewers(alloc: Global, marks: &Table, editor: &mut Token) -> Result<Vec<Token
 {
     let mut all = Vec::with_capacity(alloc, 4)?;
     for _ in 0..4 {
-        all.push(marks.split(editor))?;
+        all.push(splits(marks, editor, 0))?;
     }
     Ok(all)
 }

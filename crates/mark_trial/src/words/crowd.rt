@@ -8,6 +8,7 @@ use crate::words::eight::{
     works_on,
 };
 use std::alloc::{AllocError, Global};
+use std::process::Abort;
 use std::test::Fail;
 use std::thread::{Threads, join, map_vec};
 
@@ -216,6 +217,26 @@ fn rounds<R: Threads + Sync>(
     Ok((editor, viewers, done, right))
 }
 
+/// A last worker gets all places computed and sees the worth of each. Its seat is put with those that are to be handed
+/// in.
+fn finishes(
+    rt: &impl Abort,
+    marks: &Table,
+    editor: &mut Token,
+    done: &mut Vec<Token>,
+) -> Result<(), AllocError>
+    requires ready { IsEditing marks.now editor.old 2000 }
+    requires done { All (λ seat. IsSeatOf marks.now seat) done.old.items }
+    ensures ready { IsEditing marks.now editor.new 2000 }
+    ensures done { OnOk result (All (λ seat. IsSeatOf marks.now seat) done.new.items) }
+{
+    let mut worker = hired(marks, editor, 2000);
+    assert!(rt; ends(marks, &mut worker));
+    assert!(rt; shows_all(marks, &mut worker));
+    done.push(worker)?;
+    Ok(())
+}
+
 /// An editor commits two thousand entries over eight places, in rounds. In each, four workers compute what was
 /// committed before and four viewers look, while the editor commits a hundred more.
 #[test]
@@ -223,14 +244,14 @@ fn workers_and_viewers_keep_up_with_an_editor(rt: HostRuntime) -> Result<(), Fai
     let alloc = rt.alloc();
     let (marks, mut editor) = opened(alloc)?;
     let viewers = hire(alloc, &marks, &mut editor, 0)?;
-    let (mut editor, viewers, mut seats, right) = rounds(&rt, alloc, &marks, editor, viewers)?;
-    assert_eq!(rt; right, 12_800);
-    let mut worker = hired(&marks, &mut editor, 2000);
-    assert!(rt; ends(&marks, &mut worker));
-    assert!(rt; shows_all(&marks, &mut worker));
-    seats.push(worker)?;
-    assert_eq!(rt; judge(&marks, &mut seats, viewers, 0)?, 16_000);
-    assert_eq!(rt; seats.len(), 85);
-    assert_eq!(rt; closes(marks, editor, seats), Some(true));
+    let (mut editor, viewers, mut seats, worked) = rounds(&rt, alloc, &marks, editor, viewers)?;
+    finishes(&rt, &marks, &mut editor, &mut seats)?;
+    let viewed = judge(&marks, &mut seats, viewers, 0)?;
+    let handed = seats.len();
+    let closed = closes(marks, editor, seats);
+    assert_eq!(rt;
+        (worked, viewed, handed, closed),
+        (12_800, 16_000, 85, Some(true))
+    );
     Ok(())
 }

@@ -167,6 +167,7 @@ pub(super) fn hired(marks: &Table, editor: &mut Token, _number: u32) -> Token
 }
 
 /// Eight places without codes, and the editor's seat.
+#[tactic(auto, unfolding(crate::specs::EightTestCells::script))]
 pub(super) fn opened(alloc: Global) -> Result<(Table, Token), Memory>
     ensures { IfOk result (λ r. IsEditing r.0 r.1 0) }
 {

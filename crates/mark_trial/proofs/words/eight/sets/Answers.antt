@@ -12,6 +12,7 @@ mark-requires-clause-number c =
     omega (arith, c.from.ensures)
 
 pub returns-clause-ready : goal.returns-clause-ready
+unfolding script
 returns-clause-ready c =
     let first = c.mark.ensures.doing in
     let entry : ℕ = c.args.number + 1 in

@@ -1,12 +1,17 @@
 -- One more entry of the script.
-use Rattle.std.proofs.Common.{◌≡◌, ◌+◌, ◌%◌, suc, sym, ◌∙◌, ap, arith}
+use Rattle.std.proofs.Common.{◌≡◌, ◌+◌, ◌%◌, suc, refl, sym, ◌∙◌, ap, arith}
 use Rattle.std.specs.Prelude.{if◌then◌else◌}
 use Rattle.std.proofs.lemmas.Bool.{eq-eqb, ne_eqb}
 use Rattle.mark_trial.specs.EightTestCells.{last_setting, script}
 use Rattle.mark_trial.proofs.TestLemmas.{last_next}
 use Rattle.mark_trial.proofs.words.eight.worth_after.Goals as goal
 
+pub loop-next-init : goal.loop-next-init
+unfolding script
+loop-next-init c = (omega arith, refl, omega arith)
+
 pub loop-next-preserved-then-next-place : goal.loop-next-preserved-then-next-place
+unfolding script
 loop-next-preserved-then-next-place c =
     let next : suc c.loop-next.next ≡ c.loop-next.next + 1 = omega arith in (
       omega arith,
@@ -20,6 +25,7 @@ loop-next-preserved-then-next-place c =
     )
 
 pub loop-next-preserved : goal.loop-next-preserved
+unfolding script
 loop-next-preserved c =
     let next : suc c.loop-next.next ≡ c.loop-next.next + 1 = omega arith in (
       omega arith,
