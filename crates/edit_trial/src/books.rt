@@ -3,27 +3,21 @@
 ghost use Rattle.std.specs.Prelude.{ℕ, IfOk};
 ghost use Rattle.sheet_model.specs.Edits.{HaveLabels};
 
-use crate::graphs::put;
-use edit_log::{Book, PrepareRefused};
+use crate::graphs::{cell, filled};
+use edit_log::{Applied, Book, PrepareRefused};
 use formula_syntax::Edition;
 use graph_walk::Graph;
 use plain_graph::PlainGraph;
 use sheet_model::{Change, Content, Edit, Sheet};
-use sheet_refs::{Cell, cell_of};
+use sheet_refs::Cell;
 use std::alloc::Global;
 use std::fmt::Write;
 use std::test::Fail;
 
-fn cell(name: &str) -> Result<Cell, Fail> {
-    Ok(cell_of(name.as_bytes()).ok_or("no cell")?)
-}
-
 // A book of a sheet of three rows and columns with these fields in its cells.
 fn book(alloc: Global, fields: &[(&str, &str)]) -> Result<Book<PlainGraph>, Fail> {
-    let mut sheet = Sheet::blank(alloc, 3, 3, Edition::One)?;
-    for (name, field) in fields {
-        put(&mut sheet, name, field)?;
-    }
+    let blank = Sheet::blank(alloc, 3, 3, Edition::One)?;
+    let sheet = filled(blank, fields)?;
     Ok(Book::open(alloc, sheet, PlainGraph::new(alloc))?)
 }
 
@@ -49,62 +43,100 @@ fn made_true(alloc: Global, names: &[&str]) -> Result<Edit, Fail>
     }
 }
 
-// Makes an edit, and gives its number and the names of the cells that it touches.
-fn touched<G: Graph>(alloc: Global, book: &mut Book<G>, names: &[&str]) -> Result<String, Fail> {
-    let edit = made_true(alloc, names)?;
-    let Ok(prepared) = book.prepare(2, edit) else {
-        return Err(Fail::from("an edit that is refused"));
-    };
-    let applied = book.apply(prepared);
-    let mut text = String::new(alloc);
-    write!(text, "{}", applied.number)?;
+// Adds a line: the number of an edit, and the names of the cells that it touches.
+fn add_line(lines: &mut String, applied: &Applied) -> Result<(), Fail> {
+    write!(lines, "{}", applied.number)?;
     for cell in &applied.touched {
-        write!(text, " {cell}")?;
+        write!(lines, " {cell}")?;
     }
-    Ok(text)
+    lines.push('\n')?;
+    Ok(())
 }
 
-// Makes such edits one after the other, and gives a line for each.
-fn told<G: Graph>(alloc: Global, book: &mut Book<G>, edits: &[&[&str]]) -> Result<String, Fail> {
-    let mut lines = String::new(alloc);
+// Makes an edit, and adds its line.
+fn touch<G: Graph>(
+    alloc: Global,
+    book: &mut Book<G>,
+    names: &[&str],
+    lines: &mut String,
+) -> Result<(), Fail> {
+    let edit = made_true(alloc, names)?;
+    let prepared = book.prepare(2, edit)?;
+    add_line(lines, &book.apply(prepared))
+}
+
+// Makes such edits one after the other, and adds their lines.
+fn touch_all<G: Graph>(
+    alloc: Global,
+    book: &mut Book<G>,
+    edits: &[&[&str]],
+    lines: &mut String,
+) -> Result<(), Fail> {
     for names in edits {
-        let line = touched(alloc, book, *names)?;
-        writeln!(lines, "{line}")?;
+        touch(alloc, book, *names, lines)?;
     }
+    Ok(())
+}
+
+// Adds how long a book says that its log is, how many entries the log has, and whether a cell holds TRUE.
+fn add_end<G: Graph>(lines: &mut String, book: &Book<G>, name: &str) -> Result<(), Fail> {
+    let is_true = matches!(book.sheet().content(cell(name)?), Content::Truth(true));
+    write!(lines, "{} {} {is_true}", book.length(), book.log().len())?;
+    Ok(())
+}
+
+// Makes such edits, and tells of each, and of the end and of a cell then.
+fn tell<G: Graph>(
+    alloc: Global,
+    book: &mut Book<G>,
+    edits: &[&[&str]],
+    name: &str,
+) -> Result<String, Fail> {
+    let mut lines = String::new(alloc);
+    touch_all(alloc, book, edits, &mut lines)?;
+    add_end(&mut lines, book, name)?;
     Ok(lines)
+}
+
+// The same in a book of a sheet with these fields.
+fn told(
+    alloc: Global,
+    fields: &[(&str, &str)],
+    edits: &[&[&str]],
+    name: &str,
+) -> Result<String, Fail> {
+    let mut book = book(alloc, fields)?;
+    tell(alloc, &mut book, edits, name)
 }
 
 #[test]
 fn edits_touch_their_dependents_row_by_row(rt: HostRuntime) -> Result<(), Fail> {
-    let alloc = rt.alloc();
-    let b2 = cell("B2")?;
-    let fields = [
-        ("C1", "=B2"),
-        ("B2", "=A1+SUM(A3:B3)"),
-        ("A3", "=B2"),
-        ("C3", "=A1"),
-    ];
-    let mut book = book(alloc, &fields)?;
-    let edits: [&[&str]; 6] = [&["A1"], &["B1"], &["B3"], &["B2"], &["A3"], &["A1"]];
-    let lines = told(alloc, &mut book, &edits)?;
-    let wanted = "1 A1 C1 B2 A3 C3\n2 B1\n3 C1 B2 A3 B3\n4 C1 B2 A3\n5 A3\n6 A1 C3\n";
-    let is_true = matches!(book.sheet().content(b2), Content::Truth(true));
-    assert_eq!(rt;
-        (lines.as_str(), book.length(), book.log().len(), is_true),
-        (wanted, 6, 6, true)
-    );
+    let found = told(
+        rt.alloc(),
+        &[
+            ("C1", "=B2"),
+            ("B2", "=A1+SUM(A3:B3)"),
+            ("A3", "=B2"),
+            ("C3", "=A1"),
+        ],
+        &[&["A1"], &["B1"], &["B3"], &["B2"], &["A3"], &["A1"]],
+        "B2",
+    )?;
+    let lines = "1 A1 C1 B2 A3 C3\n2 B1\n3 C1 B2 A3 B3\n4 C1 B2 A3\n5 A3\n6 A1 C3\n6 6 true";
+    assert_eq!(rt; found.as_str(), lines);
     Ok(())
 }
 
 #[test]
 fn an_edit_of_two_cells_touches_the_dependents_of_both(rt: HostRuntime) -> Result<(), Fail> {
-    let alloc = rt.alloc();
-    let fields = [("A1", "=B1"), ("C3", "=A2"), ("B3", "=A1+C3")];
-    let mut book = book(alloc, &fields)?;
-    let edits: [&[&str]; 2] = [&["B1", "A2"], &["A2", "A1"]];
-    let lines = told(alloc, &mut book, &edits)?;
-    let wanted = "1 A1 B1 A2 B3 C3\n2 A1 A2 B3 C3\n";
-    assert_eq!(rt; (lines.as_str(), book.length()), (wanted, 2));
+    let found = told(
+        rt.alloc(),
+        &[("A1", "=B1"), ("C3", "=A2"), ("B3", "=A1+C3")],
+        &[&["B1", "A2"], &["A2", "A1"]],
+        "A2",
+    )?;
+    let lines = "1 A1 B1 A2 B3 C3\n2 A1 A2 B3 C3\n2 2 true";
+    assert_eq!(rt; found.as_str(), lines);
     Ok(())
 }
 
@@ -122,26 +154,52 @@ pub(crate) fn clears<G: Graph>(
 }
 
 // Makes as many edits of a book as its log takes.
-fn fill<G: Graph>(alloc: Global, book: &mut Book<G>, cell: Cell) -> Result<(), Fail> {
+fn clear_all<G: Graph>(
+    alloc: Global,
+    book: &mut Book<G>,
+    cell: Cell,
+) -> Result<(), PrepareRefused> {
     for _ in 0..1_048_576 {
-        if clears(alloc, book, cell).is_err() {
-            return Err(Fail::from("an edit that is refused"));
-        }
+        clears(alloc, book, cell)?;
     }
     Ok(())
 }
 
+// Why emptying a cell is refused.
+fn refused<G: Graph>(alloc: Global, book: &mut Book<G>, cell: Cell) -> Option<PrepareRefused> {
+    clears(alloc, book, cell).err()
+}
+
+// Fills the log of a book of one cell; why that cell is then not emptied, and why one outside the sheet isn't.
+fn refused_when_full<G: Graph>(
+    alloc: Global,
+    book: &mut Book<G>,
+    first: Cell,
+    outside: Cell,
+) -> Result<(Option<PrepareRefused>, Option<PrepareRefused>), Fail> {
+    clear_all(alloc, book, first)?;
+    let full = refused(alloc, book, first);
+    let past = refused(alloc, book, outside);
+    Ok((full, past))
+}
+
+// The same of a book of a sheet of one empty cell.
+fn refused_by_blank(
+    alloc: Global,
+    first: Cell,
+    outside: Cell,
+) -> Result<(Option<PrepareRefused>, Option<PrepareRefused>), Fail> {
+    let mut book = blank_book(alloc)?;
+    refused_when_full(alloc, &mut book, first, outside)
+}
+
 #[test]
 fn a_log_takes_a_million_entries(rt: HostRuntime) -> Result<(), Fail> {
-    let alloc = rt.alloc();
     let (first, outside) = (cell("A1")?, cell("A2")?);
-    let mut book = blank_book(alloc)?;
-    fill(alloc, &mut book, first)?;
-    let full = clears(alloc, &mut book, first).err();
-    let past = clears(alloc, &mut book, outside).err();
+    let found = refused_by_blank(rt.alloc(), first, outside)?;
     let length = 1_048_576;
     assert_eq!(rt;
-        (full, past),
+        found,
         (
             Some(PrepareRefused::LogFull { length }),
             Some(PrepareRefused::OutOfSheet { cell: outside }),

@@ -2,8 +2,10 @@
 use edit_script::{Command, Mode, Script, ScriptRefused, Step, read_script};
 use formula_syntax::Edition;
 use sheet_model::{Edit, Sheet};
+use sheet_refs::Range;
 use std::alloc::Global;
 use std::fmt::Write;
+use std::process::Abort;
 use std::test::Fail;
 
 // Adds the cells of an edit.
@@ -15,15 +17,29 @@ fn add_edit(text: &mut String, edit: &Edit) -> Result<(), Fail> {
     Ok(())
 }
 
+// Adds a word, and the range that it goes with.
+fn add_range(text: &mut String, word: &str, range: &Range) -> Result<(), Fail> {
+    write!(text, "{word} {range}")?;
+    Ok(())
+}
+
+// Adds a command.
+fn add_command(text: &mut String, command: &Command) -> Result<(), Fail> {
+    match command {
+        Command::Put(edit) => add_edit(text, edit),
+        Command::Look(range) => add_range(text, "look", range),
+        Command::Firm(range) => add_range(text, "firm", range),
+        Command::Work(turns) => {
+            write!(text, "work {turns}")?;
+            Ok(())
+        }
+    }
+}
+
 // Adds a step: its command behind the client's place.
 fn add_step(text: &mut String, step: &Step) -> Result<(), Fail> {
     write!(text, "[{} ", step.client)?;
-    match &step.command {
-        Command::Put(edit) => add_edit(text, edit)?,
-        Command::Look(range) => write!(text, "look {range}")?,
-        Command::Firm(range) => write!(text, "firm {range}")?,
-        Command::Work(turns) => write!(text, "work {turns}")?,
-    }
+    add_command(text, &step.command)?;
     text.push(']')?;
     Ok(())
 }
@@ -40,31 +56,58 @@ fn shown(alloc: Global, script: &Script) -> Result<String, Fail> {
     Ok(text)
 }
 
-// Reads a script over a blank sheet of two rows and columns, and shows it.
-fn read(alloc: Global, text: &str) -> Result<String, Fail> {
-    let text = text.as_bytes();
-    if text.len() > 16_777_216 {
-        return Err(Fail::from("a longer text"));
+// A text's script over a sheet, or why it is none.
+fn read(
+    alloc: Global,
+    text: &[u8],
+    mode: Mode,
+    sheet: &mut Sheet,
+) -> Result<Result<Script, ScriptRefused>, Fail> {
+    if text.len() > 16_777_216 || sheet.labels().length() > 3_000_000_000 {
+        return Err(Fail::from("a longer text or table"));
     }
-    let mut sheet = Sheet::blank(alloc, 2, 2, Edition::One)?;
-    let Ok(script) = read_script(alloc, text, Mode::Play, &mut sheet) else {
-        return Err(Fail::from("refused"));
-    };
+    Ok(read_script(alloc, text, mode, sheet))
+}
+
+// A blank sheet of two rows and columns.
+fn blank(alloc: Global) -> Result<Sheet, Fail> {
+    Ok(Sheet::blank(alloc, 2, 2, Edition::One)?)
+}
+
+// Reads a script over a sheet, and shows it.
+fn told_over(alloc: Global, text: &str, sheet: &mut Sheet) -> Result<String, Fail> {
+    let script = read(alloc, text.as_bytes(), Mode::Play, sheet)??;
     shown(alloc, &script)
 }
 
-// Why a text is no script over such a sheet.
-fn refusal(alloc: Global, text: &[u8], mode: Mode) -> Result<Option<ScriptRefused>, Fail> {
-    if text.len() > 16_777_216 {
-        return Err(Fail::from("a longer text"));
+// The same over a blank sheet of two rows and columns.
+fn told(alloc: Global, text: &str) -> Result<String, Fail> {
+    let mut sheet = blank(alloc)?;
+    told_over(alloc, text, &mut sheet)
+}
+
+// Why a text is no script over a sheet.
+fn refused(
+    alloc: Global,
+    text: &[u8],
+    mode: Mode,
+    sheet: &mut Sheet,
+) -> Result<Option<ScriptRefused>, Fail> {
+    Ok(read(alloc, text, mode, sheet)?.err())
+}
+
+// What is shown of each of some texts has to be this.
+fn are_told(rt: &impl Abort, alloc: Global, rows: &[(&str, &str)]) -> Result<(), Fail> {
+    for (text, wanted) in rows {
+        let found = told(alloc, text)?;
+        assert_eq!(rt; found.as_str(), *wanted, "{text}");
     }
-    let mut sheet = Sheet::blank(alloc, 2, 2, Edition::One)?;
-    Ok(read_script(alloc, text, mode, &mut sheet).err())
+    Ok(())
 }
 
 #[test]
 fn scripts_have_clients_and_steps(rt: HostRuntime) -> Result<(), Fail> {
-    for (text, wanted) in [
+    let rows = [
         ("", ""),
         ("\n# a note\r\n", ""),
         (
@@ -84,21 +127,33 @@ fn scripts_have_clients_and_steps(rt: HostRuntime) -> Result<(), Fail> {
             "batch\nclear A1\nend\nbatch\nclear A1\nend\n",
             "main [0 put A1][0 put A1]",
         ),
-    ] {
-        let script = read(rt.alloc(), text)?;
-        assert_eq!(rt; script.as_str(), wanted, "{text}");
+    ];
+    are_told(&rt, rt.alloc(), &rows)
+}
+
+// Why a text is no script over a blank sheet of two rows and columns.
+fn refusal(alloc: Global, text: &[u8], mode: Mode) -> Result<Option<ScriptRefused>, Fail> {
+    let mut sheet = blank(alloc)?;
+    refused(alloc, text, mode, &mut sheet)
+}
+
+// Why each of some texts is no script over such a sheet has to be this.
+fn are_refused(
+    rt: &impl Abort,
+    alloc: Global,
+    rows: &[(&[u8], Mode, ScriptRefused)],
+) -> Result<(), Fail> {
+    for (text, mode, wanted) in rows {
+        let found = refusal(alloc, text, *mode)?;
+        assert_eq!(rt; found, Some(*wanted));
     }
     Ok(())
 }
 
 #[test]
 fn the_first_fault_decides(rt: HostRuntime) -> Result<(), Fail> {
-    for (text, mode, wanted) in [
-        (
-            &b"look A1\nloook A1"[..],
-            Mode::Play,
-            ScriptRefused::BadLine(2),
-        ),
+    let rows: [(&[u8], Mode, ScriptRefused); 12] = [
+        (b"look A1\nloook A1", Mode::Play, ScriptRefused::BadLine(2)),
         (b"work 1", Mode::Live, ScriptRefused::BadLine(1)),
         (b"set A1", Mode::Live, ScriptRefused::BadLine(1)),
         (
@@ -134,11 +189,8 @@ fn the_first_fault_decides(rt: HostRuntime) -> Result<(), Fail> {
             Mode::Live,
             ScriptRefused::OutOfSheet(3),
         ),
-    ] {
-        let found = refusal(rt.alloc(), text, mode)?;
-        assert_eq!(rt; found, Some(wanted));
-    }
-    Ok(())
+    ];
+    are_refused(&rt, rt.alloc(), &rows)
 }
 
 // The texts of labels of a sheet, each before a space.
@@ -150,17 +202,43 @@ fn labels_of(alloc: Global, sheet: &Sheet) -> Result<String, Fail> {
     Ok(text)
 }
 
+// Why each of two texts is no script of a live run over one sheet, the one read after the other.
+fn refused_both(
+    alloc: Global,
+    sheet: &mut Sheet,
+    first: &[u8],
+    second: &[u8],
+) -> Result<(Option<ScriptRefused>, Option<ScriptRefused>), Fail> {
+    let first = refused(alloc, first, Mode::Live, sheet)?;
+    let second = refused(alloc, second, Mode::Live, sheet)?;
+    Ok((first, second))
+}
+
+// The same, and the labels of the sheet after both.
+fn refused_and_labels_over(
+    alloc: Global,
+    sheet: &mut Sheet,
+    first: &[u8],
+    second: &[u8],
+) -> Result<(Option<ScriptRefused>, Option<ScriptRefused>, String), Fail> {
+    let (first, second) = refused_both(alloc, sheet, first, second)?;
+    Ok((first, second, labels_of(alloc, sheet)?))
+}
+
+// The same over a blank sheet of two rows and columns.
+fn refused_and_labels(
+    alloc: Global,
+    first: &[u8],
+    second: &[u8],
+) -> Result<(Option<ScriptRefused>, Option<ScriptRefused>, String), Fail> {
+    let mut sheet = blank(alloc)?;
+    refused_and_labels_over(alloc, &mut sheet, first, second)
+}
+
 #[test]
 fn a_refused_line_leaves_the_labels_of_the_lines_before_it(rt: HostRuntime) -> Result<(), Fail> {
-    let alloc = rt.alloc();
-    let mut sheet = Sheet::blank(alloc, 2, 2, Edition::One)?;
-    let first = read_script(alloc, b"set A1 old", Mode::Live, &mut sheet).err();
-    if sheet.labels().length() > 3_000_000_000 {
-        return Err(Fail::from("a longer table"));
-    }
     let text = b"set A1 new\nbatch\nset A2 old\nset B1 newer\nset B1 late\nend\nset B2 later";
-    let second = read_script(alloc, text, Mode::Live, &mut sheet).err();
-    let labels = labels_of(alloc, &sheet)?;
+    let (first, second, labels) = refused_and_labels(rt.alloc(), b"set A1 old", text)?;
     assert_eq!(rt;
         (first, second, labels.as_str()),
         (None, Some(ScriptRefused::CellTwice(5)), "old new newer ")
@@ -177,18 +255,18 @@ fn naming(alloc: Global, clients: u32) -> Result<String, Fail> {
     Ok(text)
 }
 
-#[test]
-fn limits_are_told_at_their_lines(rt: HostRuntime) -> Result<(), Fail> {
-    let alloc = rt.alloc();
+// Why a window of 65,537 cells, and 33 clients, are refused.
+fn refused_limits(alloc: Global) -> Result<(Option<ScriptRefused>, Option<ScriptRefused>), Fail> {
     let named = naming(alloc, 33)?;
     let mut sheet = Sheet::blank(alloc, 100_000, 1, Edition::One)?;
-    let window = read_script(alloc, b"look A1:A65537", Mode::Live, &mut sheet).err();
-    if named.len() > 16_777_216 || sheet.labels().length() > 3_000_000_000 {
-        return Err(Fail::from("a longer text"));
-    }
-    let clients = read_script(alloc, named.as_bytes(), Mode::Live, &mut sheet).err();
+    refused_both(alloc, &mut sheet, b"look A1:A65537", named.as_bytes())
+}
+
+#[test]
+fn limits_are_told_at_their_lines(rt: HostRuntime) -> Result<(), Fail> {
+    let found = refused_limits(rt.alloc())?;
     assert_eq!(rt;
-        (window, clients),
+        found,
         (
             Some(ScriptRefused::WindowTooLarge(1)),
             Some(ScriptRefused::TooManyClients(33)),

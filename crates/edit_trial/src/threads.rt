@@ -1,8 +1,9 @@
 // What no clause says: that threads share a book under a lock.
 use crate::books::{blank_book, clears};
+use crate::graphs::cell;
 use edit_log::{Book, PrepareRefused, book_crosses};
 use graph_walk::Graph;
-use sheet_refs::{Cell, cell_of};
+use sheet_refs::Cell;
 use std::alloc::Global;
 use std::sync::{Mutex, Wait};
 use std::test::Fail;
@@ -34,15 +35,24 @@ fn clears_both<R: Threads + Wait + Sync, G: Graph + Send>(
     )
 }
 
+// The numbers of both edits, the lesser one first.
+fn numbers<R: Threads + Wait + Sync, G: Graph + Send>(
+    rt: &R,
+    alloc: Global,
+    book: &Mutex<Book<G>>,
+    cell: Cell,
+) -> Result<(u64, u64), Fail> {
+    let (one, other) = clears_both(rt, alloc, book, cell);
+    let (one, other) = (one?, other?);
+    Ok((one.min(other), one.max(other)))
+}
+
 #[test]
 fn threads_share_a_book(rt: HostRuntime) -> Result<(), Fail> {
-    let alloc = rt.alloc();
-    let cell = cell_of(b"A1").ok_or("no cell")?;
-    let book = Mutex::new(blank_book(alloc)?);
-    let (Ok(one), Ok(other)) = clears_both(&rt, alloc, &book, cell) else {
-        return Err(Fail::from("an edit that is refused"));
-    };
+    let cell = cell("A1")?;
+    let book = Mutex::new(blank_book(rt.alloc())?);
+    let (lesser, greater) = numbers(&rt, rt.alloc(), &book, cell)?;
     let length = book.into_inner().length();
-    assert_eq!(rt; (one.min(other), one.max(other), length), (1, 2, 2));
+    assert_eq!(rt; (lesser, greater, length), (1, 2, 2));
     Ok(())
 }
