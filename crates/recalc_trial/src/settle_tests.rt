@@ -17,6 +17,7 @@ use recalc_workers::{Desk, Hand, Jobs, OpenGate, settle_level};
 use sheet_model::{Change, Content, Sheet};
 use sheet_refs::Cell;
 use std::alloc::Global;
+use std::process::Abort;
 use std::sync::Wait;
 use std::test::Fail;
 use std::thread::Threads;
@@ -210,18 +211,32 @@ fn settled<R: Threads + Wait + Sync>(
     Ok(clean_cells(&marks, &mut editor, &sheet, &cells))
 }
 
-#[test]
-fn one_desk_settles_a_level(rt: HostRuntime) -> Result<(), Fail> {
-    for (rows, cells) in [(1, 1), (200, 200)] {
-        assert_eq!(rt; settled(&rt, rt.alloc(), rows, 1)?, cells, "{rows} rows");
+/// Has columns of so many rows settled by so many desks. All cells are to be clean.
+fn are_settled<R: Abort + Threads + Wait + Sync>(
+    rt: &R,
+    alloc: Global,
+    columns: &[(u32, usize)],
+    count: usize,
+) -> Result<(), Fail>
+    requires { 0 < count }
+{
+    for (rows, cells) in columns {
+        assert_eq!(rt; settled(rt, alloc, *rows, count)?, *cells);
     }
     Ok(())
 }
 
 #[test]
+fn one_desk_settles_a_level(rt: HostRuntime) -> Result<(), Fail> {
+    are_settled(&rt, rt.alloc(), &[(1, 1), (200, 200)], 1)
+}
+
+#[test]
 fn many_desks_settle_a_level(rt: HostRuntime) -> Result<(), Fail> {
-    for (rows, cells) in [(3, 3), (2_049, 2_049), (4_999, 4_999)] {
-        assert_eq!(rt; settled(&rt, rt.alloc(), rows, 4)?, cells, "{rows} rows");
-    }
-    Ok(())
+    are_settled(
+        &rt,
+        rt.alloc(),
+        &[(3, 3), (2_049, 2_049), (4_999, 4_999)],
+        4,
+    )
 }
