@@ -1,23 +1,31 @@
 // What no clause says: that boards and copies are made where there is memory.
-use crate::texts::push_sheet;
+use crate::edits::cell;
+use crate::texts::sheet_text;
+use crate::values::put;
 use formula_syntax::Edition;
 use sheet_model::{Board, Change, Content, Edit, Entry, Sheet, Shown};
-use sheet_refs::{Cell, cell_of, range_of};
+use sheet_refs::{Range, range_of};
 use std::alloc::Global;
 use std::fmt::Write;
 use std::test::Fail;
 use value_core::Value;
 
-#[test]
-fn boards_show_what_was_pushed(rt: HostRuntime) -> Result<(), Fail> {
-    let window = range_of(b"B2:C2").ok_or("no range")?;
-    let mut board = Board::new(rt.alloc(), 2)?;
+// A board of two cells, with what was pushed.
+fn board_of_two(alloc: Global, window: Range) -> Result<Board, Fail> {
+    let mut board = Board::new(alloc, 2)?;
     if window.cells() != 2 || board.room() != 2 {
         return Err(Fail::from("no room for the window"));
     }
     board.begin(7, window);
     board.push(Shown::Value(Value::Truth(true)));
     board.push(Shown::Stale(3));
+    Ok(board)
+}
+
+#[test]
+fn boards_show_what_was_pushed(rt: HostRuntime) -> Result<(), Fail> {
+    let window = range_of(b"B2:C2").ok_or("no range")?;
+    let board = board_of_two(rt.alloc(), window)?;
     assert_eq!(rt; (board.number(), board.window()), (7, window));
     let shown = [Shown::Value(Value::Truth(true)), Shown::Stale(3)];
     assert_eq!(rt; board.cells(), &shown[..]);
@@ -33,35 +41,20 @@ fn a_board_without_room_shows_one_cell(rt: HostRuntime) -> Result<(), Fail> {
     Ok(())
 }
 
-fn cell(name: &str) -> Result<Cell, Fail> {
-    Ok(cell_of(name.as_bytes()).ok_or("no cell")?)
-}
-
 // A sheet of one row with a label, a formula and nothing.
 fn small(alloc: Global) -> Result<Sheet, Fail> {
     let mut sheet = Sheet::blank(alloc, 1, 3, Edition::One)?;
-    for (name, field) in [("A1", "Rent"), ("B1", "=A1+1")] {
-        let cell = cell(name)?;
-        if field.len() > 8_192 || !sheet.holds(cell) || sheet.labels().length() == u32::MAX {
-            return Err(Fail::from("a field that has no place"));
-        }
-        let Ok(content) = sheet.read(field) else {
-            return Err(Fail::from("a field that is not read"));
-        };
-        let _ = sheet.put(Change { cell, content });
-    }
+    put(&mut sheet, 1, 1, "Rent")?;
+    put(&mut sheet, 1, 2, "=A1+1")?;
     Ok(sheet)
 }
 
 #[test]
 fn copies_have_the_contents_and_the_labels(rt: HostRuntime) -> Result<(), Fail> {
     let sheet = small(rt.alloc())?.copy()?;
-    let mut text = String::new(rt.alloc());
-    push_sheet(&mut text, &sheet)?;
-    assert_eq!(rt;
-        (text.as_str(), sheet.labels().length()),
-        ("1x3:0<Rent> f _ ", 1)
-    );
+    let text = sheet_text(rt.alloc(), &sheet)?;
+    let labels = sheet.labels().length();
+    assert_eq!(rt; (text.as_str(), labels), ("1x3:0<Rent> f _ ", 1));
     Ok(())
 }
 

@@ -25,18 +25,23 @@ fn push_content(text: &mut String, sheet: &Sheet, content: &Content) -> Result<(
     Ok(())
 }
 
+/// Reads a field, and appends what it holds.
+fn push_read(text: &mut String, sheet: &mut Sheet, field: &str) -> Result<(), Fail> {
+    if field.len() > 8192 || sheet.labels().length() > 1000 {
+        return Err(Fail::from("too much for a test"));
+    }
+    match sheet.read(field) {
+        Ok(content) => push_content(text, sheet, &content),
+        Err(_) => Ok(text.push_str("refused;")?),
+    }
+}
+
 /// What fields hold, read one after the other into one table.
 fn contents_of(alloc: Global, fields: &[&str]) -> Result<String, Fail> {
     let mut sheet = Sheet::blank(alloc, 1, 1, Edition::One)?;
     let mut text = String::new(alloc);
     for field in fields {
-        if field.len() > 8192 || sheet.labels().length() > 1000 {
-            return Err(Fail::from("too much for a test"));
-        }
-        match sheet.read(field) {
-            Ok(content) => push_content(&mut text, &sheet, &content)?,
-            Err(_) => text.push_str("refused;")?,
-        }
+        push_read(&mut text, &mut sheet, field)?;
     }
     Ok(text)
 }
@@ -103,16 +108,35 @@ fn push_replaced(
     push_content(text, sheet, &before)
 }
 
+/// Appends what a cell holds before a number, before a text, and after it.
+fn push_replaced_twice(text: &mut String, sheet: &mut Sheet, cell: Cell) -> Result<(), Fail> {
+    push_replaced(text, sheet, cell, "7")?;
+    push_replaced(text, sheet, cell, "x")?;
+    push_content(text, sheet, sheet.content(cell))
+}
+
+fn replaced_twice(alloc: Global) -> Result<String, Fail> {
+    let cell = Cell::new(2, 1).ok_or("no such cell")?;
+    let mut sheet = Sheet::blank(alloc, 2, 2, Edition::One)?;
+    let mut text = String::new(alloc);
+    push_replaced_twice(&mut text, &mut sheet, cell)?;
+    Ok(text)
+}
+
 #[test]
 fn a_change_gives_back_what_the_cell_held(rt: HostRuntime) -> Result<(), Fail> {
-    let mut sheet = Sheet::blank(rt.alloc(), 2, 2, Edition::One)?;
-    let cell = Cell::new(2, 1).ok_or("no such cell")?;
-    let mut text = String::new(rt.alloc());
-    for field in ["7", "x"] {
-        push_replaced(&mut text, &mut sheet, cell, field)?;
-    }
-    push_content(&mut text, &sheet, sheet.content(cell))?;
+    let text = replaced_twice(rt.alloc())?;
     assert_eq!(&rt; text.as_str(), "empty;number 7;label 0 x;");
+    Ok(())
+}
+
+/// Puts a text into a table, and appends its place.
+fn push_place(places: &mut String, labels: &mut Labels, text: &str) -> Result<(), Fail> {
+    if labels.length() > 100 {
+        return Err(Fail::from("too much for a test"));
+    }
+    let place = labels.intern(text)?;
+    write!(places, "{place};")?;
     Ok(())
 }
 
@@ -121,11 +145,7 @@ fn a_table_keeps_each_text_once(rt: HostRuntime) -> Result<(), Fail> {
     let mut labels = Labels::new(rt.alloc());
     let mut places = String::new(rt.alloc());
     for text in ["x", "y", "x", "", "y"] {
-        if labels.length() > 100 {
-            return Err(Fail::from("too much for a test"));
-        }
-        let place = labels.intern(text)?;
-        write!(places, "{place};")?;
+        push_place(&mut places, &mut labels, text)?;
     }
     assert_eq!(&rt; (places.as_str(), labels.length()), ("0;1;0;2;1;", 3));
     Ok(())

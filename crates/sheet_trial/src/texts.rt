@@ -3,6 +3,7 @@ use sheet_model::{Content, Sheet};
 use sheet_refs::Cell;
 use std::alloc::Global;
 use std::fmt::Write;
+use std::process::Abort;
 use std::test::Fail;
 use std::thread::Threads;
 
@@ -26,28 +27,41 @@ fn push_content(text: &mut String, sheet: &Sheet, content: &Content) -> Result<(
 }
 
 // The sizes of a sheet and what its cells hold, row by row.
-pub(crate) fn push_sheet(text: &mut String, sheet: &Sheet) -> Result<(), Fail> {
+fn push_sheet(text: &mut String, sheet: &Sheet) -> Result<(), Fail> {
     let rows = sheet.rows();
     let cols = sheet.cols();
     write!(text, "{rows}x{cols}:")?;
     for row in 0..rows {
         for col in 0..cols {
-            let cell = Cell::new(row + 1, col + 1).ok_or("no such cell")?;
-            push_content(text, sheet, sheet.content(cell))?;
-            text.push(' ')?;
+            push_cell(text, sheet, row + 1, col + 1)?;
         }
     }
     Ok(())
 }
 
+fn push_cell(text: &mut String, sheet: &Sheet, row: u32, col: u32) -> Result<(), Fail> {
+    let cell = Cell::new(row, col).ok_or("no such cell")?;
+    if !sheet.holds(cell) {
+        return Err(Fail::from("a cell outside"));
+    }
+    push_content(text, sheet, sheet.content(cell))?;
+    text.push(' ')?;
+    Ok(())
+}
+
+// The text of a whole sheet.
+pub(crate) fn sheet_text(alloc: Global, sheet: &Sheet) -> Result<String, Fail> {
+    let mut text = String::new(alloc);
+    push_sheet(&mut text, sheet)?;
+    Ok(text)
+}
+
 // What was loaded, or why nothing was.
 fn in_words(alloc: Global, loaded: Result<Sheet, SheetRefused>) -> Result<String, Fail> {
-    let mut answer = String::new(alloc);
     match loaded {
-        Ok(sheet) => push_sheet(&mut answer, &sheet)?,
-        Err(refused) => write!(answer, "{refused}")?,
+        Ok(sheet) => sheet_text(alloc, &sheet),
+        Err(refused) => Ok(format!(in alloc; "{refused}")?),
     }
-    Ok(answer)
 }
 
 // What a text gives.
@@ -111,12 +125,35 @@ fn long_text(
     back: &[u8],
 ) -> Result<Vec<u8>, Fail> {
     let mut text = Vec::new(alloc);
+    add_parts(&mut text, front, many, times, back)?;
+    Ok(text)
+}
+
+fn add_parts(
+    text: &mut Vec<u8>,
+    front: &[u8],
+    many: &[u8],
+    times: usize,
+    back: &[u8],
+) -> Result<(), Fail> {
     text.extend_from_slice(front)?;
     for _ in 0..times {
         text.extend_from_slice(many)?;
     }
     text.extend_from_slice(back)?;
-    Ok(text)
+    Ok(())
+}
+
+// What such a text gives.
+fn told_long(
+    alloc: Global,
+    front: &[u8],
+    many: &[u8],
+    times: usize,
+    back: &[u8],
+) -> Result<String, Fail> {
+    let text = long_text(alloc, front, many, times, back)?;
+    told(alloc, text.as_slice())
 }
 
 #[test]
@@ -162,10 +199,21 @@ fn the_first_cause_is_told(rt: HostRuntime) -> Result<(), Fail> {
         ),
     ];
     for (front, many, times, back, line) in rows {
-        let text = long_text(rt.alloc(), front, many, times, back)?;
-        let answer = told(rt.alloc(), text.as_slice())?;
+        let answer = told_long(rt.alloc(), front, many, times, back)?;
         assert_eq!(&rt; answer.as_str(), line);
     }
+    Ok(())
+}
+
+// Holds what several threads read against what one reads.
+fn is_read_alike<R: Threads + Sync + Abort>(
+    rt: &R,
+    alloc: Global,
+    text: &[u8],
+) -> Result<(), Fail> {
+    let one = told(alloc, text)?;
+    let several = told_in_threads(rt, alloc, text)?;
+    assert_eq!(rt; several.as_str(), one.as_str());
     Ok(())
 }
 
@@ -195,23 +243,27 @@ fn threads_read_what_one_reads(rt: HostRuntime) -> Result<(), Fail> {
     ];
     for (front, many, times, back) in rows {
         let text = long_text(rt.alloc(), front, many, times, back)?;
-        let one = told(rt.alloc(), text.as_slice())?;
-        let several = told_in_threads(&rt, rt.alloc(), text.as_slice())?;
-        assert_eq!(&rt; several.as_str(), one.as_str());
+        is_read_alike(&rt, rt.alloc(), &text)?;
     }
     Ok(())
+}
+
+// How many columns the sheet of a text has.
+fn cols_of(alloc: Global, text: &[u8]) -> Result<u32, Fail> {
+    if text.len() > 16_777_216 {
+        return Err(Fail::from("a text that is too long"));
+    }
+    match load(alloc, text) {
+        Ok(sheet) => Ok(sheet.cols()),
+        Err(SheetRefused::Memory) => Err(Fail::from("no memory")),
+        Err(_) => Err(Fail::from("refused")),
+    }
 }
 
 #[test]
 fn the_widest_record_that_fits_is_read(rt: HostRuntime) -> Result<(), Fail> {
     let text = long_text(rt.alloc(), b"", b",", 16383, b"")?;
-    if text.len() > 16_777_216 {
-        return Err(Fail::from("a text that is too long"));
-    }
-    match load(rt.alloc(), text.as_slice()) {
-        Ok(sheet) => assert_eq!(&rt; sheet.cols(), 16384),
-        Err(SheetRefused::Memory) => return Err(Fail::from("no memory")),
-        Err(_) => return Err(Fail::from("refused")),
-    }
+    let cols = cols_of(rt.alloc(), &text)?;
+    assert_eq!(&rt; cols, 16384);
     Ok(())
 }

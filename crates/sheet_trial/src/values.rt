@@ -8,11 +8,12 @@ use sheet_model::{Change, KeptValues, Sheet, all_values, range_values};
 use sheet_refs::{Cell, Range};
 use std::alloc::Global;
 use std::fmt::Write;
+use std::process::Abort;
 use std::test::Fail;
 use value_core::{Value, decode};
 
 // Puts what a field says into a cell.
-fn put(sheet: &mut Sheet, row: u32, col: u32, field: &str) -> Result<(), Fail> {
+pub(crate) fn put(sheet: &mut Sheet, row: u32, col: u32, field: &str) -> Result<(), Fail> {
     let Some(cell) = Cell::new(row, col) else {
         return Err(Fail::from("no such cell"));
     };
@@ -63,34 +64,44 @@ fn ask(kept: &mut KeptValues, sheet: &Sheet, row: u32, text: &mut String) -> Res
     write_value(value, text)
 }
 
+// Puts what a field says into the cell with this place, in a sheet of three columns and three rows.
+fn put_at(sheet: &mut Sheet, place: usize, field: &str) -> Result<(), Fail> {
+    if place >= 9 {
+        return Err(Fail::from("more fields than cells"));
+    }
+    let place = place as u32;
+    put(sheet, place / 3 + 1, place % 3 + 1, field)
+}
+
 // The values of a sheet of three columns and three rows with these fields, row by row.
 fn values_of(alloc: Global, fields: &[&str]) -> Result<String, Fail> {
     let mut sheet = Sheet::blank(alloc, 3, 3, Edition::One)?;
     for (place, field) in fields.iter().enumerate() {
-        if place >= 9 {
-            return Err(Fail::from("more fields than cells"));
-        }
-        let place = place as u32;
-        put(&mut sheet, place / 3 + 1, place % 3 + 1, *field)?;
+        put_at(&mut sheet, place, *field)?;
     }
     shown(alloc, &sheet, fields.len())
 }
 
-// Gives the sheets whose values are other than wanted.
-fn unlike(alloc: Global, table: &[(&[&str], &str)]) -> Result<String, Fail> {
-    let mut others = String::new(alloc);
-    for (fields, wanted) in table {
+// The fields of a sheet, and its values.
+type Row = (&'static [&'static str], &'static str);
+
+// Holds the values of each sheet against those that are wanted.
+fn have_values(rt: &impl Abort, alloc: Global, rows: &[Row]) -> Result<(), Fail> {
+    for (fields, wanted) in rows {
         let values = values_of(alloc, *fields)?;
-        if values.as_str() != *wanted {
-            write!(others, "{values} in place of {wanted}; ")?;
-        }
+        are_values(rt, &values, wanted);
     }
-    Ok(others)
+    Ok(())
+}
+
+fn are_values(rt: &impl Abort, values: &str, wanted: &str) {
+    assert_eq!(rt; values, wanted);
 }
 
 #[test]
 fn values_of_small_sheets(rt: HostRuntime) -> Result<(), Fail> {
-    let others = unlike(
+    have_values(
+        &rt,
         rt.alloc(),
         &[
             (&["", "=A1", "=Z9"], ",0,0,"),
@@ -126,14 +137,13 @@ fn values_of_small_sheets(rt: HostRuntime) -> Result<(), Fail> {
                 "7,-2,7,,,-2,,,5,",
             ),
         ],
-    )?;
-    assert_eq!(rt; others.as_str(), "");
-    Ok(())
+    )
 }
 
 #[test]
 fn circular_references(rt: HostRuntime) -> Result<(), Fail> {
-    let others = unlike(
+    have_values(
+        &rt,
         rt.alloc(),
         &[
             (&["=B1+C1", "=A1+2", "4"], "#CIRC!,#CIRC!,4,"),
@@ -161,9 +171,7 @@ fn circular_references(rt: HostRuntime) -> Result<(), Fail> {
                 "#CIRC!,#CIRC!,#CIRC!,1,2,#CIRC!,#CIRC!,#CIRC!,",
             ),
         ],
-    )?;
-    assert_eq!(rt; others.as_str(), "");
-    Ok(())
+    )
 }
 
 // A column in which each cell names all cells below it.
@@ -171,15 +179,15 @@ fn column_of_sums(alloc: Global) -> Result<Sheet, Fail> {
     let mut sheet = Sheet::blank(alloc, 50, 1, Edition::One)?;
     put(&mut sheet, 50, 1, "1")?;
     for row in 1..50 {
-        let below = row + 1;
-        put(
-            &mut sheet,
-            row,
-            1,
-            format!(in alloc; "=SUM(A{below}:A50)")?.as_str(),
-        )?;
+        put_sum(alloc, &mut sheet, row)?;
     }
     Ok(sheet)
+}
+
+fn put_sum(alloc: Global, sheet: &mut Sheet, row: u32) -> Result<(), Fail> {
+    let below = row.saturating_add(1);
+    let field = format!(in alloc; "=SUM(A{below}:A50)")?;
+    put(sheet, row, 1, &field)
 }
 
 #[test]
@@ -238,13 +246,22 @@ fn told_of(alloc: Global, sheet: &Sheet, row: u32) -> Result<String, Fail> {
     Ok(text)
 }
 
+fn are_told(rt: &impl Abort, alloc: Global, sheet: &Sheet) -> Result<(), Fail> {
+    for (row, wanted) in [
+        (1, "15,10,5,-,"),
+        (2, "-,10,5,-,"),
+        (3, "-,-,5,-,"),
+        (4, "-,-,5,#CIRC!,"),
+    ] {
+        let values = told_of(alloc, sheet, row)?;
+        are_values(rt, &values, wanted);
+    }
+    Ok(())
+}
+
 // Of a range the formulas to which it leads are evaluated, and no others.
 #[test]
 fn values_of_a_range_alone(rt: HostRuntime) -> Result<(), Fail> {
     let sheet = column(rt.alloc())?;
-    assert_eq!(rt; told_of(rt.alloc(), &sheet, 1)?.as_str(), "15,10,5,-,");
-    assert_eq!(rt; told_of(rt.alloc(), &sheet, 2)?.as_str(), "-,10,5,-,");
-    assert_eq!(rt; told_of(rt.alloc(), &sheet, 3)?.as_str(), "-,-,5,-,");
-    assert_eq!(rt; told_of(rt.alloc(), &sheet, 4)?.as_str(), "-,-,5,#CIRC!,");
-    Ok(())
+    are_told(&rt, rt.alloc(), &sheet)
 }
