@@ -48,7 +48,7 @@ fn contents_of(alloc: Global, fields: &[&str]) -> Result<String, Fail> {
 
 #[test]
 fn numbers_have_digits_and_a_sign_within_the_range(rt: HostRuntime) -> Result<(), Fail> {
-    let rows: [(&[&str], &str); 2] = [
+    const ROWS: [(&[&str], &str); 2] = [
         (
             &[
                 "",
@@ -65,7 +65,7 @@ fn numbers_have_digits_and_a_sign_within_the_range(rt: HostRuntime) -> Result<()
             "label 0 9007199254740992;label 1 -9007199254740992;label 2 +;label 3 +-1;label 4  1;",
         ),
     ];
-    for (fields, contents) in rows {
+    for &(fields, contents) in &ROWS {
         let text = contents_of(rt.alloc(), fields)?;
         assert_eq!(&rt; text.as_str(), contents);
     }
@@ -74,7 +74,7 @@ fn numbers_have_digits_and_a_sign_within_the_range(rt: HostRuntime) -> Result<()
 
 #[test]
 fn words_are_truths_errors_formulas_or_labels(rt: HostRuntime) -> Result<(), Fail> {
-    let rows: [(&[&str], &str); 2] = [
+    const ROWS: [(&[&str], &str); 2] = [
         (
             &[
                 "TRUE", "fAlSe", "#DIV/0!", "#N/A", "TRUE1", "#CIRC!", "#num!",
@@ -86,7 +86,7 @@ fn words_are_truths_errors_formulas_or_labels(rt: HostRuntime) -> Result<(), Fai
             "formula;formula;label 0 OF:=1;error #NAME?;error #NAME?;label 1 x=1;label 0 OF:=1;",
         ),
     ];
-    for (fields, contents) in rows {
+    for &(fields, contents) in &ROWS {
         let text = contents_of(rt.alloc(), fields)?;
         assert_eq!(&rt; text.as_str(), contents);
     }

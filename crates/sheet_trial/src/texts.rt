@@ -82,7 +82,7 @@ fn told_in_threads<R: Threads + Sync>(rt: &R, alloc: Global, text: &[u8]) -> Res
 
 #[test]
 fn texts_have_their_sheets(rt: HostRuntime) -> Result<(), Fail> {
-    let rows: [(&[u8], &str); 22] = [
+    const ROWS: [(&[u8], &str); 22] = [
         (b"", "0x0:"),
         (b"\n\r\n", "0x0:"),
         (b"1,=A1+1\n2,=A2+B1", "2x2:1 f 2 f "),
@@ -109,7 +109,7 @@ fn texts_have_their_sheets(rt: HostRuntime) -> Result<(), Fail> {
         (b"\"#edition 2\"\n1", "2x1:0<#edition 2> 1 "),
         (b"=COUNTIF(A1;1)", "1x1:#NAME? "),
     ];
-    for (text, sheet) in rows {
+    for &(text, sheet) in &ROWS {
         let answer = told(rt.alloc(), text)?;
         assert_eq!(&rt; answer.as_str(), sheet);
     }
@@ -158,7 +158,7 @@ fn told_long(
 
 #[test]
 fn the_first_cause_is_told(rt: HostRuntime) -> Result<(), Fail> {
-    let rows: [(&[u8], &[u8], usize, &[u8], &str); 14] = [
+    const ROWS: [(&[u8], &[u8], usize, &[u8], &str); 14] = [
         (b"1\n", b"\xFF", 1, b"", "sheet: record 2 is not UTF-8"),
         (b"", b"x", 8193, b"", "sheet: field too long at A1"),
         (
@@ -198,7 +198,7 @@ fn the_first_cause_is_told(rt: HostRuntime) -> Result<(), Fail> {
             "sheet: record 1 is not UTF-8",
         ),
     ];
-    for (front, many, times, back, line) in rows {
+    for &(front, many, times, back, line) in &ROWS {
         let answer = told_long(rt.alloc(), front, many, times, back)?;
         assert_eq!(&rt; answer.as_str(), line);
     }
@@ -221,7 +221,7 @@ fn is_read_alike<R: Threads + Sync + Abort>(
 // a quote, a byte that isn't ASCII, and refusals of which a later part has one too.
 #[test]
 fn threads_read_what_one_reads(rt: HostRuntime) -> Result<(), Fail> {
-    let rows: [(&[u8], &[u8], usize, &[u8]); 7] = [
+    const ROWS: [(&[u8], &[u8], usize, &[u8]); 7] = [
         (
             b"z",
             b"\nx,=A1+B2*SUM(C1:C9),-7,,TRUE\r\n\ry",
@@ -241,7 +241,7 @@ fn threads_read_what_one_reads(rt: HostRuntime) -> Result<(), Fail> {
         ),
         (b"", b"12345678\n", 8_000, b""),
     ];
-    for (front, many, times, back) in rows {
+    for &(front, many, times, back) in &ROWS {
         let text = long_text(rt.alloc(), front, many, times, back)?;
         is_read_alike(&rt, rt.alloc(), &text)?;
     }
