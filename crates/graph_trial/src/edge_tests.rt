@@ -1,33 +1,55 @@
 // What no clause says: that the definitions mean what they should. The table was worked out by hand.
-use crate::edge_texts::{Ask, answer, cell, range, shown};
+use crate::edge_texts::{Ask, answer, cell, cell_at, range, shown};
 use edge_patterns::{Edge, join};
-use sheet_refs::{Cell, Range};
+use sheet_refs::Range;
 use std::alloc::Global;
+use std::process::Abort;
 use std::test::Fail;
+
+// An edge with one more behind it, where there is an edge yet.
+fn extended(front: Option<Edge>, next: Edge) -> Result<Edge, Fail> {
+    let Some(front) = front else {
+        return Ok(next);
+    };
+    Ok(join(&front, &next).ok_or("no edge")?)
+}
+
+fn single(at: &str, text: &str) -> Result<Edge, Fail> {
+    let cell = cell(at)?;
+    Ok(Edge::single(cell, range(text)?))
+}
 
 // The edge of neighbouring cells with these ranges, written as `A2 A1:A1` and so on.
 fn edge(pairs: &[(&str, &str)]) -> Result<Edge, Fail> {
     let mut joined = None;
     for (at, text) in pairs {
-        let single = Edge::single(cell(at)?, range(text)?);
-        joined = Some(match &joined {
-            None => single,
-            Some(front) => join(front, &single).ok_or("no edge")?,
-        });
+        joined = Some(extended(joined, single(at, text)?)?);
     }
     Ok(joined.ok_or("no pairs")?)
 }
 
-// What two edges are joined into, and what they are in the other order.
-fn both_ways(
+// Holds what two edges are joined into against what is wanted, in this order and in the other.
+fn are_joined(
+    rt: &impl Abort,
     alloc: Global,
-    front: &[(&str, &str)],
-    back: &[(&str, &str)],
-) -> Result<(String, String), Fail> {
-    let (front, back) = (edge(front)?, edge(back)?);
-    let onward = shown(alloc, join(&front, &back))?;
-    let backward = shown(alloc, join(&back, &front))?;
-    Ok((onward, backward))
+    front: &Edge,
+    back: &Edge,
+    wanted: &str,
+) -> Result<(), Fail> {
+    is_joined(rt, alloc, front, back, wanted)?;
+    is_joined(rt, alloc, back, front, wanted)
+}
+
+fn is_joined(
+    rt: &impl Abort,
+    alloc: Global,
+    front: &Edge,
+    back: &Edge,
+    wanted: &str,
+) -> Result<(), Fail> {
+    let text = shown(alloc, join(front, back))?;
+    assert_eq!(rt; text.as_str(), wanted);
+    Ok(())
 }
 
 #[test]
@@ -45,130 +67,140 @@ fn neighbours_are_joined(rt: HostRuntime) -> Result<(), Fail> {
         ),
     ];
     for (front, back, wanted) in cases {
-        let (onward, backward) = both_ways(rt.alloc(), front, back)?;
-        assert_eq!(rt; (onward.as_str(), backward.as_str()), (wanted, wanted));
+        are_joined(&rt, rt.alloc(), &edge(front)?, &edge(back)?, wanted)?;
     }
     Ok(())
 }
 
-// An edge of 1,000 cells in column B, the range of whose cell in a row ends in that row of column A.
-fn growing() -> Result<Edge, Fail> {
-    let mut joined = Edge::single(cell("B1")?, range("A1:A1")?);
-    for row in 2..1001 {
-        let at = Cell::new(row, 2).ok_or("no cell")?;
-        let to = Cell::new(row, 1).ok_or("no cell")?;
-        let single = Edge::single(at, Range::of(cell("A1")?, to));
-        joined = join(&joined, &single).ok_or("no edge")?;
+// What is asked of an edge, the cell or the range at which it is asked, and the answer that is wanted.
+type Row = (Ask, &'static str, &'static str);
+
+// Holds the answers of an edge against those that are wanted.
+fn answers(rt: &impl Abort, alloc: Global, edge: &Edge, rows: &[Row]) -> Result<(), Fail> {
+    for (ask, at, wanted) in rows {
+        let text = answer(alloc, edge, *ask, at)?;
+        is_answer(rt, at, &text, wanted);
     }
-    Ok(joined)
+    Ok(())
 }
 
-// The edges that are asked.
-#[derive(Clone, Copy)]
-enum Asked {
-    Chain,
-    Pair,
-    Growing,
-    Shrinking,
+fn is_answer(rt: &impl Abort, at: &str, text: &str, wanted: &str) {
+    assert_eq!(rt; (at, text), (at, wanted));
 }
 
-fn edge_of(asked: Asked) -> Result<Edge, Fail> {
-    match asked {
-        Asked::Chain => edge(&[
+// The edge of a cell of column B that refers to column A down to its row.
+fn down_to(row: u32) -> Result<Edge, Fail> {
+    let at = cell_at(row, 2)?;
+    let (head, tail) = (cell_at(1, 1)?, cell_at(row, 1)?);
+    Ok(Edge::single(at, Range::of(head, tail)))
+}
+
+// An edge of 1,000 such cells.
+fn growing() -> Result<Edge, Fail> {
+    let mut joined = None;
+    for row in 1..1001 {
+        joined = Some(extended(joined, down_to(row)?)?);
+    }
+    Ok(joined.ok_or("no cells")?)
+}
+
+const GROWING: [Row; 2] = [
+    (Ask::Whole, "", "B1:B1000 A1:A1000 FR"),
+    (Ask::Direct, "A500:A500", "B500:B1000"),
+];
+
+// The pairs of edges that are asked, and what they answer.
+const ASKED: [(&[(&str, &str)], &[Row]); 3] = [
+    (
+        &[
             ("A2", "A1:A1"),
             ("A3", "A2:A2"),
             ("A4", "A3:A3"),
             ("A5", "A4:A4"),
             ("A6", "A5:A5"),
-        ]),
-        Asked::Pair => edge(&[("B1", "A1:A1"), ("B2", "A1:A2")]),
-        Asked::Growing => growing(),
-        Asked::Shrinking => edge(&[("B1", "A1:A3"), ("B2", "A2:A3"), ("B3", "A3:A3")]),
-    }
-}
+        ],
+        &[
+            (Ask::Whole, "", "A2:A6 A1:A5 Chain"),
+            (Ask::Parts, "A3", "A2:A2 A1:A1 Single, A4:A6 A3:A5 Chain"),
+            (Ask::Direct, "A3:A3", "A4:A4"),
+            (Ask::Spread, "A3:A3", "A4:A6"),
+            (Ask::Back, "A4:A4", "A1:A3"),
+        ],
+    ),
+    (
+        &[("B1", "A1:A1"), ("B2", "A1:A2")],
+        &[(Ask::Parts, "B2", "B1:B1 A1:A1 Single, None")],
+    ),
+    (
+        &[("B1", "A1:A3"), ("B2", "A2:A3"), ("B3", "A3:A3")],
+        &[
+            (Ask::Whole, "", "B1:B3 A1:A3 RF"),
+            (Ask::Direct, "A2:A2", "B1:B2"),
+        ],
+    ),
+];
 
 #[test]
 fn edges_are_split_and_asked(rt: HostRuntime) -> Result<(), Fail> {
-    for (asked, ask, at, wanted) in [
-        (Asked::Chain, Ask::Whole, "", "A2:A6 A1:A5 Chain"),
-        (
-            Asked::Chain,
-            Ask::Parts,
-            "A3",
-            "A2:A2 A1:A1 Single, A4:A6 A3:A5 Chain",
-        ),
-        (Asked::Pair, Ask::Parts, "B2", "B1:B1 A1:A1 Single, None"),
-        (Asked::Chain, Ask::Direct, "A3:A3", "A4:A4"),
-        (Asked::Chain, Ask::Spread, "A3:A3", "A4:A6"),
-        (Asked::Chain, Ask::Back, "A4:A4", "A1:A3"),
-        (Asked::Growing, Ask::Whole, "", "B1:B1000 A1:A1000 FR"),
-        (Asked::Growing, Ask::Direct, "A500:A500", "B500:B1000"),
-        (Asked::Shrinking, Ask::Whole, "", "B1:B3 A1:A3 RF"),
-        (Asked::Shrinking, Ask::Direct, "A2:A2", "B1:B2"),
-    ] {
-        let text = answer(rt.alloc(), &edge_of(asked)?, ask, at)?;
-        assert_eq!(rt; text.as_str(), wanted, "at {at}");
+    for (pairs, rows) in ASKED {
+        answers(&rt, rt.alloc(), &edge(pairs)?, rows)?;
     }
-    Ok(())
+    answers(&rt, rt.alloc(), &growing()?, &GROWING)
+}
+
+// The edge of a cell of the last row that refers to the one before it.
+fn link(col: u32) -> Result<Edge, Fail> {
+    let before = cell_at(1048576, col.saturating_sub(1))?;
+    let cell = cell_at(1048576, col)?;
+    Ok(Edge::single(cell, Range::of(before, before)))
 }
 
 // The chain of the last row, up to the last column that has a name.
 fn row_chain() -> Result<Edge, Fail> {
-    let mut before = Cell::new(1048576, 1).ok_or("no cell")?;
-    let mut chain: Option<Edge> = None;
-    for col in 2..16385u32 {
-        let cell = Cell::new(1048576, col).ok_or("no cell")?;
-        let single = Edge::single(cell, Range::of(before, before));
-        chain = match &chain {
-            None => Some(single),
-            Some(chain) => Some(join(chain, &single).ok_or("not joined")?),
-        };
-        before = cell;
+    let mut chain = None;
+    for col in 2..16385 {
+        chain = Some(extended(chain, link(col)?)?);
     }
     Ok(chain.ok_or("no chain")?)
 }
 
+const ROW_CHAIN: [Row; 7] = [
+    (
+        Ask::Whole,
+        "",
+        "B1048576:XFD1048576 A1048576:XFC1048576 Chain",
+    ),
+    (Ask::Direct, "A1:XFD1048576", "B1048576:XFD1048576"),
+    (Ask::Spread, "XFC1048576", "XFD1048576:XFD1048576"),
+    (Ask::Spread, "XFD1048576", "None"),
+    (Ask::Back, "XFD1048576", "A1048576:XFC1048576"),
+    (Ask::Back, "A1048576", "None"),
+    (
+        Ask::Parts,
+        "XFD1048576",
+        "B1048576:XFC1048576 A1048576:XFB1048576 Chain, None",
+    ),
+];
+
 #[test]
 fn edges_reach_the_ends_of_names(rt: HostRuntime) -> Result<(), Fail> {
-    let chain = row_chain()?;
-    let whole = "B1048576:XFD1048576 A1048576:XFC1048576 Chain";
-    let parts = "B1048576:XFC1048576 A1048576:XFB1048576 Chain, None";
-    for (ask, at, wanted) in [
-        (Ask::Whole, "", whole),
-        (Ask::Direct, "A1:XFD1048576", "B1048576:XFD1048576"),
-        (Ask::Spread, "XFC1048576", "XFD1048576:XFD1048576"),
-        (Ask::Spread, "XFD1048576", "None"),
-        (Ask::Back, "XFD1048576", "A1048576:XFC1048576"),
-        (Ask::Back, "A1048576", "None"),
-        (Ask::Parts, "XFD1048576", parts),
-    ] {
-        let text = answer(rt.alloc(), &chain, ask, at)?;
-        assert_eq!(rt; text.as_str(), wanted, "at {at}");
-    }
-    Ok(())
+    answers(&rt, rt.alloc(), &row_chain()?, &ROW_CHAIN)
 }
 
 // The last two cells that have a name, each of which refers to all of them.
-fn last_run() -> Result<Edge, Fail> {
-    let whole = range("A1:XFD1048576")?;
-    let last = Cell::new(1048576, 16384).ok_or("no cell")?;
-    let above = Cell::new(1048575, 16384).ok_or("no cell")?;
-    let run = join(&Edge::single(last, whole), &Edge::single(above, whole));
-    Ok(run.ok_or("not joined")?)
-}
+const LAST_RUN: [(&str, &str); 2] = [
+    ("XFD1048576", "A1:XFD1048576"),
+    ("XFD1048575", "A1:XFD1048576"),
+];
+
+const LAST_RUN_ANSWERS: [Row; 4] = [
+    (Ask::Whole, "", "XFD1048575:XFD1048576 A1:XFD1048576 FF"),
+    (Ask::Back, "XFD1048575", "A1:XFD1048576"),
+    (Ask::Direct, "A1", "XFD1048575:XFD1048576"),
+    (Ask::Spread, "A1:XFD1048576", "XFD1048575:XFD1048576"),
+];
 
 #[test]
 fn edges_refer_to_the_whole_space_of_names(rt: HostRuntime) -> Result<(), Fail> {
-    let run = last_run()?;
-    let whole = "XFD1048575:XFD1048576 A1:XFD1048576 FF";
-    for (ask, at, wanted) in [
-        (Ask::Whole, "", whole),
-        (Ask::Back, "XFD1048575", "A1:XFD1048576"),
-        (Ask::Direct, "A1", "XFD1048575:XFD1048576"),
-        (Ask::Spread, "A1:XFD1048576", "XFD1048575:XFD1048576"),
-    ] {
-        let text = answer(rt.alloc(), &run, ask, at)?;
-        assert_eq!(rt; text.as_str(), wanted, "at {at}");
-    }
-    Ok(())
+    answers(&rt, rt.alloc(), &edge(&LAST_RUN)?, &LAST_RUN_ANSWERS)
 }

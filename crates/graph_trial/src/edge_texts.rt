@@ -2,27 +2,36 @@
 use edge_patterns::{Edge, Pattern, back, direct, split, spread};
 use sheet_refs::{Cell, Range, cell_of, range_of};
 use std::alloc::Global;
-use std::fmt::Write;
+use std::fmt::{Display, Write};
 use std::test::Fail;
 
 pub(crate) fn cell(text: &str) -> Result<Cell, Fail> {
     Ok(cell_of(text.as_bytes()).ok_or("no cell")?)
 }
 
+pub(crate) fn cell_at(row: u32, col: u32) -> Result<Cell, Fail> {
+    Ok(Cell::new(row, col).ok_or("no cell")?)
+}
+
 pub(crate) fn range(text: &str) -> Result<Range, Fail> {
     Ok(range_of(text.as_bytes()).ok_or("no range")?)
 }
 
-// Ranges in their order.
-pub(crate) fn listed(alloc: Global, ranges: &[Range]) -> Result<String, Fail> {
+// Ranges or cells in their order.
+pub(crate) fn listed<T: Display>(alloc: Global, items: &[T]) -> Result<String, Fail> {
     let mut text = String::new(alloc);
-    for range in ranges {
-        if !text.is_empty() {
-            text.push(' ')?;
-        }
-        write!(text, "{range}")?;
+    for item in items {
+        add_listed(&mut text, item)?;
     }
     Ok(text)
+}
+
+fn add_listed<T: Display>(text: &mut String, item: &T) -> Result<(), Fail> {
+    if !text.is_empty() {
+        text.push(' ')?;
+    }
+    write!(text, "{item}")?;
+    Ok(())
 }
 
 fn name_of(pattern: Pattern) -> &'static str {
@@ -51,7 +60,8 @@ pub(crate) fn edges_shown(alloc: Global, edges: &[Edge]) -> Result<String, Fail>
     let mut text = String::new(alloc);
     for edge in edges {
         let (dep, prec) = (edge.dep(), edge.prec());
-        write!(text, "{dep} {prec} {}; ", name_of(edge.pattern()))?;
+        let pattern = name_of(edge.pattern());
+        write!(text, "{dep} {prec} {pattern}; ")?;
     }
     Ok(text)
 }

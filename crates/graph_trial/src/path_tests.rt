@@ -1,55 +1,58 @@
 // What no clause says: that calls succeed where memory is ample, and that chains are what a person who knows
 // spreadsheets expects. The expected values were worked out by hand.
-use crate::edge_texts::cell;
+use crate::edge_texts::{cell, listed};
 use crate::plain_tests::graph_of;
 use dep_path::{is_chain, path};
 use plain_graph::PlainGraph;
 use sheet_refs::Cell;
 use std::alloc::Global;
-use std::fmt::Write;
+use std::process::Abort;
 use std::test::Fail;
 
-// Cells in their order.
-fn listed(alloc: Global, cells: &[Cell]) -> Result<String, Fail> {
-    let mut text = String::new(alloc);
-    for cell in cells {
-        if !text.is_empty() {
-            text.push(' ')?;
-        }
-        write!(text, "{cell}")?;
-    }
-    Ok(text)
+fn chain_between(
+    alloc: Global,
+    graph: &PlainGraph,
+    from: &str,
+    to: &str,
+) -> Result<Option<Vec<Cell>>, Fail> {
+    let (from, to) = (cell(from)?, cell(to)?);
+    Ok(path(alloc, graph, from, to)?)
 }
 
 fn shortest(alloc: Global, graph: &PlainGraph, from: &str, to: &str) -> Result<String, Fail> {
-    let (from, to) = (cell(from)?, cell(to)?);
-    let Some(chain) = path(alloc, graph, from, to)? else {
-        return Ok(String::from_str(alloc, "none")?);
-    };
-    listed(alloc, &chain)
+    match chain_between(alloc, graph, from, to)? {
+        Some(chain) => listed(alloc, &chain),
+        None => Ok(String::from_str(alloc, "none")?),
+    }
 }
 
-// Looks for a chain from a cell to another for each row, and gives those that are otherwise than wanted.
-fn unlike(
+// From a cell to another, and the chain that is wanted.
+type Row = (&'static str, &'static str, &'static str);
+
+// Looks for the chain of each row.
+fn are_shortest(
+    rt: &impl Abort,
     alloc: Global,
     pairs: &[(&str, &str)],
-    table: &[(&str, &str, &str)],
-) -> Result<String, Fail> {
+    rows: &[Row],
+) -> Result<(), Fail> {
     let graph = graph_of(alloc, pairs)?;
-    let mut others = String::new(alloc);
-    for (from, to, wanted) in table {
-        let chain = shortest(alloc, &graph, from, to)?;
-        if chain.as_str() != *wanted {
-            write!(others, "{from} to {to} gives {chain}, ")?;
-        }
+    for row in rows {
+        let chain = shortest(alloc, &graph, row.0, row.1)?;
+        is_shortest(rt, row, &chain);
     }
-    Ok(others)
+    Ok(())
+}
+
+fn is_shortest(rt: &impl Abort, row: &Row, chain: &str) {
+    assert_eq!(rt; (row.0, row.1, chain), *row);
 }
 
 // The sheet of the two records `1,=A1+1` and `2,=A2+B1`: each case is from, to, and the chain.
 #[test]
 fn a_small_sheet(rt: HostRuntime) -> Result<(), Fail> {
-    let others = unlike(
+    are_shortest(
+        &rt,
         rt.alloc(),
         &[("B1", "A1"), ("B2", "A2:B2"), ("B2", "B1")],
         &[
@@ -59,33 +62,29 @@ fn a_small_sheet(rt: HostRuntime) -> Result<(), Fail> {
             ("C7", "C7", "C7"),
             ("A2", "B2", "none"),
         ],
-    )?;
-    assert_eq!(rt; others.as_str(), "");
-    Ok(())
+    )
 }
 
 // A window of a sum lies on the way, and a longer way round it.
 #[test]
 fn the_short_way(rt: HostRuntime) -> Result<(), Fail> {
-    let others = unlike(
+    are_shortest(
+        &rt,
         rt.alloc(),
         &[("B1", "A1"), ("C1", "B1"), ("D1", "A1:C1"), ("E1", "D1")],
         &[("A1", "E1", "A1 D1 E1"), ("A1", "C1", "A1 B1 C1")],
-    )?;
-    assert_eq!(rt; others.as_str(), "");
-    Ok(())
+    )
 }
 
 // Round a cycle the chain goes the short way; from a cell to itself it is the one cell.
 #[test]
 fn round_a_cycle(rt: HostRuntime) -> Result<(), Fail> {
-    let others = unlike(
+    are_shortest(
+        &rt,
         rt.alloc(),
         &[("B1", "A1"), ("C1", "B1"), ("A1", "C1")],
         &[("A1", "A1", "A1"), ("B1", "A1", "B1 C1 A1")],
-    )?;
-    assert_eq!(rt; others.as_str(), "");
-    Ok(())
+    )
 }
 
 // How many cells the chain has that is found between two, and whether it is one.
@@ -95,11 +94,11 @@ fn measured(
     from: &str,
     to: &str,
 ) -> Result<(usize, bool), Fail> {
-    let (from, to) = (cell(from)?, cell(to)?);
     let graph = graph_of(alloc, pairs)?;
-    let found = path(alloc, &graph, from, to)?.ok_or("no chain")?;
-    let is = is_chain(alloc, &graph, &found)?;
-    Ok((found.len(), is))
+    match chain_between(alloc, &graph, from, to)? {
+        Some(chain) => Ok((chain.len(), is_chain(alloc, &graph, &chain)?)),
+        None => Err(Fail::from("no chain")),
+    }
 }
 
 // Of two chains of one length either may be found; both are chains.
@@ -137,7 +136,7 @@ fn lists_of_cells(rt: HostRuntime) -> Result<(), Fail> {
         ("", false),
     ] {
         let are = are_chain(rt.alloc(), names)?;
-        assert_eq!(rt; are, wanted, "{names}");
+        assert_eq!(rt; (names, are), (names, wanted));
     }
     Ok(())
 }

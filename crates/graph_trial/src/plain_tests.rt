@@ -3,16 +3,32 @@
 use crate::edge_texts::{cell, listed, range};
 use graph_walk::{Graph, dependents, on_cycle, precedents};
 use plain_graph::PlainGraph;
-use sheet_refs::{Range, Refs};
+use sheet_refs::{Cell, Range, Refs};
 use std::alloc::Global;
+use std::process::Abort;
 use std::test::Fail;
+
+// A cell has these references now.
+pub(crate) fn give<G: Graph>(graph: &mut G, at: Cell, refs: &Refs) -> Result<(), Fail> {
+    graph.reserve(1)?;
+    graph.replace(at, refs);
+    Ok(())
+}
+
+// A cell refers to this range alone now.
+pub(crate) fn refer_to<G: Graph>(
+    alloc: Global,
+    graph: &mut G,
+    at: Cell,
+    to: Range,
+) -> Result<(), Fail> {
+    let refs = Refs::of(alloc, &[to])?;
+    give(graph, at, &refs)
+}
 
 fn refer(alloc: Global, graph: &mut PlainGraph, at: &str, to: &str) -> Result<(), Fail> {
     let (at, to) = (cell(at)?, range(to)?);
-    let refs = Refs::of(alloc, &[to])?;
-    graph.reserve(1)?;
-    graph.replace(at, &refs);
-    Ok(())
+    refer_to(alloc, graph, at, to)
 }
 
 // A graph in which cells refer to ranges, as these pairs of texts say one after the other.
@@ -40,34 +56,62 @@ fn behind(alloc: Global, pairs: &[(&str, &str)], asked: &str) -> Result<Vec<Rang
     Ok(set.columns()?)
 }
 
-// The sheet of the two records `1,=A1+1` and `2,=A2+B1`.
-#[test]
-fn a_small_sheet(rt: HostRuntime) -> Result<(), Fail> {
-    let alloc = rt.alloc();
-    let pairs = [("B1", "A1"), ("B2", "A2:B2"), ("B2", "A2")];
-    let onward = listed(alloc, &ahead(alloc, &pairs, "A1")?)?;
-    let back = listed(alloc, &behind(alloc, &pairs, "B1:B2")?)?;
-    let wanted = ("A1:A1 B1:B1", "A1:A2 B1:B2");
-    assert_eq!(rt; (onward.as_str(), back.as_str()), wanted);
+// Holds what depends on a range against what is wanted.
+fn is_ahead(
+    rt: &impl Abort,
+    alloc: Global,
+    pairs: &[(&str, &str)],
+    asked: &str,
+    wanted: &str,
+) -> Result<(), Fail> {
+    let ranges = ahead(alloc, pairs, asked)?;
+    let text = listed(alloc, &ranges)?;
+    assert_eq!(rt; text.as_str(), wanted);
     Ok(())
 }
 
-// A reference past the sheet, and one to all names.
+// The same of that on which it depends.
+fn is_behind(
+    rt: &impl Abort,
+    alloc: Global,
+    pairs: &[(&str, &str)],
+    asked: &str,
+    wanted: &str,
+) -> Result<(), Fail> {
+    let ranges = behind(alloc, pairs, asked)?;
+    let text = listed(alloc, &ranges)?;
+    assert_eq!(rt; text.as_str(), wanted);
+    Ok(())
+}
+
+// The sheet of the two records `1,=A1+1` and `2,=A2+B1`.
+const SMALL: [(&str, &str); 3] = [("B1", "A1"), ("B2", "A2:B2"), ("B2", "A2")];
+
+#[test]
+fn a_small_sheet(rt: HostRuntime) -> Result<(), Fail> {
+    is_ahead(&rt, rt.alloc(), &SMALL, "A1", "A1:A1 B1:B1")?;
+    is_behind(&rt, rt.alloc(), &SMALL, "B1:B2", "A1:A2 B1:B2")
+}
+
+// A reference past the sheet, and after it one to all names.
+const PAST: [(&str, &str); 1] = [("B1", "A1:A1000")];
+
+const ALL: [(&str, &str); 2] = [("B1", "A1:A1000"), ("B1", "A1:XFD1048576")];
+
 #[test]
 fn references_past_the_sheet(rt: HostRuntime) -> Result<(), Fail> {
-    let alloc = rt.alloc();
-    let pairs = [("B1", "A1:A1000"), ("B1", "A1:XFD1048576")];
-    let few = listed(alloc, &behind(alloc, &pairs[..1], "B1")?)?;
-    let all = behind(alloc, &pairs, "B1")?.len();
-    assert_eq!(rt; (few.as_str(), all), ("A1:A1000 B1:B1", 16_384));
+    is_behind(&rt, rt.alloc(), &PAST, "B1", "A1:A1000 B1:B1")?;
+    let columns = behind(rt.alloc(), &ALL, "B1")?.len();
+    assert_eq!(rt; columns, 16_384);
     Ok(())
 }
 
 // `=B1,=A1` is a cycle; a third cell `=A1` only leads to it.
+const CYCLES: [(&str, &str); 4] = [("A1", "B1"), ("B1", "A1"), ("C1", "A1"), ("D1", "D1:D2")];
+
 fn is_on_cycle(alloc: Global, name: &str) -> Result<bool, Fail> {
     let cell = cell(name)?;
-    let pairs = [("A1", "B1"), ("B1", "A1"), ("C1", "A1"), ("D1", "D1:D2")];
-    let graph = graph_of(alloc, &pairs)?;
+    let graph = graph_of(alloc, &CYCLES)?;
     Ok(on_cycle(alloc, &graph, cell)?)
 }
 
@@ -81,7 +125,7 @@ fn cycles(rt: HostRuntime) -> Result<(), Fail> {
         ("E1", false),
     ] {
         let found = is_on_cycle(rt.alloc(), name)?;
-        assert_eq!(rt; found, on, "{name}");
+        assert_eq!(rt; (name, found), (name, on));
     }
     Ok(())
 }

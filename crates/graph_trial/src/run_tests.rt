@@ -1,16 +1,19 @@
 // What no clause says: that runs come where memory is ample, and which edges there are then. Each case is tried over
 // two indexes, and by runs alone, at once and cell by cell from the top, and held against the plain graph. The wanted
 // edges were worked out by hand.
-use crate::edge_texts::{edges_shown, listed};
+ghost use Rattle.std.specs.Prelude.{◌≡◌, []};
+
+use crate::edge_texts::{cell_at, edges_shown, listed};
 use crate::runs::{Case, Ends, Standing, Way, fill};
 use crate::taco_random::{Pair, has_pairs};
 use edge_patterns::Edge;
 use graph_walk::{Graph, dependents, precedents};
 use plain_graph::PlainGraph;
 use range_index::{ListIndex, RangeIndex};
-use sheet_refs::{Cell, Range};
+use sheet_refs::{Range, RectSet};
 use std::alloc::Global;
 use std::fmt::Write;
+use std::process::Abort;
 use std::test::Fail;
 use taco_graph::Taco;
 use tree_index::TreeIndex;
@@ -21,7 +24,7 @@ const ROWS: u32 = 9;
 const COLS: u32 = 5;
 
 fn asked_at(place: u32) -> Result<Range, Fail> {
-    let cell = Cell::new(place / COLS + 1, place % COLS + 1).ok_or("no cell")?;
+    let cell = cell_at(place / COLS + 1, place % COLS + 1)?;
     Ok(Range::of(cell, cell))
 }
 
@@ -53,29 +56,46 @@ fn pairs_of(alloc: Global, graph: &PlainGraph) -> Result<Vec<Pair>, Fail> {
 }
 
 fn pairs_shown(alloc: Global, graph: &PlainGraph) -> Result<String, Fail> {
+    let pairs = pairs_of(alloc, graph)?;
     let mut text = String::new(alloc);
-    for pair in &pairs_of(alloc, graph)? {
-        let (cell, range) = (pair.cell, pair.range);
-        write!(text, "{cell} {range}; ")?;
+    for pair in &pairs {
+        add_pair(&mut text, pair)?;
     }
     Ok(text)
 }
 
-// What depends on a cell, and on what it depends.
-fn answer<G: Graph>(alloc: Global, graph: &G, asked: Range) -> Result<String, Fail> {
-    let onward = dependents(alloc, graph, asked)?.columns()?;
-    let onward = listed(alloc, &onward)?;
-    let back = precedents(alloc, graph, asked)?.columns()?;
-    let back = listed(alloc, &back)?;
-    Ok(format!(in alloc; "{onward}, {back}; ")?)
+fn add_pair(text: &mut String, pair: &Pair) -> Result<(), Fail> {
+    let (cell, range) = (pair.cell, pair.range);
+    write!(text, "{cell} {range}; ")?;
+    Ok(())
+}
+
+// Adds the columns of a set to a text.
+fn add_set(alloc: Global, text: &mut String, set: &RectSet) -> Result<(), Fail> {
+    let columns = set.columns()?;
+    let columns = listed(alloc, &columns)?;
+    write!(text, "{columns}; ")?;
+    Ok(())
+}
+
+// Adds what depends on a cell, and on what it depends.
+fn add_answer<G: Graph>(
+    alloc: Global,
+    text: &mut String,
+    graph: &G,
+    asked: Range,
+) -> Result<(), Fail> {
+    let onward = dependents(alloc, graph, asked)?;
+    add_set(alloc, text, &onward)?;
+    let back = precedents(alloc, graph, asked)?;
+    add_set(alloc, text, &back)
 }
 
 // The same for all cells that are asked.
 fn answers<G: Graph>(alloc: Global, graph: &G) -> Result<String, Fail> {
     let mut text = String::new(alloc);
     for place in 0..ROWS * COLS {
-        let answer = answer(alloc, graph, asked_at(place)?)?;
-        text.push_str(&answer)?;
+        add_answer(alloc, &mut text, graph, asked_at(place)?)?;
     }
     Ok(text)
 }
@@ -83,25 +103,6 @@ fn answers<G: Graph>(alloc: Global, graph: &G) -> Result<String, Fail> {
 fn plain(alloc: Global, case: &Case, way: Way) -> Result<PlainGraph, Fail> {
     let mut graph = PlainGraph::new(alloc);
     fill(alloc, &mut graph, case, way)?;
-    Ok(graph)
-}
-
-fn taco<I: RangeIndex + Drop>(alloc: Global, case: &Case, way: Way) -> Result<Taco<I>, Fail> {
-    let mut graph = Taco::<I>::new(alloc);
-    fill(alloc, &mut graph, case, way)?;
-    Ok(graph)
-}
-
-fn by_runs(alloc: Global, case: &Case, way: Way) -> Result<Taco<TreeIndex>, Fail> {
-    let mut graph = Taco::<TreeIndex>::by_runs(alloc);
-    fill(alloc, &mut graph, case, way)?;
-    Ok(graph)
-}
-
-// One by runs whose rectangles are filed once it has all pairs.
-fn filed(alloc: Global, case: &Case, way: Way) -> Result<Taco<TreeIndex>, Fail> {
-    let mut graph = by_runs(alloc, case, way)?;
-    graph.file_rectangles()?;
     Ok(graph)
 }
 
@@ -124,63 +125,109 @@ fn are(alloc: Global, edges: &[Edge], wanted: &str) -> Result<bool, Fail> {
     Ok(text.as_str() == wanted)
 }
 
-// What a graph of edges does wrong; nothing where it is right.
-fn fault_over<I: RangeIndex + Drop>(
+// What is wrong with edges; nothing where they are right.
+fn fault_in_edges(
     alloc: Global,
-    graph: Taco<I>,
-    case: &Case,
-    way: Way,
+    edges: &[Edge],
+    plain: &PlainGraph,
     wanted: &str,
 ) -> Result<&'static str, Fail> {
-    let plain = plain(alloc, case, way)?;
-    let edges = graph.edges()?;
-    if !has_its_pairs(alloc, &edges, &plain)? {
+    if !has_its_pairs(alloc, edges, plain)? {
         return Ok("has other pairs");
     }
-    if !answers_as(alloc, &graph, &plain)? {
-        return Ok("answers otherwise");
-    }
-    if !are(alloc, &edges, wanted)? {
+    if !are(alloc, edges, wanted)? {
         return Ok("has other edges");
     }
     Ok("")
 }
 
-// The same over either of the two indexes, and by runs, without rectangles and with them.
+// What a graph of edges does wrong beside a plain one.
+fn fault_beside<I: RangeIndex + Drop>(
+    alloc: Global,
+    graph: &Taco<I>,
+    plain: &PlainGraph,
+    wanted: &str,
+) -> Result<&'static str, Fail> {
+    if !answers_as(alloc, graph, plain)? {
+        return Ok("answers otherwise");
+    }
+    let edges = graph.edges()?;
+    fault_in_edges(alloc, &edges, plain, wanted)
+}
+
+// What a graph of edges without pairs does wrong once a case came, and its rectangles are filed where they are to be.
+fn fault_over<I: RangeIndex + Drop>(
+    alloc: Global,
+    graph: &mut Taco<I>,
+    filed: bool,
+    case: &Case,
+    way: Way,
+    wanted: &str,
+) -> Result<&'static str, Fail>
+    requires { graph.old.edges ≡ [] }
+{
+    fill(alloc, graph, case, way)?;
+    if filed {
+        graph.file_rectangles()?;
+    }
+    let plain = plain(alloc, case, way)?;
+    fault_beside(alloc, graph, &plain, wanted)
+}
+
+// Graphs of edges: over either of the two indexes, and by runs, without rectangles and with them.
+#[derive(Clone, Copy)]
+enum Kind {
+    OverTree,
+    ByRuns,
+    Filed,
+    OverList,
+}
+
+fn fault_with(
+    alloc: Global,
+    kind: Kind,
+    case: &Case,
+    way: Way,
+    wanted: &str,
+) -> Result<&'static str, Fail> {
+    match kind {
+        Kind::OverTree => {
+            let mut graph = Taco::<TreeIndex>::new(alloc);
+            fault_over(alloc, &mut graph, false, case, way, wanted)
+        }
+        Kind::ByRuns | Kind::Filed => {
+            let mut graph = Taco::<TreeIndex>::by_runs(alloc);
+            let filed = matches!(kind, Kind::Filed);
+            fault_over(alloc, &mut graph, filed, case, way, wanted)
+        }
+        Kind::OverList => {
+            let mut graph = Taco::<ListIndex>::new(alloc);
+            fault_over(alloc, &mut graph, false, case, way, wanted)
+        }
+    }
+}
+
+// What the first of them that isn't right does wrong.
 fn fault_by(alloc: Global, case: &Case, way: Way, wanted: &str) -> Result<&'static str, Fail> {
-    let fault = fault_over(
-        alloc,
-        taco::<TreeIndex>(alloc, case, way)?,
-        case,
-        way,
-        wanted,
-    )?;
-    if !fault.is_empty() {
-        return Ok(fault);
+    for kind in [Kind::OverTree, Kind::ByRuns, Kind::Filed, Kind::OverList] {
+        let fault = fault_with(alloc, kind, case, way, wanted)?;
+        if !fault.is_empty() {
+            return Ok(fault);
+        }
     }
-    let fault = fault_over(alloc, by_runs(alloc, case, way)?, case, way, wanted)?;
-    if !fault.is_empty() {
-        return Ok(fault);
-    }
-    let fault = fault_over(alloc, filed(alloc, case, way)?, case, way, wanted)?;
-    if !fault.is_empty() {
-        return Ok(fault);
-    }
-    fault_over(
-        alloc,
-        taco::<ListIndex>(alloc, case, way)?,
-        case,
-        way,
-        wanted,
-    )
+    Ok("")
+}
+
+// The pairs of the plain graph of a case.
+fn pairs_by(alloc: Global, case: &Case, way: Way) -> Result<String, Fail> {
+    let graph = plain(alloc, case, way)?;
+    pairs_shown(alloc, &graph)
 }
 
 // Whether plain graphs have the same pairs, whichever way the run comes.
 fn comes_as_its_cells(alloc: Global, case: &Case) -> Result<bool, Fail> {
-    let at_once = plain(alloc, case, Way::AtOnce)?;
-    let at_once = pairs_shown(alloc, &at_once)?;
-    let by_cells = plain(alloc, case, Way::CellByCell)?;
-    let by_cells = pairs_shown(alloc, &by_cells)?;
+    let at_once = pairs_by(alloc, case, Way::AtOnce)?;
+    let by_cells = pairs_by(alloc, case, Way::CellByCell)?;
     Ok(at_once.as_str() == by_cells.as_str())
 }
 
@@ -221,6 +268,11 @@ fn fault_in(alloc: Global, row: &Row) -> Result<&'static str, Fail> {
     fault_of(alloc, &case, row.4, row.4)
 }
 
+// Fails where a row went wrong.
+fn is_faultless(rt: &impl Abort, row: &Row, fault: &str) {
+    assert_eq!(rt; fault, "", "{}", row.4);
+}
+
 // One kind of series after the other, into a graph without pairs.
 const KINDS: [Row; 8] = [
     (&[], "B1:B4", ("A1:A2", "A1:A2"), ALONE, "B1:B4 A1:A2 FF; "),
@@ -243,7 +295,7 @@ const KINDS: [Row; 8] = [
 fn runs_leave_an_edge_for_each_series(rt: HostRuntime) -> Result<(), Fail> {
     for row in &KINDS {
         let fault = fault_in(rt.alloc(), row)?;
-        assert_eq!(rt; fault, "", "{}", row.4);
+        is_faultless(&rt, row, fault);
     }
     Ok(())
 }
@@ -326,7 +378,7 @@ const JOINED: [Row; 10] = [
 fn runs_go_on_with_what_stands_above_and_below(rt: HostRuntime) -> Result<(), Fail> {
     for row in &JOINED {
         let fault = fault_in(rt.alloc(), row)?;
-        assert_eq!(rt; fault, "", "{}", row.4);
+        is_faultless(&rt, row, fault);
     }
     Ok(())
 }
@@ -361,7 +413,7 @@ const WHOLE: [(Row, &str); 2] = [
 fn runs_stay_whole_where_they_come_at_once(rt: HostRuntime) -> Result<(), Fail> {
     for (row, by_cells) in &WHOLE {
         let fault = fault_of(rt.alloc(), &case_in(row), row.4, by_cells)?;
-        assert_eq!(rt; fault, "", "{}", row.4);
+        is_faultless(&rt, row, fault);
     }
     Ok(())
 }

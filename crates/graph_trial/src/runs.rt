@@ -2,7 +2,8 @@
 ghost use Rattle.std.specs.Prelude.{◌≡◌, ◌<◌, [], IsTrue, OnOk};
 ghost use Rattle.graph_walk.specs.Series.{GoesOn, GoOn, LackRun, steps_of};
 
-use crate::edge_texts::{cell, range};
+use crate::edge_texts::{cell, cell_at, range};
+use crate::plain_tests::give;
 use crate::taco_random::refs_of;
 use graph_walk::{Graph, Series};
 use sheet_refs::{Cell, Range, Refs};
@@ -140,7 +141,7 @@ fn add<G: Graph>(graph: &mut G, run: Range, case: &Case) -> Result<(), Fail>
 // Where an end is, so many cells behind the first one.
 fn end_at(first: Cell, last: Cell, index: u32) -> Result<Cell, Fail> {
     let rows = if first == last { 0 } else { index };
-    Ok(Cell::new(first.row().saturating_add(rows), first.col()).ok_or("no cell")?)
+    cell_at(first.row().saturating_add(rows), first.col())
 }
 
 // The range of the cell so many cells behind the first one; None without a series.
@@ -154,6 +155,13 @@ fn range_at(ends: Ends, index: u32) -> Result<Option<Range>, Fail> {
     Ok(Some(Range::of(head, tail)))
 }
 
+// The ranges of the cell so many cells behind the first one.
+fn refs_at(alloc: Global, case: &Case, index: u32) -> Result<Refs, Fail> {
+    let one = range_at(case.one, index)?;
+    let other = range_at(case.other, index)?;
+    refs_of(alloc, one, other)
+}
+
 // Gives a cell of the run its ranges.
 fn replace_one<G: Graph>(
     alloc: Global,
@@ -162,12 +170,8 @@ fn replace_one<G: Graph>(
     case: &Case,
     index: u32,
 ) -> Result<(), Fail> {
-    let one = range_at(case.one, index)?;
-    let other = range_at(case.other, index)?;
-    let refs = refs_of(alloc, one, other)?;
-    graph.reserve(1)?;
-    graph.replace(at, &refs);
-    Ok(())
+    let refs = refs_at(alloc, case, index)?;
+    give(graph, at, &refs)
 }
 
 // Adds the run cell by cell from the top.
@@ -179,7 +183,7 @@ fn replace_all<G: Graph>(
 ) -> Result<(), Fail> {
     let head = run.head();
     for row in head.row()..run.tail().row() + 1 {
-        let at = Cell::new(row, head.col()).ok_or("no cell")?;
+        let at = cell_at(row, head.col())?;
         replace_one(alloc, graph, at, case, row - head.row())?;
     }
     Ok(())

@@ -7,6 +7,7 @@ use crate::small_grid::{
 use edge_patterns::{Edge, Pattern, back, direct, join, split, spread};
 use sheet_refs::{Cell, Range};
 use std::alloc::Global;
+use std::process::Abort;
 use std::test::Fail;
 
 // An edge with the pairs that it has to stand for.
@@ -19,13 +20,12 @@ struct Small {
 
 // The tail of the first range of an edge whose tail moves: that of its rectangle moved back over the run.
 fn first_tail(edge: &Edge, down: bool) -> Option<Cell> {
-    let tail = edge.prec().tail();
-    let run = edge.dep();
-    let rows = run.tail().row().checked_sub(run.head().row())?;
-    let cols = run.tail().col().checked_sub(run.head().col())?;
+    let (tail, run) = (edge.prec().tail(), edge.dep());
     if down {
+        let rows = run.tail().row() - run.head().row();
         Cell::new(tail.row().checked_sub(rows)?, tail.col())
     } else {
+        let cols = run.tail().col() - run.head().col();
         Cell::new(tail.row(), tail.col().checked_sub(cols)?)
     }
 }
@@ -142,23 +142,34 @@ fn agrees(edge: &Edge, pairs: &[Pair], query: &Area) -> bool {
         && cells_in(back(edge, query.range)) == behind
 }
 
-// Whether each cell can be taken out of an edge, so that the parts stand for the pairs before it and for
-// those after it.
-fn splits(edge: &Edge, pairs: &[Pair]) -> bool {
-    for (index, pair) in pairs.iter().enumerate() {
-        if !edge.dep().contains(pair.cell) {
-            return false;
-        }
-        let (before, after) = split(edge, pair.cell);
-        let (front, rear) = (&pairs[..index], &pairs[index + 1..]);
-        if !finds(&before, front)
-            || !finds(&after, rear)
-            || !joins_again(edge, before, pair, after)
-        {
+// The same for all of some queries.
+fn all_agree(edge: &Edge, pairs: &[Pair], areas: &[Area]) -> bool {
+    for query in areas {
+        if !agrees(edge, pairs, query) {
             return false;
         }
     }
     true
+}
+
+// Whether each cell can be taken out of an edge, so that the parts stand for the pairs before it and for
+// those after it.
+fn splits(edge: &Edge, pairs: &[Pair]) -> bool {
+    for (index, pair) in pairs.iter().enumerate() {
+        if !splits_at(edge, &pairs[..index], pair, &pairs[index + 1..]) {
+            return false;
+        }
+    }
+    true
+}
+
+// The same of the cell of one pair, with the pairs before it and those after it.
+fn splits_at(edge: &Edge, front: &[Pair], pair: &Pair, rear: &[Pair]) -> bool {
+    if !edge.dep().contains(pair.cell) {
+        return false;
+    }
+    let (before, after) = split(edge, pair.cell);
+    finds(&before, front) && finds(&after, rear) && joins_again(edge, before, pair, after)
 }
 
 // Whether the cell that was taken out can be put between the parts again.
@@ -211,6 +222,27 @@ fn joins(a: &Small, b: &Small) -> bool {
     }
 }
 
+// The same of an edge and all others.
+fn joins_all(a: &Small, edges: &[Small]) -> bool {
+    for b in edges {
+        if !joins(a, b) {
+            return false;
+        }
+    }
+    true
+}
+
+// The same of an edge and all that begin where it ends, in either order.
+fn joins_next(a: &Small, edges: &[Small]) -> bool {
+    let next = stepped(a.edge.dep().tail(), a.drawn.down, 1);
+    for b in edges {
+        if next == Some(b.drawn.first) && !(joins(a, b) && joins(b, a)) {
+            return false;
+        }
+    }
+    true
+}
+
 // Which edges of a grid are drawn: how many rows and columns it has, and how many cells they have at least and at most.
 #[derive(Clone, Copy)]
 struct Kind {
@@ -225,36 +257,61 @@ fn fits(pair: &Pair, side: u32) -> bool {
     pair.cell.row() <= side && pair.cell.col() <= side && tail.row() <= side && tail.col() <= side
 }
 
-// The edges that are drawn from a cell and a range, each with its pairs.
-fn edges_from(alloc: Global, first: Cell, range: Range, kind: Kind) -> Result<Vec<Small>, Fail> {
-    let mut edges = Vec::new(alloc);
+// The edge that is drawn so, with its pairs; None where there is none of this kind.
+fn small_of(alloc: Global, drawn: Drawn, kind: Kind) -> Result<Option<Small>, Fail> {
+    if drawn.count < kind.least || drawn.count > kind.most {
+        return Ok(None);
+    }
+    let Some(pairs) = pairs_of(alloc, &drawn)? else {
+        return Ok(None);
+    };
+    if !pairs.iter().all(|pair| fits(pair, kind.side)) {
+        return Ok(None);
+    }
+    let edge = edge_of(&pairs).ok_or("not joined")?;
+    Ok(Some(Small { drawn, pairs, edge }))
+}
+
+// Adds the edges that are drawn from a cell and a range, each with its pairs.
+fn add_edges(
+    alloc: Global,
+    edges: &mut Vec<Small>,
+    first: Cell,
+    range: Range,
+    kind: Kind,
+) -> Result<(), Fail> {
     for choice in 0..32u32 {
         let Some(drawn) = drawn_from(first, range, choice) else {
             continue;
         };
-        if drawn.count < kind.least || drawn.count > kind.most {
-            continue;
-        }
-        let Some(pairs) = pairs_of(alloc, &drawn)? else {
-            continue;
-        };
-        if pairs.iter().all(|pair| fits(pair, kind.side)) {
-            let edge = edge_of(&pairs).ok_or("not joined")?;
-            edges.push(Small { drawn, pairs, edge })?;
+        if let Some(small) = small_of(alloc, drawn, kind)? {
+            edges.push(small)?;
         }
     }
-    Ok(edges)
+    Ok(())
+}
+
+// Adds those that are drawn from a cell and any of some ranges.
+fn add_all_edges(
+    alloc: Global,
+    edges: &mut Vec<Small>,
+    first: Cell,
+    areas: &[Area],
+    kind: Kind,
+) -> Result<(), Fail> {
+    for area in areas {
+        add_edges(alloc, edges, first, area.range, kind)?;
+    }
+    Ok(())
 }
 
 // All edges of a kind.
 fn grid_edges(alloc: Global, kind: Kind) -> Result<Vec<Small>, Fail> {
     let areas = grid_areas(alloc, kind.side)?;
     let mut edges = Vec::new(alloc);
-    for first in areas.iter().filter(|area| area.range.cells() == 1) {
-        for area in &areas {
-            for small in edges_from(alloc, first.range.head(), area.range, kind)? {
-                edges.push(small)?;
-            }
+    for first in &areas {
+        if first.range.cells() == 1 {
+            add_all_edges(alloc, &mut edges, first.range.head(), &areas, kind)?;
         }
     }
     Ok(edges)
@@ -266,7 +323,7 @@ fn fault_of(small: &Small, areas: &[Area]) -> &'static str {
     if !stands_for(edge, pairs, &[]) {
         return "stands for other pairs";
     }
-    if !areas.iter().all(|query| agrees(edge, pairs, query)) {
+    if !all_agree(edge, pairs, areas) {
         return "answers a query otherwise";
     }
     if !splits(edge, pairs) {
@@ -290,7 +347,9 @@ fn fault_from(
         least: 1,
         most: 4,
     };
-    for small in &edges_from(alloc, first, range, kind)? {
+    let mut edges = Vec::new(alloc);
+    add_edges(alloc, &mut edges, first, range, kind)?;
+    for small in &edges {
         let fault = fault_of(small, areas);
         if !fault.is_empty() {
             return Ok(fault);
@@ -299,14 +358,25 @@ fn fault_from(
     Ok("")
 }
 
+// Holds the small edges from a cell and each of the ranges against their pairs.
+fn are_faultless(rt: &impl Abort, alloc: Global, first: Cell, areas: &[Area]) -> Result<(), Fail> {
+    for area in areas {
+        let fault = fault_from(alloc, first, area.range, areas)?;
+        is_faultless(rt, fault, first, area.range);
+    }
+    Ok(())
+}
+
+fn is_faultless(rt: &impl Abort, fault: &str, cell: Cell, range: Range) {
+    assert_eq!(rt; fault, "", "{cell} {range}");
+}
+
 #[test]
 fn small_edges_answer_as_their_pairs_do(rt: HostRuntime) -> Result<(), Fail> {
     let areas = grid_areas(rt.alloc(), 5)?;
-    for first in areas.iter().filter(|area| area.range.cells() == 1) {
-        for area in &areas {
-            let (cell, range) = (first.range.head(), area.range);
-            let fault = fault_from(rt.alloc(), cell, range, &areas)?;
-            assert_eq!(rt; fault, "", "{cell} {range}");
+    for first in &areas {
+        if first.range.cells() == 1 {
+            are_faultless(&rt, rt.alloc(), first.range.head(), &areas)?;
         }
     }
     Ok(())
@@ -322,9 +392,7 @@ fn small_edges_are_joined_where_one_edge_has_their_pairs(rt: HostRuntime) -> Res
     };
     let edges = grid_edges(rt.alloc(), kind)?;
     for a in &edges {
-        for b in &edges {
-            assert!(rt; joins(a, b));
-        }
+        assert!(rt; joins_all(a, &edges));
     }
     Ok(())
 }
@@ -341,10 +409,7 @@ fn pairs_of_small_runs_are_joined_where_one_edge_has_their_pairs(
     };
     let edges = grid_edges(rt.alloc(), kind)?;
     for a in &edges {
-        let next = stepped(a.edge.dep().tail(), a.drawn.down, 1);
-        for b in edges.iter().filter(|b| next == Some(b.drawn.first)) {
-            assert!(rt; joins(a, b) && joins(b, a));
-        }
+        assert!(rt; joins_next(a, &edges));
     }
     Ok(())
 }

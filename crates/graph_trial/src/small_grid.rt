@@ -1,4 +1,5 @@
 // A small grid and the pairs in it, plainly: a set of cells is a word with a bit for each cell.
+use crate::edge_texts::cell_at;
 use edge_patterns::Edge;
 use sheet_refs::{Cell, Range};
 use std::alloc::Global;
@@ -48,19 +49,25 @@ pub(crate) fn cells_of(range: Range) -> u32 {
     cells
 }
 
+// The range between two cells of a grid of 5 by 5; None where the one is no head of the other, or past the side.
+fn area_between(head: u32, tail: u32, side: u32) -> Result<Option<Area>, Fail> {
+    let (top, left) = (head / 5 + 1, head % 5 + 1);
+    let (bottom, right) = (tail / 5 + 1, tail % 5 + 1);
+    if top > bottom || left > right || bottom > side || right > side {
+        return Ok(None);
+    }
+    let range = Range::of(cell_at(top, left)?, cell_at(bottom, right)?);
+    let cells = cells_of(range);
+    Ok(Some(Area { range, cells }))
+}
+
 // All ranges of a grid with so many rows and columns, at most 5.
 pub(crate) fn grid_areas(alloc: Global, side: u32) -> Result<Vec<Area>, Fail> {
     let mut areas = Vec::new(alloc);
     for head in 0..25 {
         for tail in 0..25 {
-            let (top, left) = (head / 5 + 1, head % 5 + 1);
-            let (bottom, right) = (tail / 5 + 1, tail % 5 + 1);
-            if top <= bottom && left <= right && bottom <= side && right <= side {
-                let head = Cell::new(top, left).ok_or("no cell")?;
-                let tail = Cell::new(bottom, right).ok_or("no cell")?;
-                let range = Range::of(head, tail);
-                let cells = cells_of(range);
-                areas.push(Area { range, cells })?;
+            if let Some(area) = area_between(head, tail, side)? {
+                areas.push(area)?;
             }
         }
     }
@@ -136,24 +143,33 @@ pub(crate) fn drawn_from(first: Cell, range: Range, choice: u32) -> Option<Drawn
 // Whether pairs in two parts are those that one edge can stand for: the cells follow one another in one direction, and
 // each end of their ranges moves with them or stays.
 pub(crate) fn are_regular(front: &[Pair], rear: &[Pair]) -> bool {
+    are_regular_in(front, rear, true) || are_regular_in(front, rear, false)
+}
+
+// The same in one direction.
+fn are_regular_in(front: &[Pair], rear: &[Pair], down: bool) -> bool {
     let (Some(first), Some(last), Some(next)) = (front.first(), front.last(), rear.first()) else {
         return false;
     };
-    let (range, cell) = (first.area.range, Some(next.cell));
-    [true, false].iter().any(|down| {
-        stepped(last.cell, *down, 1) == cell
-            && MOVES.iter().any(|(head, tail)| {
-                let drawn = Drawn {
-                    first: first.cell,
-                    range,
-                    down: *down,
-                    head: *head,
-                    tail: *tail,
-                    count: 0,
-                };
-                follow(&drawn, 0, front) && follow(&drawn, count_of(front), rear)
-            })
-    })
+    stepped(last.cell, down, 1) == Some(next.cell) && are_drawn(first, down, front, rear)
+}
+
+// Whether pairs are drawn from the first one in a direction, whatever moves.
+fn are_drawn(pair: &Pair, down: bool, front: &[Pair], rear: &[Pair]) -> bool {
+    for (head, tail) in MOVES {
+        let drawn = Drawn {
+            first: pair.cell,
+            range: pair.area.range,
+            down,
+            head,
+            tail,
+            count: 0,
+        };
+        if follow(&drawn, 0, front) && follow(&drawn, count_of(front), rear) {
+            return true;
+        }
+    }
+    false
 }
 
 // Whether pairs are drawn from an index on.

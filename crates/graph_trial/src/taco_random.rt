@@ -1,5 +1,7 @@
 // Thousands of changes of a small grid in no order, over an index that answers and over one that never does: after each
 // of them no two edges can be joined, by a look at all two, and the pairs are those of a plain list.
+use crate::edge_texts::cell_at;
+use crate::plain_tests::{give, refer_to};
 use edge_patterns::{Edge, Pattern, back, join};
 use graph_walk::{Graph, dependents};
 use range_index::{InsertOrder, ListIndex, RangeIndex};
@@ -56,13 +58,13 @@ impl RangeIndex for Refusing {
 const SIZE: u32 = 6;
 
 // A cell of the grid.
-fn cell_at(place: u32) -> Result<Cell, Fail> {
-    Ok(Cell::new(place / SIZE % SIZE + 1, place % SIZE + 1).ok_or("no cell")?)
+fn near_cell(place: u32) -> Result<Cell, Fail> {
+    cell_at(place / SIZE % SIZE + 1, place % SIZE + 1)
 }
 
 // A range of a cell by a number below four: none, the cell above it, what lies between A1 and the cell, or A1.
 fn range_by(cell: Cell, kind: u32) -> Result<Option<Range>, Fail> {
-    let corner = Cell::new(1, 1).ok_or("no cell")?;
+    let corner = cell_at(1, 1)?;
     Ok(match kind {
         1 => Cell::new(cell.row() - 1, cell.col()).map(|above| Range::of(above, above)),
         2 => Some(Range::of(corner, cell)),
@@ -183,6 +185,27 @@ pub(crate) fn has_pairs(edges: &[Edge], pairs: &[Pair]) -> bool {
     count == pairs.len() as u64
 }
 
+// The ranges of a cell that are drawn by a number.
+fn drawn_refs(alloc: Global, cell: Cell, seed: u32) -> Result<Refs, Fail> {
+    let one = range_by(cell, seed / 8388608 % 4)?;
+    let other = range_by(cell, seed / 33554432 % 4)?;
+    refs_of(alloc, one, other)
+}
+
+// Gives a cell other ranges, in a graph and in a list of pairs.
+fn replace<I: RangeIndex + Drop>(
+    alloc: Global,
+    graph: &mut Taco<I>,
+    pairs: &mut Vec<Pair>,
+    seed: u32,
+) -> Result<(), Fail> {
+    let cell = near_cell(seed / 65536 % 36)?;
+    let refs = drawn_refs(alloc, cell, seed)?;
+    give(graph, cell, &refs)?;
+    *pairs = replaced(alloc, pairs, cell, refs.ranges())?;
+    Ok(())
+}
+
 // Makes a change of a graph and of a list of pairs, and tells whether the edges are right afterwards. After some
 // changes it files the rectangles of all edges.
 fn change<I: RangeIndex + Drop>(
@@ -191,16 +214,10 @@ fn change<I: RangeIndex + Drop>(
     pairs: &mut Vec<Pair>,
     seed: u32,
 ) -> Result<bool, Fail> {
-    let cell = cell_at(seed / 65536 % 36)?;
-    let one = range_by(cell, seed / 8388608 % 4)?;
-    let other = range_by(cell, seed / 33554432 % 4)?;
-    let refs = refs_of(alloc, one, other)?;
-    graph.reserve(1)?;
-    graph.replace(cell, &refs);
+    replace(alloc, graph, pairs, seed)?;
     if seed / 1024 % 64 == 0 {
         graph.file_rectangles()?;
     }
-    *pairs = replaced(alloc, pairs, cell, refs.ranges())?;
     let edges = graph.edges()?;
     Ok(has_pairs(&edges, pairs) && !joins_two(&edges))
 }
@@ -258,28 +275,61 @@ fn nor_where_it_wants_memory_in_a_fifth_part(rt: HostRuntime) -> Result<(), Fail
 
 // A cell of a grid of sixty rows and columns.
 fn far_cell(place: u32) -> Result<Cell, Fail> {
-    Ok(Cell::new(place / 60 % 60 + 1, place % 60 + 1).ok_or("no cell")?)
+    cell_at(place / 60 % 60 + 1, place % 60 + 1)
 }
 
-// Gives a cell of that grid one range, of up to four cells.
-fn refer(alloc: Global, graph: &mut SheetGraph, seed: u32) -> Result<(), Fail> {
+// A range of up to four cells that begins in that grid.
+fn far_range(seed: u32) -> Result<Range, Fail> {
     let head = far_cell(seed / 1024)?;
     let (down, right) = (seed / 4096 % 2, seed / 8192 % 2);
-    let tail = Cell::new(head.row() + down, head.col() + right).ok_or("no cell")?;
-    let refs = refs_of_one(alloc, Some(Range::of(head, tail)))?;
-    graph.reserve(1)?;
-    graph.replace(far_cell(next(seed) / 1024)?, &refs);
-    Ok(())
+    let tail = cell_at(head.row() + down, head.col() + right)?;
+    Ok(Range::of(head, tail))
 }
 
-// Whether two graphs answer the same dependents of each cell of that grid.
+// Gives a cell of that grid one such range.
+fn refer(alloc: Global, graph: &mut SheetGraph, seed: u32) -> Result<(), Fail> {
+    let range = far_range(seed)?;
+    refer_to(alloc, graph, far_cell(next(seed) / 1024)?, range)
+}
+
+// Makes 700 changes of both graphs, drawn from a number, and gives the last number.
+fn refer_in_both(
+    alloc: Global,
+    graph: &mut SheetGraph,
+    other: &mut SheetGraph,
+    first: u32,
+) -> Result<u32, Fail> {
+    let mut seed = first;
+    for _ in 0..700 {
+        seed = next(next(seed));
+        refer(alloc, graph, seed)?;
+        refer(alloc, other, seed)?;
+    }
+    Ok(seed)
+}
+
+// The dependents of a cell.
+fn dependents_of(alloc: Global, graph: &SheetGraph, cell: Cell) -> Result<Vec<Range>, Fail> {
+    let set = dependents(alloc, graph, Range::of(cell, cell))?;
+    Ok(set.columns()?)
+}
+
+// Whether two graphs answer the same dependents of a cell.
+fn answer_alike_at(
+    alloc: Global,
+    graph: &SheetGraph,
+    other: &SheetGraph,
+    cell: Cell,
+) -> Result<bool, Fail> {
+    let found = dependents_of(alloc, graph, cell)?;
+    let others = dependents_of(alloc, other, cell)?;
+    Ok(found.as_slice() == others.as_slice())
+}
+
+// The same for each cell of that grid.
 fn answer_alike(alloc: Global, graph: &SheetGraph, other: &SheetGraph) -> Result<bool, Fail> {
     for place in 0..3600 {
-        let cell = far_cell(place)?;
-        let asked = Range::of(cell, cell);
-        let found = dependents(alloc, graph, asked)?.columns()?;
-        let others = dependents(alloc, other, asked)?.columns()?;
-        if found.as_slice() != others.as_slice() {
+        if !answer_alike_at(alloc, graph, other, far_cell(place)?)? {
             return Ok(false);
         }
     }
@@ -294,11 +344,7 @@ fn rectangles_are_filed_at_one_go(rt: HostRuntime) -> Result<(), Fail> {
     let mut later = SheetGraph::by_runs(alloc);
     let mut seed = 1;
     for round in 0..3 {
-        for _ in 0..700 {
-            seed = next(next(seed));
-            refer(alloc, &mut graph, seed)?;
-            refer(alloc, &mut later, seed)?;
-        }
+        seed = refer_in_both(alloc, &mut graph, &mut later, seed)?;
         if round == 0 {
             later.file_rectangles()?;
         }

@@ -1,42 +1,35 @@
 // What no clause says: which edges are joined, and that calls succeed where memory is ample. The expected edges were
 // worked out by hand.
-use crate::edge_texts::{edges_shown, listed, range};
+use crate::edge_texts::{cell_at, edges_shown, listed, range};
+use crate::plain_tests::{give, refer_to};
 use graph_walk::Graph;
-use sheet_refs::{Cell, Range, Refs};
+use sheet_refs::{Range, Refs};
 use std::alloc::Global;
 use std::test::Fail;
 use taco_graph::SheetGraph;
 
-// The row and the column of a cell.
-type Place = (u32, u32);
-
-fn at(place: Place) -> Result<Cell, Fail> {
-    Ok(Cell::new(place.0, place.1).ok_or("no cell")?)
+// The cell of column A in a row refers to the one above it.
+fn refer_above(alloc: Global, graph: &mut SheetGraph, row: u32) -> Result<(), Fail> {
+    let above = cell_at(row.saturating_sub(1), 1)?;
+    refer_to(alloc, graph, cell_at(row, 1)?, Range::of(above, above))
 }
 
-// A cell refers to the range between two cells alone now.
-fn refer(
-    alloc: Global,
-    graph: &mut SheetGraph,
-    place: Place,
-    head: Place,
-    tail: Place,
-) -> Result<(), Fail> {
-    let cell = at(place)?;
-    let range = Range::of(at(head)?, at(tail)?);
-    let refs = Refs::of(alloc, &[range])?;
-    graph.reserve(1)?;
-    graph.replace(cell, &refs);
-    Ok(())
+// That of column B refers to column A down to its row.
+fn refer_down_to(alloc: Global, graph: &mut SheetGraph, row: u32) -> Result<(), Fail> {
+    let (head, tail) = (cell_at(1, 1)?, cell_at(row, 1)?);
+    refer_to(alloc, graph, cell_at(row, 2)?, Range::of(head, tail))
 }
 
-// A cell refers to nothing now.
-fn clear(alloc: Global, graph: &mut SheetGraph, place: Place) -> Result<(), Fail> {
-    let cell = at(place)?;
+// That of column D refers to those of A and B.
+fn refer_beside(alloc: Global, graph: &mut SheetGraph, row: u32) -> Result<(), Fail> {
+    let (head, tail) = (cell_at(row, 1)?, cell_at(row, 2)?);
+    refer_to(alloc, graph, cell_at(row, 4)?, Range::of(head, tail))
+}
+
+// The cell of column A refers to nothing now.
+fn clear(alloc: Global, graph: &mut SheetGraph, row: u32) -> Result<(), Fail> {
     let refs = Refs::of(alloc, &[])?;
-    graph.reserve(1)?;
-    graph.replace(cell, &refs);
-    Ok(())
+    give(graph, cell_at(row, 1)?, &refs)
 }
 
 fn shown(alloc: Global, graph: &SheetGraph) -> Result<String, Fail> {
@@ -45,11 +38,16 @@ fn shown(alloc: Global, graph: &SheetGraph) -> Result<String, Fail> {
 }
 
 // Each cell of column B adds up all cells of column A from the first one to the one beside it.
+fn refer_down(alloc: Global, graph: &mut SheetGraph) -> Result<(), Fail> {
+    for row in 1..101 {
+        refer_down_to(alloc, graph, row)?;
+    }
+    Ok(())
+}
+
 fn growing_sums(alloc: Global) -> Result<String, Fail> {
     let mut graph = SheetGraph::new(alloc);
-    for row in 1..101 {
-        refer(alloc, &mut graph, (row, 2), (1, 1), (row, 1))?;
-    }
+    refer_down(alloc, &mut graph)?;
     shown(alloc, &graph)
 }
 
@@ -61,23 +59,34 @@ fn growing_sums_are_one_edge(rt: HostRuntime) -> Result<(), Fail> {
 }
 
 // Each cell refers to the one above it.
+fn add_chain(alloc: Global, graph: &mut SheetGraph) -> Result<(), Fail> {
+    for row in 2..12 {
+        refer_above(alloc, graph, row)?;
+    }
+    Ok(())
+}
+
 fn chain(alloc: Global) -> Result<SheetGraph, Fail> {
     let mut graph = SheetGraph::new(alloc);
-    for row in 2..12 {
-        refer(alloc, &mut graph, (row, 1), (row - 1, 1), (row - 1, 1))?;
-    }
+    add_chain(alloc, &mut graph)?;
     Ok(graph)
 }
 
-// The edges of the chain after so many changes: A6 refers to nothing, and then to the cell above it again.
-fn changed(alloc: Global, changes: u32) -> Result<String, Fail> {
-    let mut graph = chain(alloc)?;
+// Makes so many changes of the chain: A6 refers to nothing, and then to the cell above it again.
+fn change(alloc: Global, graph: &mut SheetGraph, changes: u32) -> Result<(), Fail> {
     if changes > 0 {
-        clear(alloc, &mut graph, (6, 1))?;
+        clear(alloc, graph, 6)?;
     }
     if changes > 1 {
-        refer(alloc, &mut graph, (6, 1), (5, 1), (5, 1))?;
+        refer_above(alloc, graph, 6)?;
     }
+    Ok(())
+}
+
+// The edges of the chain after so many changes.
+fn changed(alloc: Global, changes: u32) -> Result<String, Fail> {
+    let mut graph = chain(alloc)?;
+    change(alloc, &mut graph, changes)?;
     shown(alloc, &graph)
 }
 
@@ -89,7 +98,7 @@ fn a_chain_is_cut_and_mended(rt: HostRuntime) -> Result<(), Fail> {
         (2, "A2:A11 A1:A10 Chain; "),
     ] {
         let text = changed(rt.alloc(), changes)?;
-        assert_eq!(rt; text.as_str(), wanted, "after {changes} changes");
+        assert_eq!(rt; (changes, text.as_str()), (changes, wanted));
     }
     Ok(())
 }
@@ -126,18 +135,24 @@ fn row_at(order: u32, step: u32) -> u32 {
 // In a row, A refers to the cell above it, B to column A down to the row, and D to A and B.
 fn fill_row(alloc: Global, graph: &mut SheetGraph, row: u32) -> Result<(), Fail> {
     if row > 1 {
-        refer(alloc, graph, (row, 1), (row - 1, 1), (row - 1, 1))?;
+        refer_above(alloc, graph, row)?;
     }
-    refer(alloc, graph, (row, 2), (1, 1), (row, 1))?;
-    refer(alloc, graph, (row, 4), (row, 1), (row, 2))
+    refer_down_to(alloc, graph, row)?;
+    refer_beside(alloc, graph, row)
+}
+
+// Fills twelve such rows in one of the orders.
+fn fill_rows(alloc: Global, graph: &mut SheetGraph, order: u32) -> Result<(), Fail> {
+    for step in 1..13 {
+        fill_row(alloc, graph, row_at(order, step))?;
+    }
+    Ok(())
 }
 
 // The edges of twelve such rows, built in one of the orders.
 fn built(alloc: Global, order: u32) -> Result<String, Fail> {
     let mut graph = SheetGraph::new(alloc);
-    for step in 1..13 {
-        fill_row(alloc, &mut graph, row_at(order, step))?;
-    }
+    fill_rows(alloc, &mut graph, order)?;
     shown(alloc, &graph)
 }
 
