@@ -133,27 +133,28 @@ fn check_lists_the_edges_of_a_sheet(rt: HostRuntime) -> Result<(), Fail> {
     Ok(())
 }
 
+const FETCH_FAILS: Limits = Limits { fetch: 1, ..FREE };
+
+const PUT_FAILS: Limits = Limits { put: 1, ..FREE };
+
+const NOTE_FAILS: Limits = Limits { note: 1, ..FREE };
+
 #[test]
 fn a_run_ends_by_its_first_failing_call(rt: HostRuntime) -> Result<(), Fail> {
-    let unfetched = Limits { fetch: 1, ..FREE };
-    let unwritten = Limits { put: 1, ..FREE };
-    let unnoted = Limits { note: 1, ..FREE };
-    for (line, limits, status, notes) in [
-        ("show s A1:B2", unfetched, 5, MISSED),
-        ("show s A1:B2", unwritten, 6, UNWRITTEN),
+    for &(line, limits, status, notes) in &[
+        ("show s A1:B2", FETCH_FAILS, 5, MISSED),
+        ("show s A1:B2", PUT_FAILS, 6, UNWRITTEN),
         // The words are read before the sheet is fetched, and the sheet before the range is looked for.
-        ("show s A0", unfetched, 2, USAGE),
-        ("show s A1:Z9", unfetched, 5, MISSED),
-        ("show s A1:Z9", unwritten, 2, OUTSIDE),
+        ("show s A0", FETCH_FAILS, 2, USAGE),
+        ("show s A1:Z9", FETCH_FAILS, 5, MISSED),
+        ("show s A1:Z9", PUT_FAILS, 2, OUTSIDE),
         // A note that isn't taken changes no status.
-        ("show s A0", unnoted, 2, ""),
-        ("show t A1:B2", unnoted, 5, ""),
+        ("show s A0", NOTE_FAILS, 2, ""),
+        ("show t A1:B2", NOTE_FAILS, 5, ""),
     ] {
         let ended = run_with(&rt, rt.alloc(), WORKED.as_bytes(), line, limits)?;
-        assert!(rt;
-            ended.is_so(status, b"", notes),
-            "{line} with the note {notes}"
-        );
+        let is_so = ended.is_so(status, b"", notes);
+        assert_eq!(rt; (line, status, notes, is_so), (line, status, notes, true));
     }
     Ok(())
 }
@@ -188,7 +189,7 @@ fn out_has_what_fits_in_its_room(rt: HostRuntime) -> Result<(), Fail> {
         let ended = run_with(&rt, rt.alloc(), WORKED.as_bytes(), "show s A1:B2", limits)?;
         let (status, notes) = if room < 22 { (6, UNWRITTEN) } else { (0, "") };
         let out = &text[..bytes.min(text.len())];
-        assert!(rt; ended.is_so(status, out, notes), "{room} bytes");
+        assert_eq!(rt; (room, ended.is_so(status, out, notes)), (room, true));
     }
     Ok(())
 }
@@ -223,9 +224,9 @@ fn show_failing_at<R: Threads + Wait + Sync>(
 #[test]
 fn a_long_text_is_written_in_pieces(rt: HostRuntime) -> Result<(), Fail> {
     let alloc = rt.alloc();
-    for (formula, line) in [("\n=A$1", "show s A1:A41"), (",=$A1", "show s A1:AO1")] {
+    for &(formula, line) in &[("\n=A$1", "show s A1:A41"), (",=$A1", "show s A1:AO1")] {
         let text = label_shown_often(alloc, formula)?;
-        for (put, status, written) in [
+        for &(put, status, written) in &[
             (1, 6, 0),
             (2, 6, 65_536),
             (3, 6, 131_072),
@@ -235,7 +236,7 @@ fn a_long_text_is_written_in_pieces(rt: HostRuntime) -> Result<(), Fail> {
             (7, 0, 336_010),
         ] {
             let told = show_failing_at(&rt, alloc, &text, line, put)?;
-            assert_eq!(rt; told, (status, written), "put {put} of {line}");
+            assert_eq!(rt; (line, put, told), (line, put, (status, written)));
         }
     }
     Ok(())
@@ -264,15 +265,12 @@ fn sure_status<R: Threads + Wait + Sync>(
 fn sheets_are_read_to_the_limit(rt: HostRuntime) -> Result<(), Fail> {
     let alloc = rt.alloc();
     // Line feeds alone are a sheet without rows.
-    for (feeds, end, status) in [(0, WORKED, 0), (16_777_216, "", 2)] {
+    for &(feeds, end, status) in &[(0, WORKED, 0), (16_777_216, "", 2)] {
         let told = sure_status(&rt, alloc, feeds, end)?;
-        assert_eq!(rt; told, status, "{feeds} line feeds");
+        assert_eq!(rt; (feeds, told), (feeds, status));
     }
     let past = fed(alloc, 16_777_217, "")?;
     let ended = run_with(&rt, alloc, &past, "show s A1:B2", FREE)?;
-    assert!(rt;
-        ended.is_so(3, b"", "antifreeze: sheet: text too long\n"),
-        "one too many"
-    );
+    assert!(rt; ended.is_so(3, b"", "antifreeze: sheet: text too long\n"));
     Ok(())
 }

@@ -31,7 +31,7 @@ fn a_look_behind_a_firm_one(rt: HostRuntime) -> Result<(), Fail> {
 
 #[test]
 fn a_cycle_and_no_clients(rt: HostRuntime) -> Result<(), Fail> {
-    for (sheet, script, workers, wanted) in [
+    for &(sheet, script, workers, wanted) in &[
         (
             "1,=A1\n",
             "set A1 =B1\nfirm A1:B1\n",
@@ -42,7 +42,7 @@ fn a_cycle_and_no_clients(rt: HostRuntime) -> Result<(), Fail> {
         (TWO_FORMULAS, "", 3, "log 0\nsheet 0 A1:B2\n1,2\n2,4\n"),
     ] {
         let text = printed(&rt, rt.alloc(), sheet, script, workers, &OpenGate)?;
-        assert_eq!(rt; text.as_str(), wanted, "{workers} workers");
+        assert_eq!(rt; (workers, text.as_str()), (workers, wanted));
     }
     Ok(())
 }

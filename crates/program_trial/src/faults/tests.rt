@@ -90,9 +90,9 @@ fn stands_failing_puts<R: Threads + Wait + Sync>(
 #[test]
 fn each_put_fails_in_turn(rt: HostRuntime) -> Result<(), Fail> {
     let alloc = rt.alloc();
-    for command in COMMANDS {
-        let stands = stands_failing_puts(&rt, alloc, &command)?;
-        assert!(rt; stands, "{}", command.line);
+    for command in &COMMANDS {
+        let stands = stands_failing_puts(&rt, alloc, command)?;
+        assert_eq!(rt; (command.line, stands), (command.line, true));
     }
     Ok(())
 }
@@ -139,9 +139,9 @@ fn stands_failing_fetches<R: Threads + Wait + Sync>(
 #[test]
 fn each_fetch_fails_in_turn(rt: HostRuntime) -> Result<(), Fail> {
     let alloc = rt.alloc();
-    for command in COMMANDS {
-        let stands = stands_failing_fetches(&rt, alloc, &command)?;
-        assert!(rt; stands, "{}", command.line);
+    for command in &COMMANDS {
+        let stands = stands_failing_fetches(&rt, alloc, command)?;
+        assert_eq!(rt; (command.line, stands), (command.line, true));
     }
     Ok(())
 }
@@ -188,11 +188,11 @@ fn stands_failing_note<R: Threads + Wait + Sync>(
 #[test]
 fn each_note_fails(rt: HostRuntime) -> Result<(), Fail> {
     let alloc = rt.alloc();
-    for command in COMMANDS {
-        let input = input_of(alloc, &command)?;
+    for command in &COMMANDS {
+        let input = input_of(alloc, command)?;
         for taken in [0, 1] {
             let stands = stands_failing_note(&rt, alloc, &input, command.fetches, taken)?;
-            assert!(rt; stands, "{}", command.line);
+            assert_eq!(rt; (command.line, stands), (command.line, true));
         }
     }
     Ok(())

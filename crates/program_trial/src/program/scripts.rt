@@ -20,7 +20,7 @@ fn play_with<R: Threads + Wait + Sync>(
 
 #[test]
 fn a_script_is_played(rt: HostRuntime) -> Result<(), Fail> {
-    for (sheet, script, status, out, notes) in [
+    for &(sheet, script, status, out, notes) in &[
         (
             WORKED,
             "set A1 5\nlook A1:B2\nwork 2\nlook A1:B2\n",
@@ -44,7 +44,10 @@ fn a_script_is_played(rt: HostRuntime) -> Result<(), Fail> {
         ),
     ] {
         let ended = play_with(&rt, rt.alloc(), sheet.as_bytes(), script.as_bytes())?;
-        assert!(rt; ended.is_so(status, out.as_bytes(), notes), "{script}");
+        assert_eq!(rt;
+            (script, ended.is_so(status, out.as_bytes(), notes)),
+            (script, true)
+        );
     }
     Ok(())
 }
@@ -70,7 +73,7 @@ fn live_failing_at<R: Threads + Wait + Sync>(
 // One client's firm look shows the same with however many workers.
 #[test]
 fn a_script_is_run_by_threads(rt: HostRuntime) -> Result<(), Fail> {
-    for (line, put, status, out, notes) in [
+    for &(line, put, status, out, notes) in &[
         ("live s t", 0, 0, RUN_TEXT, ""),
         ("live s t --workers 1", 0, 0, RUN_TEXT, ""),
         ("live --workers=64 s t", 0, 0, RUN_TEXT, ""),
@@ -80,7 +83,10 @@ fn a_script_is_run_by_threads(rt: HostRuntime) -> Result<(), Fail> {
         ("live s --workers 4", 0, 2, "", USAGE),
     ] {
         let ended = live_failing_at(&rt, rt.alloc(), line, put)?;
-        assert!(rt; ended.is_so(status, out.as_bytes(), notes), "{line}");
+        assert_eq!(rt;
+            (line, ended.is_so(status, out.as_bytes(), notes)),
+            (line, true)
+        );
     }
     Ok(())
 }
