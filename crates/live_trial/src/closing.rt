@@ -1,12 +1,11 @@
 ghost use Rattle.live_sheet.specs.Setups.{IsNamedBy};
 
 use crate::fields::{four_cells, sheet_of};
-use crate::texts::write_codes;
+use crate::texts::{is_told, write_closed};
 use live_sheet::{Live, Naming, Opened, Setup};
 use recalc_workers::OpenGate;
 use sheet_model::Sheet;
 use std::alloc::Global;
-use std::fmt::Write;
 use std::marker::Brand;
 use std::sync::Wait;
 use std::test::Fail;
@@ -30,8 +29,7 @@ fn opens_and_closes<N: Naming, R: Threads + Wait + Sync>(
         return Err(Fail::from("a sheet that is not closed"));
     };
     let mut text = String::new(alloc);
-    write!(text, "{}:", closed.log.len())?;
-    write_codes(&mut text, &closed.values)?;
+    write_closed(&mut text, &closed)?;
     Ok(text)
 }
 
@@ -54,7 +52,7 @@ fn closed<R: Threads + Wait + Sync>(
 fn a_sheet_at_whose_desks_nobody_worked_is_closed(rt: HostRuntime) -> Result<(), Fail> {
     let alloc = rt.alloc();
     let text = closed(&rt, alloc, four_cells(alloc)?, 2, 4)?;
-    assert_eq!(rt; text.as_str(), "0: 1 2 2 4");
+    is_told(&rt, text.as_str(), "0: 1 2 2 4");
     Ok(())
 }
 
@@ -78,13 +76,13 @@ fn closed_with<R: Threads + Wait + Sync>(
 
 #[test]
 fn the_smallest_and_the_most(rt: HostRuntime) -> Result<(), Fail> {
-    for (rows, cols, field, clients, workers, wanted) in [
+    for &(rows, cols, field, clients, workers, wanted) in &[
         (0, 0, "", 1, 1, "0:"),
         (1, 2, "", 0, 1, "0: - -"),
         (1, 2, "=B1+3", 32, 64, "0: 3 -"),
     ] {
         let text = closed_with(&rt, rt.alloc(), rows, cols, field, clients, workers)?;
-        assert_eq!(rt; text.as_str(), wanted, "{rows} rows for {clients} clients");
+        assert_eq!(rt; (rows, clients, text.as_str()), (rows, clients, wanted));
     }
     Ok(())
 }

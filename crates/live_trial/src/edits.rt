@@ -45,32 +45,3 @@ pub(crate) fn sets(alloc: Global, sheet: &mut Sheet, name: &str, field: &str) ->
     let content = content_of(sheet, field)?;
     Ok(Edit::one(alloc, Change { cell, content })?)
 }
-
-/// The sheet, and the edit by which one of its cells is to hold a field.
-pub(crate) fn with_edit(
-    alloc: Global,
-    sheet: Sheet,
-    name: &str,
-    field: &str,
-) -> Result<(Sheet, Edit), Fail>
-    ensures { IfOk result (λ r. (labels : ℕ) → HaveLabels labels r.1) }
-{
-    let mut sheet = sheet;
-    let edit = sets(alloc, &mut sheet, name, field)?;
-    Ok((sheet, edit))
-}
-
-/// The sheet, and two edits by which one of its cells each is to hold a field.
-pub(crate) fn with_edits(
-    alloc: Global,
-    sheet: Sheet,
-    first: (&str, &str),
-    second: (&str, &str),
-) -> Result<(Sheet, Edit, Edit), Fail>
-    ensures first { IfOk result (λ r. (labels : ℕ) → HaveLabels labels r.1) }
-    ensures second { IfOk result (λ r. (labels : ℕ) → HaveLabels labels r.2) }
-{
-    let (sheet, one) = with_edit(alloc, sheet, first.0, first.1)?;
-    let (sheet, other) = with_edit(alloc, sheet, second.0, second.1)?;
-    Ok((sheet, one, other))
-}

@@ -26,6 +26,14 @@ pub(crate) fn put(sheet: &mut Sheet, cell: Cell, field: &str) -> Result<(), Fail
     Ok(())
 }
 
+// Puts fields into their cells.
+fn fill(sheet: &mut Sheet, fields: &[(&str, &str)]) -> Result<(), Fail> {
+    for (name, field) in fields {
+        put(sheet, cell(name)?, field)?;
+    }
+    Ok(())
+}
+
 /// A sheet of so many rows and columns, with these fields.
 pub(crate) fn sheet_of(
     alloc: Global,
@@ -37,9 +45,7 @@ pub(crate) fn sheet_of(
         return Err(Fail::from("a sheet of no such size"));
     }
     let mut sheet = Sheet::blank(alloc, rows, cols, Edition::One)?;
-    for (name, field) in fields {
-        put(&mut sheet, cell(name)?, field)?;
-    }
+    fill(&mut sheet, fields)?;
     Ok(sheet)
 }
 

@@ -1,18 +1,15 @@
-ghost use Rattle.std.specs.Prelude.{◌≡◌, ◌≤◌, ℕ};
+ghost use Rattle.std.specs.Prelude.{◌≡◌, ◌≤◌};
 ghost use Rattle.std.specs.Thread.{IsSync};
-ghost use Rattle.sheet_model.specs.Edits.{HaveLabels};
 ghost use Rattle.live_sheet.specs.Setups.{IsNamedBy};
 
-use crate::edits::with_edits;
-use crate::fields::{four_cells, range};
+use crate::fields::four_cells;
 use crate::gate::UntilAnswered;
-use crate::stories::{edit, firm, look};
+use crate::stories::{Story, edit, firm, look, looks_and_edits};
 use crate::texts::{write_beside, write_turn};
 use live_sheet::{
     Desk, Live, Naming, Opened, Pass, Setup, desks_cross, live_crosses, passes_cross,
 };
 use recalc_workers::{OpenGate, Turn};
-use sheet_model::{Board, Edit};
 use sheet_refs::{Range, Sizes};
 use std::alloc::Global;
 use std::marker::Brand;
@@ -23,27 +20,23 @@ use std::thread::{Threads, join};
 use trial_parts::hold;
 
 // Looks and makes an edit once a worker is between its claim and its put, and then lets that one go on.
-fn looks_and_edits<N: Naming, R: Wait>(
+fn answers_beside<N: Naming, R: Wait>(
     rt: &R,
     alloc: Global,
     live: &Live<N>,
     pass: &mut Pass<N>,
     sizes: Sizes,
     range: Range,
-    change: Edit,
+    change: (&str, &str),
     gate: &UntilAnswered,
 ) -> Result<String, Fail>
-    requires sizes { sizes ≡ N.opening.sizes }
-    requires labels { (labels : ℕ) → HaveLabels labels change }
+    requires { sizes ≡ N.opening.sizes }
 {
-    let mut board = Board::new(alloc, 4)?;
-    let mut text = String::new(alloc);
+    let mut story = Story::new(alloc, range)?;
     hold(&gate.claims, 1, &gate.late);
-    look(live, pass, sizes, range, &mut board, &mut text)?;
-    edit(rt, live, pass, change, &mut text)?;
-    look(live, pass, sizes, range, &mut board, &mut text)?;
+    looks_and_edits(rt, live, pass, sizes, change, &mut story)?;
     gate.answers.store(1, Ordering::SeqCst);
-    Ok(text)
+    Ok(story.into_text())
 }
 
 // Edits, and then looks and edits while a worker's turn at the desk is held between its claim and its put.
@@ -54,33 +47,28 @@ fn edits_beside<N: Naming + Send + Sync, R: Threads + Wait + Sync>(
     pass: &mut Pass<N>,
     desk: &mut Desk<N>,
     sizes: Sizes,
-    range: Range,
-    first: Edit,
-    second: Edit,
+    first: (&str, &str),
+    second: (&str, &str),
     gate: &UntilAnswered,
-) -> Result<String, Fail>
-    requires sizes { sizes ≡ N.opening.sizes }
-    requires first { (labels : ℕ) → HaveLabels labels first }
-    requires second { (labels : ℕ) → HaveLabels labels second }
+    story: &mut Story,
+) -> Result<(), Fail>
+    requires { sizes ≡ N.opening.sizes }
 {
     live_crosses::<N>();
     passes_cross::<N>();
     desks_cross::<N>();
-    let mut text = String::new(alloc);
-    edit(rt, live, pass, first, &mut text)?;
+    edit(rt, live, pass, first, story)?;
+    let range = story.range;
     let (turn, told) = join(
         rt,
         || -> Turn
             requires { IsSync R.row }
         { live.work(rt, desk, gate) },
         || -> Result<String, Fail>
-            requires { IsSync R.row
-                × (sizes ≡ N.opening.sizes)
-                × ((labels : ℕ) → HaveLabels labels second) }
-        { looks_and_edits(rt, alloc, live, pass, sizes, range, second, gate) },
+            requires { IsSync R.row × (sizes ≡ N.opening.sizes) }
+        { answers_beside(rt, alloc, live, pass, sizes, range, second, gate) },
     );
-    write_beside(&mut text, told, &turn)?;
-    Ok(text)
+    write_beside(&mut story.text, told, &turn)
 }
 
 // Three turns at a desk.
@@ -96,8 +84,24 @@ fn turns<N: Naming, R: Wait>(
     Ok(())
 }
 
-// Edits and looks once a worker is between its claim and its put, takes three turns at another desk, and then lets the
-// first one go on.
+// Edits, looks, and takes three turns at a desk.
+fn edits_and_turns<N: Naming, R: Wait>(
+    rt: &R,
+    live: &Live<N>,
+    pass: &mut Pass<N>,
+    desk: &mut Desk<N>,
+    sizes: Sizes,
+    change: (&str, &str),
+    story: &mut Story,
+) -> Result<(), Fail>
+    requires { sizes ≡ N.opening.sizes }
+{
+    edit(rt, live, pass, change, story)?;
+    look(live, pass, sizes, story)?;
+    turns(rt, live, desk, &mut story.text)
+}
+
+// Does this once a worker is between its claim and its put, and then lets that one go on.
 fn overtakes<N: Naming, R: Wait>(
     rt: &R,
     alloc: Global,
@@ -106,38 +110,31 @@ fn overtakes<N: Naming, R: Wait>(
     desk: &mut Desk<N>,
     sizes: Sizes,
     range: Range,
-    change: Edit,
+    change: (&str, &str),
     gate: &UntilAnswered,
 ) -> Result<String, Fail>
-    requires sizes { sizes ≡ N.opening.sizes }
-    requires labels { (labels : ℕ) → HaveLabels labels change }
+    requires { sizes ≡ N.opening.sizes }
 {
-    let mut board = Board::new(alloc, 4)?;
-    let mut text = String::new(alloc);
+    let mut story = Story::new(alloc, range)?;
     hold(&gate.claims, 1, &gate.late);
-    edit(rt, live, pass, change, &mut text)?;
-    look(live, pass, sizes, range, &mut board, &mut text)?;
-    turns(rt, live, desk, &mut text)?;
+    edits_and_turns(rt, live, pass, desk, sizes, change, &mut story)?;
     gate.answers.store(1, Ordering::SeqCst);
-    Ok(text)
+    Ok(story.into_text())
 }
 
 // A look and a firm look, behind what is told so far.
 fn looks_twice<N: Naming, R: Threads + Wait + Sync>(
     rt: &R,
-    alloc: Global,
     live: &Live<N>,
     pass: &mut Pass<N>,
     sizes: Sizes,
-    range: Range,
-    text: &mut String,
+    story: &mut Story,
 ) -> Result<(), Fail>
     requires { sizes ≡ N.opening.sizes }
 {
-    let mut board = Board::new(alloc, 4)?;
-    text.push_str(", ")?;
-    look(live, pass, sizes, range, &mut board, text)?;
-    firm(rt, live, pass, sizes, range, &mut board, text)
+    story.text.push_str(", ")?;
+    look(live, pass, sizes, story)?;
+    firm(rt, live, pass, sizes, story)
 }
 
 // Overtakes a worker's turn by a second edit, and tells what came of both.
@@ -150,11 +147,10 @@ fn runs_beside<N: Naming + Send + Sync, R: Threads + Wait + Sync>(
     other: &mut Desk<N>,
     sizes: Sizes,
     range: Range,
-    change: Edit,
+    change: (&str, &str),
     gate: &UntilAnswered,
 ) -> (Turn, Result<String, Fail>)
-    requires sizes { sizes ≡ N.opening.sizes }
-    requires labels { (labels : ℕ) → HaveLabels labels change }
+    requires { sizes ≡ N.opening.sizes }
 {
     live_crosses::<N>();
     passes_cross::<N>();
@@ -165,9 +161,7 @@ fn runs_beside<N: Naming + Send + Sync, R: Threads + Wait + Sync>(
             requires { IsSync R.row }
         { live.work(rt, desk, gate) },
         || -> Result<String, Fail>
-            requires { IsSync R.row
-                × (sizes ≡ N.opening.sizes)
-                × ((labels : ℕ) → HaveLabels labels change) }
+            requires { IsSync R.row × (sizes ≡ N.opening.sizes) }
         { overtakes(rt, alloc, live, pass, other, sizes, range, change, gate) },
     )
 }
@@ -181,23 +175,20 @@ fn edits_twice<N: Naming + Send + Sync, R: Threads + Wait + Sync>(
     desk: &mut Desk<N>,
     other: &mut Desk<N>,
     sizes: Sizes,
-    range: Range,
-    first: Edit,
-    second: Edit,
+    first: (&str, &str),
+    second: (&str, &str),
     gate: &UntilAnswered,
-) -> Result<String, Fail>
-    requires sizes { sizes ≡ N.opening.sizes }
-    requires first { (labels : ℕ) → HaveLabels labels first }
-    requires second { (labels : ℕ) → HaveLabels labels second }
+    story: &mut Story,
+) -> Result<(), Fail>
+    requires { sizes ≡ N.opening.sizes }
 {
-    let mut text = String::new(alloc);
-    edit(rt, live, pass, first, &mut text)?;
+    edit(rt, live, pass, first, story)?;
+    let range = story.range;
     let (turn, told) = runs_beside(
         rt, alloc, live, pass, desk, other, sizes, range, second, gate,
     );
-    write_beside(&mut text, told, &turn)?;
-    looks_twice(rt, alloc, live, pass, sizes, range, &mut text)?;
-    Ok(text)
+    write_beside(&mut story.text, told, &turn)?;
+    looks_twice(rt, live, pass, sizes, story)
 }
 
 // Opens a sheet, and has a worker's turn held at its last desk: an edit overtakes it where there is another desk, and
@@ -207,15 +198,13 @@ fn opens<N: Naming + Send + Sync, R: Threads + Wait + Sync>(
     alloc: Global,
     setup: Setup,
     sizes: Sizes,
-    range: Range,
-    first: Edit,
-    second: Edit,
+    first: (&str, &str),
+    second: (&str, &str),
     gate: &UntilAnswered,
-) -> Result<String, Fail>
+    story: &mut Story,
+) -> Result<(), Fail>
     requires named { IsNamedBy N.name N.parts N.words N.queue N.opening N.clients setup }
     requires sizes { sizes ≡ N.opening.sizes }
-    requires first { (labels : ℕ) → HaveLabels labels first }
-    requires second { (labels : ℕ) → HaveLabels labels second }
 {
     let Opened {
         live,
@@ -227,10 +216,10 @@ fn opens<N: Naming + Send + Sync, R: Threads + Wait + Sync>(
     };
     match desks.pop() {
         Some(mut other) => edits_twice(
-            rt, alloc, &live, &mut pass, &mut desk, &mut other, sizes, range, first, second, gate,
+            rt, alloc, &live, &mut pass, &mut desk, &mut other, sizes, first, second, gate, story,
         ),
         None => edits_beside(
-            rt, alloc, &live, &mut pass, &mut desk, sizes, range, first, second, gate,
+            rt, alloc, &live, &mut pass, &mut desk, sizes, first, second, gate, story,
         ),
     }
 }
@@ -240,45 +229,53 @@ fn held<R: Threads + Wait + Sync>(
     rt: &R,
     alloc: Global,
     desks: u32,
-    one: (&str, &str),
-    other: (&str, &str),
+    first: (&str, &str),
+    second: (&str, &str),
     gate: &UntilAnswered,
-) -> Result<String, Fail>
+    story: &mut Story,
+) -> Result<(), Fail>
     requires some { 1 ≤ desks }
     requires most { desks ≤ 64 }
 {
-    let range = range("A1:B2")?;
-    let (sheet, first, second) = with_edits(alloc, four_cells(alloc)?, one, other)?;
+    let sheet = four_cells(alloc)?;
     let sizes = sheet.sizes();
     let setup = Setup::new(alloc, sheet, 1, desks)?;
-    opens::<Brand, _>(rt, alloc, setup, sizes, range, first, second, gate)
+    opens::<Brand, _>(rt, alloc, setup, sizes, first, second, gate, story)
+}
+
+// What is told of this, and whether a hold came to its limit.
+fn told<R: Threads + Wait + Sync>(
+    rt: &R,
+    alloc: Global,
+    desks: u32,
+    first: (&str, &str),
+    second: (&str, &str),
+) -> Result<(String, u64), Fail>
+    requires some { 1 ≤ desks }
+    requires most { desks ≤ 64 }
+{
+    let gate = UntilAnswered::new();
+    let mut story = Story::of(alloc, "A1:B2")?;
+    held(rt, alloc, desks, first, second, &gate, &mut story)?;
+    Ok((story.into_text(), gate.late.load(Ordering::SeqCst)))
 }
 
 // A worker has claimed A1 and not put its value yet while a look and an edit are answered.
 #[test]
 fn looks_and_edits_are_answered_while_a_worker_computes(rt: HostRuntime) -> Result<(), Fail> {
-    let alloc = rt.alloc();
-    let gate = UntilAnswered::new();
-    let text = held(&rt, alloc, 1, ("A1", "5"), ("A2", "7"), &gate)?;
-    assert_eq!(rt;
-        (text.as_str(), gate.late.load(Ordering::SeqCst)),
-        (" #1 1: ~1 ~1 2 ~1 #2 2: ~1 ~1 ~2 ~2 A1 is done", 0)
-    );
+    let (text, late) = told(&rt, rt.alloc(), 1, ("A1", "5"), ("A2", "7"))?;
+    let wanted = " #1 1: ~1 ~1 2 ~1 #2 2: ~1 ~1 ~2 ~2 A1 is done";
+    assert_eq!(rt; (text.as_str(), late), (wanted, 0));
     Ok(())
 }
 
 // A worker that has claimed A1 is overtaken by an edit of A1. What it puts is never shown as the value of A1.
 #[test]
 fn a_worker_is_overtaken_by_an_edit(rt: HostRuntime) -> Result<(), Fail> {
-    let alloc = rt.alloc();
-    let gate = UntilAnswered::new();
-    let text = held(&rt, alloc, 2, ("A1", "5"), ("A1", "6"), &gate)?;
+    let (text, late) = told(&rt, rt.alloc(), 2, ("A1", "5"), ("A1", "6"))?;
     let wanted =
         " #1  #2 2: ~2 ~2 2 ~2 B1 waits for A1 at 2 B2 waits for B1 at 2 A1 is held A1 is done, \
                   2: ~2 ~2 2 ~2 firm 2: 6 7 2 9";
-    assert_eq!(rt;
-        (text.as_str(), gate.late.load(Ordering::SeqCst)),
-        (wanted, 0)
-    );
+    assert_eq!(rt; (text.as_str(), late), (wanted, 0));
     Ok(())
 }

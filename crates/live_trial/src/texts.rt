@@ -1,6 +1,8 @@
+use live_sheet::Closed;
 use recalc_workers::Turn;
 use sheet_model::{Board, Shown};
 use std::fmt::Write;
+use std::process::Abort;
 use std::test::Fail;
 use value_core::{Value, decode};
 
@@ -39,6 +41,12 @@ pub(crate) fn write_codes(text: &mut String, codes: &[u64]) -> Result<(), Fail> 
     Ok(())
 }
 
+/// Writes how many entries a closed sheet leaves, and the values.
+pub(crate) fn write_closed(text: &mut String, closed: &Closed) -> Result<(), Fail> {
+    write!(text, "{}:", closed.log.len())?;
+    write_codes(text, &closed.values)
+}
+
 /// Writes what a turn came to.
 pub(crate) fn write_turn(text: &mut String, turn: &Turn) -> Result<(), Fail> {
     match turn {
@@ -61,4 +69,9 @@ pub(crate) fn write_beside(
 ) -> Result<(), Fail> {
     text.push_str(told?.as_str())?;
     write_turn(text, turn)
+}
+
+/// What is told has to be this.
+pub(crate) fn is_told(rt: &impl Abort, found: &str, wanted: &str) {
+    assert_eq!(rt; found, wanted);
 }

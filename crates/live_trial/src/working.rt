@@ -1,15 +1,14 @@
-ghost use Rattle.std.specs.Prelude.{◌≡◌, ℕ};
-ghost use Rattle.sheet_model.specs.Edits.{HaveLabels};
+ghost use Rattle.std.specs.Prelude.{◌≡◌};
 ghost use Rattle.live_sheet.specs.Setups.{IsNamedBy};
 
-use crate::edits::{with_edit, with_edits};
-use crate::fields::{four_cells, range, sheet_of};
+use crate::fields::{four_cells, sheet_of};
 use crate::single::{Single, opens};
-use crate::stories::{edit, look, work};
-use live_sheet::{Desk, Live, Naming, Opened, Pass, Setup};
+use crate::stories::{Story, edit, look, looks_and_edits, work};
+use crate::texts::is_told;
+use live_sheet::{Desk, Live, Naming, Pass, Setup};
 use recalc_workers::OpenGate;
-use sheet_model::{Board, Edit, Sheet};
-use sheet_refs::{Range, Sizes};
+use sheet_model::Sheet;
+use sheet_refs::Sizes;
 use std::alloc::Global;
 use std::marker::Brand;
 use std::sync::Wait;
@@ -19,26 +18,19 @@ use std::thread::Threads;
 // Looks, edits, looks, takes turns at a desk, and looks again.
 fn goes<N: Naming, R: Wait>(
     rt: &R,
-    alloc: Global,
     live: &Live<N>,
     pass: &mut Pass<N>,
     desk: &mut Desk<N>,
     sizes: Sizes,
-    range: Range,
-    change: Edit,
+    change: (&str, &str),
     turns: u32,
-) -> Result<String, Fail>
-    requires sizes { sizes ≡ N.opening.sizes }
-    requires labels { (labels : ℕ) → HaveLabels labels change }
+    story: &mut Story,
+) -> Result<(), Fail>
+    requires { sizes ≡ N.opening.sizes }
 {
-    let mut board = Board::new(alloc, 4)?;
-    let mut text = String::new(alloc);
-    look(live, pass, sizes, range, &mut board, &mut text)?;
-    edit(rt, live, pass, change, &mut text)?;
-    look(live, pass, sizes, range, &mut board, &mut text)?;
-    work(rt, live, desk, turns, &mut text)?;
-    look(live, pass, sizes, range, &mut board, &mut text)?;
-    Ok(text)
+    looks_and_edits(rt, live, pass, sizes, change, story)?;
+    work(rt, live, desk, turns, &mut story.text)?;
+    look(live, pass, sizes, story)
 }
 
 // Opens a sheet for this.
@@ -47,49 +39,58 @@ fn edits_and_works<N: Naming, R: Wait>(
     alloc: Global,
     setup: Setup,
     sizes: Sizes,
-    range: Range,
-    change: Edit,
+    change: (&str, &str),
     turns: u32,
-) -> Result<String, Fail>
+    story: &mut Story,
+) -> Result<(), Fail>
     requires named { IsNamedBy N.name N.parts N.words N.queue N.opening N.clients setup }
     requires alone { N.clients ≡ 1 }
     requires sizes { sizes ≡ N.opening.sizes }
-    requires labels { (labels : ℕ) → HaveLabels labels change }
 {
     let Single {
         live,
         mut pass,
         mut desk,
     } = opens::<N>(alloc, setup)?;
-    goes(
-        rt, alloc, &live, &mut pass, &mut desk, sizes, range, change, turns,
-    )
+    goes(rt, &live, &mut pass, &mut desk, sizes, change, turns, story)
 }
 
-// The same over a sheet, with one client and one desk, where a cell is to hold a field.
+// The same over a sheet, with one client and one desk.
 fn worked<R: Wait>(
     rt: &R,
     alloc: Global,
     sheet: Sheet,
-    window: &str,
-    name: &str,
-    field: &str,
+    change: (&str, &str),
     turns: u32,
-) -> Result<String, Fail> {
-    let range = range(window)?;
-    let (sheet, change) = with_edit(alloc, sheet, name, field)?;
+    story: &mut Story,
+) -> Result<(), Fail> {
     let sizes = sheet.sizes();
     let setup = Setup::new(alloc, sheet, 1, 1)?;
-    edits_and_works::<Brand, _>(rt, alloc, setup, sizes, range, change, turns)
+    edits_and_works::<Brand, _>(rt, alloc, setup, sizes, change, turns, story)
+}
+
+// What is told of this, with looks at a range.
+fn told<R: Wait>(
+    rt: &R,
+    alloc: Global,
+    sheet: Sheet,
+    range: &str,
+    change: (&str, &str),
+    turns: u32,
+) -> Result<String, Fail> {
+    let mut story = Story::of(alloc, range)?;
+    worked(rt, alloc, sheet, change, turns, &mut story)?;
+    Ok(story.into_text())
 }
 
 #[test]
 fn an_edit_leaves_its_cells_stale_where_no_desk_works(rt: HostRuntime) -> Result<(), Fail> {
     let alloc = rt.alloc();
-    let text = worked(&rt, alloc, four_cells(alloc)?, "A1:B2", "A1", "5", 0)?;
-    assert_eq!(rt;
+    let text = told(&rt, alloc, four_cells(alloc)?, "A1:B2", ("A1", "5"), 0)?;
+    is_told(
+        &rt,
         text.as_str(),
-        "0: 1 ~0 2 ~0 #1 1: ~1 ~1 2 ~1 1: ~1 ~1 2 ~1"
+        "0: 1 ~0 2 ~0 #1 1: ~1 ~1 2 ~1 1: ~1 ~1 2 ~1",
     );
     Ok(())
 }
@@ -98,10 +99,11 @@ fn an_edit_leaves_its_cells_stale_where_no_desk_works(rt: HostRuntime) -> Result
 fn one_desk_computes_a_cycle(rt: HostRuntime) -> Result<(), Fail> {
     let alloc = rt.alloc();
     let sheet = sheet_of(alloc, 1, 2, &[("A1", "1"), ("B1", "=A1")])?;
-    let text = worked(&rt, alloc, sheet, "A1:B1", "A1", "=B1", 3)?;
-    assert_eq!(rt;
+    let text = told(&rt, alloc, sheet, "A1:B1", ("A1", "=B1"), 3)?;
+    is_told(
+        &rt,
         text.as_str(),
-        "0: 1 ~0 #1 1: ~1 ~1 A1 B1 idle 1: #CIRC! #CIRC!"
+        "0: 1 ~0 #1 1: ~1 ~1 A1 B1 idle 1: #CIRC! #CIRC!",
     );
     Ok(())
 }
@@ -109,25 +111,19 @@ fn one_desk_computes_a_cycle(rt: HostRuntime) -> Result<(), Fail> {
 // Edits twice, settles, and looks.
 fn settles<N: Naming, R: Threads + Wait + Sync>(
     rt: &R,
-    alloc: Global,
     live: &Live<N>,
     pass: &mut Pass<N>,
     sizes: Sizes,
-    range: Range,
-    first: Edit,
-    second: Edit,
-) -> Result<String, Fail>
-    requires sizes { sizes ≡ N.opening.sizes }
-    requires first { (labels : ℕ) → HaveLabels labels first }
-    requires second { (labels : ℕ) → HaveLabels labels second }
+    first: (&str, &str),
+    second: (&str, &str),
+    story: &mut Story,
+) -> Result<(), Fail>
+    requires { sizes ≡ N.opening.sizes }
 {
-    let mut board = Board::new(alloc, 4)?;
-    let mut text = String::new(alloc);
-    edit(rt, live, pass, first, &mut text)?;
-    edit(rt, live, pass, second, &mut text)?;
+    edit(rt, live, pass, first, story)?;
+    edit(rt, live, pass, second, story)?;
     live.settle(rt, pass, &OpenGate)?;
-    look(live, pass, sizes, range, &mut board, &mut text)?;
-    Ok(text)
+    look(live, pass, sizes, story)
 }
 
 // Opens a sheet for this.
@@ -136,47 +132,43 @@ fn edits_and_settles<N: Naming, R: Threads + Wait + Sync>(
     alloc: Global,
     setup: Setup,
     sizes: Sizes,
-    range: Range,
-    first: Edit,
-    second: Edit,
-) -> Result<String, Fail>
+    first: (&str, &str),
+    second: (&str, &str),
+    story: &mut Story,
+) -> Result<(), Fail>
     requires named { IsNamedBy N.name N.parts N.words N.queue N.opening N.clients setup }
+    requires alone { N.clients ≡ 1 }
     requires sizes { sizes ≡ N.opening.sizes }
-    requires first { (labels : ℕ) → HaveLabels labels first }
-    requires second { (labels : ℕ) → HaveLabels labels second }
 {
-    let Opened {
-        live,
-        mut passes,
-        desks: _,
-    } = Live::<N>::open(alloc, setup)?;
-    let Some(mut pass) = passes.pop() else {
-        return Err(Fail::from("no pass"));
-    };
-    settles(rt, alloc, &live, &mut pass, sizes, range, first, second)
+    let Single { live, mut pass, .. } = opens::<N>(alloc, setup)?;
+    settles(rt, &live, &mut pass, sizes, first, second, story)
 }
 
-// The same over a sheet, with one client and two desks, where two cells are to hold a field each.
+// The same over a sheet, with one client and two desks.
 fn settled<R: Threads + Wait + Sync>(
     rt: &R,
     alloc: Global,
     sheet: Sheet,
-    window: &str,
-    one: (&str, &str),
-    other: (&str, &str),
-) -> Result<String, Fail> {
-    let range = range(window)?;
-    let (sheet, first, second) = with_edits(alloc, sheet, one, other)?;
+    first: (&str, &str),
+    second: (&str, &str),
+    story: &mut Story,
+) -> Result<(), Fail> {
     let sizes = sheet.sizes();
     let setup = Setup::new(alloc, sheet, 1, 2)?;
-    edits_and_settles::<Brand, _>(rt, alloc, setup, sizes, range, first, second)
+    edits_and_settles::<Brand, _>(rt, alloc, setup, sizes, first, second, story)
+}
+
+// What is told of this over four cells.
+fn told_of_settling<R: Threads + Wait + Sync>(rt: &R, alloc: Global) -> Result<String, Fail> {
+    let mut story = Story::of(alloc, "A1:B2")?;
+    let (first, second) = (("A1", "5"), ("A2", "=a1 * 2"));
+    settled(rt, alloc, four_cells(alloc)?, first, second, &mut story)?;
+    Ok(story.into_text())
 }
 
 #[test]
 fn settling_computes_all_cells(rt: HostRuntime) -> Result<(), Fail> {
-    let alloc = rt.alloc();
-    let (one, other) = (("A1", "5"), ("A2", "=a1 * 2"));
-    let text = settled(&rt, alloc, four_cells(alloc)?, "A1:B2", one, other)?;
-    assert_eq!(rt; text.as_str(), " #1  #2 2: 5 6 10 16");
+    let text = told_of_settling(&rt, rt.alloc())?;
+    is_told(&rt, text.as_str(), " #1  #2 2: 5 6 10 16");
     Ok(())
 }

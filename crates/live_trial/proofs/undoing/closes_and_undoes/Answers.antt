@@ -22,6 +22,6 @@ one_pass of before after (x ∷ y ∷ rest) popped made one was is same each k p
 
 pub close-requires-clause-order : goal.close-requires-clause-order
 close-requires-clause-order g c κs within = λ client pass at.
-    one_pass client_of c.in_ok-live.field-0.passes.items c.push.new.self.items c.pop.new.self.items c.in-Some.pass c.make-2.new.pass
+    one_pass client_of c.in_ok-live.field-0.passes.items c.push.new.self.items c.pop.new.self.items c.in-Some.pass c.edit-2.new.pass
     (c.in_ok-live.ensures.passes.count ∙ c.requires.alone) c.in-Some.ensures.items c.in_ok-push.ensures.items
-    (c.in_ok-make-2.ensures ∙ c.in_ok-make.ensures) (λ k p stands. (c.in_ok-live.ensures.passes.each k p stands).whose) client pass at
+    (c.in_ok-edit-2.ensures ∙ c.in_ok-edit.ensures) (λ k p stands. (c.in_ok-live.ensures.passes.each k p stands).whose) client pass at
