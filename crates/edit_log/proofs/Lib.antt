@@ -1,5 +1,6 @@
 mod BookLemmas
 pub mod InputLemmas
+mod ListingLemmas
 mod PairLemmas
 pub mod PlaceLemmas
 mod RefusalLemmas

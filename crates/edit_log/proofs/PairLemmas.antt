@@ -1,5 +1,5 @@
 -- How the pairs of a graph grow, cell by cell.
-use Rattle.std.proofs.Common.{◌≡◌, ◌≢◌, ◌⊎◌, inl, inr, ◌<◌, ◌≤◌, ◌+◌, ◌-◌, ℕ, Bool, true, false, Option, Some, List, [], Contains}
+use Rattle.std.proofs.Common.{◌≡◌, ◌≢◌, ◌⊎◌, inl, inr, ◌<◌, ◌≤◌, ◌+◌, ◌-◌, ℕ, Bool, true, false, List, [], length, Contains}
 use Rattle.std.proofs.Common.{arith, refl, sym, ap, subst, ◌∙◌}
 use Rattle.std.proofs.Math.Nat.{eq-or-lt_of_le}
 use Rattle.std.proofs.lemmas.Bool.{cases_lt}
@@ -13,8 +13,8 @@ use Rattle.graph_walk.specs.Graphs.{Pair, Replaces, SamePairs}
 use Rattle.graph_walk.specs.Series.{SeriesValue, FollowDown, LackRun, AddsRun, IsOfRun}
 use Rattle.sheet_model.specs.Sheets.{SheetValue, content_of}
 use Rattle.edit_log.specs.Pairs.{IsPairOf, ArePairsOf, HasNoPairs, IsBeforeRow, HasPairsBefore}
-use Rattle.edit_log.specs.Runs.{AreAdded, Follow, GoTo, IsListed, IsRunOf, cells_down, down, ranges_at, series_of}
-use Rattle.edit_log.proofs.RunLemmas.{column_cell, column_follows, listed_range, range_listed, run_more, run_of_one, same_end}
+use Rattle.edit_log.specs.Runs.{Follow, IsRunOf, cells_down, down, ranges_at, series_of}
+use Rattle.edit_log.proofs.RunLemmas.{column_cell, column_follows, listed_range, range_listed, run_more, run_of_one, same_end, series_length}
 use Rattle.sheet_model.specs.Ranges.{ranges_in}
 
 -- a cell of a pair lies in the sheet
@@ -94,22 +94,6 @@ row_on cell other (inr above) = (inr (above.0, omega (arith, above.1)), λ same.
 -- a cell is before the row below it
 at_row : (cell : Position) → IsBeforeRow cell.col (cell.row + 1) cell
 at_row cell = inr (refl, omega arith)
-
--- a cell without a formula has no pairs
-pub without_formula : (sheet : SheetValue) (cell : Position) (pairs : List Pair)
-    → ranges_in (content_of sheet cell) ≡ [] → HasPairsBefore sheet cell.col cell.row pairs
-    → HasPairsBefore sheet cell.col (cell.row + 1) pairs
-without_formula sheet cell pairs none before pair = (
-  λ there. let at = (before pair).0 there in ((row_on cell pair.cell at.0).0, at.1),
-  λ at. (before pair).1 (earlier (row_ends cell pair.cell at.0) at.1, at.1),
-)
-  where
-    earlier : IsBeforeRow cell.col cell.row pair.cell ⊎ (pair.cell ≡ cell) → IsPairOf sheet pair → IsBeforeRow cell.col cell.row pair.cell
-    earlier (inl above) is = above
-    earlier (inr same) is =
-        absurd
-        (no_element pair.range (subst (λ (l : List Corners). Contains l pair.range)
-        (ap (λ (c : Position). ranges_in (content_of sheet c)) same ∙ none) is))
 
 -- a cell with a formula has the pairs that it is given
 pub with_formula : (sheet : SheetValue) (cell : Position) (old new : List Pair) (refs : List Corners)
@@ -227,27 +211,23 @@ run_added sheet cell count firsts lasts old new run before adds pair =
     to_new (inl above) is = inr ((before pair).1 (above, is))
     to_new (inr among) is = inl (to_run sheet cell count firsts lasts pair run among.0 among.1 is)
 
--- what was listed of a cell, by its row and its column
-pub listed_down : (sheet : SheetValue) (cell : Position) (row col count : ℕ) (next : Option (List Corners)) → row ≡ cell.row + count
-    → col ≡ cell.col → IsListed sheet (record { row = row; col = col }) next → IsListed sheet (down cell count) next
-listed_down sheet cell row col count next row_is col_is listed =
-    subst (λ (p : Position). IsListed sheet p next) (same_end (record { row = row; col = col }) (down cell count) row_is col_is) listed
+-- the ranges of the cell below a run, by its row and its column
+pub named_down : (sheet : SheetValue) (cell below : Position) (count : ℕ) (ranges : List Corners) → below ≡ down cell count
+    → IsOnceEach (ranges_in (content_of sheet below)) ranges → IsOnceEach (ranges_in (content_of sheet (down cell count))) ranges
+named_down sheet cell below count ranges same once = subst (λ (p : Position). IsOnceEach (ranges_in (content_of sheet p)) ranges) same once
 
--- a run grows by the cell below it, and begins with two cells
-pub run_on : (sheet : SheetValue) (cell : Position) (count : ℕ) (firsts lasts nexts : List Corners)
-    → IsRunOf sheet cell count firsts lasts → Follow count firsts lasts nexts → IsListed sheet (down cell count) (Some nexts)
-    → IsRunOf sheet cell (count + 1) firsts nexts
-run_on sheet cell count firsts lasts nexts run follow listed =
-    run_more (λ index. ranges_in (content_of sheet (down cell index))) count firsts lasts nexts run follow listed
-
-pub run_of_two : (sheet : SheetValue) (cell : Position) (firsts nexts : List Corners) → AreRefs firsts → IsListed sheet cell (Some firsts)
-    → Follow 1 firsts firsts nexts → IsListed sheet (down cell 1) (Some nexts) → IsRunOf sheet cell 2 firsts nexts
-run_of_two sheet cell firsts nexts are first follow next =
-    let here : down cell 0 ≡ cell = same_end (down cell 0) cell (omega arith) refl in
-    let one : IsRunOf sheet cell 1 firsts firsts =
+-- a run begins with a cell, and grows by the cell below it
+pub run_first : (sheet : SheetValue) (cell : Position) (firsts : List Corners) → AreRefs firsts
+    → IsOnceEach (ranges_in (content_of sheet cell)) firsts → IsRunOf sheet cell 1 firsts firsts
+run_first sheet cell firsts are once =
     run_of_one (λ index. ranges_in (content_of sheet (down cell index))) firsts are
-    (subst (λ (p : Position). IsListed sheet p (Some firsts)) (sym here) first) in
-    run_on sheet cell 1 firsts firsts nexts one follow next
+    (named_down sheet cell cell 0 firsts (same_end cell (down cell 0) (omega arith) refl) once)
+
+pub run_on : (sheet : SheetValue) (cell : Position) (count : ℕ) (firsts lasts nexts : List Corners)
+    → IsRunOf sheet cell count firsts lasts → Follow count firsts lasts nexts
+    → IsOnceEach (ranges_in (content_of sheet (down cell count))) nexts → IsRunOf sheet cell (count + 1) firsts nexts
+run_on sheet cell count firsts lasts nexts run follow once =
+    run_more (λ index. ranges_in (content_of sheet (down cell index))) count firsts lasts nexts run follow once
 
 -- what the series of several cells are
 pub run_follows : (sheet : SheetValue) (cell : Position) (count : ℕ) (firsts lasts : List Corners)
@@ -255,15 +235,17 @@ pub run_follows : (sheet : SheetValue) (cell : Position) (count : ℕ) (firsts l
 run_follows sheet cell count firsts lasts run several =
     column_follows (λ index. ranges_in (content_of sheet (down cell index))) cell count firsts lasts run several
 
--- a cell goes on to the next one
-pub goes_one : (sheet : SheetValue) (cell : Position) (next : Option (List Corners)) → cell.row ≤ sheet.sizes.rows → cell.row ≤ 1048576
-    → IsListed sheet (down cell 1) next → GoTo sheet cell 1 next
-goes_one sheet cell next rows named listed = record {
-  some = omega arith;
-  inside = omega (arith, rows);
-  named = omega (arith, named);
-  listed = listed;
-}
+-- a run whose cells refer to nothing has no pairs
+pub nothing_added : (sheet : SheetValue) (cell : Position) (count : ℕ) (firsts lasts : List Corners) (pairs : List Pair)
+    → length firsts ≡ 0 → IsRunOf sheet cell count firsts lasts → HasPairsBefore sheet cell.col cell.row pairs
+    → HasPairsBefore sheet cell.col (cell.row + count) pairs
+nothing_added sheet cell count firsts lasts pairs none run before = run_added sheet cell count firsts lasts pairs pairs run before adds
+  where
+    no_series : (one : SeriesValue) → Contains (series_of firsts lasts) one → ⊥
+    no_series one there = omega (arith, there.1, series_length firsts lasts run.as_many, none)
+
+    adds : AddsRun pairs pairs (cells_down cell count) (series_of firsts lasts)
+    adds pair = (λ there. inr there, λ either. elim either [ inl own ↦ absurd (no_series own.one own.listed) | inr kept ↦ kept ])
 
 -- the pairs before a cell, by its row and its column, and those before the cell to which it goes on
 pub pairs_at : (sheet : SheetValue) (cell : Position) (row col : ℕ) (pairs : List Pair) → cell.row ≡ row → cell.col ≡ col
@@ -271,11 +253,7 @@ pub pairs_at : (sheet : SheetValue) (cell : Position) (row col : ℕ) (pairs : L
 pairs_at sheet cell row col pairs row_is col_is before =
     subst (λ r. HasPairsBefore sheet cell.col r pairs) (sym row_is) (subst (λ c. HasPairsBefore sheet c row pairs) (sym col_is) before)
 
-pub column_on : (sheet : SheetValue) (cell : Position) (row col : ℕ) (pairs : List Pair) (count : ℕ) (next : Option (List Corners))
-    → cell.row ≡ row → cell.col ≡ col → AreAdded sheet cell pairs count next
-    → HasPairsBefore sheet col (row + count) pairs × IsListed sheet (record { row = row + count; col = col }) next
-column_on sheet cell row col pairs count next row_is col_is added = (
-  subst (λ r. HasPairsBefore sheet col (r + count) pairs) row_is (subst (λ c. HasPairsBefore sheet c (cell.row + count) pairs) col_is added.before),
-  subst (λ (p : Position). IsListed sheet p next)
-      (same_end (down cell count) (record { row = row + count; col = col }) (omega (arith, row_is)) col_is) added.goes.listed,
-)
+pub column_on : (sheet : SheetValue) (cell : Position) (row col : ℕ) (pairs : List Pair) (count : ℕ) → cell.row ≡ row → cell.col ≡ col
+    → HasPairsBefore sheet cell.col (cell.row + count) pairs → HasPairsBefore sheet col (row + count) pairs
+column_on sheet cell row col pairs count row_is col_is before =
+    subst (λ r. HasPairsBefore sheet col (r + count) pairs) row_is (subst (λ c. HasPairsBefore sheet c (cell.row + count) pairs) col_is before)

@@ -1,12 +1,14 @@
 -- Runs of cells down a column, in which the ranges of each cell follow those of the cell above.
-use Rattle.std.specs.Prelude.{◌≡◌, ◌≢◌, ◌⊎◌, ℕ, ◌+◌, ◌-◌, ◌<◌, ◌≤◌, Option, None, Some, List, [], ◌∷◌, length, map, slice_index_or}
+use Rattle.std.specs.Prelude.{◌≡◌, ◌≢◌, ◌⊎◌, ℕ, ◌+◌, ◌-◌, ◌<◌, ◌≤◌, List, [], ◌∷◌, length, map, slice_index_or}
 use Rattle.sheet_refs.specs.Cells.{Position, Corners}
+use Rattle.sheet_refs.specs.Refs.{AreRefs}
 use Rattle.formula_syntax.specs.Listing.{IsOnceEach}
 use Rattle.graph_walk.specs.Graphs.{Pair}
 use Rattle.graph_walk.specs.Series.{SeriesValue, GoOn, range_in}
 use Rattle.sheet_model.specs.Ranges.{ranges_in}
 use Rattle.sheet_model.specs.Sheets.{SheetValue, content_of}
 use Rattle.edit_log.specs.Pairs.{HasPairsBefore}
+use Rattle.edit_log.specs.declared.runs.Run.{Run}
 
 -- the cell so many rows below another
 abbrev pub down : Position → ℕ → Position
@@ -61,26 +63,20 @@ pub record IsRun (named : ℕ → List Corners) (count : ℕ) (first last : List
 abbrev pub IsRunOf : SheetValue → Position → ℕ → List Corners → List Corners → Type 0
 IsRunOf sheet cell = IsRun (λ index. ranges_in (content_of sheet (down cell index)))
 
--- what was listed of a cell: the ranges of its formula, each once, or that it names none
-abbrev pub IsListed : SheetValue → Position → Option (List Corners) → Type 0
-IsListed sheet cell None = ranges_in (content_of sheet cell) ≡ []
-IsListed sheet cell (Some ranges) = IsOnceEach (ranges_in (content_of sheet cell)) ranges
-
--- how far the cells of a column go on: so many, which all lie in the sheet and have names, and what was listed of the cell
--- below them
-pub record GoTo (sheet : SheetValue) (cell : Position) (count : ℕ) (next : Option (List Corners)) : Type 0 where
+-- how far the cells of a column go on: so many, which all lie in the sheet and have names
+pub record GoTo (sheet : SheetValue) (cell : Position) (count : ℕ) : Type 0 where
   pub some : 1 ≤ count
   pub inside : cell.row + count ≤ sheet.sizes.rows + 1
   pub named : cell.row + count ≤ 1048577
-  pub listed : IsListed sheet (down cell count) next
 
--- a run of several cells, with the ranges of the first and of the last, goes on so far
-pub record IsWholeRun (sheet : SheetValue) (cell : Position) (count : ℕ) (first last : List Corners) (next : Option (List Corners)) : Type 0 where
-  pub several : 2 ≤ count
-  pub run : IsRunOf sheet cell count first last
-  pub goes : GoTo sheet cell count next
+-- a run, with what the formula of its first cell names, goes on so far
+pub record IsRunFrom (sheet : SheetValue) (cell : Position) (run : Run) : Type 0 where
+  pub goes : GoTo sheet cell run.count
+  pub follow : IsRunOf sheet cell run.count run.first.now run.last.now
+  pub refs : AreRefs run.first.now
+  pub once : IsOnceEach (ranges_in (content_of sheet cell)) run.first.now
 
 -- the pairs of the cells that go on so far have come to those of the cells before them
-pub record AreAdded (sheet : SheetValue) (cell : Position) (pairs : List Pair) (count : ℕ) (next : Option (List Corners)) : Type 0 where
+pub record AreAdded (sheet : SheetValue) (cell : Position) (pairs : List Pair) (count : ℕ) : Type 0 where
   pub before : HasPairsBefore sheet cell.col (cell.row + count) pairs
-  pub goes : GoTo sheet cell count next
+  pub goes : GoTo sheet cell count

@@ -18,6 +18,7 @@ mod book;
 mod crossing;
 mod graphs;
 mod laws;
+mod listing;
 mod over_sheet;
 mod prepared;
 mod preparing;

@@ -1,34 +1,12 @@
-ghost use Rattle.std.specs.Prelude.{◌≡◌, ◌+◌, ◌≤◌, length, IsTrue, IsSome, IfOk};
-ghost use Rattle.edit_log.specs.Runs.{EndFollows, Follow, IsListed, IsRunOf, IsWholeRun, RangeFollows};
-ghost use Rattle.edit_log.specs.Runs.{series_of};
+ghost use Rattle.std.specs.Prelude.{◌≡◌, ◌≤◌, length, IsTrue, IfOk};
+ghost use Rattle.edit_log.specs.Listings.{ListsAll};
+ghost use Rattle.edit_log.specs.Runs.{EndFollows, Follow, IsRunFrom, RangeFollows, series_of};
 
-use formula_syntax::refs;
+use crate::listing::Listing;
 use graph_walk::Series;
-use sheet_model::{Content, Sheet};
-use sheet_refs::{Cell, Memory, Range, Refs};
+use sheet_model::Sheet;
+use sheet_refs::{Cell, Memory, Range};
 use std::alloc::Global;
-
-// The ranges of the formula in a cell of a column; None where there is none, and past the last row.
-pub(crate) fn refs_at(
-    alloc: Global,
-    sheet: &Sheet,
-    row: u32,
-    col: u32,
-) -> Result<Option<Refs>, Memory>
-    requires { (1 ≤ row) × (1 ≤ col) × (col ≤ sheet.now.sizes.cols) }
-    ensures listed { IfOk result (IsListed sheet.now (record { row = row; col = col })) }
-    ensures inside { IfOk result (λ refs. IsSome refs → (row ≤ sheet.now.sizes.rows) × (row ≤ 1048576)) }
-{
-    if row > sheet.rows() {
-        return Ok(None);
-    }
-    let cell = Cell::new(row, col).unwrap();
-    let Content::Formula(formula) = sheet.content(cell) else {
-        return Ok(None);
-    };
-    let refs = refs(alloc, formula)?;
-    Ok(Some(refs))
-}
 
 // Whether an end of a range goes on with those of so many cells, of which these are the first and the last.
 fn end_follows(count: u32, first: Cell, last: Cell, next: Cell) -> bool
@@ -50,7 +28,7 @@ fn range_follows(count: u32, first: &Range, last: &Range, next: &Range) -> bool
 }
 
 // The same of each range of a cell.
-pub(crate) fn follow(count: u32, first: &[Range], last: &[Range], next: &[Range]) -> bool
+fn follow(count: u32, first: &[Range], last: &[Range], next: &[Range]) -> bool
     requires few { count ≤ 1048576 }
     requires as_many { length last.now ≡ length first.now }
     ensures { IsTrue result → Follow count first.now last.now next.now }
@@ -66,7 +44,7 @@ pub(crate) fn follow(count: u32, first: &[Range], last: &[Range], next: &[Range]
     true
 }
 
-// The series whose ranges at the first cell and at the last are these.
+/// The series whose ranges at the first cell and at the last are these.
 pub(crate) fn series_between(
     alloc: Global,
     first: &[Range],
@@ -85,32 +63,38 @@ pub(crate) fn series_between(
     Ok(series)
 }
 
-// How far a run goes on that begins with this cell: how many cells it has, the ranges of the last one, and those of the
-// cell below, which end it.
-pub(crate) fn whole_run(
-    alloc: Global,
-    sheet: &Sheet,
-    cell: Cell,
-    first: &Refs,
-    second: Refs,
-) -> Result<(u32, Refs, Option<Refs>), Memory>
+/// Cells down a column, in which the ranges of each follow those of the cell above.
+#[derive(Clone, Copy)]
+pub(crate) struct Run<'a> {
+    /// How many cells it has.
+    pub(crate) count: u32,
+    /// The ranges of the first cell and of the last.
+    pub(crate) first: &'a [Range],
+    pub(crate) last: &'a [Range],
+}
+
+/// The run that begins with a cell, as far as it goes on. It compares the ranges of each cell with those above it.
+pub(crate) fn run_from<'a>(sheet: &Sheet, listing: &'a Listing, cell: Cell) -> Run<'a>
+    requires lists { ListsAll sheet.now listing.now }
     requires cols { cell.col ≤ sheet.now.sizes.cols }
-    requires rows { (cell.row + 1 ≤ sheet.now.sizes.rows) × (cell.row + 1 ≤ 1048576) }
-    requires run { IsRunOf sheet.now cell 2 first.now second }
-    ensures { IfOk result (λ run. IsWholeRun sheet.now cell run.0 first.now run.1 run.2) }
+    requires rows { cell.row ≤ sheet.now.sizes.rows }
+    ensures { IsRunFrom sheet.now cell result }
 {
-    let mut last = second;
-    let mut count = 2;
-    while cell.row() + count <= sheet.rows() {
-        let next = refs_at(alloc, sheet, cell.row() + count, cell.col())?;
-        let Some(next) = next else {
-            return Ok((count, last, None));
-        };
-        if !follow(count, first.ranges(), last.ranges(), next.ranges()) {
-            return Ok((count, last, Some(next)));
+    let (row, col) = (cell.row(), cell.col());
+    let first = listing.at(sheet, cell);
+    let mut run = Run {
+        count: 1,
+        first,
+        last: first,
+    };
+    while row + run.count <= sheet.rows() {
+        let below = Cell::new(row + run.count, col).unwrap();
+        let next = listing.at(sheet, below);
+        if !follow(run.count, run.first, run.last, next) {
+            return run;
         }
-        last = next;
-        count += 1;
+        run.last = next;
+        run.count += 1;
     }
-    Ok((count, last, None))
+    run
 }

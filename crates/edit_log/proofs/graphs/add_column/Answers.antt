@@ -9,10 +9,11 @@ add_from-requires-clause-before g c =
 
 pub loop-row-preserved : goal.loop-row-preserved
 loop-row-preserved g c =
-    let at : (c.unwrap-cell.result.row ≡ c.loop-row.row) × (c.unwrap-cell.result.col ≡ c.args.col) = rw c.unwrap-cell.ensures at c.new.ensures.position in
-    let on = column_on c.args.sheet.now c.unwrap-cell.result c.loop-row.row c.args.col (g.G.Graph.pairs c.add_from.new.graph) c.in_ok-count.count
-    c.in_ok-count.next at.0 at.1 c.in_ok-count.ensures in
-    (omega arith, on.0, on.1)
+    let at : (c.unwrap-cell.result.row ≡ c.loop-row.row) × (c.unwrap-cell.result.col ≡ c.args.col) = rw c.unwrap-cell.ensures at c.new.ensures.position in (
+      omega arith,
+      column_on c.args.sheet.now c.unwrap-cell.result c.loop-row.row c.args.col (g.G.Graph.pairs c.add_from.new.graph) c.in_ok-row.field-0
+          at.0 at.1 c.in_ok-row.ensures.before,
+    )
 
 pub returns : goal.returns
 returns g c = column_ends c.args.sheet.now c.args.col c.loop-row.row (g.G.Graph.pairs c.loop-row.graph)
