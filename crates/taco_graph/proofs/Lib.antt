@@ -1,4 +1,5 @@
 mod AnswerLemmas
+mod AroundLemmas
 mod ChainLemmas
 mod ChangeLemmas
 mod EdgeListLemmas

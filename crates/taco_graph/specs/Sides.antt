@@ -6,7 +6,7 @@ use Rattle.edge_patterns.specs.declared.axis.Axis.TheVariants.{Down, Right}
 use Rattle.edge_patterns.specs.Axes.{along, across, IsLine}
 use Rattle.edge_patterns.specs.Edges.{EdgeValue, HasName}
 use Rattle.edge_patterns.specs.Joins.{CanBeJoined}
-use Rattle.taco_graph.specs.declared.neighbours.Side.{Side}
+use Rattle.taco_graph.specs.declared.side.Side.{Side}
 use Rattle.taco_graph.specs.declared.neighbours.Sides.{Sides}
 use Rattle.taco_graph.specs.Stores.{edge_at}
 use Rattle.taco_graph.specs.Changes.{LacksCell}
@@ -45,6 +45,40 @@ pub record NameBeside (slots : List (Option EdgeValue)) (cell : Position) (sides
   pub below : NamesBeside slots cell sides.below
   pub left : NamesBeside slots cell sides.left
   pub right : NamesBeside slots cell sides.right
+
+-- the key of an edge that has the cell at a side in its run is in the list of that side
+abbrev pub HasKey : List (Option EdgeValue) → ℕ → Side → Type 0
+HasKey slots key side = (edge : EdgeValue) → edge_at slots key ≡ Some edge → HasBeside side.beside edge.dep → Contains side.keys.items key
+
+-- and so it is at each of the four
+pub record HaveKey (slots : List (Option EdgeValue)) (key : ℕ) (sides : Sides) : Type 0 where
+  pub above : HasKey slots key sides.above
+  pub below : HasKey slots key sides.below
+  pub left : HasKey slots key sides.left
+  pub right : HasKey slots key sides.right
+
+-- a side has the cell that it had, and no key less
+pub record KeepsKeys (old new : Side) : Type 0 where
+  pub beside : new.beside ≡ old.beside
+  pub keys : (key : ℕ) → Contains old.keys.items key → Contains new.keys.items key
+
+-- and so has each of the four
+pub record KeepKeys (old new : Sides) : Type 0 where
+  pub above : KeepsKeys old.above new.above
+  pub below : KeepsKeys old.below new.below
+  pub left : KeepsKeys old.left new.left
+  pub right : KeepsKeys old.right new.right
+
+-- a side that was asked has its cell in a rectangle
+abbrev pub WasAskedWithin : Side → Corners → Type 0
+WasAskedWithin side rectangle = side.asked ≡ true → HasBeside side.beside rectangle
+
+-- and so has each of the four
+pub record WereAskedWithin (sides : Sides) (rectangle : Corners) : Type 0 where
+  pub above : WasAskedWithin sides.above rectangle
+  pub below : WasAskedWithin sides.below rectangle
+  pub left : WasAskedWithin sides.left rectangle
+  pub right : WasAskedWithin sides.right rectangle
 
 -- a cell that has a name stands just before a line, or just behind it
 pub record IsBefore (axis : Axis) (cell : Position) (run : Corners) : Type 0 where

@@ -25,6 +25,7 @@ mod filing;
 mod laws;
 mod neighbours;
 mod order;
+mod side;
 mod store;
 mod taco;
 

@@ -1,210 +1,27 @@
-// Which edges beside an edge can be joined with it.
-ghost use Rattle.std.specs.Prelude.{◌≡◌, Some, true, List, Option, MatchOption};
+// The sides of a run, and which edges there can be joined with it.
+ghost use Rattle.std.specs.Prelude.{◌≡◌, Some, true, ℕ, List, Option, Contains, OnOk};
 ghost use Rattle.sheet_refs.specs.Cells.{Position, IsNamed};
 ghost use Rattle.edge_patterns.specs.Edges.{EdgeValue};
-ghost use Rattle.taco_graph.specs.Changes.{FindsJoined, FindsPlace, IsJoinedAt};
-ghost use Rattle.taco_graph.specs.Joinable.{CantJoinAt, CantJoinAny, CantJoinBeyond};
-ghost use Rattle.taco_graph.specs.Sides.{CantJoinBetween, CantJoinListed, CantJoinBeside};
-ghost use Rattle.taco_graph.specs.Sides.{NamesBeside, NameBeside, AreRound, StandAsBefore};
-ghost use Rattle.taco_graph.specs.Sides.{cell_after, cell_before};
+ghost use Rattle.taco_graph.specs.Changes.{FindsJoined};
+ghost use Rattle.taco_graph.specs.Joinable.{CantJoinAny, CantJoinBeyond};
+ghost use Rattle.taco_graph.specs.Sides.{CantJoinBeside, NameBeside, AreRound, StandAsBefore};
+ghost use Rattle.taco_graph.specs.Sides.{HaveKey, KeepKeys, WereAskedWithin, cell_after, cell_before};
 
+use crate::side::Side;
 use crate::store::EdgeStore;
-use edge_patterns::{Edge, join};
+use edge_patterns::Edge;
 use range_index::RangeIndex;
-use sheet_refs::{Cell, Memory, Range};
+use sheet_refs::{Cell, MAX_COLS, MAX_ROWS, Memory, Range};
 use std::alloc::Global;
 
-// The edge with the pairs of an edge and of the one under a key, if there is one and the other doesn't hold the cell.
-fn joined_at<I: RangeIndex>(
-    store: &EdgeStore<I>,
-    key: usize,
-    edge: &Edge,
-    cell: Cell,
-) -> Option<Edge>
-    ensures { MatchOption result (CantJoinAt store.now.slots key edge.now cell)
-        (IsJoinedAt store.now.slots key edge.now cell) }
-{
-    let Some(other) = store.get(key) else {
-        return None;
-    };
-    if other.dep().contains(cell) {
-        return None;
-    }
-    join(edge, &other)
-}
-
-// The first of some places of a list at which the key of an edge stands that can be joined with an edge and doesn't
-// hold the cell, with that key and the edge that has the pairs of both; None where there is none.
-fn joined_between<I: RangeIndex>(
-    store: &EdgeStore<I>,
-    keys: &[usize],
-    from: usize,
-    end: usize,
-    edge: &Edge,
-    cell: Cell,
-) -> Option<(usize, usize, Edge)>
-    ensures { FindsPlace store.now.slots edge.now cell result
-        (CantJoinBetween store.now.slots keys.now from end edge.now cell) }
-{
-    for place in from..end {
-        let Some(key) = keys.get(place) else {
-            return None;
-        };
-        if let Some(joined) = joined_at(store, *key, edge, cell) {
-            return Some((place, *key, joined));
-        }
-    }
-    None
-}
-
-// The first of all keys whose edge can be joined with an edge and doesn't hold the cell. It looks at each key that
-// there is room for.
-fn joined_of_all<I: RangeIndex>(
-    store: &EdgeStore<I>,
-    edge: &Edge,
-    cell: Cell,
-) -> Option<(usize, Edge)>
-    ensures { FindsJoined store.now.slots edge.now cell result
-        (CantJoinAny store.now.slots edge.now cell) }
-{
-    for key in 0..store.end() {
-        if let Some(joined) = joined_at(store, key, edge, cell) {
-            return Some((key, joined));
-        }
-    }
-    None
-}
-
-/// The keys of the edges that hold a cell beside a run, asked for when they are first needed. They may be stale, since
-/// each edge is looked at anew.
-#[derive(Drop)]
-pub(crate) struct Side {
-    // The cell beside the run, if there is one.
-    beside: Option<Cell>,
-    keys: Vec<usize>,
-    // Whether the keys have been asked for, and whether these are all: the answer may have wanted memory.
-    asked: bool,
-    whole: bool,
-    // The place of the key that was found last. The ranges of like cells come in one order, and so do the keys of the
-    // edges that they join, where the keys stand by size: a slab gives edges that come one after another rising keys.
-    next: usize,
-}
-
-impl Side {
-    pub(crate) fn new(alloc: Global) -> Side {
-        Side {
-            beside: None,
-            keys: Vec::new(alloc),
-            asked: false,
-            whole: false,
-            next: 0,
-        }
-    }
-
-    /// Makes room for so many keys.
-    pub(crate) fn reserve(&mut self, keys: usize) -> Result<(), Memory> {
-        self.keys.clear();
-        self.asked = false;
-        self.keys.reserve(keys)?;
-        Ok(())
-    }
-
-    // Turns to the side of a run that has this cell.
-    fn turn_to(&mut self, beside: Option<Cell>)
-        ensures beside { self.new.beside ≡ beside }
-        ensures names { (slots : List (Option EdgeValue)) (cell : Position) →
-            NamesBeside slots cell self.new }
-    {
-        self.beside = beside;
-        self.asked = false;
-    }
-
-    // Asks for the keys, where they haven't been asked for.
-    fn ask<I: RangeIndex>(&mut self, store: &EdgeStore<I>, beside: Cell)
-        requires { self.old.beside ≡ Some beside }
-        ensures asked { self.new.asked ≡ true }
-        ensures beside { self.new.beside ≡ self.old.beside }
-        ensures names { (cell : Position) → NamesBeside store.now.slots cell self.old →
-            NamesBeside store.now.slots cell self.new }
-    {
-        if self.asked {
-            return;
-        }
-        self.keys.clear();
-        self.asked = true;
-        self.next = 0;
-        self.whole = match store.keys_by_run(Range::of(beside, beside), &mut self.keys) {
-            Ok(()) => true,
-            Err(_) => false,
-        };
-        self.keys.sort_unstable();
-    }
-
-    // Among the keys that were listed, from the one that was found last on.
-    fn find_listed<I: RangeIndex>(
-        &self,
-        store: &EdgeStore<I>,
-        edge: &Edge,
-        cell: Cell,
-    ) -> Option<(usize, usize, Edge)>
-        ensures { FindsPlace store.now.slots edge.now cell result
-            (CantJoinListed store.now.slots self.now.keys.items edge.now cell) }
-    {
-        let onward = joined_between(store, &self.keys, self.next, self.keys.len(), edge, cell);
-        if onward.is_some() {
-            return onward;
-        }
-        joined_between(store, &self.keys, 0, self.next, edge, cell)
-    }
-
-    // The same, and notes where it was found.
-    fn find_next<I: RangeIndex>(
-        &mut self,
-        store: &EdgeStore<I>,
-        edge: &Edge,
-        cell: Cell,
-    ) -> Option<(usize, Edge)>
-        ensures found { FindsJoined store.now.slots edge.now cell result
-            (CantJoinListed store.now.slots self.old.keys.items edge.now cell) }
-        ensures beside { self.new.beside ≡ self.old.beside }
-        ensures names { NamesBeside store.now.slots cell self.old →
-            NamesBeside store.now.slots cell self.new }
-    {
-        let Some((place, key, joined)) = self.find_listed(store, edge, cell) else {
-            return None;
-        };
-        self.next = place;
-        Some((key, joined))
-    }
-
-    /// An edge at this side that can be joined with an edge and doesn't hold the cell. Where the index wants memory for
-    /// the keys, it looks at all edges.
-    fn find<I: RangeIndex>(
-        &mut self,
-        store: &EdgeStore<I>,
-        edge: &Edge,
-        cell: Cell,
-    ) -> Option<(usize, Edge)>
-        requires { NamesBeside store.now.slots cell self.old }
-        ensures found { FindsJoined store.now.slots edge.now cell result
-            (CantJoinBeside store.now.slots self.old.beside edge.now cell) }
-        ensures beside { self.new.beside ≡ self.old.beside }
-        ensures names { NamesBeside store.now.slots cell self.new }
-    {
-        let Some(beside) = self.beside else {
-            return None;
-        };
-        self.ask(store, beside);
-        if !self.whole {
-            return joined_of_all(store, edge, cell);
-        }
-        self.find_next(store, edge, cell)
-    }
-}
+/// How many cells a cell is with those beside it and at its corners.
+const CELLS_AROUND: usize = 9;
 
 /// The sides of a run.
 #[derive(Drop)]
 pub(crate) struct Sides {
+    // The keys of the edges around a run of one cell, from which the sides get theirs. It is kept for its memory.
+    around: Vec<usize>,
     above: Side,
     below: Side,
     left: Side,
@@ -221,9 +38,20 @@ fn beside(has_side: bool, row: u32, col: u32) -> Option<Cell>
     Cell::new(row, col)
 }
 
+// A cell with the cells beside it and at its corners.
+fn around(cell: Cell) -> Range {
+    let (row, col) = (cell.row(), cell.col());
+    let head = Cell::new((row - 1).max(1), (col - 1).max(1)).unwrap();
+    let tail = Cell::new((row + 1).min(MAX_ROWS), (col + 1).min(MAX_COLS)).unwrap();
+    Range::of(head, tail)
+}
+
 impl Sides {
+    ghost use Rattle.std.specs.Prelude.{◌<◌, length, slice_index_or};
+
     pub(crate) fn new(alloc: Global) -> Sides {
         Sides {
+            around: Vec::new(alloc),
             above: Side::new(alloc),
             below: Side::new(alloc),
             left: Side::new(alloc),
@@ -231,8 +59,10 @@ impl Sides {
         }
     }
 
-    /// Makes room for so many keys at each side.
+    /// Makes room for the keys of so many edges a cell: those at each side, and those around a cell.
     pub(crate) fn reserve(&mut self, keys: usize) -> Result<(), Memory> {
+        self.around.clear();
+        self.around.reserve(keys.saturating_mul(CELLS_AROUND))?;
         self.above.reserve(keys)?;
         self.below.reserve(keys)?;
         self.left.reserve(keys)?;
@@ -260,8 +90,126 @@ impl Sides {
             .turn_to(beside(in_row, head.row(), tail.col() + 1));
     }
 
+    // Whether a side has been asked.
+    fn is_asked(&self) -> bool {
+        self.above.is_asked()
+            || self.below.is_asked()
+            || self.left.is_asked()
+            || self.right.is_asked()
+    }
+
+    // Forgets the keys of all sides.
+    fn forget(&mut self)
+        ensures names { (slots : List (Option EdgeValue)) (cell : Position) →
+            NameBeside slots cell self.new }
+        ensures same { StandAsBefore self.old self.new }
+    {
+        self.above.forget();
+        self.below.forget();
+        self.left.forget();
+        self.right.forget();
+    }
+
+    // Gives a key to each side whose cell is in the run of its edge.
+    fn give_key<I: RangeIndex>(&mut self, store: &EdgeStore<I>, key: usize) -> Result<(), Memory>
+        ensures all { OnOk result (HaveKey store.now.slots key self.new) }
+        ensures kept { KeepKeys self.old self.new }
+        ensures around { self.new.around ≡ self.old.around }
+    {
+        let Some(edge) = store.get(key) else {
+            return Ok(());
+        };
+        let run = edge.dep();
+        self.above.take_in(key, &run)?;
+        self.below.take_in(key, &run)?;
+        self.left.take_in(key, &run)?;
+        self.right.take_in(key, &run)
+    }
+
+    // The key at a place of the list of those around a cell.
+    fn key_around(&self, place: usize) -> usize
+        requires { place < length self.now.around.items }
+        ensures { result ≡ slice_index_or self.now.around.items place 0 }
+    {
+        self.around[place]
+    }
+
+    // Gives each key around a cell to the sides.
+    fn give_keys<I: RangeIndex>(&mut self, store: &EdgeStore<I>) -> Result<(), Memory>
+        ensures all { OnOk result ((key : ℕ) → Contains self.old.around.items key →
+            HaveKey store.now.slots key self.new) }
+        ensures kept { KeepKeys self.old self.new }
+    {
+        for place in 0..self.around.len() {
+            let key = self.key_around(place);
+            self.give_key(store, key)?;
+        }
+        Ok(())
+    }
+
+    // Notes that no key is missing at the sides whose cells are in a rectangle.
+    fn note_asked(&mut self, q: &Range)
+        ensures kept { KeepKeys self.old self.new }
+        ensures within { WereAskedWithin self.new q.now }
+    {
+        self.above.note_asked(q);
+        self.below.note_asked(q);
+        self.left.note_asked(q);
+        self.right.note_asked(q);
+    }
+
+    // Asks for the keys of all sides whose cells are in a rectangle, by one query. After Memory each side has to be
+    // asked anew.
+    fn ask_within<I: RangeIndex>(&mut self, store: &EdgeStore<I>, q: Range) -> Result<(), Memory>
+        ensures names { OnOk result ((cell : Position) →
+            NameBeside store.now.slots cell self.new) }
+        ensures same { StandAsBefore self.old self.new }
+    {
+        self.forget();
+        self.around.clear();
+        store.keys_by_run(q, &mut self.around)?;
+        self.give_keys(store)?;
+        self.note_asked(&q);
+        Ok(())
+    }
+
+    // Asks for the keys at all sides of a single cell at once, where no side has been asked: four queries would go down
+    // the index to the same nodes. Around several cells a rectangle would hold too many edges. Where the query wants
+    // memory, each side is asked by itself when it is needed.
+    fn ask_around<I: RangeIndex>(&mut self, store: &EdgeStore<I>, run: Range)
+        ensures names { (cell : Position) → NameBeside store.now.slots cell self.old →
+            NameBeside store.now.slots cell self.new }
+        ensures same { StandAsBefore self.old self.new }
+    {
+        if run.head() != run.tail() || self.is_asked() {
+            return;
+        }
+        match self.ask_within(store, around(run.head())) {
+            Ok(()) => (),
+            Err(_) => self.forget(),
+        }
+    }
+
     /// An edge at one of the sides that can be joined with an edge and doesn't hold the cell.
     pub(crate) fn find<I: RangeIndex>(
+        &mut self,
+        store: &EdgeStore<I>,
+        edge: &Edge,
+        cell: Cell,
+    ) -> Option<(usize, Edge)>
+        requires names { NameBeside store.now.slots cell self.old }
+        requires round { AreRound edge.now.dep self.old }
+        ensures found { FindsJoined store.now.slots edge.now cell result
+            (CantJoinAny store.now.slots edge.now cell) }
+        ensures names { NameBeside store.now.slots cell self.new }
+        ensures same { StandAsBefore self.old self.new }
+    {
+        self.ask_around(store, edge.dep());
+        self.find_in_turn(store, edge, cell)
+    }
+
+    // The same, one side after the other.
+    fn find_in_turn<I: RangeIndex>(
         &mut self,
         store: &EdgeStore<I>,
         edge: &Edge,
@@ -290,8 +238,8 @@ impl Sides {
         self.right.find(store, edge, cell)
     }
 
-    /// The same of what an edge has grown into, at the end at which it hasn't grown: what could be joined with the
-    /// whole at the other end could have been joined with the part that was there.
+    /// An edge that can be joined with what an edge has grown into, at the end at which it hasn't grown: what could be
+    /// joined with the whole at the other end could have been joined with the part that was there.
     pub(crate) fn find_beyond<I: RangeIndex>(
         &mut self,
         store: &EdgeStore<I>,

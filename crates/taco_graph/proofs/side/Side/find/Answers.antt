@@ -2,7 +2,7 @@ use Rattle.std.proofs.Common.{◌≡◌, true, Option, subst, rules}
 use Rattle.sheet_refs.specs.Cells.{Position}
 use Rattle.taco_graph.specs.Sides.{NamesAll}
 use Rattle.taco_graph.proofs.SideLemmas.{none_beside}
-use Rattle.taco_graph.proofs.neighbours.Side.find.Goals as goal
+use Rattle.taco_graph.proofs.side.Side.find.Goals as goal
 
 pub returns-clause-found : goal.returns-clause-found
 returns-clause-found g c =

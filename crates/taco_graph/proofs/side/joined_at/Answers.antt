@@ -3,7 +3,7 @@ use Rattle.sheet_refs.specs.Cells.{Corners, IsIn}
 use Rattle.edge_patterns.specs.Edges.{EdgeValue}
 use Rattle.taco_graph.specs.Stores.{edge_at}
 use Rattle.taco_graph.proofs.SideLemmas.{holder_fails}
-use Rattle.taco_graph.proofs.neighbours.joined_at.Goals as goal
+use Rattle.taco_graph.proofs.side.joined_at.Goals as goal
 
 pub returns-then-contains : goal.returns-then-contains
 returns-then-contains g c =
