@@ -20,7 +20,7 @@ AVOIDED = {
     r"[Bb]y chance": "random, at random",
     r"[Ll]ooks? whether": "checks whether",
     r"[Ww]ho (?:wants|asks|looks|makes|changes|reads)": "whoever, or: to do this",
-    r"[Ss]tands?(?! (?:for|still)\b)|[Ss]tood(?! (?:for|still)\b)": "is, was",
+    r"[Ss]tands?(?! (?:for|still)\b|-in)|[Ss]tood(?! (?:for|still)\b)": "is, was",
     r"[Ww]ants|[Ww]anted": "requires, asks for",
 }
 # The macros of the manual page that hold words of a sentence, and those that end one.
