@@ -1,6 +1,5 @@
 use crate::gates::{UntilClaimed, UntilTwo};
 use crate::script::{TWO_FORMULAS, printed};
-use recalc_workers::OpenGate;
 use sheet_refs::cell_of;
 use std::alloc::Global;
 use std::fmt::Write;
@@ -40,10 +39,9 @@ fn many_edits(alloc: Global, edits: u32) -> Result<String, Fail> {
     Ok(text)
 }
 
-// The text of a sheet with these records, and so many with the number 7 below.
-fn numbers(alloc: Global, first: &str, rows: u32) -> Result<String, Fail> {
+// The text of a sheet of so many rows with the number 7.
+fn numbers(alloc: Global, rows: u32) -> Result<String, Fail> {
     let mut text = String::new(alloc);
-    text.push_str(first)?;
     for _ in 0..rows {
         text.push_str("7\n")?;
     }
@@ -57,7 +55,7 @@ fn hundred_edits<R: Threads + Wait + Sync>(
     gate: &UntilTwo,
 ) -> Result<String, Fail> {
     let script = many_edits(alloc, 100)?;
-    let sheet = numbers(alloc, "", 100)?;
+    let sheet = numbers(alloc, 100)?;
     printed(rt, alloc, &sheet, &script, 4, gate)
 }
 
@@ -77,37 +75,5 @@ fn two_workers_compute_at_once(rt: HostRuntime) -> Result<(), Fail> {
         (begins, ends, gate.late.load(Ordering::SeqCst)),
         (true, true, 0)
     );
-    Ok(())
-}
-
-// A script of so many clients, each of which sets its own row and looks at the one before, in turn.
-fn many_clients(alloc: Global, clients: u32, commands: u32) -> Result<String, Fail> {
-    let mut text = String::new(alloc);
-    for client in 1..=clients {
-        write!(text, "client c{client}\n")?;
-        for command in 1..=commands {
-            if command % 2 == 0 {
-                write!(text, "look A1:C{client}\n")?;
-            } else {
-                write!(text, "set A{client} {command}\n")?;
-            }
-        }
-    }
-    Ok(text)
-}
-
-// What is printed of 32 clients with a hundred commands each, by 64 workers.
-fn busy_run<R: Threads + Wait + Sync>(rt: &R, alloc: Global) -> Result<String, Fail> {
-    let sheet = numbers(alloc, "7,=A1+A2,=SUM(B1:B2)\n7,=A32*2\n", 30)?;
-    let script = many_clients(alloc, 32, 100)?;
-    printed(rt, alloc, &sheet, &script, 64, &OpenGate)
-}
-
-#[test]
-fn many_clients_beside_many_workers(rt: HostRuntime) -> Result<(), Fail> {
-    let text = busy_run(&rt, rt.alloc())?;
-    let begins = text.starts_with("log 1600\n");
-    let shows = text.contains("\nsheet 1600 A1:C32\n99,198,396\n99,198,\n99,,\n");
-    assert_eq!(rt; (begins, shows), (true, true));
     Ok(())
 }

@@ -1,6 +1,6 @@
 // What no clause says: that calls succeed where memory is ample, and that the ids are those that a person finds.
 use crate::filling::{fill, take_first};
-use range_index::RangeIndex;
+use range_index::{GridIndex, ListIndex, RangeIndex};
 use sheet_refs::{Cell, Range, range_of};
 use std::alloc::Global;
 use std::test::Fail;
@@ -30,13 +30,15 @@ fn found<I: RangeIndex>(alloc: Global, index: &I, query: Range) -> Result<Found,
 }
 
 // What is found of the prefixes, before and after those that end in even rows are taken out.
-fn found_prefixes(alloc: Global, query: Range) -> Result<(Found, Found), Fail> {
-    let listed = prefixes(alloc)?;
-    let ranges = listed.as_slice();
+fn found_prefixes<I: RangeIndex + Drop>(
+    alloc: Global,
+    ranges: &[Range],
+    query: Range,
+) -> Result<(Found, Found), Fail> {
     if ranges.len() != 1000 {
         return Err(Fail::from("not a thousand"));
     }
-    let mut index = TreeIndex::empty(alloc);
+    let mut index = I::empty(alloc);
     fill(&mut index, ranges)?;
     let before = found(alloc, &index, query)?;
     take_first(&mut index, ranges, 500);
@@ -45,13 +47,15 @@ fn found_prefixes(alloc: Global, query: Range) -> Result<(Found, Found), Fail> {
 }
 
 // Of the prefixes that end in row 500 or below there are 501; without those that end in even rows there are 250.
+const FOUND: (Found, Found) = ((501, Some(249), Some(999)), (250, Some(750), Some(999)));
+
 #[test]
 fn prefixes_of_a_column(rt: HostRuntime) -> Result<(), Fail> {
     let query = range_of(b"A500").ok_or("no range")?;
-    let found = found_prefixes(rt.alloc(), query)?;
-    assert_eq!(rt;
-        found,
-        ((501, Some(249), Some(999)), (250, Some(750), Some(999)),)
-    );
+    let ranges = prefixes(rt.alloc())?;
+    let list = found_prefixes::<ListIndex>(rt.alloc(), &ranges, query)?;
+    let grid = found_prefixes::<GridIndex>(rt.alloc(), &ranges, query)?;
+    let tree = found_prefixes::<TreeIndex>(rt.alloc(), &ranges, query)?;
+    assert_eq!(rt; (list, grid, tree), (FOUND, FOUND, FOUND));
     Ok(())
 }
