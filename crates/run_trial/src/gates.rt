@@ -50,3 +50,29 @@ impl Gate for UntilTwo {
         }
     }
 }
+
+/// Has two clients go on in turn: the first client waits ahead of its third command until the second one is ahead of
+/// its third, and the second waits ahead of its first command until the first one waits.
+#[derive(Drop)]
+pub(crate) struct InTurn {
+    pub(crate) first: AtomicU64,
+    pub(crate) second: AtomicU64,
+    pub(crate) late: AtomicU64,
+}
+
+impl Gate for InTurn {
+    fn between(&self, _: Cell) {}
+
+    fn before(&self, client: u32, number: u32) {
+        if client == 0 && number == 3 {
+            self.first.store(1, Ordering::SeqCst);
+            hold(&self.second, 1, &self.late);
+        }
+        if client == 1 && number == 1 {
+            hold(&self.first, 1, &self.late);
+        }
+        if client == 1 && number == 3 {
+            self.second.store(1, Ordering::SeqCst);
+        }
+    }
+}

@@ -1,4 +1,4 @@
-use crate::gates::{UntilClaimed, UntilTwo};
+use crate::gates::{InTurn, UntilClaimed, UntilTwo};
 use crate::script::{TWO_FORMULAS, printed};
 use sheet_refs::cell_of;
 use std::alloc::Global;
@@ -22,6 +22,29 @@ fn a_worker_computes_what_an_edit_marked(rt: HostRuntime) -> Result<(), Fail> {
     let script = "client ann\nset A1 5\nlook A1\n";
     let text = printed(&rt, alloc, TWO_FORMULAS, script, 1, &gate)?;
     let wanted = "log 1\n1 ann set A1 5\nclient ann\nlook 1 A1:A1\n5\nsheet 1 A1:B2\n5,6\n2,8\n";
+    assert_eq!(rt;
+        (text.as_str(), gate.late.load(Ordering::SeqCst)),
+        (wanted, 0)
+    );
+    Ok(())
+}
+
+// Each client's edit is in the log where it was made, and is covered by the other's looks after it. A run that took one
+// client after the other would come to the limit of a hold.
+#[test]
+fn a_look_covers_what_the_other_client_has_done(rt: HostRuntime) -> Result<(), Fail> {
+    let gate = InTurn {
+        first: AtomicU64::new(0),
+        second: AtomicU64::new(0),
+        late: AtomicU64::new(0),
+    };
+    let script = "client ann\nset A1 5\nfirm A1:B2\nlook A1:B2\n\
+                  client bob\nset A2 7\nfirm A1:B2\nlook B1\n";
+    let text = printed(&rt, rt.alloc(), TWO_FORMULAS, script, 2, &gate)?;
+    let wanted = "log 2\n1 ann set A1 5\n2 bob set A2 7\n\
+                  client ann\nfirm 1 A1:B2\n5,6\n2,8\nlook 2 A1:B2\n5,6\n7,13\n\
+                  client bob\nfirm 2 A1:B2\n5,6\n7,13\nlook 2 B1:B1\n6\n\
+                  sheet 2 A1:B2\n5,6\n7,13\n";
     assert_eq!(rt;
         (text.as_str(), gate.late.load(Ordering::SeqCst)),
         (wanted, 0)
