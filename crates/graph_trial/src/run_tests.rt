@@ -26,13 +26,20 @@ fn case_in(row: &Row) -> Case {
     }
 }
 
-// The edges once a case came into a graph without rectangles, and its rectangles are filed.
-fn edges_of(alloc: Global, case: &Case) -> Result<String, Fail> {
-    let mut graph = SheetGraph::by_runs(alloc);
-    fill(alloc, &mut graph, case)?;
+// The edges of a graph without edges once a case came, and its rectangles are filed.
+fn edges_after(alloc: Global, graph: &mut SheetGraph, case: &Case) -> Result<String, Fail>
+    requires { graph.old.edges ≡ [] }
+{
+    fill(alloc, graph, case)?;
     graph.file_rectangles()?;
     let edges = graph.edges()?;
     edges_shown(alloc, &edges)
+}
+
+// The same of a graph that begins without rectangles.
+fn edges_of(alloc: Global, case: &Case) -> Result<String, Fail> {
+    let mut graph = SheetGraph::by_runs(alloc);
+    edges_after(alloc, &mut graph, case)
 }
 
 fn have_edges(rt: &impl Abort, alloc: Global, rows: &[Row]) -> Result<(), Fail> {
@@ -179,10 +186,20 @@ fn met<G: Graph>(alloc: Global, graph: &mut G) -> Result<String, Fail>
     listed(alloc, &found)
 }
 
+fn met_in_plain(alloc: Global) -> Result<String, Fail> {
+    let mut graph = PlainGraph::new(alloc);
+    met(alloc, &mut graph)
+}
+
+fn met_over_list(alloc: Global) -> Result<String, Fail> {
+    let mut graph = Taco::<ListIndex>::new(alloc);
+    met(alloc, &mut graph)
+}
+
 #[test]
 fn runs_come_into_other_graphs(rt: HostRuntime) -> Result<(), Fail> {
-    let plain = met(rt.alloc(), &mut PlainGraph::new(rt.alloc()))?;
-    let edges = met(rt.alloc(), &mut Taco::<ListIndex>::new(rt.alloc()))?;
+    let plain = met_in_plain(rt.alloc())?;
+    let edges = met_over_list(rt.alloc())?;
     assert_eq!(rt; (plain.as_str(), edges.as_str()), ("B1:B1 B2:B2", "B1:B2"));
     Ok(())
 }
