@@ -1,7 +1,13 @@
 // What no clause says, and no run of the program shows: that codes mean what they should. The expected values were worked
 // out by hand.
+use std::process::Abort;
 use std::test::Fail;
 use value_core::{ErrorKind, Value, Whole, code, decode};
+
+// Holds the code of a value, and the value that a word is the code of, against each other.
+fn is_code(rt: &impl Abort, value: Value, word: u64) {
+    assert_eq!(rt; (code(value), decode(word)), (word, Some(value)));
+}
 
 const NUMBERS: [(i64, u64); 4] = [
     (0, 72_057_594_037_927_937),
@@ -13,8 +19,8 @@ const NUMBERS: [(i64, u64); 4] = [
 #[test]
 fn numbers_have_codes(rt: HostRuntime) -> Result<(), Fail> {
     for &(number, word) in &NUMBERS {
-        let value = Value::Number(Whole::new(number).ok_or("out of range")?);
-        assert_eq!(rt; (code(value), decode(word)), (word, Some(value)));
+        let whole = Whole::new(number).ok_or("out of range")?;
+        is_code(&rt, Value::Number(whole), word);
     }
     Ok(())
 }
@@ -37,8 +43,8 @@ const OTHERS: [(Value, u64); 13] = [
 
 #[test]
 fn other_values_have_codes(rt: HostRuntime) {
-    for &(value, word) in &OTHERS {
-        assert_eq!(rt; (code(value), decode(word)), (word, Some(value)));
+    for (value, word) in &OTHERS {
+        is_code(&rt, *value, *word);
     }
 }
 
