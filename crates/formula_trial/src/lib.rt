@@ -2,8 +2,8 @@
 //!
 //! The crate offers nothing. Its tests show what no clause of those crates says, and no run of the program: that the
 //! definitions of names, references and codes mean what a person who knows spreadsheets expects, and which cell
-//! evaluation names where a value isn't known. Operators, functions, the grammar and printed forms are shown as data, by
-//! the cases of `tests/cli`.
+//! evaluation names where a value isn't known. Operators, functions, the grammar and printed forms are shown as data,
+//! by the cases of `tests/cli`.
 #![tactic(auto)]
 
 #[cfg(test)]

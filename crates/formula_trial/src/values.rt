@@ -1,5 +1,5 @@
-// What no clause says, and no run of the program shows: that codes mean what they should. The expected values were worked
-// out by hand.
+// What no clause says, and no run of the program shows: that codes mean what they should. The expected values were
+// worked out by hand.
 use std::process::Abort;
 use std::test::Fail;
 use value_core::{ErrorKind, Value, Whole, code, decode};
