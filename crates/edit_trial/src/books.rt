@@ -21,12 +21,6 @@ fn book(alloc: Global, fields: &[(&str, &str)]) -> Result<Book<PlainGraph>, Fail
     Ok(Book::open(alloc, sheet, PlainGraph::new(alloc))?)
 }
 
-// A book of a sheet of one empty cell.
-pub(crate) fn blank_book(alloc: Global) -> Result<Book<PlainGraph>, Fail> {
-    let sheet = Sheet::blank(alloc, 1, 1, Edition::One)?;
-    Ok(Book::open(alloc, sheet, PlainGraph::new(alloc))?)
-}
-
 // An edit by which cells are to hold TRUE.
 fn made_true(alloc: Global, names: &[&str]) -> Result<Edit, Fail>
     ensures { IfOk result (λ edit. (labels : ℕ) → HaveLabels labels edit) }
@@ -110,25 +104,7 @@ fn told(
 }
 
 #[test]
-fn edits_touch_their_dependents_row_by_row(rt: HostRuntime) -> Result<(), Fail> {
-    let found = told(
-        rt.alloc(),
-        &[
-            ("C1", "=B2"),
-            ("B2", "=A1+SUM(A3:B3)"),
-            ("A3", "=B2"),
-            ("C3", "=A1"),
-        ],
-        &[&["A1"], &["B1"], &["B3"], &["B2"], &["A3"], &["A1"]],
-        "B2",
-    )?;
-    let lines = "1 A1 C1 B2 A3 C3\n2 B1\n3 C1 B2 A3 B3\n4 C1 B2 A3\n5 A3\n6 A1 C3\n6 6 true";
-    assert_eq!(rt; found.as_str(), lines);
-    Ok(())
-}
-
-#[test]
-fn an_edit_of_two_cells_touches_the_dependents_of_both(rt: HostRuntime) -> Result<(), Fail> {
+fn edits_touch_the_dependents_of_their_cells_row_by_row(rt: HostRuntime) -> Result<(), Fail> {
     let found = told(
         rt.alloc(),
         &[("A1", "=B1"), ("C3", "=A2"), ("B3", "=A1+C3")],
@@ -141,11 +117,7 @@ fn an_edit_of_two_cells_touches_the_dependents_of_both(rt: HostRuntime) -> Resul
 }
 
 // Empties a cell of a book, and tells whether that was prepared.
-pub(crate) fn clears<G: Graph>(
-    alloc: Global,
-    book: &mut Book<G>,
-    cell: Cell,
-) -> Result<u64, PrepareRefused> {
+fn clears<G: Graph>(alloc: Global, book: &mut Book<G>, cell: Cell) -> Result<u64, PrepareRefused> {
     let content = Content::Empty;
     let edit = Edit::one(alloc, Change { cell, content })?;
     let prepared = book.prepare(0, edit)?;
@@ -165,11 +137,6 @@ fn clear_all<G: Graph>(
     Ok(())
 }
 
-// Why emptying a cell is refused.
-fn refused<G: Graph>(alloc: Global, book: &mut Book<G>, cell: Cell) -> Option<PrepareRefused> {
-    clears(alloc, book, cell).err()
-}
-
 // Fills the log of a book of one cell; why that cell is then not emptied, and why one outside the sheet isn't.
 fn refused_when_full<G: Graph>(
     alloc: Global,
@@ -178,25 +145,17 @@ fn refused_when_full<G: Graph>(
     outside: Cell,
 ) -> Result<(Option<PrepareRefused>, Option<PrepareRefused>), Fail> {
     clear_all(alloc, book, first)?;
-    let full = refused(alloc, book, first);
-    let past = refused(alloc, book, outside);
+    let full = clears(alloc, book, first).err();
+    let past = clears(alloc, book, outside).err();
     Ok((full, past))
-}
-
-// The same of a book of a sheet of one empty cell.
-fn refused_by_blank(
-    alloc: Global,
-    first: Cell,
-    outside: Cell,
-) -> Result<(Option<PrepareRefused>, Option<PrepareRefused>), Fail> {
-    let mut book = blank_book(alloc)?;
-    refused_when_full(alloc, &mut book, first, outside)
 }
 
 #[test]
 fn a_log_takes_a_million_entries(rt: HostRuntime) -> Result<(), Fail> {
     let (first, outside) = (cell("A1")?, cell("A2")?);
-    let found = refused_by_blank(rt.alloc(), first, outside)?;
+    let sheet = Sheet::blank(rt.alloc(), 1, 1, Edition::One)?;
+    let mut book = Book::open(rt.alloc(), sheet, PlainGraph::new(rt.alloc()))?;
+    let found = refused_when_full(rt.alloc(), &mut book, first, outside)?;
     let length = 1_048_576;
     assert_eq!(rt;
         found,

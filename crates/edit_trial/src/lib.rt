@@ -1,9 +1,9 @@
 //! Trials of edits: the graphs of sheets, books of edits and the scripts that bring them.
 //!
-//! Tests alone; no crate stands on it. `graphs` asks the graphs of small sheets, `books` makes edits one by one and
-//! `threads` side by side, under a lock; `scripts` reads scripts, and texts that are refused.
+//! Tests alone; no crate is built on it. `graphs` asks the graph of a small sheet, `books` makes edits one by one, and
+//! `scripts` reads scripts. What graphs and scripts are is shown as data besides, by the cases of `tests/cli`.
 //!
-//! Below stand `edit_log`, over the list of pairs of `plain_graph`, and `edit_script`.
+//! Below are `edit_log`, over the list of pairs of `plain_graph`, and `edit_script`.
 #![tactic(auto)]
 
 #[cfg(test)]
@@ -12,5 +12,3 @@ mod books;
 mod graphs;
 #[cfg(test)]
 mod scripts;
-#[cfg(test)]
-mod threads;

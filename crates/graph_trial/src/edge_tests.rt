@@ -54,7 +54,7 @@ fn is_joined(
 
 #[test]
 fn neighbours_are_joined(rt: HostRuntime) -> Result<(), Fail> {
-    let cases: [(&[(&str, &str)], &[(&str, &str)], &str); 6] = [
+    const CASES: [(&[(&str, &str)], &[(&str, &str)], &str); 6] = [
         (&[("A2", "A1:A1")], &[("A3", "A2:A2")], "A2:A3 A1:A2 Chain"),
         (&[("B1", "A1:A3")], &[("B2", "A2:A3")], "B1:B2 A1:A3 RF"),
         (&[("B1", "A1:A1")], &[("B2", "A1:A2")], "B1:B2 A1:A2 FR"),
@@ -66,7 +66,7 @@ fn neighbours_are_joined(rt: HostRuntime) -> Result<(), Fail> {
             "None",
         ),
     ];
-    for (front, back, wanted) in cases {
+    for &(front, back, wanted) in &CASES {
         are_joined(&rt, rt.alloc(), &edge(front)?, &edge(back)?, wanted)?;
     }
     Ok(())
@@ -142,65 +142,8 @@ const ASKED: [(&[(&str, &str)], &[Row]); 3] = [
 
 #[test]
 fn edges_are_split_and_asked(rt: HostRuntime) -> Result<(), Fail> {
-    for (pairs, rows) in ASKED {
+    for &(pairs, rows) in &ASKED {
         answers(&rt, rt.alloc(), &edge(pairs)?, rows)?;
     }
     answers(&rt, rt.alloc(), &growing()?, &GROWING)
-}
-
-// The edge of a cell of the last row that refers to the one before it.
-fn link(col: u32) -> Result<Edge, Fail> {
-    let before = cell_at(1048576, col.saturating_sub(1))?;
-    let cell = cell_at(1048576, col)?;
-    Ok(Edge::single(cell, Range::of(before, before)))
-}
-
-// The chain of the last row, up to the last column that has a name.
-fn row_chain() -> Result<Edge, Fail> {
-    let mut chain = None;
-    for col in 2..16385 {
-        chain = Some(extended(chain, link(col)?)?);
-    }
-    Ok(chain.ok_or("no chain")?)
-}
-
-const ROW_CHAIN: [Row; 7] = [
-    (
-        Ask::Whole,
-        "",
-        "B1048576:XFD1048576 A1048576:XFC1048576 Chain",
-    ),
-    (Ask::Direct, "A1:XFD1048576", "B1048576:XFD1048576"),
-    (Ask::Spread, "XFC1048576", "XFD1048576:XFD1048576"),
-    (Ask::Spread, "XFD1048576", "None"),
-    (Ask::Back, "XFD1048576", "A1048576:XFC1048576"),
-    (Ask::Back, "A1048576", "None"),
-    (
-        Ask::Parts,
-        "XFD1048576",
-        "B1048576:XFC1048576 A1048576:XFB1048576 Chain, None",
-    ),
-];
-
-#[test]
-fn edges_reach_the_ends_of_names(rt: HostRuntime) -> Result<(), Fail> {
-    answers(&rt, rt.alloc(), &row_chain()?, &ROW_CHAIN)
-}
-
-// The last two cells that have a name, each of which refers to all of them.
-const LAST_RUN: [(&str, &str); 2] = [
-    ("XFD1048576", "A1:XFD1048576"),
-    ("XFD1048575", "A1:XFD1048576"),
-];
-
-const LAST_RUN_ANSWERS: [Row; 4] = [
-    (Ask::Whole, "", "XFD1048575:XFD1048576 A1:XFD1048576 FF"),
-    (Ask::Back, "XFD1048575", "A1:XFD1048576"),
-    (Ask::Direct, "A1", "XFD1048575:XFD1048576"),
-    (Ask::Spread, "A1:XFD1048576", "XFD1048575:XFD1048576"),
-];
-
-#[test]
-fn edges_refer_to_the_whole_space_of_names(rt: HostRuntime) -> Result<(), Fail> {
-    answers(&rt, rt.alloc(), &edge(&LAST_RUN)?, &LAST_RUN_ANSWERS)
 }

@@ -21,7 +21,7 @@ fn edge_of(alloc: Global, run: &str, reference: &str) -> Result<String, Fail> {
 
 #[test]
 fn filled_runs_are_edges(rt: HostRuntime) -> Result<(), Fail> {
-    for (run, reference, wanted) in [
+    for &(run, reference, wanted) in &[
         ("B1:B3", "$A$1:A1", "B1:B3 A1:A3 FR"),
         ("B1:B5", "A1:$A$3", "None"),
         ("B1:B3", "A1:$A$3", "B1:B3 A1:A3 RF"),
@@ -94,7 +94,7 @@ fn filled(alloc: Global, sheet: &Sheet, to: &str) -> Result<String, Fail> {
 fn ranges_are_filled(rt: HostRuntime) -> Result<(), Fail> {
     let alloc = rt.alloc();
     let sheet = sheet_with(alloc, 1_100, "=SUM($B$1:B1)")?;
-    for (to, wanted) in [
+    for &(to, wanted) in &[
         ("A1:A3", "A2 =SUM($B$1:B2);A3 =SUM($B$1:B3);"),
         ("A1", "nothing"),
         ("A1:A1026", "1025 too many"),

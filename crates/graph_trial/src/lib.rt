@@ -1,8 +1,7 @@
 //! Trials of edges, of the graphs that keep them, and of what stands over such a graph: chains and fills.
 //!
-//! The crate offers nothing. Its tests hold the edges of a small grid against plain lists of pairs, make thousands of
-//! changes of a compressed graph, after each of which no two edges can be joined, have runs of cells come at once and
-//! cell by cell, and compare what graphs, walks, chains and fills answer with what a person finds.
+//! The crate offers nothing. Its tests run each call of edges, graphs, walks, chains and fills where there is memory,
+//! and compare a few answers with what a person finds. What all answers are, the clauses of those crates say.
 //!
 //! Below stand `edge_patterns`, `taco_graph` over the indexes of ranges, `plain_graph` with the walks of `graph_walk`,
 //! `dep_path` and `sheet_fill`.
@@ -22,11 +21,5 @@ mod plain_tests;
 mod run_tests;
 #[cfg(test)]
 mod runs;
-#[cfg(test)]
-mod small_edges;
-#[cfg(test)]
-mod small_grid;
-#[cfg(test)]
-mod taco_random;
 #[cfg(test)]
 mod taco_tests;

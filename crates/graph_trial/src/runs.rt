@@ -1,10 +1,8 @@
-// Runs of cells down a column that come into a graph in which other cells stand, at once or cell by cell.
+// Runs of cells down a column that come at once into a graph in which other cells have their ranges.
 ghost use Rattle.std.specs.Prelude.{◌≡◌, ◌<◌, [], IsTrue, OnOk};
 ghost use Rattle.graph_walk.specs.Series.{GoesOn, GoOn, LackRun, steps_of};
 
-use crate::edge_texts::{cell, cell_at, range};
-use crate::plain_tests::give;
-use crate::taco_random::refs_of;
+use crate::edge_texts::{cell, range};
 use graph_walk::{Graph, Series};
 use sheet_refs::{Cell, Range, Refs};
 use std::alloc::Global;
@@ -25,25 +23,16 @@ pub(crate) struct Case {
     pub(crate) other: Ends,
 }
 
-// How the run comes.
-#[derive(Clone, Copy, PartialEq)]
-pub(crate) enum Way {
-    AtOnce,
-    CellByCell,
-}
-
-// The range with this text; None without one.
-fn range_in(text: &str) -> Result<Option<Range>, Fail> {
-    if text.is_empty() {
-        return Ok(None);
-    }
-    Ok(Some(range(text)?))
-}
-
 fn refs_in(alloc: Global, one: &str, other: &str) -> Result<Refs, Fail> {
-    let one = range_in(one)?;
-    let other = range_in(other)?;
-    refs_of(alloc, one, other)
+    let first = range(one)?;
+    if other.is_empty() {
+        return Ok(Refs::of(alloc, &[first])?);
+    }
+    let second = range(other)?;
+    if first == second {
+        return Err(Fail::from("one range twice"));
+    }
+    Ok(Refs::of(alloc, &[first, second])?)
 }
 
 fn series_in(ends: Ends) -> Result<Series, Fail> {
@@ -138,70 +127,11 @@ fn add<G: Graph>(graph: &mut G, run: Range, case: &Case) -> Result<(), Fail>
     add_two(graph, run, one, other)
 }
 
-// Where an end is, so many cells behind the first one.
-fn end_at(first: Cell, last: Cell, index: u32) -> Result<Cell, Fail> {
-    let rows = if first == last { 0 } else { index };
-    cell_at(first.row().saturating_add(rows), first.col())
-}
-
-// The range of the cell so many cells behind the first one; None without a series.
-fn range_at(ends: Ends, index: u32) -> Result<Option<Range>, Fail> {
-    if ends.0.is_empty() {
-        return Ok(None);
-    }
-    let series = series_in(ends)?;
-    let head = end_at(series.first.head(), series.last.head(), index)?;
-    let tail = end_at(series.first.tail(), series.last.tail(), index)?;
-    Ok(Some(Range::of(head, tail)))
-}
-
-// The ranges of the cell so many cells behind the first one.
-fn refs_at(alloc: Global, case: &Case, index: u32) -> Result<Refs, Fail> {
-    let one = range_at(case.one, index)?;
-    let other = range_at(case.other, index)?;
-    refs_of(alloc, one, other)
-}
-
-// Gives a cell of the run its ranges.
-fn replace_one<G: Graph>(
-    alloc: Global,
-    graph: &mut G,
-    at: Cell,
-    case: &Case,
-    index: u32,
-) -> Result<(), Fail> {
-    let refs = refs_at(alloc, case, index)?;
-    give(graph, at, &refs)
-}
-
-// Adds the run cell by cell from the top.
-fn replace_all<G: Graph>(
-    alloc: Global,
-    graph: &mut G,
-    run: Range,
-    case: &Case,
-) -> Result<(), Fail> {
-    let head = run.head();
-    for row in head.row()..run.tail().row() + 1 {
-        let at = cell_at(row, head.col())?;
-        replace_one(alloc, graph, at, case, row - head.row())?;
-    }
-    Ok(())
-}
-
 // Puts the cells of a case into a graph without pairs, and then its run.
-pub(crate) fn fill<G: Graph>(
-    alloc: Global,
-    graph: &mut G,
-    case: &Case,
-    way: Way,
-) -> Result<(), Fail>
+pub(crate) fn fill<G: Graph>(alloc: Global, graph: &mut G, case: &Case) -> Result<(), Fail>
     requires { G.pairs graph.old ≡ [] }
 {
     let run = range(case.run)?;
     put_all(alloc, graph, run, case.before)?;
-    match way {
-        Way::AtOnce => add(graph, run, case),
-        Way::CellByCell => replace_all(alloc, graph, run, case),
-    }
+    add(graph, run, case)
 }

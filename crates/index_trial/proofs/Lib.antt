@@ -1,2 +1,1 @@
 mod ListedLemmas
-mod TrialLemmas

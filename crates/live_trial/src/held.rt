@@ -1,10 +1,10 @@
-ghost use Rattle.std.specs.Prelude.{◌≡◌, ◌≤◌};
+ghost use Rattle.std.specs.Prelude.{◌≡◌};
 ghost use Rattle.std.specs.Thread.{IsSync};
 ghost use Rattle.live_sheet.specs.Setups.{IsNamedBy};
 
 use crate::fields::four_cells;
 use crate::gate::UntilAnswered;
-use crate::stories::{Story, edit, firm, look, looks_and_edits};
+use crate::stories::{Story, edit, firm, look};
 use crate::texts::{write_beside, write_turn};
 use live_sheet::{
     Desk, Live, Naming, Opened, Pass, Setup, desks_cross, live_crosses, passes_cross,
@@ -18,58 +18,6 @@ use std::sync::atomic::Ordering;
 use std::test::Fail;
 use std::thread::{Threads, join};
 use trial_parts::hold;
-
-// Looks and makes an edit once a worker is between its claim and its put, and then lets that one go on.
-fn answers_beside<N: Naming, R: Wait>(
-    rt: &R,
-    alloc: Global,
-    live: &Live<N>,
-    pass: &mut Pass<N>,
-    sizes: Sizes,
-    range: Range,
-    change: (&str, &str),
-    gate: &UntilAnswered,
-) -> Result<String, Fail>
-    requires { sizes ≡ N.opening.sizes }
-{
-    let mut story = Story::new(alloc, range)?;
-    hold(&gate.claims, 1, &gate.late);
-    looks_and_edits(rt, live, pass, sizes, change, &mut story)?;
-    gate.answers.store(1, Ordering::SeqCst);
-    Ok(story.into_text())
-}
-
-// Edits, and then looks and edits while a worker's turn at the desk is held between its claim and its put.
-fn edits_beside<N: Naming + Send + Sync, R: Threads + Wait + Sync>(
-    rt: &R,
-    alloc: Global,
-    live: &Live<N>,
-    pass: &mut Pass<N>,
-    desk: &mut Desk<N>,
-    sizes: Sizes,
-    first: (&str, &str),
-    second: (&str, &str),
-    gate: &UntilAnswered,
-    story: &mut Story,
-) -> Result<(), Fail>
-    requires { sizes ≡ N.opening.sizes }
-{
-    live_crosses::<N>();
-    passes_cross::<N>();
-    desks_cross::<N>();
-    edit(rt, live, pass, first, story)?;
-    let range = story.range;
-    let (turn, told) = join(
-        rt,
-        || -> Turn
-            requires { IsSync R.row }
-        { live.work(rt, desk, gate) },
-        || -> Result<String, Fail>
-            requires { IsSync R.row × (sizes ≡ N.opening.sizes) }
-        { answers_beside(rt, alloc, live, pass, sizes, range, second, gate) },
-    );
-    write_beside(&mut story.text, told, &turn)
-}
 
 // Three turns at a desk.
 fn turns<N: Naming, R: Wait>(
@@ -191,8 +139,7 @@ fn edits_twice<N: Naming + Send + Sync, R: Threads + Wait + Sync>(
     looks_twice(rt, live, pass, sizes, story)
 }
 
-// Opens a sheet, and has a worker's turn held at its last desk: an edit overtakes it where there is another desk, and
-// is made beside it where there is none.
+// Opens a sheet, and has a worker's turn at its last desk held until an edit has overtaken it.
 fn opens<N: Naming + Send + Sync, R: Threads + Wait + Sync>(
     rt: &R,
     alloc: Global,
@@ -211,35 +158,27 @@ fn opens<N: Naming + Send + Sync, R: Threads + Wait + Sync>(
         mut passes,
         mut desks,
     } = Live::<N>::open(alloc, setup)?;
-    let (Some(mut pass), Some(mut desk)) = (passes.pop(), desks.pop()) else {
-        return Err(Fail::from("no pass or no desk"));
+    let (Some(mut pass), Some(mut desk), Some(mut other)) = (passes.pop(), desks.pop(), desks.pop())
+    else {
+        return Err(Fail::from("no pass or no desks"));
     };
-    match desks.pop() {
-        Some(mut other) => edits_twice(
-            rt, alloc, &live, &mut pass, &mut desk, &mut other, sizes, first, second, gate, story,
-        ),
-        None => edits_beside(
-            rt, alloc, &live, &mut pass, &mut desk, sizes, first, second, gate, story,
-        ),
-    }
+    edits_twice(
+        rt, alloc, &live, &mut pass, &mut desk, &mut other, sizes, first, second, gate, story,
+    )
 }
 
-// The same over four cells, with one client and so many desks, where two cells are to hold a field each.
+// The same over four cells, with one client and two desks, where two cells are to hold a field each.
 fn held<R: Threads + Wait + Sync>(
     rt: &R,
     alloc: Global,
-    desks: u32,
     first: (&str, &str),
     second: (&str, &str),
     gate: &UntilAnswered,
     story: &mut Story,
-) -> Result<(), Fail>
-    requires some { 1 ≤ desks }
-    requires most { desks ≤ 64 }
-{
+) -> Result<(), Fail> {
     let sheet = four_cells(alloc)?;
     let sizes = sheet.sizes();
-    let setup = Setup::new(alloc, sheet, 1, desks)?;
+    let setup = Setup::new(alloc, sheet, 1, 2)?;
     opens::<Brand, _>(rt, alloc, setup, sizes, first, second, gate, story)
 }
 
@@ -247,32 +186,20 @@ fn held<R: Threads + Wait + Sync>(
 fn told<R: Threads + Wait + Sync>(
     rt: &R,
     alloc: Global,
-    desks: u32,
     first: (&str, &str),
     second: (&str, &str),
-) -> Result<(String, u64), Fail>
-    requires some { 1 ≤ desks }
-    requires most { desks ≤ 64 }
-{
+) -> Result<(String, u64), Fail> {
     let gate = UntilAnswered::new();
     let mut story = Story::of(alloc, "A1:B2")?;
-    held(rt, alloc, desks, first, second, &gate, &mut story)?;
+    held(rt, alloc, first, second, &gate, &mut story)?;
     Ok((story.into_text(), gate.late.load(Ordering::SeqCst)))
 }
 
-// A worker has claimed A1 and not put its value yet while a look and an edit are answered.
-#[test]
-fn looks_and_edits_are_answered_while_a_worker_computes(rt: HostRuntime) -> Result<(), Fail> {
-    let (text, late) = told(&rt, rt.alloc(), 1, ("A1", "5"), ("A2", "7"))?;
-    let wanted = " #1 1: ~1 ~1 2 ~1 #2 2: ~1 ~1 ~2 ~2 A1 is done";
-    assert_eq!(rt; (text.as_str(), late), (wanted, 0));
-    Ok(())
-}
-
-// A worker that has claimed A1 is overtaken by an edit of A1. What it puts is never shown as the value of A1.
+// A worker that has claimed A1 is held until an edit of A1 was committed, a look was answered and another desk has
+// turned. What it puts then is never shown as the value of A1.
 #[test]
 fn a_worker_is_overtaken_by_an_edit(rt: HostRuntime) -> Result<(), Fail> {
-    let (text, late) = told(&rt, rt.alloc(), 2, ("A1", "5"), ("A1", "6"))?;
+    let (text, late) = told(&rt, rt.alloc(), ("A1", "5"), ("A1", "6"))?;
     let wanted =
         " #1  #2 2: ~2 ~2 2 ~2 B1 waits for A1 at 2 B2 waits for B1 at 2 A1 is held A1 is done, \
                   2: ~2 ~2 2 ~2 firm 2: 6 7 2 9";

@@ -1,23 +1,19 @@
 -- What the tests of reads and work rest on.
 use Rattle.std.proofs.Common.{◌≡◌, ◌≢◌, ◌<◌, ◌≤◌, ◌+◌, ◌==◌, ℕ, zero, suc, List, [], ◌∷◌, ◌++◌, Some, None, map, length}
-use Rattle.std.proofs.Common.{false, true, refl, sym, ◌∙◌, ap, subst, inl, inr, arith, length-append}
-use Rattle.std.specs.Prelude.{All, Contains, IfOk, Result, Ok, Err, if◌then◌else◌, ◌%◌}
+use Rattle.std.proofs.Common.{false, true, refl, sym, ◌∙◌, ap, subst, arith, length-append}
+use Rattle.std.specs.Prelude.{Contains}
 use Rattle.std.proofs.Math.Seq.{take-length}
-use Rattle.std.proofs.lemmas.List.Elements.{Contains-push, All-push}
-use Rattle.std.proofs.lemmas.Bool.{cond_both, cases_lt, eq-eqb}
+use Rattle.std.proofs.lemmas.List.Elements.{Contains-push}
+use Rattle.std.proofs.lemmas.Bool.{cond_both, eq-eqb}
 use Rattle.mark_core.specs.declared.words.Clean.{Clean}
 use Rattle.mark_core.specs.declared.words.Half.{Half}
 use Rattle.mark_core.specs.declared.words.Held.{Held}
 use Rattle.mark_core.specs.declared.words.Finished.{Finished}
-use Rattle.mark_core.specs.declared.answers.Seen.{Seen}
-use Rattle.mark_core.specs.declared.answers.Seen.TheVariants.{Value, Stale, Newer}
 use Rattle.mark_core.specs.declared.actors.View.{View}
-use Rattle.mark_core.specs.Answers.{Shows}
 use Rattle.mark_core.specs.Marks.{IsLastMark}
 use Rattle.mark_core.specs.Views.{new_half, read_of, hold_with}
 use Rattle.mark_core.specs.declared.subjects.Subject.{Ghosts}
 use Rattle.mark_core.specs.Permissions.{IsWorthKnown, MayClaim, MayPut, MayFinish}
-use Rattle.mark_core.proofs.Prefixes.{last_mark_unique}
 use Rattle.mark_words.specs.declared.tables.Doing.{Doing}
 use Rattle.mark_words.specs.declared.marks.Marks.{Marks}
 use Rattle.mark_words.specs.declared.seats.Seat.{Seat}
@@ -27,8 +23,7 @@ use Rattle.mark_words.specs.Tokens.{IsSeatOf, doing_of}
 use Rattle.mark_words.proofs.ReadSteps.{read_end_cases}
 use Rattle.mark_words.proofs.TokenLemmas.{begins}
 use Rattle.mark_trial.specs.TwoTestCells.{last_or}
-use Rattle.mark_trial.specs.EightTestCells.{last_setting, script}
-use Rattle.mark_trial.specs.Threads.{IsReadyEditor, HasReadPlace, IsWorthOf, IsStaleAfter}
+use Rattle.mark_trial.specs.Threads.{IsReadyEditor, HasReadPlace}
 
 -- the three loads of a read, one after the other
 pub has_read : {S E : Type 0} (worth : List E → ℕ → ℕ) (touches : List E → E → ℕ
@@ -93,20 +88,6 @@ module _ {S E : Type 0} (worth : List E → ℕ → ℕ) (touches : List E → E
   pub last_read : mark ≤ length before.view.log → IsLastMark touches before.view.log place mark
   last_read within = subst (λ (p : ℕ). IsLastMark touches before.view.log p mark) read.same_place (read.tells.last within)
 
-  -- what is shown at the number that the seat has seen
-  pub worth_read : (log : List E) → before.view.log ≡ log → (number : ℕ) → before.view.seen ≡ number → (shown : Seen)
-      → Shows number clean word mark shown → IsWorthOf worth touches log number place shown
-  worth_read log same number is (Value value) shows = (
-    mark,
-    subst (λ (l : List E). IsWorthAfter worth touches l number place value mark) same
-        (subst (λ (p : ℕ). IsWorthAfter worth touches before.view.log number p value mark) read.same_place
-        (subst (λ (w : ℕ). IsWorthAfter worth touches before.view.log number read.half.place w mark) (sym shows.2)
-        (subst (λ (n : ℕ). IsWorthAfter worth touches before.view.log n read.half.place word mark) is
-        (read.tells.seen word read.same_word (upto_is ∙ shows.0) (omega (arith, shows.1, is)))))),
-  )
-  worth_read log same number is (Stale m) shows = tt
-  worth_read log same number is (Newer m) shows = tt
-
   -- a free clean word that wasn't computed for the mark may be claimed
   pub may_claim : clean.held ≡ false → clean.upto ≢ mark + 1 → MayClaim after.view place clean
   may_claim free stale =
@@ -170,51 +151,6 @@ module _ {S E : Type 0} (worth : List E → ℕ → ℕ) (touches : List E → E
             };
       })
 
--- two reads of a place
-module _ {S E : Type 0} (worth : List E → ℕ → ℕ) (touches : List E → E → ℕ → Type 0) (before between after : Doing S E) (place : ℕ)
-    (clean clean' : Clean) (word word' mark mark' : ℕ) (first : HasReadPlace worth touches before place clean word mark between)
-    (second : HasReadPlace worth touches between place clean' word' mark' after) (number : ℕ) (is : number ≡ length before.view.log) where
-  -- a mark of the second read that isn't the first one's, after a value, is past the log
-  later_read : clean.upto ≡ mark + 1 → mark ≤ number → clean'.upto ≢ mark' + 1 → number < mark'
-  later_read upto within stale =
-      let floor : mark < second.half.floor = second.above mark (first.learns upto) in
-      let upto' : second.half.clean.upto ≡ clean'.upto = ap (λ (x : Clean). x.upto) second.same_clean in
-      elim second.tells.floor [
-        | inl met ↦
-            elim (cases_lt number mark') [
-              | inl past ↦ past
-              | inr le ↦
-                  let own : IsLastMark touches before.view.log place mark =
-                  last_read worth touches before between place clean word mark first (omega (arith, is)) in
-                  let other : IsLastMark touches before.view.log place mark' =
-                  subst (λ (l : List E). IsLastMark touches l place mark') first.log
-                  (last_read worth touches between after place clean' word' mark' second (omega (arith, is, ap length first.log))) in
-                  absurd (omega (arith, last_mark_unique touches before.view.log place mark mark' own other))
-            ]
-        | inr same ↦ absurd (stale (omega (arith, same.0, same.1, upto')))
-      ]
-
-  pub stale_after : (one two : Seen) → Shows number clean word mark one → Shows number clean' word' mark' two → IsStaleAfter number one two
-  stale_after (Value value) (Value value') s t = tt
-  stale_after (Value value) (Stale m) s t = subst (λ (n : ℕ). number < n) (sym t.1) (later_read s.0 s.1 t.0)
-  stale_after (Value value) (Newer m) s t = omega (arith, t.1, t.2)
-  stale_after (Stale m) two s t = tt
-  stale_after (Newer m) two s t = tt
-
--- the script has as many entries as it says
-pub script_length : (number : ℕ) → length (script number) ≡ number
-unfolding script
-script_length zero = refl
-script_length (suc number) =
-    let before : length (script number) ≡ number = script_length number in
-    omega (arith, length-append (script number) (suc number ∷ []))
-
--- the last entry of a longer script that sets the place
-pub last_next : (place found : ℕ) (entries : List ℕ) (entry : ℕ)
-    → last_setting place found (entries ++ entry ∷ []) ≡ (if entry % 8 == place then entry else last_setting place found entries)
-last_next place found [] entry = refl
-last_next place found (next ∷ entries) entry = last_next place (if next % 8 == place then next else found) entries entry
-
 -- the last of the numbers with one more
 pub last_added : (found : ℕ) (numbers : List ℕ) (number : ℕ) → last_or found (numbers ++ number ∷ []) ≡ number
 last_added found [] number = refl
@@ -268,12 +204,3 @@ module _ {S E : Type 0} {G : Ghosts S E} (marks : Marks S E) (before first secon
             ∙ ap (λ (d : Doing S E). length d.view.log + 1) both ∙ ap (λ (d : Doing S E). length d.view.log + 1) one
             ∙ ap (λ n. n + 1) ready.entries;
       }
-
--- what two facts of a result give together
-pub ok_both : {A B : Type 0} (r : Result A B) (P Q Z : A → Type 0) → IfOk r P → IfOk r Q → ((x : A) → P x → Q x → Z x) → IfOk r Z
-ok_both (Ok x) P Q Z p q f = f x p q
-ok_both (Err e) P Q Z p q f = p
-
--- what holds of all, and of the one that was put after them, holds of all then
-pub all_pushed : {X : Type 0} (P : X → Type 0) (before after : List X) (last : X) → after ≡ before ++ last ∷ [] → All P before → P last → All P after
-all_pushed P before after last is all one = subst (All P) (sym is) (All-push P before last all one)

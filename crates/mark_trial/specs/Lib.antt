@@ -1,3 +1,2 @@
 pub mod TwoTestCells
-pub mod EightTestCells
 pub mod Threads

@@ -1,20 +1,13 @@
 -- What the tests with threads keep.
-use Rattle.std.specs.Prelude.{◌≡◌, ◌<◌, ◌≤◌, ◌+◌, ℕ, List, [], ◌∷◌, ◌++◌, Some, None, true, length, Contains, Option}
+use Rattle.std.specs.Prelude.{◌≡◌, ◌<◌, ◌+◌, ℕ, List, [], ◌∷◌, ◌++◌, Some, None, true, length, Contains}
 use Rattle.mark_core.specs.declared.words.Clean.{Clean}
 use Rattle.mark_core.specs.declared.words.Half.{Half}
-use Rattle.mark_core.specs.declared.answers.Seen.{Seen}
-use Rattle.mark_core.specs.declared.answers.Seen.TheVariants.{Value, Stale, Newer}
-use Rattle.mark_core.specs.declared.words.Place.{Place}
-use Rattle.mark_core.specs.Places.{place_at}
-use Rattle.mark_core.specs.States.{State, opening_state}
 use Rattle.mark_core.specs.Views.{read_of}
 use Rattle.mark_core.specs.declared.subjects.Subject.{Ghosts}
 use Rattle.mark_words.specs.declared.tables.Doing.{Doing}
-use Rattle.mark_words.specs.declared.tables.Made.{Made}
 use Rattle.mark_words.specs.declared.marks.Marks.{Marks}
 use Rattle.mark_words.specs.declared.seats.Seat.{Seat}
-use Rattle.mark_words.specs.Reads.{IsWorthAfter, TellsOf}
-use Rattle.mark_words.specs.Runs.{RunsWith}
+use Rattle.mark_words.specs.Reads.{TellsOf}
 use Rattle.mark_words.specs.Tokens.{IsSeatOf, places_of, is_editor, edits_of, log_of}
 use Rattle.mark_trial.specs.TwoTestCells.{last_or}
 
@@ -32,16 +25,6 @@ pub record IsBlank {S E : Type 0} {G : Ghosts S E} (marks : Marks S E) (seat : S
   pub table : IsSeatOf marks seat
   pub none : log_of seat ≡ []
 
--- the seat is one of the table, and knows at least so many entries
-pub record KnowsMany {S E : Type 0} {G : Ghosts S E} (marks : Marks S E) (seat : Seat S E G) (count : ℕ) : Type 0 where
-  pub table : IsSeatOf marks seat
-  pub many : count ≤ length (log_of seat)
-
--- of two seats, the first is one of the table, and the second knows at least so many entries
-pub record AreTwoSeats {S E : Type 0} {G : Ghosts S E} (marks : Marks S E) (pair : Seat S E G × Seat S E G) (count : ℕ) : Type 0 where
-  pub viewer : IsSeatOf marks pair.0
-  pub relay : KnowsMany marks pair.1 count
-
 -- The seat has read the place in three loads: the floor was above each mark for which it knew the place as computed,
 -- the read tells what it should, and nothing else of what the seat knew has gone.
 pub record HasReadPlace {S E : Type 0} (worth : List E → ℕ → ℕ) (touches : List E → E → ℕ → Type 0) (before : Doing S E)
@@ -57,30 +40,9 @@ pub record HasReadPlace {S E : Type 0} (worth : List E → ℕ → ℕ) (touches
   pub log : after.view.log ≡ before.view.log
   pub seen : after.view.seen ≡ before.view.seen
 
--- a value that is shown at this number is the worth after so many entries, which go on from the log
-abbrev pub IsWorthOf : {E : Type 0} → (List E → ℕ → ℕ) → (List E → E → ℕ → Type 0) → List E → ℕ → ℕ → Seen → Type 0
-IsWorthOf worth touches log number place (Value word) = (mark : ℕ) × IsWorthAfter worth touches log number place word mark
-IsWorthOf worth touches log number place (Stale mark) = Unit {0}
-IsWorthOf worth touches log number place (Newer mark) = Unit {0}
-
--- after a value a mark is shown only of an entry past the number
-abbrev pub IsStaleAfter : ℕ → Seen → Seen → Type 0
-IsStaleAfter number (Value word) (Stale mark) = number < mark
-IsStaleAfter number (Value word) (Newer mark) = number < mark
-IsStaleAfter number first second = Unit {0}
-
 -- the seat is one of a table over two cells, and knows so many entries, of which this is the last
 pub record KnowsLast {S : Type 0} {G : Ghosts S ℕ} (marks : Marks S ℕ) (seat : Seat S ℕ G) (count last : ℕ) : Type 0 where
   pub table : IsSeatOf marks seat
   pub two : places_of marks ≡ 2
   pub entries : length (log_of seat) ≡ count
   pub ends : last_or 1 (log_of seat) ≡ last
-
--- events have led from these codes to a state with these places
-pub record AreLedTo {E : Type 0} (worth : List E → ℕ → ℕ) (touches : List E → E → ℕ
-    → Type 0) (opening : List (Option ℕ)) (places : ℕ) (place_of : ℕ → Place) : Type 0 where
-  pub events : List (Made E)
-  pub core : State E
-  pub run : RunsWith worth touches (opening_state opening) events core
-  pub count : length core.places ≡ places
-  pub each : (place : ℕ) → place < places → place_of place ≡ place_at core.places place

@@ -41,10 +41,6 @@ fn free(upto: u64) -> Clean {
     Clean { upto, held: false }
 }
 
-fn held(upto: u64) -> Clean {
-    Clean { upto, held: true }
-}
-
 fn done() -> Option<Outcome> {
     Some(Outcome::Done)
 }
@@ -225,69 +221,5 @@ fn a_marked_place_is_shown_as_stale_before_the_commit(rt: HostRuntime) -> Result
         1,
         Seen::Value(six),
     )?;
-    Ok(())
-}
-
-/// Two views claim a place that both have read as stale, and one of them computes it.
-fn racing(alloc: Global) -> Result<Steps, Memory> {
-    let (view, place) = (VIEWER, 0);
-    Ok(vec![in alloc;
-        (claim(WORKER, 0, 1), claimed(true)),
-        (claim(VIEWER, 0, 1), claimed(false)),
-        (
-            Event::ReadClean { view, place },
-            Some(Outcome::Clean(held(1)))
-        ),
-        (put(VIEWER, 0, 5), None),
-        (put(WORKER, 0, 5), done()),
-        (finish(WORKER, 0, 0), None),
-        (finish(WORKER, 0, 1), done()),
-        (claim(VIEWER, 0, 1), claimed(false)),
-        (claim(VIEWER, 0, 2), None),
-        (join(VIEWER, EDITOR), None),
-        (join(EDITOR, VIEWER), done()),
-        (see(VIEWER), None),
-    ]?)
-}
-
-/// Two views read the place as stale, and the slower one claims it in vain, before and after the finish.
-#[test]
-fn a_stale_worker_is_refused_its_claim(rt: HostRuntime) -> Result<(), Fail> {
-    let alloc = rt.alloc();
-    let mut core = set_to_5(&rt, alloc)?;
-    let words = (free(1), TwoTestCells::code(1), 1);
-    for view in [VIEWER, WORKER] {
-        run(&rt, &mut core, reading(alloc, view, 0, words))?;
-    }
-    run(&rt, &mut core, racing(alloc))?;
-    Ok(())
-}
-
-/// The worker claims the place, the editor makes an edit, and the worker computes for the one before.
-fn working_late(alloc: Global) -> Result<Steps, Memory> {
-    Ok(vec![in alloc;
-        (claim(WORKER, 0, 1), claimed(true)),
-        (mark(7, 0), done()),
-        (mark(8, 1), None),
-        (mark(7, 1), done()),
-        (commit(7), count(2)),
-        (put(WORKER, 0, 7), None),
-        (put(WORKER, 0, 5), done()),
-        (finish(WORKER, 0, 2), None),
-        (finish(WORKER, 0, 1), done()),
-        (see(VIEWER), count(2)),
-    ]?)
-}
-
-/// The worker finishes for the edit that it computed for, and the place stays stale.
-#[test]
-fn an_edit_between_a_claim_and_its_put_leaves_the_place_stale(rt: HostRuntime) -> Result<(), Fail> {
-    let alloc = rt.alloc();
-    let mut core = set_to_5(&rt, alloc)?;
-    let old = (free(1), TwoTestCells::code(1), 1);
-    run(&rt, &mut core, reading(alloc, WORKER, 0, old))?;
-    run(&rt, &mut core, working_late(alloc))?;
-    let words = (free(2), TwoTestCells::code(5), 2);
-    shows(&rt, alloc, &mut core, 0, words, 2, Seen::Stale(2))?;
     Ok(())
 }

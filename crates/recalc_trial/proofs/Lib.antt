@@ -1,4 +1,3 @@
 mod OfficeLemmas
 mod OpenedLemmas
 mod OpeningLemmas
-mod SettleLemmas

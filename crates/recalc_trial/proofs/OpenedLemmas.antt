@@ -1,25 +1,13 @@
 -- Words over a sheet as they open.
-use Rattle.std.proofs.Common.{◌≡◌, ◌∙◌, sym, ap}
+use Rattle.std.proofs.Common.{◌≡◌, ◌∙◌, ap}
 use Rattle.sheet_refs.specs.Sizes.{cell_count}
 use Rattle.mark_words.specs.declared.marks.Marks.{Marks}
 use Rattle.mark_words.specs.declared.seats.Seat.{Seat}
-use Rattle.mark_words.specs.Tokens.{places_of, subject_of}
-use Rattle.sheet_model.specs.Logs.{after}
+use Rattle.mark_words.specs.Tokens.{places_of}
 use Rattle.sheet_model.specs.Sheets.{SheetValue}
 use Rattle.sheet_model.specs.declared.entry.Entry.{Entry}
 use Rattle.edit_log.specs.contracts.over_sheet.OverSheetSubject.TheImpl.{ghosts}
-use Rattle.recalc_workers.specs.Settling.{IsEditorOf}
 use Rattle.recalc_trial.specs.Opened.{IsOpenedOver}
-
--- the seat is the editor's, over the sheet
-pub is_editor_of : (sheet : SheetValue) (marks : Marks SheetValue Entry) (editor : Seat SheetValue Entry ghosts)
-    → IsOpenedOver sheet (marks, editor) → IsEditorOf marks (subject_of marks) sheet editor
-is_editor_of sheet marks editor opened = record {
-  table = opened.seat;
-  editor = opened.editor;
-  idle = opened.idle;
-  sheet_is = sym opened.subject ∙ ap (after (subject_of marks)) (sym opened.log);
-}
 
 -- there is a place for each cell
 pub places_are : (sheet : SheetValue) (marks : Marks SheetValue Entry) (editor : Seat SheetValue Entry ghosts)

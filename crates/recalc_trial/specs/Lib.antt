@@ -1,3 +1,2 @@
 pub mod Offices
 pub mod Opened
-pub mod Settles

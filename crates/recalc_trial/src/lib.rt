@@ -1,10 +1,11 @@
-//! Trials of recalculation across crates: the hands of the queue of jobs, plans over a graph, turns of a desk over a
-//! book of edits, and the settling of levels.
+//! Trials of recalculation across crates: the queue of jobs, plans over a graph, and turns of a desk over a book of
+//! edits.
 //!
-//! No crate stands on it, but the program of `bench/settle` does. `BookOffice` is the plainest office: it owns a book
+//! No crate is built on it, but the program of `bench/settle` is. `BookOffice` is the plainest office: it owns a book
 //! and the editor's seat, with no lock. What was done before a turn brings about its answer: which cells are to be
 //! computed, which jobs are offered, what another seat holds, and what the office marks while it is asked for a task.
-//! Below stand `recalc_plan`, `recalc_workers`, `edit_log`, `mark_words`, and `plain_graph`, a graph that is its list
+//! Settling is tried by live sheets, in `live_trial`.
+//! Below are `recalc_plan`, `recalc_workers`, `edit_log`, `mark_words`, and `plain_graph`, a graph that is its list
 //! of pairs.
 #![tactic(auto)]
 
@@ -16,8 +17,6 @@ mod office;
 mod opening;
 #[cfg(test)]
 mod plan_tests;
-#[cfg(test)]
-mod settle_tests;
 #[cfg(test)]
 mod sheets;
 #[cfg(test)]

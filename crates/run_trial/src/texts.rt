@@ -2,36 +2,16 @@ use crate::script::{TWO_FORMULAS, printed};
 use recalc_workers::OpenGate;
 use std::test::Fail;
 
+// One client's firm look leaves no choice: a sheet, a script, the workers, and what is printed.
 #[test]
-fn two_edits_and_a_firm_look(rt: HostRuntime) -> Result<(), Fail> {
-    let alloc = rt.alloc();
-    let script = "client ann\nset A1 5\nset A2 =a1 * 2\nfirm A1:B2\n";
-    for workers in [1, 4] {
-        let text = printed(&rt, alloc, TWO_FORMULAS, script, workers, &OpenGate)?;
-        assert_eq!(rt;
-            text.as_str(),
-            "log 2\n1 ann set A1 5\n2 ann set A2 =A1*2\n\
-             client ann\nfirm 2 A1:B2\n5,6\n10,16\nsheet 2 A1:B2\n5,6\n10,16\n"
-        );
-    }
-    Ok(())
-}
-
-#[test]
-fn a_look_behind_a_firm_one(rt: HostRuntime) -> Result<(), Fail> {
-    let alloc = rt.alloc();
-    let script = "client ann\nset A1 5\nfirm B1\nlook A1\n";
-    let text = printed(&rt, alloc, TWO_FORMULAS, script, 2, &OpenGate)?;
-    assert_eq!(rt;
-        text.as_str(),
-        "log 1\n1 ann set A1 5\nclient ann\nfirm 1 B1:B1\n6\nlook 1 A1:A1\n5\nsheet 1 A1:B2\n5,6\n2,8\n"
-    );
-    Ok(())
-}
-
-#[test]
-fn a_cycle_and_no_clients(rt: HostRuntime) -> Result<(), Fail> {
+fn firm_looks_leave_no_choice(rt: HostRuntime) -> Result<(), Fail> {
     for &(sheet, script, workers, wanted) in &[
+        (
+            TWO_FORMULAS,
+            "client ann\nset A1 5\nfirm B1\nlook A1\n",
+            2,
+            "log 1\n1 ann set A1 5\nclient ann\nfirm 1 B1:B1\n6\nlook 1 A1:A1\n5\nsheet 1 A1:B2\n5,6\n2,8\n",
+        ),
         (
             "1,=A1\n",
             "set A1 =B1\nfirm A1:B1\n",

@@ -1,6 +1,5 @@
-use crate::gates::{UntilClaimed, UntilTwo};
+use crate::gates::{InTurn, UntilClaimed, UntilTwo};
 use crate::script::{TWO_FORMULAS, printed};
-use recalc_workers::OpenGate;
 use sheet_refs::cell_of;
 use std::alloc::Global;
 use std::fmt::Write;
@@ -30,6 +29,29 @@ fn a_worker_computes_what_an_edit_marked(rt: HostRuntime) -> Result<(), Fail> {
     Ok(())
 }
 
+// Each client's edit is in the log where it was made, and is covered by the other's looks after it. A run that took one
+// client after the other would come to the limit of a hold.
+#[test]
+fn a_look_covers_what_the_other_client_has_done(rt: HostRuntime) -> Result<(), Fail> {
+    let gate = InTurn {
+        first: AtomicU64::new(0),
+        second: AtomicU64::new(0),
+        late: AtomicU64::new(0),
+    };
+    let script = "client ann\nset A1 5\nfirm A1:B2\nlook A1:B2\n\
+                  client bob\nset A2 7\nfirm A1:B2\nlook B1\n";
+    let text = printed(&rt, rt.alloc(), TWO_FORMULAS, script, 2, &gate)?;
+    let wanted = "log 2\n1 ann set A1 5\n2 bob set A2 7\n\
+                  client ann\nfirm 1 A1:B2\n5,6\n2,8\nlook 2 A1:B2\n5,6\n7,13\n\
+                  client bob\nfirm 2 A1:B2\n5,6\n7,13\nlook 2 B1:B1\n6\n\
+                  sheet 2 A1:B2\n5,6\n7,13\n";
+    assert_eq!(rt;
+        (text.as_str(), gate.late.load(Ordering::SeqCst)),
+        (wanted, 0)
+    );
+    Ok(())
+}
+
 // A script by which one client sets so many cells, one edit each, and then looks.
 fn many_edits(alloc: Global, edits: u32) -> Result<String, Fail> {
     let mut text = String::new(alloc);
@@ -40,10 +62,9 @@ fn many_edits(alloc: Global, edits: u32) -> Result<String, Fail> {
     Ok(text)
 }
 
-// The text of a sheet with these records, and so many with the number 7 below.
-fn numbers(alloc: Global, first: &str, rows: u32) -> Result<String, Fail> {
+// The text of a sheet of so many rows with the number 7.
+fn numbers(alloc: Global, rows: u32) -> Result<String, Fail> {
     let mut text = String::new(alloc);
-    text.push_str(first)?;
     for _ in 0..rows {
         text.push_str("7\n")?;
     }
@@ -57,7 +78,7 @@ fn hundred_edits<R: Threads + Wait + Sync>(
     gate: &UntilTwo,
 ) -> Result<String, Fail> {
     let script = many_edits(alloc, 100)?;
-    let sheet = numbers(alloc, "", 100)?;
+    let sheet = numbers(alloc, 100)?;
     printed(rt, alloc, &sheet, &script, 4, gate)
 }
 
@@ -77,37 +98,5 @@ fn two_workers_compute_at_once(rt: HostRuntime) -> Result<(), Fail> {
         (begins, ends, gate.late.load(Ordering::SeqCst)),
         (true, true, 0)
     );
-    Ok(())
-}
-
-// A script of so many clients, each of which sets its own row and looks at the one before, in turn.
-fn many_clients(alloc: Global, clients: u32, commands: u32) -> Result<String, Fail> {
-    let mut text = String::new(alloc);
-    for client in 1..=clients {
-        write!(text, "client c{client}\n")?;
-        for command in 1..=commands {
-            if command % 2 == 0 {
-                write!(text, "look A1:C{client}\n")?;
-            } else {
-                write!(text, "set A{client} {command}\n")?;
-            }
-        }
-    }
-    Ok(text)
-}
-
-// What is printed of 32 clients with a hundred commands each, by 64 workers.
-fn busy_run<R: Threads + Wait + Sync>(rt: &R, alloc: Global) -> Result<String, Fail> {
-    let sheet = numbers(alloc, "7,=A1+A2,=SUM(B1:B2)\n7,=A32*2\n", 30)?;
-    let script = many_clients(alloc, 32, 100)?;
-    printed(rt, alloc, &sheet, &script, 64, &OpenGate)
-}
-
-#[test]
-fn many_clients_beside_many_workers(rt: HostRuntime) -> Result<(), Fail> {
-    let text = busy_run(&rt, rt.alloc())?;
-    let begins = text.starts_with("log 1600\n");
-    let shows = text.contains("\nsheet 1600 A1:C32\n99,198,396\n99,198,\n99,,\n");
-    assert_eq!(rt; (begins, shows), (true, true));
     Ok(())
 }

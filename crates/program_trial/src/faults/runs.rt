@@ -1,4 +1,4 @@
-use crate::faults::commands::{Command, script, sheet_of};
+use crate::faults::commands::{Command, script, sheet};
 use crate::lines::{Ended, Limits, run_line, shelf_of};
 use std::alloc::Global;
 use std::sync::Wait;
@@ -26,7 +26,7 @@ pub(crate) const CALM: Limits = Limits {
 pub(crate) fn input_of(alloc: Global, command: &Command) -> Result<Input, Fail> {
     Ok(Input {
         line: command.line,
-        sheet: sheet_of(alloc, command.form)?,
+        sheet: sheet(alloc)?,
         script: script(alloc)?,
     })
 }

@@ -169,7 +169,6 @@ fn stands_failing_note<R: Threads + Wait + Sync>(
     rt: &R,
     alloc: Global,
     input: &Input,
-    fetches: u32,
     taken: u32,
 ) -> Result<bool, Fail> {
     let note = Limits {
@@ -181,7 +180,7 @@ fn stands_failing_note<R: Threads + Wait + Sync>(
     let unfetched = Limits { fetch: 1, ..note };
     Ok(
         ends_unnoted(rt, alloc, input, unwritten, 6, UNWRITTEN)?
-            && (fetches == 0 || ends_unnoted(rt, alloc, input, unfetched, 5, UNFETCHED[0])?),
+            && ends_unnoted(rt, alloc, input, unfetched, 5, UNFETCHED[0])?,
     )
 }
 
@@ -191,7 +190,7 @@ fn each_note_fails(rt: HostRuntime) -> Result<(), Fail> {
     for command in &COMMANDS {
         let input = input_of(alloc, command)?;
         for taken in [0, 1] {
-            let stands = stands_failing_note(&rt, alloc, &input, command.fetches, taken)?;
+            let stands = stands_failing_note(&rt, alloc, &input, taken)?;
             assert_eq!(rt; (command.line, stands), (command.line, true));
         }
     }

@@ -1,6 +1,0 @@
--- The seat's log stays.
-use Rattle.mark_trial.specs.EightTestCells.{IsScripted}
-use Rattle.mark_trial.proofs.words.eight.shows_all.Given as goal
-
-abbrev pub invariant-loop-place : goal.invariant-loop-place
-invariant-loop-place l = IsScripted l.marks l.seat 2000

@@ -1,6 +1,0 @@
--- The worker's log stays.
-use Rattle.mark_trial.specs.EightTestCells.{IsScripted}
-use Rattle.mark_trial.proofs.words.eight.works_on.Given as goal
-
-abbrev pub invariant-loop-turn : goal.invariant-loop-turn
-invariant-loop-turn l = IsScripted l.marks l.seat l.number

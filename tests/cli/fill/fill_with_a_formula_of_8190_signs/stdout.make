@@ -1,0 +1,1 @@
+print("batch\nset A2 =" + "-" * 8190 + "1\nend")
