@@ -4,12 +4,14 @@ use Rattle.value_core.proofs.operators.on_numbers.Goals as goal
 
 pub returns-in-Add : goal.returns-in-Add
 returns-in-Add c =
-    let same : to_z w64 (of_z w64 (to_z w64 (of_z w64 c.get-m.result) +ℤ to_z w64 (of_z w64 c.get-n.result))) ≡ c.args.left +ℤ c.args.right = omega (arith, ints) in
+    let same : to_z w64 (of_z w64 (to_z w64 (of_z w64 c.get-m.result) +ℤ to_z w64 (of_z w64 c.get-n.result)))
+    ≡ c.args.left +ℤ c.args.right = omega (arith, ints) in
     rw c.in-Add.is (rw same at c.in_range.ensures)
 
 pub returns-in-Sub : goal.returns-in-Sub
 returns-in-Sub c =
-    let same : to_z w64 (of_z w64 (to_z w64 (of_z w64 c.get-m.result) -ℤ to_z w64 (of_z w64 c.get-n.result))) ≡ c.args.left -ℤ c.args.right = omega (arith, ints) in
+    let same : to_z w64 (of_z w64 (to_z w64 (of_z w64 c.get-m.result) -ℤ to_z w64 (of_z w64 c.get-n.result)))
+    ≡ c.args.left -ℤ c.args.right = omega (arith, ints) in
     rw c.in-Sub.is (rw same at c.in_range-in-Sub.ensures)
 
 pub returns-in-Mul : goal.returns-in-Mul
