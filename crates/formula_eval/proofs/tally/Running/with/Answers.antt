@@ -7,7 +7,8 @@ use Rattle.formula_eval.proofs.tally.Running.with.Goals as goal
 pub returns-in-Sum-clause-keeps : goal.returns-in-Sum-clause-keeps
 returns-in-Sum-clause-keeps c =
     let small : nat_abs c.in-Sum.total < 1329227995784915872903807060280344576 = rw c.in-Sum.is at c.requires in
-    let same : to_z w128 (of_z w128 (to_z w128 (of_z w128 c.in-Sum.total) +ℤ to_z w128 (of_z w128 c.from.result))) ≡ c.in-Sum.total +ℤ c.args.number = omega (arith, ints) in
+    let same : to_z w128 (of_z w128 (to_z w128 (of_z w128 c.in-Sum.total) +ℤ to_z w128 (of_z w128 c.from.result)))
+    ≡ c.in-Sum.total +ℤ c.args.number = omega (arith, ints) in
     rw c.in-Sum.is (keeps_sum c.in-Sum.total c.args.number _ c.args.none same)
 
 pub returns-in-Product-clause-keeps : goal.returns-in-Product-clause-keeps
