@@ -8,6 +8,7 @@ mod InRange
 mod MachineLemmas
 pub mod MeaningLemmas
 mod Named
+mod OneMoreLemmas
 pub mod NodeLemmas
 mod PendingLemmas
 mod ScanLemmas

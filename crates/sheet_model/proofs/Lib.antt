@@ -7,6 +7,7 @@ pub mod ChangeLemmas
 mod CycleLemmas
 pub mod DistinctLemmas
 pub mod EditLemmas
+mod ErrorNames
 mod FieldLemmas
 mod HonestLemmas
 mod KeptLemmas

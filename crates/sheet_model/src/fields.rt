@@ -2,6 +2,7 @@ ghost use Rattle.std.specs.Prelude.{◌≡◌, ◌≢◌, ◌↔◌, ◌<◌, �
 ghost use Rattle.std.specs.Prelude.{◌^◌, ◌-◌, [], length, IfOk};
 ghost use Rattle.std.specs.Prelude.{OnOk, OnErr, IsTrue};
 ghost use Rattle.formula_syntax.specs.Spelling.{HasTooManyRefs};
+ghost use Rattle.value_core.specs.Values.{error_text};
 ghost use Rattle.sheet_model.specs.Sheets.{content_value};
 ghost use Rattle.sheet_model.specs.Fields.{IsNumberOf, IsTruthOf, IsErrorOf, BeginsFormula};
 ghost use Rattle.sheet_model.specs.Fields.{IsContent, IsDeepFormula, IsTableAfter};
@@ -69,20 +70,39 @@ fn truth_of(field: &[u8]) -> Option<bool>
     None
 }
 
+// Whether a field is the name of an error.
+fn names(field: &[u8], kind: ErrorKind) -> bool
+    ensures { IsTrue result ↔ (field.now ≡ error_text kind) }
+{
+    field == kind.name().as_bytes()
+}
+
 // The error whose name a field is.
 fn error_of(field: &[u8]) -> Option<ErrorKind>
     ensures { IsErrorOf field.now result }
 {
-    match field {
-        b"#NULL!" => Some(ErrorKind::Null),
-        b"#DIV/0!" => Some(ErrorKind::Div0),
-        b"#VALUE!" => Some(ErrorKind::Value),
-        b"#REF!" => Some(ErrorKind::Ref),
-        b"#NAME?" => Some(ErrorKind::Name),
-        b"#NUM!" => Some(ErrorKind::Num),
-        b"#N/A" => Some(ErrorKind::Na),
-        _ => None,
+    if names(field, ErrorKind::Null) {
+        return Some(ErrorKind::Null);
     }
+    if names(field, ErrorKind::Div0) {
+        return Some(ErrorKind::Div0);
+    }
+    if names(field, ErrorKind::Value) {
+        return Some(ErrorKind::Value);
+    }
+    if names(field, ErrorKind::Ref) {
+        return Some(ErrorKind::Ref);
+    }
+    if names(field, ErrorKind::Name) {
+        return Some(ErrorKind::Name);
+    }
+    if names(field, ErrorKind::Num) {
+        return Some(ErrorKind::Num);
+    }
+    if names(field, ErrorKind::Na) {
+        return Some(ErrorKind::Na);
+    }
+    None
 }
 
 // Whether a field begins as a formula does.
