@@ -1,5 +1,5 @@
 -- What stands at a place of a list after a push or a write.
-use Rattle.std.proofs.Common.{◌≡◌, ◌≢◌, ℕ, zero, suc, ◌+◌, ◌<◌, take, get_or, ◌∙◌, ◌⊎◌, inl, inr, subst, All, List}
+use Rattle.std.proofs.Common.{◌≡◌, ℕ, zero, suc, ◌+◌, ◌<◌, take, get_or, ◌∙◌, ◌⊎◌, inl, inr, subst, All, List}
 use Rattle.std.proofs.Common.{[], ◌∷◌, ◌++◌, length, map, slice_get, set, count_by, Result, Ok, Err, OnOk, Some, Bool}
 use Rattle.std.proofs.Common.{cond, refl, sym, ap, arith}
 use Rattle.std.proofs.Math.Seq.{take-suc}
