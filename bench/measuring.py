@@ -74,6 +74,21 @@ def sums(row, col):
     return f"={name(1, col)}+{name(row, 1)}+1" if row > 1 and col > 1 else str(row + col)
 
 
+def one_hash(count):
+    """So many texts of 32 bytes, of which no two are alike and all have one hash, as they are filed in a table of labels: with what
+    is behind the first sixteen bytes, the hash multiplies the last eight by 0, whatever they are. The first sixteen are tried."""
+    word = 2**64 - 1
+
+    def behind(front):
+        low, high = (int.from_bytes(front[at:at + 8], "little") for at in (0, 8))
+        product = (low ^ (0x243F_6A88_85A3_08D3 + 32)) * (high ^ 0x9E37_79B9_7F4A_7C15)
+        return (product & word ^ product >> 64).to_bytes(8, "little")
+
+    number = next(it for it in range(10**11) if all(48 <= byte < 123 for byte in behind(b"label%011d" % it)))
+    front = b"label%011d" % number
+    return (f"{(front + behind(front)).decode()}{it:08}" for it in range(count))
+
+
 def script():
     """The name of the script that runs, for what it says."""
     return f"bench/{pathlib.Path(sys.argv[0]).name}"

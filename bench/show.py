@@ -19,7 +19,7 @@ import pathlib
 import sys
 import tempfile
 
-from measuring import LETTERS, build, called_with, grid, head, ledger, lines, name, started, sums, told
+from measuring import LETTERS, build, called_with, grid, head, ledger, lines, name, one_hash, started, sums, told
 
 READER = """
 import csv, json, time
@@ -66,6 +66,11 @@ MEASURED = {
         "show A1:BL1024",
         3_928_320,
     ),
+    "500,000 labels, all different": (lambda: lines(500_000, lambda r: f"label {r}"), "show A500000", 0),
+    "500,000 labels, 1,000 different ones": (lambda: lines(500_000, lambda r: f"label {r % 1_000}"), "show A500000", 0),
+    "500,000 labels, 100,000 different ones": (lambda: lines(500_000, lambda r: f"label {r * 7919 % 100_000}"), "show A500000", 0),
+    "40,000 labels of one hash": (lambda: "\n".join(one_hash(40_000)), "show A40000", 0),
+    "160,000 labels of one hash": (lambda: "\n".join(one_hash(160_000)), "show A160000", 0),
     "deps: a chain of 10,000": (lambda: lines(10_000, lambda r: f"=A{r - 1}+1" if r > 1 else "1"), "deps A1", 0),
     "precs: a sum over all names": (lambda: "1,=SUM(A1:XFD1048576)\n", "precs B1", 0),
 }

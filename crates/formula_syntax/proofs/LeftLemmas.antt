@@ -1,5 +1,5 @@
 -- A tree along its left side: what is printed of it up to a tree there, and behind it.
-use Rattle.std.proofs.Common.{◌≡◌, ℕ, zero, suc, ◌+◌, ◌-◌, ◌≤◌, ◌<◌, Bool, true, false, List, [], ◌∷◌, ◌++◌, length}
+use Rattle.std.proofs.Common.{◌≡◌, ℕ, zero, suc, ◌+◌, ◌-◌, ◌≤◌, Bool, true, false, List, [], ◌∷◌, ◌++◌, length}
 use Rattle.std.proofs.Common.{refl, sym, ap, ap₂, ◌∙◌, subst, arith, append_assoc}
 use Rattle.std.specs.Prelude.{nat_lt, if◌then◌else◌}
 use Rattle.std.proofs.lemmas.List.{append-nil}
@@ -241,17 +241,80 @@ module _ {F : Type 0} (taker : Taker F) where
       (and_then taker old mid last gone.front (leaf_text (below depth tree) ++ behind) false gone.sent
       (cut taker mid last (leaf_text (below depth tree)) behind (subst (λ (t : Tree). HandsOut taker mid (leaf_text t) false last) is sent)))
 
--- what stands behind the outermost of some trees to the left stands last
-pub one_behind : (depth level : ℕ) (tree : Tree) → 0 < depth
-    → text_behind depth level tree ≡ closing (level_below (depth - 1) level tree) (below (depth - 1) tree) ++ text_behind (depth - 1) level tree
-one_behind zero level tree some = absurd (omega (arith, some))
-one_behind (suc depth) level tree some =
-    let same : suc depth - 1 ≡ depth = omega arith in
-    rw same refl
+-- where there is nothing to the left, all steps stay
+stays : (depth level : ℕ) (tree : Tree) → HasNoLeft tree → (below depth tree ≡ tree) × (level_below depth level tree ≡ level)
+stays zero level tree none = (refl, refl)
+stays (suc depth) level (prefix op operand) none = absurd (none operand 4 (refl, refl))
+stays (suc depth) level (binary op first second) none = absurd (none first (level_of op) (refl, refl))
+stays (suc depth) level (number n) none = (refl, refl)
+stays (suc depth) level (truth b) none = (refl, refl)
+stays (suc depth) level (error kind) none = (refl, refl)
+stays (suc depth) level (reference r) none = (refl, refl)
+stays (suc depth) level (call f parameters) none = (refl, refl)
 
-pub none_behind : (depth level : ℕ) (tree : Tree) → depth ≤ 0 → text_behind depth level tree ≡ []
-none_behind zero level tree none = refl
-none_behind (suc depth) level tree none = absurd (omega (arith, none))
+-- so many steps to the left, and more of them
+abbrev AreMore : ℕ → ℕ → ℕ → Tree → Type 0
+AreMore more depth level tree = (below (more + depth) tree ≡ below more (below depth tree))
+    × (level_below (more + depth) level tree ≡ level_below more (level_below depth level tree) (below depth tree))
+
+none_more : (more depth level : ℕ) (tree : Tree) → HasNoLeft tree → AreMore more depth level tree
+none_more more depth level tree none =
+    let (all, at_all) = stays (more + depth) level tree none in
+    let (some, at_some) = stays depth level tree none in
+    let (rest, at_rest) = stays more level tree none in
+    rw (some, at_some) (all ∙ sym rest, at_all ∙ sym at_rest)
+
+some_more_steps : (more depth level : ℕ) (tree : Tree) → AreMore more depth level tree
+some_more_steps more zero level tree =
+    let same : more + 0 ≡ more = omega arith in
+    rw same (refl, refl)
+some_more_steps more (suc depth) level (prefix op operand) =
+    let step : more + suc depth ≡ suc (more + depth) = omega arith in
+    rw step (some_more_steps more depth 4 operand)
+some_more_steps more (suc depth) level (binary op first second) =
+    let step : more + suc depth ≡ suc (more + depth) = omega arith in
+    rw step (some_more_steps more depth (level_of op) first)
+some_more_steps more (suc depth) level (number n) = none_more more (suc depth) level (number n) (λ left least h. h)
+some_more_steps more (suc depth) level (truth b) = none_more more (suc depth) level (truth b) (λ left least h. h)
+some_more_steps more (suc depth) level (error kind) = none_more more (suc depth) level (error kind) (λ left least h. h)
+some_more_steps more (suc depth) level (reference r) = none_more more (suc depth) level (reference r) (λ left least h. h)
+some_more_steps more (suc depth) level (call f parameters) = none_more more (suc depth) level (call f parameters) (λ left least h. h)
+
+-- what stands behind the inner trees of a chain stands before what stands behind the outer ones
+both_behind : (more depth level : ℕ) (tree : Tree)
+    → text_behind (more + depth) level tree
+    ≡ text_behind more (level_below depth level tree) (below depth tree) ++ text_behind depth level tree
+both_behind zero depth level tree =
+    let same : 0 + depth ≡ depth = omega arith in
+    rw same refl
+both_behind (suc more) depth level tree =
+    let step : suc more + depth ≡ suc (more + depth) = omega arith in
+    let (there, at) = some_more_steps more depth level tree in
+    let inner = text_behind more (level_below depth level tree) (below depth tree) in
+    rw step (ap₂ (λ c t. c ++ t) (ap₂ closing at there) (both_behind more depth level tree)
+    ∙ sym (append_assoc (closing (level_below more (level_below depth level tree) (below depth tree)) (below more (below depth tree)))
+    inner (text_behind depth level tree)))
+
+halves_behind : (half depth level : ℕ) (tree here : Tree) (at : ℕ) → half ≤ depth → here ≡ below half tree → at ≡ level_below half level tree
+    → text_behind depth level tree ≡ text_behind (depth - half) at here ++ text_behind half level tree
+halves_behind half depth level tree here at few is is_at =
+    let same : depth ≡ (depth - half) + half = omega (arith, few) in
+    rw (is, is_at) (ap (λ (d : ℕ). text_behind d level tree) same ∙ both_behind (depth - half) half level tree)
+
+module _ {F : Type 0} (taker : Taker F) where
+  -- what stands behind the inner trees of a chain is handed out first
+  pub inner_cut : (old last : F) (half depth level : ℕ) (tree here : Tree) (at : ℕ) → half ≤ depth → here ≡ below half tree → at ≡ level_below half level tree
+      → HandsOut taker old (text_behind (depth - half) at here) false last → HandsOut taker old (text_behind depth level tree) false last
+  inner_cut old last half depth level tree here at few is is_at sent =
+      subst (λ t. HandsOut taker old t false last) (sym (halves_behind half depth level tree here at few is is_at))
+      (cut taker old last (text_behind (depth - half) at here) (text_behind half level tree) sent)
+
+  pub outer_sent : (old mid last : F) (half depth level : ℕ) (tree here : Tree) (at : ℕ) (b : Bool) → half ≤ depth → here ≡ below half tree → at ≡ level_below half level tree
+      → HandsOut taker old (text_behind (depth - half) at here) true mid → HandsOut taker mid (text_behind half level tree) b last
+      → HandsOut taker old (text_behind depth level tree) b last
+  outer_sent old mid last half depth level tree here at b few is is_at inner outer =
+      subst (λ t. HandsOut taker old t b last) (sym (halves_behind half depth level tree here at few is is_at))
+      (and_then taker old mid last (text_behind (depth - half) at here) (text_behind half level tree) b inner outer)
 
 -- where any operator is tight enough, a tree has no brackets round it
 pub at_loosest : (tree : Tree) → at_level 0 tree (tree_text tree) ≡ tree_text tree

@@ -265,24 +265,30 @@ fn send_right<F: FnMut(&[u8]) -> bool>(node: &Node, to: &mut F) -> bool
     }
 }
 
-// Hands out what stands behind so many left operands of a tree, from the innermost on.
+// Hands out what stands behind so many left operands of a tree, from the innermost on: that of the inner half first,
+// counted from the tree at which this half begins. A chain is gone down anew for each of its halves, their halves and
+// so on, so that it takes n log n steps, and the calls nest no deeper than log n.
 #[cycle(printing)]
 fn send_back<F: FnMut(&[u8]) -> bool>(root: &Node, level: u8, depth: usize, to: &mut F) -> bool
     requires callable { F.IsAlwaysCallable to.old }
     requires small { node_count (tree_of root.now) ≤ 8192 }
+    requires few { depth ≤ 8192 }
     ensures sent { HandsOut F.FnMut to.old
         (text_behind depth level (tree_of root.now)) result to.new }
     ensures callable { F.IsAlwaysCallable to.new }
 {
-    let mut left = depth;
-    while left > 0 {
-        left -= 1;
-        let (node, at) = below(root, level, left);
-        if !send_closing(node, at, to) {
-            return false;
-        }
+    if depth == 0 {
+        return true;
     }
-    true
+    if depth == 1 {
+        return send_closing(root, level, to);
+    }
+    let half = depth / 2;
+    let (node, at) = below(root, level, half);
+    if !send_back(node, at, depth - half, to) {
+        return false;
+    }
+    send_back(root, level, half, to)
 }
 
 // Hands out a tree, in parentheses where its own operator is looser than a level.
@@ -305,8 +311,8 @@ fn send_tree<F: FnMut(&[u8]) -> bool>(root: &Node, level: u8, to: &mut F) -> boo
 /// with the same tree.
 ///
 /// It takes no memory. Left operands and signs are gone through by a loop; the calls nest as deep as right operands
-/// and parameters do. The time is in proportion to the length of the text, and to the square of the longest chain
-/// of left operands, which are counted anew from the top for each.
+/// and parameters do, and within each chain of left operands by the logarithm of its length. The time is in
+/// proportion to the length of the text, and n log n for a formula of n nodes, whatever its tree is.
 pub fn send_formula<F: FnMut(&[u8]) -> bool>(formula: &Formula, to: &mut F) -> bool
     requires callable { F.IsAlwaysCallable to.old }
     ensures sent { HandsOut F.FnMut to.old (plain formula.now) result to.new }

@@ -34,7 +34,8 @@ pub struct Nodes {
 }
 
 /// Goes down the left operands by a loop, so that long sums and chains of signs need no deep stack. Right
-/// operands and parameters nest no deeper than parentheses and levels of operators do.
+/// operands and parameters nest no deeper than parentheses and levels of operators do. The time is in proportion to
+/// the nodes.
 impl Drop for Node {
     #[cycle(tree)]
     fn drop(mut self) {

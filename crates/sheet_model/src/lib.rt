@@ -13,8 +13,8 @@
 //! cell after the other by the same walk, and keeps through edits what they leave. `value_laws` says what is true of
 //! values, however they are computed.
 //!
-//! Below stand `sheet_refs`, `value_core`, `formula_syntax`, `formula_eval`, `mark_core` and the kit's `indexmap` and
-//! `arrayvec`; above, all that reads, holds, edits, computes or prints a sheet.
+//! Below stand `sheet_refs`, `text_table`, `value_core`, `formula_syntax`, `formula_eval`, `mark_core` and the kit's
+//! `arrayvec`, and of its `indexmap` one lemma; above, all that reads, holds, edits, computes or prints a sheet.
 #![tactic(auto)]
 
 mod board;

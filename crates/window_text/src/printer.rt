@@ -100,7 +100,7 @@ impl Printer {
 
     /// What an edit is as lines of a script: `batch`, a line `set CELL CONTENT` or `clear CELL` for each change, in
     /// order, and `end`. A value is printed as in windows, a formula in its plain text; the table of labels is that of
-    /// the sheet. It takes time in proportion to the text, but for long chains of left operands (`send_formula`).
+    /// the sheet. It takes time in proportion to the text, and n log n for a formula of n nodes.
     pub fn batch<F: FnMut(&[u8]) -> bool>(sheet: &Sheet, edit: &Edit, to: &mut F) -> bool
         requires callable { F.IsAlwaysCallable to.old }
         ensures sent { HandsOut F.FnMut to.old (batch_text sheet.now.labels edit.now) result to.new }

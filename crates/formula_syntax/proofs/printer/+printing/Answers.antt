@@ -4,43 +4,28 @@ use Rattle.text_pieces.proofs.PieceLemmas.{Completes, and_then, cut, ended, next
 use Rattle.formula_syntax.specs.declared.tree.Node as node
 use Rattle.formula_syntax.specs.declared.tree.Node.TheFolds.{the_lemmas}
 use Rattle.formula_syntax.specs.Grammar.{level_of}
-use Rattle.formula_syntax.specs.Left.{HasLeft, closing, leaf_text, right_text, text_behind}
+use Rattle.formula_syntax.specs.Left.{HasLeft, leaf_text, right_text, text_behind}
 use Rattle.formula_syntax.specs.Printing.{at_level, others_text, parameters_text, tree_text}
 use Rattle.formula_syntax.specs.Tree.{Tree, number, truth, error, reference, prefix, binary, call, parameters_of, tree_of, trees_of}
 use Rattle.formula_syntax.proofs.LeftLemmas.{at_loosest, cut_first, cut_leaf, cut_next, fewer_left, front_sent}
-use Rattle.formula_syntax.proofs.LeftLemmas.{gone_first, gone_next, left_smaller, no_others, no_parameters, none_behind}
-use Rattle.formula_syntax.proofs.LeftLemmas.{one_behind, one_further, some_more, some_parameters}
+use Rattle.formula_syntax.proofs.LeftLemmas.{gone_first, gone_next, inner_cut, left_smaller, no_others, no_parameters, outer_sent}
+use Rattle.formula_syntax.proofs.LeftLemmas.{one_further, some_more, some_parameters}
 use Rattle.formula_syntax.proofs.printer.+printing.Goals as goal
 
-pub send_back-returns-then-not-send_closing-clause-sent : goal.send_back-returns-then-not-send_closing-clause-sent
-send_back-returns-then-not-send_closing-clause-sent g n c =
-    let root = tree_of c.args.root.now in
-    let one = one_behind c.loop-left.left c.args.level root c.loop-left-test.true in
-    let said = ap₂ closing c.below-at.ensures.level c.below-at.ensures.tree in
-    ended g.F.FnMut _ _ _ _ _ _ (subst (Completes g.F.FnMut c.args.to.now (text_behind c.args.depth c.args.level root)
-    c.loop-left.to) one c.loop-left.invariant.completes)
-    (subst (λ t. HandsOut g.F.FnMut c.loop-left.to t false c.send_closing.new.to) said c.if-not-send_closing.ensures.sent)
+pub send_back-returns-then-depth-eq0-clause-sent : goal.send_back-returns-then-depth-eq0-clause-sent
+send_back-returns-then-depth-eq0-clause-sent g t c =
+    let nothing = ap (λ (d : ℕ). text_behind d c.args.level (tree_of c.args.root.now)) (sym c.if-depth-eq0.true) in
+    subst (λ t. HandsOut g.F.FnMut c.args.to.now t true c.args.to.now) nothing (none g.F.FnMut c.args.to.now)
 
-pub send_back-loop-left-preserved : goal.send_back-loop-left-preserved
-send_back-loop-left-preserved g n c =
-    let root = tree_of c.args.root.now in
-    let one = one_behind c.loop-left.left c.args.level root c.loop-left-test.true in
-    let said = ap₂ closing c.below-at.ensures.level c.below-at.ensures.tree in
-    record {
-      callable = c.if-not-send_closing.ensures.callable;
-      completes =
-          next g.F.FnMut _ _ _ _ _ _
-          (subst (Completes g.F.FnMut c.args.to.now (text_behind c.args.depth c.args.level root) c.loop-left.to) one
-          c.loop-left.invariant.completes)
-          (subst (λ t. HandsOut g.F.FnMut c.loop-left.to t true c.send_closing.new.to) said c.if-not-send_closing.ensures.sent);
-    }
+pub send_back-returns-then-not-send_back-clause-sent : goal.send_back-returns-then-not-send_back-clause-sent
+send_back-returns-then-not-send_back-clause-sent g t c =
+    inner_cut g.F.FnMut _ _ _ c.args.depth c.args.level (tree_of c.args.root.now) _ _ (omega arith) c.below-at.ensures.tree
+    c.below-at.ensures.level c.if-not-send_back.ensures.sent
 
 pub send_back-returns-clause-sent : goal.send_back-returns-clause-sent
-send_back-returns-clause-sent g n c =
-    let root = tree_of c.args.root.now in
-    subst (Completes g.F.FnMut c.args.to.now (text_behind c.args.depth c.args.level root) c.loop-left.to)
-    (none_behind c.loop-left.left c.args.level root c.loop-left-test.false) c.loop-left.invariant.completes _ _
-    (none g.F.FnMut c.loop-left.to)
+send_back-returns-clause-sent g t c =
+    outer_sent g.F.FnMut _ _ _ _ c.args.depth c.args.level (tree_of c.args.root.now) _ _ _ (omega arith) c.below-at.ensures.tree
+    c.below-at.ensures.level c.if-not-send_back.ensures.sent c.send_back-2.ensures.sent
 
 pub send_call-returns-then-not-send-clause-sent : goal.send_call-returns-then-not-send-clause-sent
 send_call-returns-then-not-send-clause-sent g n c =
