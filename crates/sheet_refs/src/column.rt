@@ -248,6 +248,21 @@ impl Column {
         }
     }
 
+    /// A set of the same rows. It takes a step for each run.
+    pub(crate) fn copy(&self) -> Result<Column, Memory>
+        ensures { IfOk result (λ copy. copy ≡ self.now) }
+    {
+        let runs = self.runs.clone()?;
+        Ok(Column { runs })
+    }
+
+    /// Whether there is no run, not even one that only keeps room.
+    pub(crate) fn is_empty(&self) -> bool
+        ensures { IsTrue result → self.now ≡ [] }
+    {
+        self.runs.is_empty()
+    }
+
     pub(crate) fn has_row(&self, row: u32) -> bool
         ensures { IsTrue result ↔ HasRow self.now row }
     {
