@@ -2,14 +2,14 @@
 use Rattle.std.proofs.Common.{◌≡◌, ◌≢◌, ℕ, zero, suc, ◌+◌, ◌-◌, ◌<◌, ◌≤◌, ◌↔◌, ◌⊎◌, inl, inr, List, [], ◌∷◌, ◌++◌, length, get_or}
 use Rattle.std.proofs.Common.{Option, None, Some, append_assoc, refl, sym, ◌∙◌, ap, subst, arith}
 use Rattle.std.specs.Option.{unwrap_or}
-use Rattle.std.specs.Prelude.{IsSome, IsSomeAnd, IfSome, MatchOption}
+use Rattle.std.specs.Prelude.{IsSome}
 use Rattle.std.proofs.lemmas.Bool.{cases_lt}
 use Rattle.std.specs.List.{All}
 use Rattle.std.proofs.lemmas.List.Elements.{All-append}
-use Rattle.sheet_refs.specs.Bands.{rows_under, ranges_in, all_ranges, Becomes, StaysBand, GainsInBand, AreFilled, HaveRoom}
+use Rattle.sheet_refs.specs.Bands.{rows_under, ranges_in, all_ranges, StaysBand, GainsInBand, AreFilled}
 use Rattle.sheet_refs.specs.Cells.{Position, Corners, IsIn}
 use Rattle.sheet_refs.specs.Rectangles.{IsAmong, Joins, IsVertical, IsBefore, AreMaximalRuns}
-use Rattle.sheet_refs.specs.Runs.{GainsRows, HasRoom, HasRow, HaveSameRanges, IsNextFrom, column_ranges, last_from}
+use Rattle.sheet_refs.specs.Runs.{GainsRows, HasRow, HaveSameRanges, column_ranges}
 use Rattle.sheet_refs.proofs.ColumnLemmas.{among_column, none_among, ranges_all}
 use Rattle.sheet_refs.proofs.Tiles.{AllPairs-append, among_append}
 
@@ -81,6 +81,29 @@ under_begun old new first (suc col) here others =
             let is : new (suc col) ≡ Some (rows_under old (suc col)) =
             subst (λ (q : ℕ). new q ≡ Some (rows_under old q)) same here in
             ap (λ (o : Option (List (ℕ × ℕ))). unwrap_or o (rows_under new col)) is
+      ]
+    ]
+
+-- and so does taking out one that begins where the rows go on
+pub under_united : (old new : ℕ → Option (List (ℕ × ℕ))) (first col : ℕ) → 1 ≤ first → new first ≡ None
+    → ((q : ℕ) → q ≢ first → new q ≡ old q) → rows_under old first ≡ rows_under old (first - 1) → rows_under new col ≡ rows_under old col
+under_united old new first zero named none others same =
+    let other : 0 ≢ first = omega arith in
+    rw (others 0 other) refl
+under_united old new first (suc col) named none others same =
+    let rest : rows_under new col ≡ rows_under old col = under_united old new first col named none others same in
+    elim (cases_lt first (suc col)) [
+      | inl before ↦ let other : suc col ≢ first = omega arith in rw (others (suc col) other, rest) refl
+      | inr not_before ↦ elim (cases_lt (suc col) first) [
+        | inl after ↦ let other : suc col ≢ first = omega arith in rw (others (suc col) other, rest) refl
+        | inr not_after ↦
+            let is : first ≡ suc col = omega arith in
+            let below : first - 1 ≡ col = omega arith in
+            let gone : new (suc col) ≡ None = subst (λ (q : ℕ). new q ≡ None) is none in
+            let goes_on : rows_under old (suc col) ≡ rows_under old col =
+            subst (λ (q : ℕ). rows_under old (suc col) ≡ rows_under old q) below
+            (subst (λ (q : ℕ). rows_under old q ≡ rows_under old (first - 1)) is same) in
+            ap (λ (o : Option (List (ℕ × ℕ))). unwrap_or o (rows_under new col)) gone ∙ (rest ∙ sym goes_on)
       ]
     ]
 

@@ -1,9 +1,10 @@
 -- Bands of columns, as loops over them go on from one to the next.
-use Rattle.std.proofs.Common.{◌≡◌, ◌≢◌, ℕ, zero, suc, ◌+◌, ◌-◌, ◌<◌, ◌≤◌, ◌⊎◌, inl, inr, List, [], ◌∷◌, ◌++◌, length}
+use Rattle.std.proofs.Common.{◌≡◌, ◌≢◌, ℕ, zero, suc, ◌+◌, ◌-◌, ◌<◌, ◌≤◌, inl, inr, List, [], ◌∷◌, ◌++◌, length}
 use Rattle.std.proofs.Common.{Option, None, Some, append_assoc, append-nil, refl, sym, ◌∙◌, ap, subst, arith}
 use Rattle.std.specs.Prelude.{IsSome}
 use Rattle.std.proofs.lemmas.Bool.{cases_lt}
-use Rattle.std.specs.List.{All}
+use Rattle.std.proofs.lemmas.Option.{same_Some}
+use Rattle.std.specs.List.{All, slice_get}
 use Rattle.sheet_refs.specs.Bands.{rows_under, ranges_in, all_ranges, StaysBand, GainsInBand, AreFilled, LackRows}
 use Rattle.sheet_refs.specs.Cells.{Corners}
 use Rattle.sheet_refs.specs.Rectangles.{AreMaximalRuns}
@@ -140,3 +141,9 @@ lack_more rows left end next first below gaps others known more alike same col l
       lack_same rows (end + 1) next first below gaps (subst (λ (g : List (ℕ × ℕ)). AreGaps (HasRow (rows (end + 1))) first below g) alike more) same
       col past high
 ]
+
+-- a list of one item
+pub alone : (runs : List (ℕ × ℕ)) (run : ℕ × ℕ) → length runs ≡ 1 → slice_get runs 0 ≡ Some run → runs ≡ run ∷ []
+alone [] run one is = absurd (omega (arith, one))
+alone (r ∷ []) run one is = ap (λ (x : ℕ × ℕ). x ∷ []) (same_Some r run is)
+alone (r ∷ s ∷ runs) run one is = absurd (omega (arith, one))

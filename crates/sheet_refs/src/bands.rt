@@ -6,7 +6,7 @@ ghost use Rattle.std.specs.Ordering.{nat_cmp};
 ghost use Rattle.std.specs.BTreeMap.{get};
 ghost use Rattle.sheet_refs.specs.Bands.{AreFilled, GainsInBand, HaveRoom, StaysBand};
 ghost use Rattle.sheet_refs.specs.Bands.{all_ranges, ranges_in, rows_at};
-ghost use Rattle.sheet_refs.specs.Rectangles.{AreMaximalRuns};
+ghost use Rattle.sheet_refs.specs.Rectangles.{AreMaximalRuns, Joins};
 ghost use Rattle.sheet_refs.specs.Runs.{HasRoom, HaveSameRanges, IsNextFrom, last_from};
 
 use crate::cell::MAX_COLS;
@@ -49,9 +49,9 @@ pub(crate) fn last_same(bands: &Bands, col: u32, last: u32) -> u32
     }
 }
 
-/// Has a band begin at a column, with the rows that the column has. Each band that there is stays. It takes a step for
-/// each run of the band that is split.
-pub(crate) fn begin_at(bands: &mut Bands, alloc: Global, col: u32) -> Result<(), Memory>
+// Has a band begin at a column, with the rows that the column has. Each band that there is stays. It takes a step for
+// each run of the band that is split.
+fn begin_at(bands: &mut Bands, alloc: Global, col: u32) -> Result<(), Memory>
     requires { 1 ≤ col }
     ensures begins { OnOk result (IsSome (get nat_cmp bands.new col)) }
     ensures kept { (other : ℕ) → IsSome (get nat_cmp bands.old other) →
@@ -69,16 +69,16 @@ pub(crate) fn begin_at(bands: &mut Bands, alloc: Global, col: u32) -> Result<(),
     Ok(())
 }
 
-/// Whether a band begins at the left column and the next one at the end.
-pub(crate) fn is_one_band(bands: &Bands, left: u32, end: u32) -> bool
+// Whether a band begins at the left column and the next one at the end.
+fn is_one_band(bands: &Bands, left: u32, end: u32) -> bool
     requires { left < end }
     ensures { IsTrue result → IsSome (get nat_cmp bands.now left) × IsNextFrom (get nat_cmp bands.now) (left + 1) (Some end) }
 {
     bands.contains_key(&left) && next_band(bands, left + 1) == Some(end)
 }
 
-/// Joins the rows to the band that begins at a column, if one does.
-pub(crate) fn join_at(bands: &mut Bands, col: u32, first: u32, last: u32) -> Result<(), Memory>
+// Joins the rows to the band that begins at a column, if one does.
+fn join_at(bands: &mut Bands, col: u32, first: u32, last: u32) -> Result<(), Memory>
     requires { (1 ≤ first) × (first ≤ last) × (last ≤ 1048576) }
     ensures gained { OnOk result
         (GainsInBand first last (get nat_cmp bands.old col) (get nat_cmp bands.new col)) }
@@ -117,8 +117,8 @@ fn fill_at(bands: &mut Bands, col: u32, first: u32, last: u32)
     }
 }
 
-/// Takes the memory that a fill of the bands that begin at these columns, from this row on, needs.
-pub(crate) fn reserve(bands: &mut Bands, left: u32, right: u32, row: u32) -> Result<(), Memory>
+// Takes the memory that a fill of the bands that begin at these columns, from this row on, needs.
+fn reserve(bands: &mut Bands, left: u32, right: u32, row: u32) -> Result<(), Memory>
     requires cols { (left ≤ right) × (right ≤ 16384) }
     requires row { (1 ≤ row) × (row ≤ 1048576) }
     ensures same { (col : ℕ) → StaysBand (get nat_cmp bands.old col) (get nat_cmp bands.new col) }
@@ -135,8 +135,8 @@ pub(crate) fn reserve(bands: &mut Bands, left: u32, right: u32, row: u32) -> Res
     Ok(())
 }
 
-/// Joins the rows to each of the bands that begin at these columns, for which room was reserved.
-pub(crate) fn fill(bands: &mut Bands, left: u32, right: u32, first: u32, last: u32)
+// Joins the rows to each of the bands that begin at these columns, for which room was reserved.
+fn fill(bands: &mut Bands, left: u32, right: u32, first: u32, last: u32)
     requires cols { (left ≤ right) × (right ≤ 16384) }
     requires rows { (1 ≤ first) × (first ≤ last) × (last ≤ 1048576) }
     requires room { HaveRoom (get nat_cmp bands.old) left (right + 1) first }
@@ -148,6 +148,71 @@ pub(crate) fn fill(bands: &mut Bands, left: u32, right: u32, first: u32, last: u
             break;
         }
         fill_at(bands, next, first, last);
+        col = next + 1;
+    }
+}
+
+/// Adds the cells of a range. After Memory the runs of all columns are as they were.
+pub(crate) fn add_rows(bands: &mut Bands, alloc: Global, range: Range) -> Result<(), Memory>
+    ensures joined { OnOk result (Joins (all_ranges (rows_at bands.old)) (all_ranges (rows_at bands.new)) range) }
+    ensures err { OnErr result (all_ranges (rows_at bands.new) ≡ all_ranges (rows_at bands.old)) }
+{
+    let left = range.head().col();
+    let right = range.tail().col();
+    let first = range.head().row();
+    let last = range.tail().row();
+    if is_one_band(bands, left, right + 1) {
+        return join_at(bands, left, first, last);
+    }
+    begin_at(bands, alloc, left)?;
+    begin_at(bands, alloc, right + 1)?;
+    reserve(bands, left, right, first)?;
+    fill(bands, left, right, first, last);
+    Ok(())
+}
+
+// Whether a column and the one before it have the same one run.
+fn goes_on_at(bands: &Bands, col: u32) -> bool
+    requires { 1 ≤ col }
+    ensures { IsTrue result → rows_at bands.now col ≡ rows_at bands.now (col - 1) }
+{
+    let Some(before) = band_at(bands, col - 1) else {
+        return false;
+    };
+    let Some(here) = band_at(bands, col) else {
+        return false;
+    };
+    let Some(run) = before.one_run() else {
+        return false;
+    };
+    let Some(next) = here.one_run() else {
+        return false;
+    };
+    run.0 == next.0 && run.1 == next.1
+}
+
+// Joins the band that begins at a column with the one before it, where both have the same one run.
+fn unite_at(bands: &mut Bands, col: u32)
+    requires { 1 ≤ col }
+    ensures { (other : ℕ) → rows_at bands.new other ≡ rows_at bands.old other }
+{
+    if goes_on_at(bands, col) {
+        bands.remove(&col);
+    }
+}
+
+/// Joins the bands that begin at these columns each with the one before it, where both have the same one run. Columns
+/// with more runs aren't compared, so that it takes no step for each run. The rows of all columns stay.
+pub(crate) fn unite(bands: &mut Bands, left: u32, end: u32)
+    requires { (1 ≤ left) × (left ≤ end) × (end ≤ 16385) }
+    ensures { (other : ℕ) → rows_at bands.new other ≡ rows_at bands.old other }
+{
+    let mut col = left;
+    while let Some(next) = next_band(bands, col) {
+        if next > end {
+            break;
+        }
+        unite_at(bands, next);
         col = next + 1;
     }
 }

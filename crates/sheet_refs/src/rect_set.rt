@@ -4,9 +4,7 @@ ghost use Rattle.sheet_refs.specs.Bands.{LackRows, rows_at};
 ghost use Rattle.sheet_refs.specs.Rectangles.{IsAmong, IsNew, Joins, Tile, AreMaximalRuns};
 ghost use Rattle.sheet_refs.specs.Runs.{AreGaps, HasRow, strip};
 
-use crate::bands::{
-    Bands, all_runs, band_at, begin_at, fill, is_one_band, join_at, last_same, reserve,
-};
+use crate::bands::{Bands, add_rows, all_runs, band_at, last_same, unite};
 use crate::cell::Cell;
 use crate::column::strip;
 use crate::memory::Memory;
@@ -138,22 +136,16 @@ impl RectSet {
     /// Adds the cells of a range to the set. After Memory the set is as it was.
     ///
     /// For each band of the range it takes a few look-ups among the runs of that band, and takes out those that come to
-    /// lie in a longer one. It copies the runs of a band that is split.
+    /// lie in a longer one. It copies the runs of a band that is split. Bands side by side that come to have the same one
+    /// run become one band, so that a range which is wholly there is found by one look-up.
     pub fn add(&mut self, range: Range) -> Result<(), Memory>
         ensures joined { OnOk result (Joins self.old self.new range) }
         ensures err { OnErr result (self.new ≡ self.old) }
     {
         let left = range.head().col();
         let right = range.tail().col();
-        let first = range.head().row();
-        let last = range.tail().row();
-        if is_one_band(&self.bands, left, right + 1) {
-            return join_at(&mut self.bands, left, first, last);
-        }
-        begin_at(&mut self.bands, self.alloc, left)?;
-        begin_at(&mut self.bands, self.alloc, right + 1)?;
-        reserve(&mut self.bands, left, right, first)?;
-        fill(&mut self.bands, left, right, first, last);
+        add_rows(&mut self.bands, self.alloc, range)?;
+        unite(&mut self.bands, left, right + 1);
         Ok(())
     }
 

@@ -1,4 +1,4 @@
-use Rattle.std.proofs.Common.{◌≡◌, ◌+◌, ◌≤◌, ℕ, List, subst, arith, rules}
+use Rattle.std.proofs.Common.{◌≡◌, ◌+◌, ◌≤◌, subst, arith, rules}
 use Rattle.sheet_refs.specs.Bands.{LackRows, all_ranges, rows_at}
 use Rattle.sheet_refs.specs.Cells.{Corners, Position}
 use Rattle.sheet_refs.proofs.PartLemmas.{parts_more, parts_all}
