@@ -1,5 +1,5 @@
-// How far runs go down and to the right, by which it is chosen along which of the two a formula is added. Nothing that is
-// promised of a graph depends on it but the number of its edges.
+// How far runs go down and to the right, by which it is chosen along which of the two a formula is added. Nothing that
+// is promised of a graph depends on it but the number of its edges.
 ghost use Rattle.std.specs.Prelude.{◌≤◌, ◌+◌};
 ghost use Rattle.edit_log.specs.Listings.{ListsAll};
 
@@ -9,7 +9,8 @@ use sheet_model::Sheet;
 use sheet_refs::{Cell, Memory, Range};
 use std::alloc::Global;
 
-// Whether an end of a range goes on to the right with those of so many cells, of which these are the first and the last.
+// Whether an end of a range goes on to the right with those of so many cells, of which these are the first and the
+// last.
 fn end_follows(count: u32, first: Cell, last: Cell, next: Cell) -> bool {
     if next.row() != first.row() || next.col() < first.col() {
         return false;
@@ -77,8 +78,8 @@ impl Stretch {
     }
 }
 
-/// How far the runs go that were looked at last: to the right in each row, and down in one column. A run is looked at once
-/// for all cells of it but the last, from which another one may go.
+/// How far the runs go that were looked at last: to the right in each row, and down in one column. A run is looked at
+/// once for all cells of it but the last, from which another one may go.
 #[derive(Drop)]
 pub(crate) struct Reaches {
     across: Vec<Stretch>,
@@ -100,8 +101,8 @@ impl Reaches {
         })
     }
 
-    // How many cells the run to the right has that a cell is in, as far as is known. Those to its left count too, so that
-    // its last cell goes on with them.
+    // How many cells the run to the right has that a cell is in, as far as is known. Those to its left count too, so
+    // that its last cell goes on with them.
     fn count_across(&mut self, sheet: &Sheet, listing: &Listing, cell: Cell) -> u32
         requires lists { ListsAll sheet.now listing.now }
         requires cols { cell.col ≤ sheet.now.sizes.cols }

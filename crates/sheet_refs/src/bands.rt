@@ -1,5 +1,5 @@
-// Bands of columns that hold the same rows, by their first columns. The rows of a column are those of the last band that
-// begins at it or to the left of it.
+// Bands of columns that hold the same rows, by their first columns. The rows of a column are those of the last band
+// that begins at it or to the left of it.
 ghost use Rattle.std.specs.Prelude.{◌≡◌, ◌≢◌, ◌+◌, ◌-◌, ◌≤◌, ◌<◌, ℕ, [], ◌++◌};
 ghost use Rattle.std.specs.Prelude.{All, IfOk, IfSome, IsSome, IsTrue, MatchOption, OnErr, OnOk};
 ghost use Rattle.std.specs.Ordering.{nat_cmp};
@@ -72,7 +72,8 @@ fn begin_at(bands: &mut Bands, alloc: Global, col: u32) -> Result<(), Memory>
 // Whether a band begins at the left column and the next one at the end.
 fn is_one_band(bands: &Bands, left: u32, end: u32) -> bool
     requires { left < end }
-    ensures { IsTrue result → IsSome (get nat_cmp bands.now left) × IsNextFrom (get nat_cmp bands.now) (left + 1) (Some end) }
+    ensures { IsTrue result → IsSome (get nat_cmp bands.now left)
+        × IsNextFrom (get nat_cmp bands.now) (left + 1) (Some end) }
 {
     bands.contains_key(&left) && next_band(bands, left + 1) == Some(end)
 }

@@ -1,6 +1,6 @@
 ghost use Rattle.std.specs.Bool.{OnTrue, OnFalse};
-ghost use Rattle.std.specs.Prelude.{IfOk, IfSome, IsTrue, ◌↔◌, ◌++◌, ◌∷◌, ◌<◌, ◌≡◌, ℕ, ◌+◌, ◌-◌};
-ghost use Rattle.std.specs.Prelude.{◌≤◌, [], Some, None, OnOk, OnErr};
+ghost use Rattle.std.specs.Prelude.{IfOk, IfSome, IsTrue, ◌↔◌, ◌++◌, ◌∷◌, ◌<◌, ◌≡◌, ℕ};
+ghost use Rattle.std.specs.Prelude.{◌+◌, ◌-◌, ◌≤◌, [], Some, None, OnOk, OnErr};
 ghost use Rattle.std.specs.Ordering.{nat_cmp};
 ghost use Rattle.std.specs.BTreeMap.{get, IsOrdered, IsUnchanged};
 ghost use Rattle.sheet_refs.specs.Runs.{IsColumn, Holds, HoldsAll, HoldsNone, IsLastUpTo};

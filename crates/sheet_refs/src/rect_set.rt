@@ -101,9 +101,9 @@ fn push_strips(
 /// A set of cells, as disjoint ranges. Contracts see it as the list of its maximal vertical runs, by column
 /// and then by row, and by `IsAmong` as a set of cells.
 ///
-/// Within, columns that hold the same rows side by side are a band, whose runs of rows stand in an ordered map, and so do
-/// the bands. What a range adds is found by a few look-ups in each of the bands that it meets, and by those of their runs
-/// that it touches. A band is split where a range begins or ends within it.
+/// Within, columns that hold the same rows side by side are a band, whose runs of rows stand in an ordered map, and so
+/// do the bands. What a range adds is found by a few look-ups in each of the bands that it meets, and by those of their
+/// runs that it touches. A band is split where a range begins or ends within it.
 #[derive(Drop)]
 pub struct RectSet {
     bands: Bands,
@@ -136,8 +136,8 @@ impl RectSet {
     /// Adds the cells of a range to the set. After Memory the set is as it was.
     ///
     /// For each band of the range it takes a few look-ups among the runs of that band, and takes out those that come to
-    /// lie in a longer one. It copies the runs of a band that is split. Bands side by side that come to have the same one
-    /// run become one band, so that a range which is wholly there is found by one look-up.
+    /// lie in a longer one. It copies the runs of a band that is split. Bands side by side that come to have the same
+    /// one run become one band, so that a range which is wholly there is found by one look-up.
     pub fn add(&mut self, range: Range) -> Result<(), Memory>
         ensures joined { OnOk result (Joins self.old self.new range) }
         ensures err { OnErr result (self.new ≡ self.old) }

@@ -233,8 +233,8 @@ impl Sides {
         self.find_longest(store, edge, cell)
     }
 
-    // The same, in the direction in which more cells stand at the sides, and there at the side before the edge. So a cell
-    // that goes on with a long row isn't joined with a cell above it, to which it stands in the same way.
+    // The same, in the direction in which more cells stand at the sides, and there at the side before the edge. So a
+    // cell that goes on with a long row isn't joined with a cell above it, to which it stands in the same way.
     fn find_longest<I: RangeIndex>(
         &mut self,
         store: &EdgeStore<I>,
