@@ -13,6 +13,10 @@ runs each (5 by default), the commands in turn:
 
 Below them stand the times of two lines that tell something together, the second's divided by the first's.
 
+Then come commands of one sheet in two sizes, of which the second is four times the first: the seconds and megabytes of both, and the
+second's divided by the first's, which is at most 6. And last the same sheet laid out down and laid out across: the seconds of both, and
+the edges of both where they are told; neither takes more than twice the time of the other.
+
 How it starts the program is that of bench/measuring.py.
 """
 
@@ -106,6 +110,111 @@ COMPARED = [
 ]
 
 
+def placed(across, time, line):
+    """The name of the cell of a time and a line, where time runs down or across."""
+    return name(line, time) if across else name(time, line)
+
+
+def laid(across, times, count, content):
+    """A text of so many times and lines, which run down and across or the other way round."""
+    outer, inner = (count, times) if across else (times, count)
+
+    def row(number):
+        return ",".join(content(other, number) if across else content(number, other) for other in range(1, inner + 1))
+
+    return lines(outer, row)
+
+
+def ledgers(across, times, count):
+    """So many ledgers of seven lines: in, out, the rest, the balance, the last seven, a product with the first cell, and a mark."""
+    def content(time, line):
+        first = (line - 1) // 7 * 7 + 1
+
+        def at(place, when=time):
+            return placed(across, when, first + place)
+
+        before = f"{at(3, time - 1)}+" if time > 1 else ""
+        fixed = "".join(f"${part}" for part in (placed(across, 1, first).rstrip("0123456789"), placed(across, 1, first).lstrip(LETTERS)))
+        return [
+            str(time % 900),
+            str(time % 700),
+            f"={at(0)}-{at(1)}",
+            f"={before}{at(2)}",
+            f"=SUM({at(1, max(time - 6, 1))}:{at(1)})",
+            f"={at(0)}*{fixed}",
+            f"=IF({at(2)}<0;1;0)",
+        ][line - first]
+
+    return laid(across, times, 7 * count, content)
+
+
+def counts_over_a_chain(across, times):
+    """Beside each cell of a chain the count of the chain so far."""
+    def content(time, line):
+        if line == 1:
+            return f"=COUNT({placed(across, 1, 2)}:{placed(across, time, 2)})"
+        return f"={placed(across, time - 1, 2)}+1" if time > 1 else "1"
+
+    return laid(across, times, 2, content)
+
+
+def growing_sums(across, times):
+    """Beside each number the sum of the numbers so far."""
+    return laid(across, times, 2, lambda time, line: str(time) if line == 1 else f"=SUM({placed(across, 1, 1)}:{placed(across, time, 1)})")
+
+
+def levels(count):
+    """So many cells that refer to A1, as many that each add these up, none beside another of its kind, and one that refers to the last."""
+    return lines(2 * count, lambda r: ("1" if r == 1 else "") + (f",=$A$1+{r},=COUNT($B$1:$B${2 * count})" if r % 2 else ",,") + (f",=C{2 * count - 1}" if r == 1 else ","))
+
+
+def blocks(count):
+    """So many formulas that name a block of all columns but the first, up to a row that is drawn."""
+    draw = random.Random(3)
+    return lines(count, lambda r: f"=COUNT(B1:XFD{draw.randint(1, count)})")
+
+
+def by_turns(count):
+    """Counts of the cells above, by turns from the first and from the second."""
+    return lines(count, lambda r: f"=COUNT(A{2 - r % 2}:A{r - 1})" if r > 2 else str(r))
+
+
+def unlike(formulas):
+    """500 rows of so many formulas with 255 references drawn at random."""
+    draw = random.Random(4)
+
+    def formula():
+        return "=SUM(" + ";".join(name(draw.randint(1, 100_000), draw.randint(300, 700)) for _ in range(255)) + ")"
+
+    return lines(500, lambda r: ",".join(formula() for _ in range(formulas)))
+
+
+def edits(cell):
+    """10,000 edits of one cell."""
+    return lines(10_000, lambda r: f"set {cell} {r % 7}")
+
+
+# Commands of a sheet in two sizes, the second four times the first: the words, what makes the text, and both sizes.
+GROWING = {
+    "path over levels of so many ranges": (["path", "sheet.csv", "A1", "D1"], levels, (1_000, 4_000)),
+    "precs of formulas that name B1:XFDk": (["precs", "sheet.csv", "A1:A20000"], blocks, (5_000, 20_000)),
+    "deps of counts by turns": (["deps", "sheet.csv", "A1"], by_turns, (5_000, 20_000)),
+    "deps of counts above a chain": (["deps", "sheet.csv", "A2"], lambda count: counts_over_a_chain(True, count), (4_096, 16_384)),
+    "check of 500 rows of formulas with 255 unlike references": (["check", "sheet.csv"], unlike, (1, 4)),
+    "check of nine ledgers across": (["check", "sheet.csv"], lambda count: ledgers(True, count, 9), (2_000, 8_000)),
+}
+
+# The same sheet laid out down and across: the words of both, and what makes the text.
+TURNED = {
+    "check of nine ledgers of 8,000 times": (["check", "sheet.csv"], ["check", "sheet.csv"], lambda across: ledgers(across, 8_000, 9)),
+    "check of 16,384 growing sums": (["check", "sheet.csv"], ["check", "sheet.csv"], lambda across: growing_sums(across, 16_384)),
+    "deps of 16,384 counts beside a chain": (["deps", "sheet.csv", "B1"], ["deps", "sheet.csv", "A2"], lambda across: counts_over_a_chain(across, 16_384)),
+}
+
+# 10,000 edits of a cell near the left and near the right end.
+EDITED = ("10,000 edits of a cell in column B, and in column XFC", "B1", "XFC1")
+
+
 def timed(folder, *words):
     """The time and the peak of one run."""
     taken, _, peak = started(folder, *words)
@@ -128,6 +237,52 @@ def measure(folder, runs, text, asked):
     return min(shows), min(deps), min(checks), pairs, edges, peak
 
 
+def least(folder, runs, words):
+    """The least time and peak of so many runs."""
+    taken = [timed(folder, *words) for _ in range(runs)]
+    return min(time for time, _ in taken), min(peak for _, peak in taken)
+
+
+def told_edges(folder):
+    """How many edges the last `check` told; none after another command."""
+    with open(folder / "output") as output:
+        told = [output.readline().split() for _ in range(2)]
+    return f", {int(told[1][1]):,} edges" if [part[:1] for part in told] == [["pairs"], ["edges"]] else ""
+
+
+def measure_growing(folder, runs, what):
+    """A line of a command in two sizes."""
+    words, text, sizes = GROWING[what]
+    taken = []
+    for size in sizes:
+        (folder / "sheet.csv").write_text(text(size))
+        taken.append(least(folder, runs, words))
+    (short, small), (long, large) = taken
+    print(f"{short:8.3f} {long:8.3f} {long / short:6.2f} {small / 1e6:7.0f} {large / 1e6:7.0f} {large / small:6.2f}  {sizes[0]:,} and {sizes[1]:,}: {what}", flush=True)
+
+
+def measure_turned(folder, runs, what):
+    """A line of a sheet laid out down and across."""
+    down, across, text = TURNED[what]
+    taken, edges = [], []
+    for turned, words in ((False, down), (True, across)):
+        (folder / "sheet.csv").write_text(text(turned))
+        taken.append(least(folder, runs, words)[0])
+        edges.append(told_edges(folder))
+    print(f"{taken[0]:8.3f} {taken[1]:8.3f} {taken[1] / taken[0]:6.2f}  {what}, down{edges[0]}, and across{edges[1]}", flush=True)
+
+
+def measure_edited(folder, runs):
+    """A line of edits of a cell near the left and near the right end."""
+    what, *cells = EDITED
+    (folder / "sheet.csv").write_text(f"1{',' * 16_383}2\n")
+    taken = []
+    for cell in cells:
+        (folder / "script").write_text(edits(cell))
+        taken.append(least(folder, runs, ["play", "sheet.csv", "script"])[0])
+    print(f"{taken[0]:8.3f} {taken[1]:8.3f} {taken[1] / taken[0]:6.2f}  {what}", flush=True)
+
+
 def main():
     runs, word = called_with(__doc__, 5)
     build()
@@ -142,9 +297,19 @@ def main():
             show, deps, check, pairs, edges, peak = measure(folder, runs, text(), ASKED.get(what, "A1"))
             taken["deps", what], taken["check", what] = deps, check
             print(f"{show:8.3f} {deps / show:7.2f} {check / show:7.2f} {check / pairs * 1e6:8.2f} {peak / pairs:8.0f}  {edges:,} of {pairs:,}: {what}", flush=True)
-    for command, first, second in COMPARED:
-        if (command, first) in taken and (command, second) in taken:
-            print(f"{taken[command, second] / taken[command, first]:5.2f} {command} of {second}, by that of {first}")
+        for command, first, second in COMPARED:
+            if (command, first) in taken and (command, second) in taken:
+                print(f"{taken[command, second] / taken[command, first]:5.2f} {command} of {second}, by that of {first}")
+        print(f"{'small':>8} {'large':>8} {'ratio':>6} {'MB':>7} {'MB':>7} {'ratio':>6}")
+        for what in GROWING:
+            if word in what:
+                measure_growing(folder, runs, what)
+        print(f"{'first':>8} {'second':>8} {'ratio':>6}")
+        for what in TURNED:
+            if word in what:
+                measure_turned(folder, runs, what)
+        if word in EDITED[0]:
+            measure_edited(folder, runs)
 
 
 if __name__ == "__main__":

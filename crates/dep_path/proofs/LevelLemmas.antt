@@ -9,12 +9,13 @@ use Rattle.sheet_refs.specs.Rectangles.{IsAmong}
 use Rattle.sheet_refs.proofs.ColumnLemmas.{none_among, among_cons}
 use Rattle.sheet_refs.proofs.Tiles.{among_one}
 use Rattle.graph_walk.specs.Gathers.{Gathers, absent}
-use Rattle.graph_walk.specs.Graphs.{Pair, Step, Reach}
+use Rattle.graph_walk.specs.Graphs.{Pair, Step, Reach, AddsDirectDependents}
 use Rattle.graph_walk.specs.Paths.{IsPath}
+use Rattle.graph_walk.proofs.GatherLemmas.{gathers_both}
 use Rattle.graph_walk.proofs.PathLemmas.{path_within}
 use Rattle.dep_path.specs.Chains.{IsShortest}
-use Rattle.dep_path.specs.Levels.{IsDirect, HoldsDirect, HasStepTo, IsStepFrom, IsInLast, LeadFrom, LeadOut, one_cell}
-use Rattle.dep_path.proofs.StepLemmas.{asked_one, in_itself, is_itself}
+use Rattle.dep_path.specs.Levels.{IsDirect, HasStepTo, IsStepFrom, IsInLast, LeadFrom, LeadOut, one_cell}
+use Rattle.dep_path.proofs.StepLemmas.{asked_one, in_itself, is_itself, none_direct, one_more}
 
 -- the first level has the cell alone
 pub first_gathered : (from : Position) (range : Corners) (old new waited waiting : List Corners) → range ≡ span_of from from → old ≡ [] → waited ≡ []
@@ -32,17 +33,26 @@ first_gathered from range old new waited waiting is empty none gathers = record 
   fewer = subst (λ (l : List Corners). absent new + length gathers.added ≤ absent l) empty gathers.fewer;
 }
 
--- and the next one the cells that depend directly on those of a level, and are new
-pub next_gathered : (pairs : List Pair) (level old new waited waiting found lent : List Corners) → lent ≡ found → waited ≡ [] → HoldsDirect pairs level found
-    → Gathers old new waited waiting (IsAmong lent) → Gathers old new [] waiting (IsDirect pairs level)
-next_gathered pairs level old new waited waiting found lent is none holds gathers = record {
-  added = gathers.added;
-  waits = gathers.waits ∙ ap (λ (l : List Corners). l ++ gathers.added) none;
-  gained = gathers.gained;
-  only = λ cell among. (holds cell).0 (subst (λ (l : List Corners). IsAmong l cell) is (gathers.only cell among));
-  all = λ cell direct. gathers.all cell (subst (λ (l : List Corners). IsAmong l cell) (sym is) ((holds cell).1 direct));
-  fewer = gathers.fewer;
+-- and the next one the cells that depend directly on those of a level, and are new: none before a range is asked
+pub next_begins : (pairs : List Pair) (seen waiting : List Corners) → waiting ≡ [] → Gathers seen seen [] waiting (IsDirect pairs [])
+next_begins pairs seen waiting none = record {
+  added = [];
+  waits = none;
+  gained = λ cell. (λ among. inl among, λ found. elim found [ inl among ↦ among | inr no_cell ↦ absurd (none_among cell no_cell) ]);
+  only = λ cell no_cell. absurd (none_among cell no_cell);
+  all = λ cell direct. absurd (none_direct pairs cell direct);
+  fewer = omega arith;
 }
+
+-- and with one range more those that its answer adds
+pub next_grows : (pairs : List Pair) (done old now new waiting later before found lent : List Corners) (range : Corners)
+    → lent ≡ found → before ≡ [] → AddsDirectDependents pairs range before found
+    → Gathers old now [] waiting (IsDirect pairs done) → Gathers now new waiting later (IsAmong lent)
+    → Gathers old new [] later (IsDirect pairs (done ++ range ∷ []))
+next_grows pairs done old now new waiting later before found lent range is none adds first second =
+    let answered : AddsDirectDependents pairs range [] found = subst (λ (l : List Corners). AddsDirectDependents pairs range l found) none adds in
+    gathers_both old now new [] waiting later (one_more pairs done range found answered) first
+    (subst (λ (l : List Corners). Gathers now new waiting later (IsAmong l)) is second)
 
 -- how far a walk has come: the levels, the last one first, and the cells that were seen
 pub record IsGoingOut (pairs : List Pair) (from to : Position) (seen : List Corners) (levels : List (List Corners)) : Type 0 where

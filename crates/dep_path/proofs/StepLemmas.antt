@@ -11,7 +11,7 @@ use Rattle.sheet_refs.specs.Rectangles.{IsAmong}
 use Rattle.sheet_refs.proofs.Tiles.{among_append, among_one}
 use Rattle.sheet_refs.proofs.ColumnLemmas.{none_among, among_cons}
 use Rattle.graph_walk.specs.Graphs.{Pair, Step, AddsDirectDependents, AddsDirectPrecedents}
-use Rattle.dep_path.specs.Levels.{IsDirect, HoldsDirect, SharesNone, IsFoundIn, one_cell}
+use Rattle.dep_path.specs.Levels.{IsDirect, SharesNone, IsFoundIn, one_cell}
 
 -- a cell is the one of its range
 pub in_itself : (cell : Position) → IsIn cell (one_cell cell)
@@ -24,33 +24,29 @@ is_itself cell other inside =
     ap (λ (r : ℕ). record { row = r; col = other.col }) row ∙ ap (λ (c : ℕ). record { row = cell.row; col = c }) col
 
 -- nothing depends on no ranges
-pub none_direct : (pairs : List Pair) → HoldsDirect pairs [] []
-none_direct pairs cell = ((λ among. absurd (none_among cell among)), (λ direct. absurd (none_among direct.0 direct.1)))
+pub none_direct : (pairs : List Pair) (cell : Position) → IsDirect pairs [] cell → ⊥
+none_direct pairs cell direct = none_among direct.0 direct.1
 
 -- what depends on one range more
-pub one_more : (pairs : List Pair) (ranges : List Corners) (range : Corners) (found more : List Corners) → HoldsDirect pairs ranges found
-    → AddsDirectDependents pairs range found more → HoldsDirect pairs (ranges ++ range ∷ []) more
-one_more pairs ranges range found more holds adds cell = (there, back)
+pub one_more : (pairs : List Pair) (ranges : List Corners) (range : Corners) (found : List Corners)
+    → AddsDirectDependents pairs range [] found
+    → (cell : Position) → IsDirect pairs (ranges ++ range ∷ []) cell ↔ (IsDirect pairs ranges cell ⊎ IsAmong found cell)
+one_more pairs ranges range found adds cell = (there, back)
   where
-    there : IsAmong more cell → IsDirect pairs (ranges ++ range ∷ []) cell
-    there among = by_part ((among_append found adds.added cell).0 (subst (λ (l : List Corners). IsAmong l cell) adds.whole among))
+    there : IsDirect pairs (ranges ++ range ∷ []) cell → IsDirect pairs ranges cell ⊎ IsAmong found cell
+    there direct = by_part ((among_append ranges (range ∷ []) direct.0).0 direct.1)
       where
-        by_part : IsAmong found cell ⊎ IsAmong adds.added cell → IsDirect pairs (ranges ++ range ∷ []) cell
-        by_part (inl old) =
-            let direct = (holds cell).0 old in
-            (direct.0, (among_append ranges (range ∷ []) direct.0).1 (inl direct.1), direct.2)
+        by_part : IsAmong ranges direct.0 ⊎ IsAmong (range ∷ []) direct.0 → IsDirect pairs ranges cell ⊎ IsAmong found cell
+        by_part (inl old) = inl (direct.0, old, direct.2)
         by_part (inr new) =
-            let direct = adds.only cell new in
-            (direct.0, (among_append ranges (range ∷ []) direct.0).1 (inr ((among_cons range [] direct.0).1 (inl direct.1))), direct.2)
+            let all = adds.all cell (direct.0, among_one range direct.0 new, direct.2) in
+            inr (subst (λ (l : List Corners). IsAmong l cell) (sym adds.whole) all)
 
-    back : IsDirect pairs (ranges ++ range ∷ []) cell → IsAmong more cell
-    back direct =
-        subst (λ (l : List Corners). IsAmong l cell) (sym adds.whole) ((among_append found adds.added cell).1
-        (by_part ((among_append ranges (range ∷ []) direct.0).0 direct.1)))
-      where
-        by_part : IsAmong ranges direct.0 ⊎ IsAmong (range ∷ []) direct.0 → IsAmong found cell ⊎ IsAmong adds.added cell
-        by_part (inl old) = inl ((holds cell).1 (direct.0, old, direct.2))
-        by_part (inr new) = inr (adds.all cell (direct.0, among_one range direct.0 new, direct.2))
+    back : IsDirect pairs ranges cell ⊎ IsAmong found cell → IsDirect pairs (ranges ++ range ∷ []) cell
+    back (inl direct) = (direct.0, (among_append ranges (range ∷ []) direct.0).1 (inl direct.1), direct.2)
+    back (inr new) =
+        let direct = adds.only cell (subst (λ (l : List Corners). IsAmong l cell) adds.whole new) in
+        (direct.0, (among_append ranges (range ∷ []) direct.0).1 (inr ((among_cons range [] direct.0).1 (inl direct.1))), direct.2)
 
 -- the direct precedents of one cell
 pub precedents_of : (pairs : List Pair) (cell : Position) (found : List Corners) → AddsDirectPrecedents pairs (one_cell cell) [] found

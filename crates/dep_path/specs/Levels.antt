@@ -1,5 +1,5 @@
 -- Cells that are equally far from one, as lists of ranges.
-use Rattle.std.specs.Prelude.{◌≡◌, ◌↔◌, ◌≤◌, ◌+◌, List, [], ◌∷◌, length}
+use Rattle.std.specs.Prelude.{◌≡◌, ◌≤◌, ◌+◌, List, [], ◌∷◌, length}
 use Rattle.sheet_refs.specs.Cells.{Position, Corners}
 use Rattle.sheet_refs.specs.Rectangles.{IsAmong}
 use Rattle.graph_walk.specs.Graphs.{Pair, Step}
@@ -12,10 +12,6 @@ one_cell cell = record { head = cell; tail = cell }
 -- a cell depends directly on one of some ranges
 abbrev pub IsDirect : List Pair → List Corners → Position → Type 0
 IsDirect pairs ranges cell = (from : Position) × IsAmong ranges from × Step pairs from cell
-
--- ranges with exactly these cells
-abbrev pub HoldsDirect : List Pair → List Corners → List Corners → Type 0
-HoldsDirect pairs ranges found = (cell : Position) → IsAmong found cell ↔ IsDirect pairs ranges cell
 
 -- a cell depends directly on some cell of a level
 abbrev pub HasStepTo : List Pair → List Corners → Position → Type 0

@@ -3,7 +3,6 @@ ghost use Rattle.graph_walk.specs.Gathers.{Gathers};
 ghost use Rattle.graph_walk.specs.Graphs.{Reach};
 ghost use Rattle.dep_path.specs.Levels.{IsDirect, LeadOut, one_cell};
 
-use crate::steps::direct_dependents;
 use graph_walk::{Graph, gather};
 use sheet_refs::{Cell, Memory, Range, RectSet};
 use std::alloc::Global;
@@ -44,7 +43,8 @@ fn first_level(alloc: Global, seen: &mut RectSet, from: Cell) -> Result<Vec<Rang
     Ok(level)
 }
 
-// The cells that depend directly on those of a level, and weren't seen before.
+// The cells that depend directly on those of a level, and weren't seen before. What one range of the level answers is
+// joined before the next one is asked, so that only the answer of one is held, and not that of a whole level.
 fn next_level<G: Graph>(
     alloc: Global,
     graph: &G,
@@ -54,8 +54,12 @@ fn next_level<G: Graph>(
     ensures { IfOk result (λ next. Gathers seen.old seen.new [] next.items
         (IsDirect (G.pairs graph.now) level.now)) }
 {
-    let found = direct_dependents(alloc, graph, level)?;
     let mut next = Vec::new(alloc);
-    gather(seen, &mut next, &found)?;
+    let mut found = Vec::new(alloc);
+    for range in level {
+        found.clear();
+        graph.direct_dependents(*range, &mut found)?;
+        gather(seen, &mut next, &found)?;
+    }
     Ok(next)
 }

@@ -13,7 +13,8 @@ use std::alloc::Global;
 /// other cell doesn't depend on the first in any number of steps; of equal cells it is the one cell.
 ///
 /// It refuses nothing but for want of memory. It asks the graph once for each range of cells that are equally far from
-/// the first, up to the other cell, and then once for each cell of the chain. Memory is in proportion to these ranges.
+/// the first, up to the other cell, and then once for each cell of the chain. Memory is in proportion to these ranges
+/// and to the longest answer for one of them.
 pub fn path<G: Graph>(
     alloc: Global,
     graph: &G,

@@ -1,26 +1,11 @@
 ghost use Rattle.std.specs.Prelude.{IfOk, MatchOption};
 ghost use Rattle.sheet_refs.specs.Cells.{IsIn};
 ghost use Rattle.sheet_refs.specs.Rectangles.{IsAmong};
-ghost use Rattle.dep_path.specs.Levels.{HoldsDirect, IsFoundIn, IsStepFrom, SharesNone, HasStepTo};
+ghost use Rattle.dep_path.specs.Levels.{IsFoundIn, IsStepFrom, SharesNone, HasStepTo};
 
 use graph_walk::Graph;
 use sheet_refs::{Cell, Memory, Range};
 use std::alloc::Global;
-
-/// The cells that depend directly on those of some ranges.
-pub(crate) fn direct_dependents<G: Graph>(
-    alloc: Global,
-    graph: &G,
-    ranges: &[Range],
-) -> Result<Vec<Range>, Memory>
-    ensures { IfOk result (λ found. HoldsDirect (G.pairs graph.now) ranges.now found.items) }
-{
-    let mut found = Vec::new(alloc);
-    for range in ranges {
-        graph.direct_dependents(*range, &mut found)?;
-    }
-    Ok(found)
-}
 
 /// A cell of some ranges on which another depends directly, where there is one.
 pub(crate) fn step_back<G: Graph>(

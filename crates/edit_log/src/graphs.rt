@@ -7,6 +7,7 @@ ghost use Rattle.edit_log.specs.Pairs.{ArePairsOf, HasNoPairs, HasPairsBefore};
 ghost use Rattle.edit_log.specs.Runs.{AreAdded, cells_down, series_of};
 
 use crate::listing::{Listing, list_all};
+use crate::reaches::Reaches;
 use crate::runs::{Run, run_from, series_between};
 use graph_walk::Graph;
 use sheet_model::Sheet;
@@ -17,17 +18,19 @@ use std::alloc::Global;
 /// range, once.
 ///
 /// It lists the ranges of all formulas, row by row, for which it takes memory until it is done, and then looks at each
-/// cell once, column by column and each from the top. Formulas one below the other are a run where they have as many
+/// cell, column by column and each from the top. Formulas one below the other are a run where they have as many
 /// ranges, and each corner of each range stays or goes on by a row from each cell to the next, as in formulas that were
-/// filled down. It adds a run by one `add_run`, and any other formula by a `replace`.
+/// filled down; and so are formulas side by side. It adds a run down by one `add_run`, where no longer one goes to the
+/// right from its first cell, and any other formula by a `replace`.
 pub fn graph_of<G: Graph + Drop>(alloc: Global, graph: G, sheet: &Sheet) -> Result<G, Memory>
     requires { HasNoPairs (G.pairs graph) }
     ensures { IfOk result (λ graph. ArePairsOf sheet.now (G.pairs graph)) }
 {
     let listing = list_all(alloc, sheet)?;
+    let mut reaches = Reaches::new(alloc, sheet)?;
     let mut graph = graph;
     for col in 1..sheet.cols() + 1 {
-        add_column(alloc, &mut graph, sheet, &listing, col)?;
+        add_column(alloc, &mut graph, sheet, &listing, &mut reaches, col)?;
     }
     Ok(graph)
 }
@@ -38,6 +41,7 @@ fn add_column<G: Graph>(
     graph: &mut G,
     sheet: &Sheet,
     listing: &Listing,
+    reaches: &mut Reaches,
     col: u32,
 ) -> Result<(), Memory>
     requires lists { ListsAll sheet.now listing.now }
@@ -48,17 +52,19 @@ fn add_column<G: Graph>(
     let mut row = 1;
     while row <= sheet.rows() {
         let cell = Cell::new(row, col).unwrap();
-        row += add_from(alloc, graph, sheet, listing, cell)?;
+        row += add_from(alloc, graph, sheet, listing, reaches, cell)?;
     }
     Ok(())
 }
 
-// Adds the pairs of a cell and of the cells below that go on with it; it answers how many these are with the cell.
+// Adds the pairs of a cell and of the cells below that go on with it, unless it is to go on with those to its right; it
+// answers how many cells these are with the cell.
 fn add_from<G: Graph>(
     alloc: Global,
     graph: &mut G,
     sheet: &Sheet,
     listing: &Listing,
+    reaches: &mut Reaches,
     cell: Cell,
 ) -> Result<u32, Memory>
     requires lists { ListsAll sheet.now listing.now }
@@ -67,6 +73,11 @@ fn add_from<G: Graph>(
     requires before { HasPairsBefore sheet.now cell.col cell.row (G.pairs graph.old) }
     ensures { IfOk result (λ count. AreAdded sheet.now cell (G.pairs graph.new) count) }
 {
+    // A cell by itself is joined with the one to its left, where the graph joins what goes on in a row.
+    if reaches.is_longer_across(sheet, listing, cell) {
+        add_alone(alloc, graph, cell, listing.at(sheet, cell))?;
+        return Ok(1);
+    }
     let run = run_from(sheet, listing, cell);
     // Cells that refer to nothing are a run without pairs.
     if run.first.is_empty() {

@@ -22,6 +22,7 @@ mod listing;
 mod over_sheet;
 mod prepared;
 mod preparing;
+mod reaches;
 mod refused;
 mod replacing;
 mod rows;

@@ -301,12 +301,13 @@ gathers_none set waiting = record {
   fewer = omega arith;
 }
 
--- the ranges of a run have been admitted as one
-pub gathers_run : (old now new waited waiting later found : List Corners) (from end : ℕ) (run : Corners) → IsRunFrom found from end run
-    → Gathers old now waited waiting (IsAmong (take from found))
-    → Gathers now new waiting later (λ cell. IsIn cell run)
-    → Gathers old new waited later (IsAmong (take end found))
-gathers_run old now new waited waiting later found from end run is_run first second = record {
+-- what has gathered twice has gathered together
+pub gathers_both : {One Other Both : Position → Type 0} (old now new waited waiting later : List Corners)
+    → ((cell : Position) → Both cell ↔ (One cell ⊎ Other cell))
+    → Gathers old now waited waiting One
+    → Gathers now new waiting later Other
+    → Gathers old new waited later Both
+gathers_both {One = One} {Other = Other} {Both = Both} old now new waited waiting later either first second = record {
   added = first.added ++ second.added;
   waits = second.waits ∙ (ap (λ (w : List Corners). w ++ second.added) first.waits ∙ append_assoc waited first.added second.added);
   gained = λ cell. (to cell, from_either cell);
@@ -331,14 +332,14 @@ gathers_run old now new waited waiting later found from end run is_run first sec
       | inr two ↦ (second.gained cell).1 (inr two)
     ]
 
-    only : (cell : Position) → IsAmong (first.added ++ second.added) cell → IsAmong (take end found) cell
-    only cell added = (is_run cell).1 (elim ((among_append first.added second.added cell).0 added) [
+    only : (cell : Position) → IsAmong (first.added ++ second.added) cell → Both cell
+    only cell added = (either cell).1 (elim ((among_append first.added second.added cell).0 added) [
       | inl one ↦ inl (first.only cell one)
       | inr two ↦ inr (second.only cell two)
     ])
 
-    all : (cell : Position) → IsAmong (take end found) cell → IsAmong new cell
-    all cell among = elim ((is_run cell).0 among) [
+    all : (cell : Position) → Both cell → IsAmong new cell
+    all cell is = elim ((either cell).0 is) [
       | inl before ↦ (second.gained cell).1 (inl (first.all cell before))
       | inr inside ↦ second.all cell inside
     ]

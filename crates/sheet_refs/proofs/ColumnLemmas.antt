@@ -1,5 +1,5 @@
 -- The runs of a column as a list: the rows in it, and the ranges that it stands for.
-use Rattle.std.proofs.Common.{◌≡◌, ℕ, zero, suc, ◌+◌, ◌-◌, ◌<◌, ◌≤◌, ◌↔◌, ◌⊎◌, inl, inr, List, [], ◌∷◌, length, get_or}
+use Rattle.std.proofs.Common.{◌≡◌, ℕ, zero, suc, ◌+◌, ◌<◌, ◌≤◌, ◌↔◌, ◌⊎◌, inl, inr, List, [], ◌∷◌, length, get_or}
 use Rattle.std.proofs.Common.{Option, None, Some, Bool, true, false, cond, refl, ap, arith}
 use Rattle.std.specs.Ordering.{nat_cmp, match_ordering}
 use Rattle.std.specs.declared.cmp.Ordering.{Ordering}
@@ -11,7 +11,7 @@ use Rattle.std.specs.BTreeMap.{is_at, insert_entry}
 use Rattle.std.specs.List.{All, AllPairs, Contains}
 use Rattle.std.specs.List.Sorted.{IsStrictlySortedBy}
 use Rattle.std.proofs.lemmas.Bool.Decides.{nat_tests}
-use Rattle.std.proofs.lemmas.Bool.{le-leb, leb-true, cases_lt}
+use Rattle.std.proofs.lemmas.Bool.{le-leb, leb-true}
 use Rattle.std.proofs.lemmas.List.Elements.{All-nil, All-cons, Contains-get_or}
 use Rattle.std.proofs.lemmas.List.Kept.{AllPairs-cons}
 use Rattle.std.proofs.lemmas.Cmp.{nat_cmp_total}
@@ -24,7 +24,7 @@ use Rattle.sheet_refs.specs.Cells.{Position, Corners, IsIn}
 use Rattle.std.specs.Prelude.{IsTrue, is_some}
 use Rattle.sheet_refs.specs.Rectangles.{IsAmong, IsBefore, IsVertical, AreMaximalRuns}
 use Rattle.sheet_refs.proofs.Tiles.{among_append, among_one}
-use Rattle.sheet_refs.specs.Runs.{IsRunAt, RowsJoin, Holds, AreSpaced, HasRow, last_from, strip, column_ranges, ranges_from}
+use Rattle.sheet_refs.specs.Runs.{IsRunAt, RowsJoin, Holds, AreSpaced, HasRow, last_from, strip, column_ranges}
 
 -- a run of the list with the row
 record HasRun (runs : List (ℕ × ℕ)) (row : ℕ) : Type 0 where
@@ -151,50 +151,6 @@ among_by_test col r runs cell rest false is = (to, from)
 pub among_column : (col : ℕ) (runs : List (ℕ × ℕ)) (cell : Position) → IsAmong (column_ranges col runs) cell ↔ ((cell.col ≡ col) × HasRow runs cell.row)
 among_column col [] cell = (λ among. absurd (none_among cell among), λ has. absurd has.1)
 among_column col (r ∷ runs) cell = among_by_test col r runs cell (among_column col runs cell) (nat_le r.0 r.1) refl
-
--- a row of the first column, or of one of those after it
-abbrev FirstOrLater : ℕ → List (ℕ × ℕ) → List (List (ℕ × ℕ)) → Position → Type 0
-FirstOrLater col runs columns cell = ((cell.col ≡ col) × HasRow runs cell.row)
-    ⊎ ((col + 1 ≤ cell.col) × HasRow (get_or columns (cell.col - (col + 1)) []) cell.row)
-
-at_first_or_later : (col : ℕ) (runs : List (ℕ × ℕ)) (columns : List (List (ℕ × ℕ))) (cell : Position)
-    → FirstOrLater col runs columns cell → (col ≤ cell.col)
-    × HasRow (get_or (runs ∷ columns) (cell.col - col) []) cell.row
-at_first_or_later col runs columns cell (inl first) =
-    let is : cell.col ≡ col = first.0 in
-    let place : cell.col - col ≡ zero = omega arith in
-    rw place (omega arith, first.1)
-at_first_or_later col runs columns cell (inr later) =
-    let past : col + 1 ≤ cell.col = later.0 in
-    let place : cell.col - col ≡ suc (cell.col - (col + 1)) = omega arith in
-    rw place (omega arith, later.1)
-
-first_or_later : (col : ℕ) (runs : List (ℕ × ℕ)) (columns : List (List (ℕ × ℕ))) (cell : Position) → (col ≤ cell.col)
-    × HasRow (get_or (runs ∷ columns) (cell.col - col) []) cell.row → FirstOrLater col runs columns cell
-first_or_later col runs columns cell (from, has) = elim (cases_lt col cell.col) [
-  | inl past ↦
-      let place : cell.col - col ≡ suc (cell.col - (col + 1)) = omega arith in
-      inr (omega arith, rw place at has)
-  | inr not_past ↦
-      let place : cell.col - col ≡ zero = omega arith in
-      inl (omega arith, rw place at has)
-]
-
-either : {A B C D : Type 0} → (A → C) → (B → D) → A ⊎ B → C ⊎ D
-either f g (inl a) = inl (f a)
-either f g (inr b) = inr (g b)
-
--- the cells of all columns
-pub among_columns : (col : ℕ) (columns : List (List (ℕ × ℕ))) (cell : Position) → IsAmong (ranges_from col columns) cell
-    ↔ ((col ≤ cell.col) × HasRow (get_or columns (cell.col - col) []) cell.row)
-among_columns col [] cell = (λ among. absurd (none_among cell among), λ has. absurd has.1)
-among_columns col (runs ∷ columns) cell =
-    let here = among_column col runs cell in
-    let rest = among_columns (col + 1) columns cell in
-    let both = among_append (column_ranges col runs) (ranges_from (col + 1) columns) cell in (
-      λ among. at_first_or_later col runs columns cell (either here.0 rest.0 (both.0 among)),
-      λ has. both.1 (either here.1 rest.1 (first_or_later col runs columns cell has)),
-    )
 
 -- ---- the ranges of a column are its maximal runs
 

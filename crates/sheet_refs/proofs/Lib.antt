@@ -1,3 +1,5 @@
+mod BandLemmas
+mod BandLoops
 pub mod ColumnLemmas
 pub mod EndLemmas
 mod GapLemmas
@@ -8,7 +10,6 @@ mod PartLemmas
 pub mod Places
 pub mod PrintLemmas
 pub mod RunLemmas
-mod SetLemmas
 mod SpanLemmas
 mod Subtraction
 pub mod Tiles

@@ -4,11 +4,11 @@ use Rattle.std.proofs.lemmas.Bool.{cases_lt}
 use Rattle.std.proofs.lemmas.List.{get_or-map, length-map}
 use Rattle.std.specs.List.{AllPairs}
 use Rattle.sheet_refs.specs.Cells.{Position, Corners, IsIn}
-use Rattle.sheet_refs.specs.Columns.{column_at, LackRows}
+use Rattle.sheet_refs.specs.Bands.{LackRows, all_ranges}
 use Rattle.sheet_refs.specs.Rectangles.{IsAmong, IsNew, AreDisjoint, Tile}
-use Rattle.sheet_refs.specs.Runs.{HasRow, AreGaps, ranges_from, strip}
+use Rattle.sheet_refs.specs.Runs.{HasRow, AreGaps, strip}
 use Rattle.sheet_refs.proofs.ColumnLemmas.{among_cons, none_among}
-use Rattle.sheet_refs.proofs.SetLemmas.{among_at}
+use Rattle.sheet_refs.proofs.BandLemmas.{among_all}
 use Rattle.sheet_refs.proofs.Tiles.{tile_append, tile_same}
 
 -- the new cells of a range that stand to the left of a column
@@ -51,30 +51,31 @@ strips_tiled : (held : ℕ → Type 0) (left right first end : ℕ) (gaps : List
 strips_tiled held left right first end gaps known = record { disjoint = strips_disjoint left right gaps known.in_order; exact = among_strips left right gaps }
 
 -- one more group of columns
-pub parts_more : (columns : List (List (ℕ × ℕ))) (set : List Corners) (range : Corners) (left right : ℕ)
-    (parts : List Corners) (gaps : List (ℕ × ℕ)) → ranges_from 1 columns ≡ set → 1 ≤ range.head.col
-    → range.head.col ≤ left → left ≤ right → right ≤ range.tail.col → LackRows columns left (right + 1) range.head.row (range.tail.row + 1) gaps
+pub parts_more : (rows : ℕ → List (ℕ × ℕ)) (set : List Corners) (range : Corners) (left right : ℕ)
+    (parts : List Corners) (gaps : List (ℕ × ℕ)) → all_ranges rows ≡ set → 1 ≤ range.head.col → range.tail.col ≤ 16384
+    → range.head.col ≤ left → left ≤ right → right ≤ range.tail.col → LackRows rows left (right + 1) range.head.row (range.tail.row + 1) gaps
     → Tile parts (IsNewBefore set range left) → Tile (parts ++ map (strip left right) gaps) (IsNewBefore set range (right + 1))
-parts_more columns set range left right parts gaps same named from forward to lack tiled =
+parts_more rows set range left right parts gaps same named below from forward to lack tiled =
     tile_append parts (map (strip left right) gaps) (IsNewBefore set range left) (IsInStrips left right gaps) (IsNewBefore set range (right + 1)) tiled
-    (strips_tiled (HasRow (column_at columns left)) left right range.head.row (range.tail.row + 1) gaps (lack left (omega arith) (omega arith)))
+    (strips_tiled (HasRow (rows left)) left right range.head.row (range.tail.row + 1) gaps (lack left (omega arith) (omega arith)))
     (λ cell old new. omega (arith, old.before, new.from))
     (λ cell. (split cell, join cell))
   where
-    among : (cell : Position) → 1 ≤ cell.col → IsAmong set cell ↔ HasRow (column_at columns cell.col) cell.row
-    among cell cell_named = subst (λ (s : List Corners). IsAmong s cell ↔ HasRow (column_at columns cell.col) cell.row) same (among_at columns cell cell_named)
+    among : (cell : Position) → 1 ≤ cell.col → cell.col ≤ 16384 → IsAmong set cell ↔ HasRow (rows cell.col) cell.row
+    among cell cell_from cell_to =
+        subst (λ (s : List Corners). IsAmong s cell ↔ HasRow (rows cell.col) cell.row) same (among_all rows cell cell_from cell_to)
 
     split : (cell : Position) → IsNewBefore set range (right + 1) cell → IsNewBefore set range left cell ⊎ IsInStrips left right gaps cell
     split cell new = elim (cases_lt cell.col left) [
       | inl before ↦ inl (record { new = new.new; before = before })
       | inr past ↦
           let inside : IsIn cell range = new.new.inside in
-          let below : cell.col < right + 1 = new.before in
+          let under : cell.col < right + 1 = new.before in
           inr (record {
             from = past;
             to = omega arith;
             row =
-                ((lack cell.col past below).exact cell.row).1 (inside.row_from, omega arith, λ has. new.new.absent ((among cell (omega arith)).1 has));
+                ((lack cell.col past under).exact cell.row).1 (inside.row_from, omega arith, λ has. new.new.absent ((among cell (omega arith) (omega arith)).1 has));
           })
     ]
 
@@ -87,7 +88,7 @@ parts_more columns set range left right parts gaps same named from forward to la
         record {
           new = record {
             inside = record { row_from = known.0; row_to = omega (arith, known.1); col_from = omega arith; col_to = omega arith };
-            absent = λ is. known.2 ((among cell (omega arith)).0 is);
+            absent = λ is. known.2 ((among cell (omega arith) (omega arith)).0 is);
           };
           before = omega arith;
         }

@@ -1,5 +1,5 @@
+pub mod Bands
 pub mod Cells
-pub mod Columns
 pub mod Ends
 pub mod NameLaws
 pub mod Names

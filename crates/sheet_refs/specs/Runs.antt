@@ -1,5 +1,5 @@
 -- A set of rows as runs, each known by its first row and its last.
-use Rattle.std.specs.Prelude.{ℕ, ◌+◌, ◌≤◌, ◌<◌, ◌≡◌, ◌↔◌, ◌⊎◌, Option, Some, None, IsSome, IfSome, List, [], ◌∷◌, ◌++◌}
+use Rattle.std.specs.Prelude.{ℕ, ◌+◌, ◌≤◌, ◌<◌, ◌≡◌, ◌↔◌, ◌⊎◌, Option, Some, None, IsSome, IfSome, List, [], ◌∷◌}
 use Rattle.std.specs.Prelude.{All, AllPairs, MatchOption, if◌then◌else◌, nat_le}
 use Rattle.std.specs.Ordering.{nat_cmp}
 use Rattle.std.specs.BTreeMap.{BTreeMap, get, is_at, IsOrdered}
@@ -39,7 +39,7 @@ IsLastUpTo last_of row found =
     × ((q : ℕ) → q ≤ row → IsSome (last_of q) → q ≤ run.0))
 
 -- the first entry that begins at this row or below it
-abbrev pub IsNextFrom : (ℕ → Option ℕ) → ℕ → Option ℕ → Type 0
+abbrev pub IsNextFrom : {X : Type 0} → (ℕ → Option X) → ℕ → Option ℕ → Type 0
 IsNextFrom last_of row found =
     MatchOption found ((q : ℕ) → row ≤ q → last_of q ≡ None) (λ first. (row ≤ first) × IsSome (last_of first)
     × ((q : ℕ) → row ≤ q → q < first → last_of q ≡ None))
@@ -119,8 +119,3 @@ column_ranges col (r ∷ runs) = if nat_le r.0 r.1 then strip col col r ∷ colu
 -- two lists of runs have the same ranges in every column
 abbrev pub HaveSameRanges : List (ℕ × ℕ) → List (ℕ × ℕ) → Type 0
 HaveSameRanges old new = (col : ℕ) → column_ranges col new ≡ column_ranges col old
-
--- the runs of columns side by side, from a first column on
-abbrev pub ranges_from : ℕ → List (List (ℕ × ℕ)) → List Corners
-ranges_from col [] = []
-ranges_from col (runs ∷ columns) = column_ranges col runs ++ ranges_from (col + 1) columns

@@ -1,6 +1,6 @@
 ghost use Rattle.std.specs.Bool.{OnTrue, OnFalse};
-ghost use Rattle.std.specs.Prelude.{IfOk, IsTrue, ◌↔◌, ◌++◌, ◌<◌, ◌≡◌, ℕ, ◌+◌, ◌-◌};
-ghost use Rattle.std.specs.Prelude.{◌≤◌, [], Some, None, OnOk, OnErr};
+ghost use Rattle.std.specs.Prelude.{IfOk, IfSome, IsTrue, ◌↔◌, ◌++◌, ◌∷◌, ◌<◌, ◌≡◌, ℕ};
+ghost use Rattle.std.specs.Prelude.{◌+◌, ◌-◌, ◌≤◌, [], Some, None, OnOk, OnErr};
 ghost use Rattle.std.specs.Ordering.{nat_cmp};
 ghost use Rattle.std.specs.BTreeMap.{get, IsOrdered, IsUnchanged};
 ghost use Rattle.sheet_refs.specs.Runs.{IsColumn, Holds, HoldsAll, HoldsNone, IsLastUpTo};
@@ -206,6 +206,17 @@ pub(crate) fn strip(first: u32, last: u32, left: u32, right: u32) -> Range
     Range::of(head, tail)
 }
 
+// The one run, where there is just one.
+fn one_run(runs: &BTreeMap<u32, u32>) -> Option<(u32, u32)>
+    ensures { IfSome result (λ run. runs.now.entries ≡ run ∷ []) }
+{
+    if runs.len() != 1 {
+        return None;
+    }
+    let run = runs.first_key_value()?;
+    Some((*run.0, *run.1))
+}
+
 // Adds the runs that have a row to a list, as ranges of the column.
 fn push_ranges(runs: &BTreeMap<u32, u32>, col: u32, ranges: &mut Vec<Range>) -> Result<(), Memory>
     requires spaced { IsColumn runs.now }
@@ -246,6 +257,28 @@ impl Column {
         Column {
             runs: BTreeMap::new(alloc),
         }
+    }
+
+    /// A set of the same rows. It takes a step for each run.
+    pub(crate) fn copy(&self) -> Result<Column, Memory>
+        ensures { IfOk result (λ copy. copy ≡ self.now) }
+    {
+        let runs = self.runs.clone()?;
+        Ok(Column { runs })
+    }
+
+    /// Whether there is no run, not even one that only keeps room.
+    pub(crate) fn is_empty(&self) -> bool
+        ensures { IsTrue result → self.now ≡ [] }
+    {
+        self.runs.is_empty()
+    }
+
+    /// The one run of the set, where it has just one.
+    pub(crate) fn one_run(&self) -> Option<(u32, u32)>
+        ensures { IfSome result (λ run. self.now ≡ run ∷ []) }
+    {
+        one_run(&self.runs)
     }
 
     pub(crate) fn has_row(&self, row: u32) -> bool

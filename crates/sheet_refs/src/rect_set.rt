@@ -1,83 +1,31 @@
-ghost use Rattle.std.specs.Prelude.{◌≡◌, ◌+◌, ◌-◌, ◌≤◌, ◌<◌, ◌↔◌, ◌++◌, [], map};
-ghost use Rattle.std.specs.Prelude.{vec_len, All, IsTrue, IfOk, OnOk, OnErr};
-ghost use Rattle.sheet_refs.specs.Columns.{column_at, HaveRoom, AreFilled, LackRows};
+ghost use Rattle.std.specs.Prelude.{◌≡◌, ◌+◌, ◌≤◌, ◌<◌, ◌↔◌, ◌++◌, [], map};
+ghost use Rattle.std.specs.Prelude.{All, IsTrue, IfOk, OnOk, OnErr};
+ghost use Rattle.sheet_refs.specs.Bands.{LackRows, rows_at};
 ghost use Rattle.sheet_refs.specs.Rectangles.{IsAmong, IsNew, Joins, Tile, AreMaximalRuns};
-ghost use Rattle.sheet_refs.specs.Runs.{AreGaps, HasRow, ranges_from, strip};
+ghost use Rattle.sheet_refs.specs.Runs.{AreGaps, HasRow, strip};
 
+use crate::bands::{Bands, add_rows, all_runs, band_at, last_same, unite};
 use crate::cell::Cell;
-use crate::column::{Column, strip};
+use crate::column::strip;
 use crate::memory::Memory;
 use crate::range::Range;
 use std::alloc::Global;
+use std::collections::BTreeMap;
 use std::marker::Model;
 
-// Adds empty columns up to this number of them.
-fn widen(columns: &mut Vec<Column>, alloc: Global, count: usize) -> Result<(), Memory>
-    requires few { (vec_len columns.old ≤ 16384) × (count ≤ 16384) }
-    ensures few { vec_len columns.new ≤ 16384 }
-    ensures wide { OnOk result (count ≤ vec_len columns.new) }
-    ensures same { ranges_from 1 columns.new.items ≡ ranges_from 1 columns.old.items }
-{
-    while columns.len() < count {
-        columns.push(Column::new(alloc))?;
-    }
-    Ok(())
-}
-
-// Takes the memory that a fill of these columns, counted from 0, from this row on needs.
-fn reserve(columns: &mut Vec<Column>, from: usize, to: usize, row: u32) -> Result<(), Memory>
-    requires columns { (from ≤ to) × (to ≤ vec_len columns.old) }
-    requires row { (1 ≤ row) × (row ≤ 1048576) }
-    ensures count { vec_len columns.new ≡ vec_len columns.old }
-    ensures same { ranges_from 1 columns.new.items ≡ ranges_from 1 columns.old.items }
-    ensures room { OnOk result (HaveRoom columns.new.items from to row) }
-{
-    for place in from..to {
-        columns[place].reserve(row)?;
-    }
-    Ok(())
-}
-
-// Joins the rows to each of these columns, for which room was reserved.
-fn fill(columns: &mut Vec<Column>, from: usize, to: usize, first: u32, last: u32)
-    requires columns { (from ≤ to) × (to ≤ vec_len columns.old) }
-    requires rows { (1 ≤ first) × (first ≤ last) × (last ≤ 1048576) }
-    requires room { HaveRoom columns.old.items from to first }
-    ensures count { vec_len columns.new ≡ vec_len columns.old }
-    ensures filled { AreFilled columns.old.items columns.new.items from to first last }
-{
-    for place in from..to {
-        columns[place].fill(first, last);
-    }
-}
-
-// Joins the rows to one column, counted from 0.
-fn join_one(columns: &mut Vec<Column>, place: usize, first: u32, last: u32) -> Result<(), Memory>
-    requires column { place < vec_len columns.old }
-    requires rows { (1 ≤ first) × (first ≤ last) × (last ≤ 1048576) }
-    ensures count { vec_len columns.new ≡ vec_len columns.old }
-    ensures filled { OnOk result
-        (AreFilled columns.old.items columns.new.items place (place + 1) first last) }
-    ensures same { OnErr result
-        (ranges_from 1 columns.new.items ≡ ranges_from 1 columns.old.items) }
-{
-    columns[place].join(first, last)
-}
-
-// The rows from first to last that a column, counted from 1, doesn't have.
+// The rows from first to last that a column doesn't have.
 fn gaps_at(
-    columns: &[Column],
+    bands: &Bands,
     alloc: Global,
     col: u32,
     first: u32,
     last: u32,
 ) -> Result<Vec<(u32, u32)>, Memory>
-    requires rows { (first ≤ last) × (last ≤ 1048576) }
-    requires col { 1 ≤ col }
+    requires { (first ≤ last) × (last ≤ 1048576) }
     ensures { IfOk result
-        (λ gaps. AreGaps (HasRow (column_at columns.now col)) first (last + 1) gaps.items) }
+        (λ gaps. AreGaps (HasRow (rows_at bands.now col)) first (last + 1) gaps.items) }
 {
-    match columns.get(col as usize - 1) {
+    match band_at(bands, col) {
         Some(column) => column.gaps(alloc, first, last),
         None => {
             let mut all = Vec::new(alloc);
@@ -104,9 +52,10 @@ fn are_same(runs: &[(u32, u32)], others: &[(u32, u32)]) -> bool
     true
 }
 
-// The last column from the left to the right one up to which all lack the same rows as the left one.
+// The last column from the left to the right one up to which all lack the same rows as the left one. It looks at each
+// band of columns with the same rows once.
 fn last_alike(
-    columns: &[Column],
+    bands: &Bands,
     alloc: Global,
     gaps: &[(u32, u32)],
     left: u32,
@@ -116,18 +65,20 @@ fn last_alike(
 ) -> Result<u32, Memory>
     requires rows { (first ≤ last) × (last ≤ 1048576) }
     requires cols { (1 ≤ left) × (left ≤ right) × (right ≤ 16384) }
-    requires gaps { AreGaps (HasRow (column_at columns.now left)) first (last + 1) gaps.now }
+    requires gaps { AreGaps (HasRow (rows_at bands.now left)) first (last + 1) gaps.now }
     ensures within { IfOk result (λ end. (left ≤ end) × (end ≤ right)) }
     ensures alike { IfOk result
-        (λ end. LackRows columns.now left (end + 1) first (last + 1) gaps.now) }
+        (λ end. LackRows (rows_at bands.now) left (end + 1) first (last + 1) gaps.now) }
 {
-    for col in left + 1..right + 1 {
-        let others = gaps_at(columns, alloc, col, first, last)?;
+    let mut end = last_same(bands, left, right);
+    while end < right {
+        let others = gaps_at(bands, alloc, end + 1, first, last)?;
         if !are_same(&others, gaps) {
-            return Ok(col - 1);
+            return Ok(end);
         }
+        end = last_same(bands, end + 1, right);
     }
-    Ok(right)
+    Ok(end)
 }
 
 // Adds the ranges of these runs of rows, from the left to the right column.
@@ -150,24 +101,23 @@ fn push_strips(
 /// A set of cells, as disjoint ranges. Contracts see it as the list of its maximal vertical runs, by column
 /// and then by row, and by `IsAmong` as a set of cells.
 ///
-/// Within, each column up to the last one with a cell has its runs in an ordered map, so that what a range
-/// adds is found by a few look-ups in each of its columns, and by those of their runs that it touches.
+/// Within, columns that hold the same rows side by side are a band, whose runs of rows stand in an ordered map, and so
+/// do the bands. What a range adds is found by a few look-ups in each of the bands that it meets, and by those of their
+/// runs that it touches. A band is split where a range begins or ends within it.
 #[derive(Drop)]
 pub struct RectSet {
-    columns: Vec<Column>,
+    bands: Bands,
     alloc: Global,
 }
 
 impl Model for RectSet {
-    ghost use Rattle.std.specs.Prelude.{List, vec_len, ◌≤◌};
+    ghost use Rattle.std.specs.Prelude.{List};
     ghost use Rattle.sheet_refs.specs.Cells.{Corners};
-    ghost use Rattle.sheet_refs.specs.Runs.{ranges_from};
+    ghost use Rattle.sheet_refs.specs.Bands.{all_ranges, rows_at};
 
     ghost Value = { List Corners };
 
-    ghost view = { λ s. ranges_from 1 s.columns.items };
-
-    ghost invariant = { λ s. vec_len s.columns ≤ 16384 };
+    ghost view = { λ s. all_ranges (rows_at s.bands) };
 }
 
 impl RectSet {
@@ -178,29 +128,24 @@ impl RectSet {
         ensures { result ≡ [] }
     {
         RectSet {
-            columns: Vec::new(alloc),
+            bands: BTreeMap::new(alloc),
             alloc,
         }
     }
 
     /// Adds the cells of a range to the set. After Memory the set is as it was.
     ///
-    /// For each column of the range it takes a few look-ups among the runs of that column, and takes out
-    /// those that come to lie in a longer one.
+    /// For each band of the range it takes a few look-ups among the runs of that band, and takes out those that come to
+    /// lie in a longer one. It copies the runs of a band that is split. Bands side by side that come to have the same
+    /// one run become one band, so that a range which is wholly there is found by one look-up.
     pub fn add(&mut self, range: Range) -> Result<(), Memory>
         ensures joined { OnOk result (Joins self.old self.new range) }
         ensures err { OnErr result (self.new ≡ self.old) }
     {
-        let left = range.head().col() as usize - 1;
-        let right = range.tail().col() as usize;
-        let first = range.head().row();
-        let last = range.tail().row();
-        widen(&mut self.columns, self.alloc, right)?;
-        if left + 1 == right {
-            return join_one(&mut self.columns, left, first, last);
-        }
-        reserve(&mut self.columns, left, right, first)?;
-        fill(&mut self.columns, left, right, first, last);
+        let left = range.head().col();
+        let right = range.tail().col();
+        add_rows(&mut self.bands, self.alloc, range)?;
+        unite(&mut self.bands, left, right + 1);
         Ok(())
     }
 
@@ -208,7 +153,7 @@ impl RectSet {
     pub fn contains(&self, cell: Cell) -> bool
         ensures { IsTrue result ↔ IsAmong self.now cell }
     {
-        match self.columns.get(cell.col() as usize - 1) {
+        match band_at(&self.bands, cell.col()) {
             Some(column) => column.has_row(cell.row()),
             None => false,
         }
@@ -225,8 +170,8 @@ impl RectSet {
         let mut parts = Vec::new(self.alloc);
         let mut left = range.head().col();
         while left <= end {
-            let gaps = gaps_at(&self.columns, self.alloc, left, first, last)?;
-            let right = last_alike(&self.columns, self.alloc, &gaps, left, end, first, last)?;
+            let gaps = gaps_at(&self.bands, self.alloc, left, first, last)?;
+            let right = last_alike(&self.bands, self.alloc, &gaps, left, end, first, last)?;
             push_strips(&mut parts, &gaps, left, right)?;
             left = right + 1;
         }
@@ -238,12 +183,6 @@ impl RectSet {
         ensures listed { IfOk result (λ runs. runs.items ≡ self.now) }
         ensures runs { IfOk result (λ runs. AreMaximalRuns runs.items) }
     {
-        let mut runs = Vec::new(self.alloc);
-        let mut col = 1;
-        for column in &self.columns {
-            column.push_ranges(col, &mut runs)?;
-            col += 1;
-        }
-        Ok(runs)
+        all_runs(&self.bands, self.alloc)
     }
 }

@@ -17,7 +17,7 @@ use Rattle.edge_patterns.proofs.UnionLemmas.{run_has_ranges}
 use Rattle.taco_graph.specs.Stores.{AreEdges, edge_at}
 use Rattle.taco_graph.specs.Changes.{LacksCell, FindsJoined}
 use Rattle.taco_graph.specs.Joinable.{CantJoinAt, CantJoinAny, CantJoinBeyond}
-use Rattle.taco_graph.specs.Sides.{CantJoinBetween, CantJoinListed, CantJoinBeside, NamesAll, HasBeside, AreRound}
+use Rattle.taco_graph.specs.Sides.{CantJoinBetween, CantJoinListed, CantJoinBeside, NamesAll, HasBeside, AreRound, IsOneOf}
 use Rattle.taco_graph.specs.Sides.{StandAsBefore, IsBefore, IsBehind, cell_after, cell_before}
 use Rattle.taco_graph.specs.declared.neighbours.Sides.{Sides}
 
@@ -120,7 +120,7 @@ module _ (slots : List (Option EdgeValue)) (edge : EdgeValue) (cell : Position) 
       none key third here (has_last sides.left.beside third is (round.left third.dep.tail (before Right run third.dep is.dep follows))) lacks
 
 -- no edge that is kept can be joined where none at a side can be
-pub none_round : (slots : List (Option EdgeValue)) (edge : EdgeValue) (cell : Position) (sides : Sides)
+none_round : (slots : List (Option EdgeValue)) (edge : EdgeValue) (cell : Position) (sides : Sides)
     (found : Option (ℕ × EdgeValue)) → AreEdges slots → AreRound edge.dep sides
     → CantJoinBeside slots sides.above.beside edge cell → CantJoinBeside slots sides.below.beside edge cell
     → CantJoinBeside slots sides.left.beside edge cell
@@ -137,6 +137,27 @@ none_round slots edge cell sides None edges round above below left right = any
         by_side Down (inr ahead) = at_above slots edge cell sides edges edge.dep round above key third here ahead lacks (joined, join)
         by_side Right (inl after) = at_right slots edge cell sides edges edge.dep round right key third here after lacks (joined, join)
         by_side Right (inr ahead) = at_left slots edge cell sides edges edge.dep round left key third here ahead lacks (joined, join)
+
+-- what is found at one of two sides, or at neither
+pub one_found : (slots : List (Option EdgeValue)) (edge : EdgeValue) (cell : Position) (first second found : Option (ℕ × EdgeValue))
+    (One Other : Type 0) → IsOneOf first second found → FindsJoined slots edge cell first One → FindsJoined slots edge cell second Other
+    → FindsJoined slots edge cell found (One × Other)
+one_found slots edge cell first second None One Other (none, no_other) at_first at_second =
+    (none_found slots edge cell first One none at_first, none_found slots edge cell second Other no_other at_second)
+one_found slots edge cell first second (Some f) One Other (inl is) at_first at_second =
+    subst (λ (o : Option (ℕ × EdgeValue)). FindsJoined slots edge cell o One) is at_first
+one_found slots edge cell first second (Some f) One Other (inr is) at_first at_second =
+    subst (λ (o : Option (ℕ × EdgeValue)). FindsJoined slots edge cell o Other) is at_second
+
+-- or at any of the four
+pub all_round : (slots : List (Option EdgeValue)) (edge : EdgeValue) (cell : Position) (sides : Sides)
+    (found : Option (ℕ × EdgeValue)) → AreEdges slots → AreRound edge.dep sides
+    → FindsJoined slots edge cell found ((CantJoinBeside slots sides.above.beside edge cell × CantJoinBeside slots sides.below.beside edge cell)
+    × (CantJoinBeside slots sides.left.beside edge cell × CantJoinBeside slots sides.right.beside edge cell))
+    → FindsJoined slots edge cell found (CantJoinAny slots edge cell)
+all_round slots edge cell sides (Some f) edges round is = is
+all_round slots edge cell sides None edges round (column, row) =
+    none_round slots edge cell sides None edges round column.0 column.1 row.0 row.1
 
 -- ---- beyond a union
 

@@ -1,5 +1,6 @@
 -- The sides of a run, and the edges that stand there.
-use Rattle.std.specs.Prelude.{◌≡◌, ℕ, ◌+◌, ◌≤◌, ◌<◌, List, Option, Some, Bool, true, if◌then◌else◌, Contains, IsSomeAnd, length, slice_index}
+use Rattle.std.specs.Prelude.{◌≡◌, ℕ, ◌+◌, ◌≤◌, ◌<◌, ◌⊎◌, List, Option, None, Some, Bool, true, if◌then◌else◌}
+use Rattle.std.specs.Prelude.{Contains, IsSomeAnd, MatchOption, length, slice_index}
 use Rattle.sheet_refs.specs.Cells.{Position, Corners, IsIn}
 use Rattle.edge_patterns.specs.declared.axis.Axis.{Axis}
 use Rattle.edge_patterns.specs.declared.axis.Axis.TheVariants.{Down, Right}
@@ -29,6 +30,10 @@ CantJoinListed slots keys edge cell = (key : ℕ) → Contains keys key → Cant
 abbrev pub CantJoinBeside : List (Option EdgeValue) → Option Position → EdgeValue → Position → Type 0
 CantJoinBeside slots beside edge cell =
     (key : ℕ) (other : EdgeValue) → edge_at slots key ≡ Some other → HasBeside beside other.dep → LacksCell other cell → ¬ CanBeJoined edge other
+
+-- one of two that were found; none where neither was
+abbrev pub IsOneOf : Option (ℕ × EdgeValue) → Option (ℕ × EdgeValue) → Option (ℕ × EdgeValue) → Type 0
+IsOneOf first second found = MatchOption found ((first ≡ None) × (second ≡ None)) (λ f. (first ≡ Some f) ⊎ (second ≡ Some f))
 
 -- the keys of all edges that lack a cell and have the cell at a side in their runs are in a list
 abbrev pub NamesAll : List (Option EdgeValue) → Position → Option Position → List ℕ → Type 0

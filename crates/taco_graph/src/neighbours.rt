@@ -1,11 +1,11 @@
 // The sides of a run, and which edges there can be joined with it.
-ghost use Rattle.std.specs.Prelude.{◌≡◌, Some, true, ℕ, List, Option, Contains, OnOk};
+ghost use Rattle.std.specs.Prelude.{◌≡◌, ◌≤◌, Some, true, ℕ, List, Option, Contains, OnOk};
 ghost use Rattle.sheet_refs.specs.Cells.{Position, IsNamed};
 ghost use Rattle.edge_patterns.specs.Edges.{EdgeValue};
 ghost use Rattle.taco_graph.specs.Changes.{FindsJoined};
 ghost use Rattle.taco_graph.specs.Joinable.{CantJoinAny, CantJoinBeyond};
 ghost use Rattle.taco_graph.specs.Sides.{CantJoinBeside, NameBeside, AreRound, StandAsBefore};
-ghost use Rattle.taco_graph.specs.Sides.{HaveKey, KeepKeys, WereAskedWithin, cell_after, cell_before};
+ghost use Rattle.taco_graph.specs.Sides.{HaveKey, IsOneOf, KeepKeys, WereAskedWithin, cell_after, cell_before};
 
 use crate::side::Side;
 use crate::store::EdgeStore;
@@ -44,6 +44,31 @@ fn around(cell: Cell) -> Range {
     let head = Cell::new((row - 1).max(1), (col - 1).max(1)).unwrap();
     let tail = Cell::new((row + 1).min(MAX_ROWS), (col + 1).min(MAX_COLS)).unwrap();
     Range::of(head, tail)
+}
+
+// The first of two that were found, or the second; where just one was found, that one.
+fn either(
+    first: &Option<(usize, Edge)>,
+    second: &Option<(usize, Edge)>,
+    takes_second: bool,
+) -> Option<(usize, Edge)>
+    ensures { IsOneOf first.now second.now result }
+{
+    if takes_second && second.is_some() || first.is_none() {
+        *second
+    } else {
+        *first
+    }
+}
+
+// How many cells an edge has that was found.
+fn cells_of(found: &Option<(usize, Edge)>) -> u64
+    ensures { result ≤ 17179869184 }
+{
+    match found {
+        Some((_, edge)) => edge.dep().cells(),
+        None => 0,
+    }
 }
 
 impl Sides {
@@ -205,11 +230,12 @@ impl Sides {
         ensures same { StandAsBefore self.old self.new }
     {
         self.ask_around(store, edge.dep());
-        self.find_in_turn(store, edge, cell)
+        self.find_longest(store, edge, cell)
     }
 
-    // The same, one side after the other.
-    fn find_in_turn<I: RangeIndex>(
+    // The same, in the direction in which more cells stand at the sides, and there at the side before the edge. So a
+    // cell that goes on with a long row isn't joined with a cell above it, to which it stands in the same way.
+    fn find_longest<I: RangeIndex>(
         &mut self,
         store: &EdgeStore<I>,
         edge: &Edge,
@@ -224,18 +250,13 @@ impl Sides {
     {
         store.check_edges();
         let above = self.above.find(store, edge, cell);
-        if above.is_some() {
-            return above;
-        }
         let below = self.below.find(store, edge, cell);
-        if below.is_some() {
-            return below;
-        }
         let left = self.left.find(store, edge, cell);
-        if left.is_some() {
-            return left;
-        }
-        self.right.find(store, edge, cell)
+        let right = self.right.find(store, edge, cell);
+        let down = either(&above, &below, false);
+        let across = either(&left, &right, false);
+        let is_longer = cells_of(&above) + cells_of(&below) < cells_of(&left) + cells_of(&right);
+        either(&down, &across, is_longer)
     }
 
     /// An edge that can be joined with what an edge has grown into, at the end at which it hasn't grown: what could be

@@ -3,6 +3,17 @@ use Rattle.std.proofs.lemmas.Bool.Decides.{nat_tests}
 use Rattle.edit_log.proofs.PairLemmas.{nothing_added, run_added, run_follows, run_lacks, with_formula}
 use Rattle.edit_log.proofs.graphs.add_from.Goals as goal
 
+pub returns-then-is_longer_across : goal.returns-then-is_longer_across
+returns-then-is_longer_across g c = record {
+  before = with_formula c.args.sheet.now c.args.cell (g.G.Graph.pairs c.args.graph.now) (g.G.Graph.pairs c.add_alone.new.graph)
+      c.at.result.now c.at.ensures.once c.requires.before c.in_ok-add_alone.ensures;
+  goes = record {
+    some = omega arith;
+    inside = omega (arith, c.requires.rows);
+    named = search rules;
+  };
+}
+
 pub returns-then-is_empty : goal.returns-then-is_empty
 returns-then-is_empty g c =
     let run = c.run_from-run.result in
@@ -17,8 +28,8 @@ pub returns-then-run-eq1 : goal.returns-then-run-eq1
 returns-then-run-eq1 g c =
     let run = c.run_from-run.result in
     record {
-      before = with_formula c.args.sheet.now c.args.cell (g.G.Graph.pairs c.args.graph.now) (g.G.Graph.pairs c.add_alone.new.graph)
-          run.first.now c.run_from-run.ensures.once c.requires.before c.in_ok-add_alone.ensures;
+      before = with_formula c.args.sheet.now c.args.cell (g.G.Graph.pairs c.args.graph.now) (g.G.Graph.pairs c.add_alone-then-run-eq1.new.graph)
+          run.first.now c.run_from-run.ensures.once c.requires.before c.in_ok-add_alone-2.ensures;
       goes = search rules;
     }
 

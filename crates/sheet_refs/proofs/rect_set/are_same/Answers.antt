@@ -1,5 +1,5 @@
 use Rattle.std.proofs.Common.{arith}
-use Rattle.sheet_refs.proofs.SetLemmas.{same_items}
+use Rattle.sheet_refs.proofs.BandLemmas.{same_items}
 use Rattle.sheet_refs.proofs.rect_set.are_same.Goals as goal
 
 pub returns : goal.returns

@@ -1,26 +1,34 @@
-use Rattle.std.proofs.Common.{◌≡◌, ◌-◌, ◌≤◌, ◌↔◌, ℕ, List, [], length, IsTrue}
-use Rattle.std.proofs.Math.ListN.{get_or-eq_default}
-use Rattle.sheet_refs.specs.Columns.{column_at}
-use Rattle.sheet_refs.specs.Runs.{HasRow, ranges_from}
-use Rattle.sheet_refs.proofs.SetLemmas.{among_at}
+use Rattle.std.proofs.Common.{◌≡◌, ◌↔◌, ℕ, List, [], IsTrue, subst, sym}
+use Rattle.sheet_refs.specs.Bands.{all_ranges, rows_at}
+use Rattle.sheet_refs.specs.Cells.{Corners}
+use Rattle.sheet_refs.specs.Rectangles.{IsAmong}
+use Rattle.sheet_refs.specs.Runs.{HasRow}
+use Rattle.sheet_refs.proofs.BandLemmas.{among_all}
 use Rattle.sheet_refs.proofs.rect_set.RectSet.contains.Goals as goal
 
 pub returns-in-Some : goal.returns-in-Some
 returns-in-Some c =
-    let columns : List (List (ℕ × ℕ)) = c.self.inside.columns.items in
-    let same : ranges_from 1 columns ≡ c.args.self.now = c.self.view_is in
-    let col : c.col.result ≡ c.args.cell.col = c.col.ensures.col in
-    let here : c.in-Some.column.now ≡ column_at columns c.args.cell.col = rw (← col, ← c.deref.ensures.value) (c.in-Some.ensures.lookup.3.1 []) in
-    let row : c.row.result ≡ c.args.cell.row = c.row.ensures.row in
-    let has : IsTrue c.has_row.result ↔ HasRow (column_at columns c.args.cell.col) c.args.cell.row = rw (← here, ← row) c.has_row.ensures in
-    let among = among_at columns c.args.cell c.col.ensures.named.col_from in
-    rw (← same) (λ t. among.1 (has.0 t), λ is. has.1 (among.0 is))
+    let rows = rows_at c.self.inside.bands in
+    let same : all_ranges rows ≡ c.args.self.now = c.self.view_is in
+    let named = c.col.ensures.named in
+    let among = among_all rows c.args.cell named.col_from named.col_to in
+    let here : c.in-Some.column.now ≡ rows c.args.cell.col =
+    subst (λ (k : ℕ). c.in-Some.column.now ≡ rows k) c.col.ensures.col c.in-Some.ensures in
+    let has : IsTrue c.has_row.result ↔ HasRow (rows c.args.cell.col) c.args.cell.row =
+    subst (λ (runs : List (ℕ × ℕ)). IsTrue c.has_row.result ↔ HasRow runs c.args.cell.row) here
+    (subst (λ (r : ℕ). IsTrue c.has_row.result ↔ HasRow c.in-Some.column.now r) c.row.ensures.row c.has_row.ensures) in
+    subst (λ (s : List Corners). IsTrue c.has_row.result ↔ IsAmong s c.args.cell) same (λ t. among.1 (has.0 t), λ is. has.1 (among.0 is))
 
 pub returns-in-None : goal.returns-in-None
 returns-in-None c =
-    let columns : List (List (ℕ × ℕ)) = c.self.inside.columns.items in
-    let same : ranges_from 1 columns ≡ c.args.self.now = c.self.view_is in
-    let among = among_at columns c.args.cell c.col.ensures.named.col_from in
-    let past : length columns ≤ c.args.cell.col - 1 = rw (← c.col.ensures.col, ← c.deref.ensures.value) c.in-None.ensures.lookup.3 in
-    let none : column_at columns c.args.cell.col ≡ [] = get_or-eq_default columns [] past in
-    rw (← same) (λ t. absurd (cc), λ is. absurd (rw none at (among.0 is)))
+    let rows = rows_at c.self.inside.bands in
+    let same : all_ranges rows ≡ c.args.self.now = c.self.view_is in
+    let named = c.col.ensures.named in
+    let among = among_all rows c.args.cell named.col_from named.col_to in
+    let none : rows c.args.cell.col ≡ [] = subst (λ (k : ℕ). rows k ≡ []) c.col.ensures.col c.in-None.ensures in (
+      λ t. absurd (cc),
+      λ is.
+          let has : HasRow (rows c.args.cell.col) c.args.cell.row = among.0 (subst (λ (s : List Corners). IsAmong s c.args.cell) (sym same) is) in
+          let never : HasRow [] c.args.cell.row = subst (λ (runs : List (ℕ × ℕ)). HasRow runs c.args.cell.row) none has in
+          absurd never,
+    )
