@@ -99,7 +99,7 @@ module _ (sheet : SheetValue) (pairs : List Pair) (are : ArePairsOf sheet pairs)
       }
 
   -- a cell on a cycle lies in the sheet, since a step ends there
-  on_cycle_inside : (cell : Position) → IsOnCycle pairs cell → IsTrue (is_inside sheet.sizes cell)
+  pub on_cycle_inside : (cell : Position) → IsOnCycle pairs cell → IsTrue (is_inside sheet.sizes cell)
   on_cycle_inside cell on =
       reached_within (Step pairs) (λ from. from ≡ on.next) (λ (c : Position). IsTrue (is_inside sheet.sizes c))
       (λ c is. subst (λ (p : Position). IsTrue (is_inside sheet.sizes p)) (sym is) (step_inside cell on.next on.first))

@@ -1,4 +1,5 @@
 mod BookLemmas
+pub mod CycleLemmas
 pub mod InputLemmas
 mod ListingLemmas
 mod PairLemmas

@@ -23,6 +23,7 @@ use Rattle.sheet_model.proofs.LogLemmas.{after-more, after-sizes, after-labels, 
 use Rattle.edit_log.specs.Books.{BookValue, IsBookOf, IsPreparedFor, IsUnchanged, PreparedValue}
 use Rattle.edit_log.specs.Kept.{Depends}
 use Rattle.edit_log.specs.Pairs.{IsPairOf, ArePairsOf, IsFilled}
+use Rattle.edit_log.specs.Rows.{LieInside}
 use Rattle.sheet_model.specs.Ranges.{ranges_in}
 use Rattle.edit_log.specs.Touches.{DependsDirectly, IsChangedBy, IsReachInside, Touches, AreTouched, ListsRowByRow, cell_range, cell_ranges, of_change}
 use Rattle.sheet_model.proofs.ListMembers.{all_from, first_member, mapped_from, mapped_to, no_member}
@@ -98,12 +99,12 @@ pub reach_inside : (sheet : SheetValue) (pairs : List Pair) (edit : EditValue) �
     → AreInSheet sheet edit → IsReachInside sheet.sizes pairs (cell_ranges edit)
 reach_inside sheet pairs edit are inside cell reached = depends_inside sheet edit inside cell ((reach_depends sheet pairs edit are cell).0 reached)
 
--- the runs of a set that holds what is reached
-pub runs_inside : (sizes : Sizes) (pairs : List Pair) (ranges set runs : List Corners) → runs ≡ set
-    → HoldsReachOfAll pairs ranges set → IsReachInside sizes pairs ranges → (cell : Position) → IsAmong runs cell
-    → IsTrue (is_inside sizes cell)
-runs_inside sizes pairs ranges set runs same holds inside cell among = inside cell ((holds cell).0 (subst (λ (rs : List Corners). IsAmong rs cell) same among))
+-- a set of what is reached lies in the sheet
+pub lies_inside : (sheet : SheetValue) (pairs : List Pair) (edit : EditValue) (set : List Corners) → ArePairsOf sheet pairs
+    → AreInSheet sheet edit → HoldsReachOfAll pairs (cell_ranges edit) set → LieInside sheet.sizes set
+lies_inside sheet pairs edit set are inside holds cell among = reach_inside sheet pairs edit are inside cell ((holds cell).0 among)
 
+-- a list of a set that holds what is reached lists this
 pub rows_of_reach : (sizes : Sizes) (pairs : List Pair) (ranges set runs : List Corners) (cells : List Position)
     → runs ≡ set → HoldsReachOfAll pairs ranges set → ListsRowByRow sizes cells (IsAmong runs)
     → ListsRowByRow sizes cells (ReachOfAll pairs ranges)

@@ -1,5 +1,5 @@
 -- Books: a sheet, its graph, and the log of its edits.
-use Rattle.std.specs.Prelude.{◌≡◌, ℕ, ◌+◌, ◌<◌, ◌≤◌, IsTrue, List, [], ◌∷◌, ◌++◌, length, take, All}
+use Rattle.std.specs.Prelude.{◌≡◌, ℕ, ◌+◌, ◌<◌, ◌≤◌, Bool, IsTrue, List, [], ◌∷◌, ◌++◌, length, take, All, Option, IfSome}
 use Rattle.std.specs.List.{AllZip}
 use Rattle.sheet_refs.specs.Cells.{Position, Corners}
 use Rattle.sheet_refs.specs.Sizes.{is_inside}
@@ -10,6 +10,7 @@ use Rattle.sheet_model.specs.Edits.{EditValue, AreHeldBeside, AreInSheet, IsEdit
 use Rattle.sheet_model.specs.Logs.{after, AreHeld}
 use Rattle.sheet_model.specs.Sheets.{SheetValue, IsSheet}
 use Rattle.sheet_model.specs.declared.entry.Entry.{Entry}
+use Rattle.edit_log.specs.Cycles.{HoldsCycles, RefersToNone}
 use Rattle.edit_log.specs.Pairs.{ArePairsOf}
 use Rattle.sheet_model.specs.Ranges.{ranges_in}
 use Rattle.edit_log.specs.Touches.{AreTouched}
@@ -76,11 +77,18 @@ AreRefsOf change ranges = IsOnceEach (ranges_in change.content) ranges
 abbrev pub HaveRefs : EditValue → List (List Corners) → Type 0
 HaveRefs edit refs = AllZip AreRefsOf edit refs
 
--- a prepared edit in memory: the edit for the sheet is that of the entry, and the ranges are those to which its formulas
--- refer
-pub record IsStoredEdit (entry : Entry) (edit : EditValue) (refs : List (List Corners)) : Type 0 where
-  pub same : edit ≡ entry.edit
+-- a prepared edit in memory: the edit for the sheet is that of the entry, the ranges are those to which its formulas refer,
+-- and where it is known to close no cycle, none of its formulas refers to a cell that it touches
+pub record IsStoredEdit (prepared : PreparedValue) (edit : EditValue) (refs : List (List Corners)) (closes_none : Bool) : Type 0 where
+  pub same : edit ≡ prepared.entry.edit
   pub whole : HaveRefs edit refs
+  pub closes : IsTrue closes_none → RefersToNone prepared.entry.edit prepared.touched
+
+-- what a book keeps: its sheet, graph and log agree, and each cell on a cycle is in the set of those that may be on one, where
+-- there is such a set
+pub record IsKeptBook (opening sheet : SheetValue) (log : List Entry) (pairs : List Pair) (cycles : Option (List Corners)) : Type 0 where
+  pub book : IsBookOf opening sheet log pairs
+  pub cycles_held : IfSome cycles (HoldsCycles pairs)
 
 -- a book after an edit: the entry is the last of the log, and the edit is made
 pub record HasApplied {G : Type 0} (entry : Entry) (old new : BookValue G) : Type 0 where

@@ -2,12 +2,13 @@ ghost use Rattle.std.specs.Prelude.{◌≡◌, ◌≤◌, length, IfOk};
 ghost use Rattle.edit_log.specs.Books.{IsBook, IsOpenedWith, IsPreparedFor, HasApplied};
 ghost use Rattle.edit_log.specs.Pairs.{HasNoPairs};
 
+use crate::cycles::kept_where;
 use crate::graphs::graph_of;
 use crate::prepared::{Applied, Prepared};
 use crate::replacing::replace_all;
 use graph_walk::Graph;
 use sheet_model::{Entry, Sheet};
-use sheet_refs::Memory;
+use sheet_refs::{Memory, RectSet};
 use std::alloc::Global;
 use std::marker::Model;
 use std::snapshot::Snapshot;
@@ -17,13 +18,17 @@ use std::snapshot::Snapshot;
 /// Contracts see besides these the sheet with which it was opened, and for how many changes of one edit there is room
 /// (`spare`). Its type keeps that the sheet is the opening one after the log, that each entry changes distinct cells,
 /// that what it puts into them may stand beside the labels of the opening sheet, that the graph's pairs are those of
-/// the sheet, and that the log has at most 1,048,576 entries.
+/// the sheet, and that the log has at most 1,048,576 entries. Beside these a book keeps a set that has each cell which
+/// is on a cycle (`on_cycle`); from an edit that may put a cell onto one, or changes one of the set, nothing is known.
 #[derive(Drop)]
 pub struct Book<G: Graph> {
     pub(crate) opening: Snapshot<Sheet>,
     pub(crate) sheet: Sheet,
     pub(crate) graph: G,
     pub(crate) log: Vec<Entry>,
+    /// The cells that may be on a cycle: each one that is on one, and perhaps others whose value was `#CIRC!`. None
+    /// where nothing is known.
+    pub(crate) cycles: Option<RectSet>,
     pub(crate) alloc: Global,
 }
 
@@ -31,7 +36,7 @@ impl<G: Graph> Model for Book<G> {
     ghost use Rattle.std.specs.Prelude.{min, ◌*◌, ◌-◌, vec_len, vec_capacity};
     ghost use Rattle.std.specs.Coded.{codes};
     ghost use Rattle.formula_syntax.specs.TreeCode.{tree_code};
-    ghost use Rattle.edit_log.specs.Books.{BookValue, IsBookOf};
+    ghost use Rattle.edit_log.specs.Books.{BookValue, IsKeptBook};
 
     ghost Value = { BookValue G };
 
@@ -45,7 +50,8 @@ impl<G: Graph> Model for Book<G> {
       spare = min (G.spare b.graph) (1024 * (vec_capacity b.log - vec_len b.log));
     } };
 
-    ghost invariant = { λ b. IsBookOf b.opening.value b.sheet b.log.items (G.pairs b.graph) };
+    ghost invariant = { λ b. IsKeptBook b.opening.value b.sheet b.log.items (G.pairs b.graph)
+        b.cycles };
 }
 
 impl<G: Graph> Book<G> {
@@ -66,6 +72,7 @@ impl<G: Graph> Book<G> {
             sheet,
             graph,
             log: Vec::new(alloc),
+            cycles: None,
             alloc,
         })
     }
@@ -118,7 +125,9 @@ impl<G: Graph> Book<G> {
             touched,
             edit,
             refs,
+            keeps_cycles,
         } = prepared;
+        self.cycles = kept_where(self.cycles.take(), keeps_cycles);
         replace_all(&mut self.graph, edit.changes(), &refs);
         let _ = self.sheet.apply(edit);
         self.log.push_reserved(entry);
@@ -138,6 +147,7 @@ impl<G: Graph> Book<G> {
             sheet,
             graph: _,
             log,
+            cycles: _,
             alloc: _,
         } = self;
         (sheet, log)

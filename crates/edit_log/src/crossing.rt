@@ -3,6 +3,7 @@ ghost use Rattle.edit_log.specs.contracts.book.Book.{the_row};
 
 use graph_walk::Graph;
 use sheet_model::{Entry, Sheet};
+use sheet_refs::RectSet;
 
 // A type that may go to another thread is one by its values.
 fn may_cross<T: Send>()
@@ -18,4 +19,5 @@ pub fn book_crosses<G: Graph + Send>()
 {
     may_cross::<Sheet>();
     may_cross::<Vec<Entry>>();
+    may_cross::<RectSet>();
 }

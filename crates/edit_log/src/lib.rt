@@ -9,13 +9,15 @@
 //! `apply` then makes the edit and can't fail. Which cells an entry touches, `specs/Touches.antt` says: its own and all
 //! that depend on one of them. `touch_laws` says that every other cell keeps its value, and by this an `OverSheet` is
 //! what the marks of a sheet are about. `place_laws`, `pair_laws` and `book_laws` say what holds of places, of pairs
-//! and inputs, and of books; `book_crosses` that threads may share a book under a lock.
+//! and inputs, and of books; `book_crosses` that threads may share a book under a lock. `on_cycle` answers by a set of
+//! cells that the book keeps, which has each cell on a cycle (`specs/Cycles.antt`).
 //!
 //! Below stand `sheet_refs`, `formula_syntax`, `sheet_model`, `graph_walk` and `mark_core`.
 #![tactic(auto)]
 
 mod book;
 mod crossing;
+mod cycles;
 mod graphs;
 mod laws;
 mod listing;

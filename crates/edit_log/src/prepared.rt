@@ -12,6 +12,9 @@ pub struct Prepared {
     pub(crate) edit: Edit,
     /// The ranges to which the formula of each of its changes refers.
     pub(crate) refs: Vec<Refs>,
+    /// Whether no formula of it refers to a cell that it touches, so that it puts no cell onto a cycle, and it changes
+    /// no cell that may be on one.
+    pub(crate) keeps_cycles: bool,
 }
 
 impl Model for Prepared {
@@ -25,7 +28,9 @@ impl Model for Prepared {
 
     ghost view = { λ p. record { entry = p.entry; number = p.number; touched = p.touched.items } };
 
-    ghost invariant = { λ p. IsStoredEdit p.entry p.edit p.refs.items };
+    ghost invariant = { λ p. IsStoredEdit
+        (record { entry = p.entry; number = p.number; touched = p.touched.items })
+        p.edit p.refs.items p.keeps_cycles };
 }
 
 impl Prepared {

@@ -1,12 +1,14 @@
 ghost use Rattle.std.specs.Prelude.{◌≡◌, ◌<◌, ◌≤◌, length, Err, Some, IfOk};
 ghost use Rattle.std.specs.Prelude.{MatchOption, OnOk, IfErr, IfSome, IsNone};
 ghost use Rattle.sheet_refs.specs.Cells.{Position};
+ghost use Rattle.sheet_refs.specs.Rectangles.{IsAmong};
 ghost use Rattle.sheet_refs.specs.Sizes.{AreNamed};
-ghost use Rattle.graph_walk.specs.Starts.{ReachOfAll};
+ghost use Rattle.graph_walk.specs.Starts.{HoldsReachOfAll, ReachOfAll};
 ghost use Rattle.sheet_model.specs.Edits.{AreInSheet, HaveLabels};
 ghost use Rattle.edit_log.specs.Books.{HaveRefs, IsPreparedFor, IsUnchanged, client_entry};
 ghost use Rattle.edit_log.specs.Refusals.{IsCause, IsFirstOutside};
-ghost use Rattle.edit_log.specs.Touches.{ListsRowByRow, IsReachInside, cell_ranges};
+ghost use Rattle.edit_log.specs.Rows.{LieInside};
+ghost use Rattle.edit_log.specs.Touches.{ListsRowByRow, cell_ranges};
 ghost use Rattle.edit_log.specs.declared.refused.PrepareRefused.TheVariants as refused;
 
 use crate::book::Book;
@@ -15,7 +17,7 @@ use crate::refused::PrepareRefused;
 use crate::rows::cells_by_row;
 use graph_walk::{Graph, dependents_of_all};
 use sheet_model::{Change, Edit, Entry, MAX_ENTRIES, Sheet};
-use sheet_refs::{Cell, Memory, Range, Refs, Sizes};
+use sheet_refs::{Cell, Memory, Range, RectSet, Refs, Sizes};
 use std::alloc::Global;
 
 // The ranges to which the formula of each change refers.
@@ -42,20 +44,13 @@ fn changed_ranges(alloc: Global, changes: &[Change]) -> Result<Vec<Range>, Memor
     Ok(ranges)
 }
 
-// The cells of some ranges and all cells that depend on them, row by row.
-fn dependents_by_row<G: Graph>(
-    alloc: Global,
-    graph: &G,
-    sizes: Sizes,
-    ranges: &[Range],
-) -> Result<Vec<Cell>, Memory>
+// The cells of a set, row by row.
+fn set_by_row(alloc: Global, sizes: Sizes, set: &RectSet) -> Result<Vec<Cell>, Memory>
     requires named { AreNamed sizes }
-    requires inside { IsReachInside sizes (G.pairs graph.now) ranges.now }
-    ensures { IfOk result
-        (λ cells. ListsRowByRow sizes cells.items (ReachOfAll (G.pairs graph.now) ranges.now)) }
+    requires inside { LieInside sizes set.now }
+    ensures { IfOk result (λ cells. ListsRowByRow sizes cells.items (IsAmong set.now)) }
 {
-    let reached = dependents_of_all(alloc, graph, ranges)?;
-    let runs = reached.columns()?;
+    let runs = set.columns()?;
     cells_by_row(alloc, sizes, &runs)
 }
 
@@ -95,14 +90,13 @@ impl<G: Graph> Book<G> {
         None
     }
 
-    // The cells that an edit of cells of the sheet touches, row by row.
-    fn touched_by(&self, changes: &[Change]) -> Result<Vec<Cell>, Memory>
-        requires { AreInSheet self.now.sheet changes.now }
-        ensures { IfOk result (λ cells. ListsRowByRow self.now.sheet.sizes cells.items
-            (ReachOfAll (G.pairs self.now.graph) (cell_ranges changes.now))) }
+    // The cells that an edit of cells of the sheet touches.
+    fn touched_by(&self, changes: &[Change]) -> Result<RectSet, Memory>
+        ensures { IfOk result
+            (HoldsReachOfAll (G.pairs self.now.graph) (cell_ranges changes.now)) }
     {
         let ranges = changed_ranges(self.alloc, changes)?;
-        dependents_by_row(self.alloc, &self.graph, self.sheet.sizes(), &ranges)
+        dependents_of_all(self.alloc, &self.graph, &ranges)
     }
 
     // An edit of cells of the sheet, with all that `apply` needs of it.
@@ -115,13 +109,16 @@ impl<G: Graph> Book<G> {
     {
         let copy = edit.copy()?;
         let refs = refs_of_all(self.alloc, copy.changes())?;
-        let touched = self.touched_by(copy.changes())?;
+        let set = self.touched_by(copy.changes())?;
+        let touched = set_by_row(self.alloc, self.sheet.sizes(), &set)?;
+        let keeps_cycles = self.keeps_cycles(copy.changes(), &refs, &set)?;
         Ok(Prepared {
             entry: Entry { client, edit },
             number: self.log.len() as u64 + 1,
             touched,
             edit: copy,
             refs,
+            keeps_cycles,
         })
     }
 

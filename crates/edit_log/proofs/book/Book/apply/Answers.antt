@@ -3,6 +3,7 @@ use Rattle.sheet_model.specs.Edits.{EditValue, AreHeldBeside, AreInSheet, IsEdit
 use Rattle.sheet_model.specs.declared.entry.Entry.{Entry}
 use Rattle.edit_log.specs.Books.{BookValue, IsPreparedFor, PreparedValue}
 use Rattle.edit_log.specs.Pairs.{ArePairsOf}
+use Rattle.edit_log.proofs.CycleLemmas.{applied_cycles}
 use Rattle.edit_log.proofs.TouchLemmas.{ready_for, applied_book, book_sheet}
 use Rattle.edit_log.proofs.book.Book.apply.Goals as goal
 
@@ -13,7 +14,7 @@ apply-requires g c =
     c.requires.prepared in
     let entry_is : c.prepared.inside.entry ≡ c.args.prepared.entry = ap (λ (p : PreparedValue). p.entry) c.prepared.view_is in
     ready_for c.self.inside.opening.value c.self.inside.sheet c.self.inside.log.items
-    (g.G.Graph.pairs c.self.inside.graph) c.args.prepared c.prepared.inside.edit c.self.invariant ready
+    (g.G.Graph.pairs c.self.inside.graph) c.args.prepared c.prepared.inside.edit c.self.invariant.book ready
     (c.prepared.invariant.same ∙ ap (λ (e : Entry). e.edit) entry_is)
 
 pub invariant_of-self : goal.invariant_of-self
@@ -24,7 +25,7 @@ invariant_of-self g c =
     let entry_is : c.prepared.inside.entry ≡ c.args.prepared.entry = ap (λ (p : PreparedValue). p.entry) c.prepared.view_is in
     let for : IsFor c.self.inside.sheet c.prepared.inside.edit =
     ready_for c.self.inside.opening.value c.self.inside.sheet c.self.inside.log.items
-    (g.G.Graph.pairs c.self.inside.graph) c.args.prepared c.prepared.inside.edit c.self.invariant ready
+    (g.G.Graph.pairs c.self.inside.graph) c.args.prepared c.prepared.inside.edit c.self.invariant.book ready
     (c.prepared.invariant.same ∙ ap (λ (e : Entry). e.edit) entry_is) in
     let inside : AreInSheet c.self.inside.sheet c.prepared.inside.edit = λ k d within. (for k d within).inside in
     let is_edit : IsEdit c.prepared.inside.entry.edit = subst (λ (e : Entry). IsEdit e.edit) (sym entry_is) ready.edit in
@@ -33,12 +34,24 @@ invariant_of-self g c =
     let made : ArePairsOf (after_edit c.self.inside.sheet c.prepared.inside.edit) (g.G.Graph.pairs c.replace_all.new.graph) =
     subst (λ (e : EditValue). ArePairsOf (after_edit c.self.inside.sheet e) (g.G.Graph.pairs c.replace_all.new.graph)) c.changes.ensures.changes
     (c.replace_all.ensures c.self.inside.sheet (book_sheet c.self.inside.opening.value c.self.inside.sheet
-    c.self.inside.log.items (g.G.Graph.pairs c.self.inside.graph) c.self.invariant).filled
-    (subst (AreInSheet c.self.inside.sheet) (sym c.changes.ensures.changes) inside) c.self.invariant.pairs_are) in
-    applied_book c.self.inside.opening.value c.self.inside.sheet c.apply.new.self c.self.inside.log.items
-    c.push_reserved.new.self.items (g.G.Graph.pairs c.self.inside.graph) (g.G.Graph.pairs c.replace_all.new.graph)
-    c.prepared.inside.entry c.prepared.inside.edit
-    c.self.invariant c.prepared.invariant.same is_edit held ready.room c.apply.ensures.placed c.push_reserved.ensures.items made
+    c.self.inside.log.items (g.G.Graph.pairs c.self.inside.graph) c.self.invariant.book).filled
+    (subst (AreInSheet c.self.inside.sheet) (sym c.changes.ensures.changes) inside) c.self.invariant.book.pairs_are) in
+    let prepared : PreparedValue = record { entry = c.prepared.inside.entry; number = c.prepared.inside.number; touched = c.prepared.inside.touched.items } in
+    let ready_inside : IsPreparedFor c.self.inside.opening.value c.self.inside.log.items prepared =
+    subst (IsPreparedFor c.self.inside.opening.value c.self.inside.log.items) (sym c.prepared.view_is) ready in
+    record {
+      book =
+          applied_book c.self.inside.opening.value c.self.inside.sheet c.apply.new.self c.self.inside.log.items
+          c.push_reserved.new.self.items (g.G.Graph.pairs c.self.inside.graph) (g.G.Graph.pairs c.replace_all.new.graph)
+          c.prepared.inside.entry c.prepared.inside.edit
+          c.self.invariant.book c.prepared.invariant.same is_edit held ready.room c.apply.ensures.placed c.push_reserved.ensures.items made;
+      cycles_held =
+          applied_cycles c.self.inside.opening.value c.self.inside.sheet c.self.inside.log.items
+          (g.G.Graph.pairs c.self.inside.graph) (g.G.Graph.pairs c.replace_all.new.graph) prepared c.self.inside.cycles
+          c.kept_where.result c.prepared.inside.keeps_cycles c.self.invariant.book ready_inside c.prepared.invariant.closes
+          (subst (λ (e : EditValue). ArePairsOf (after_edit c.self.inside.sheet e) (g.G.Graph.pairs c.replace_all.new.graph)) c.prepared.invariant.same made)
+          c.self.invariant.cycles_held (rw c.take.ensures.value at c.kept_where.ensures);
+    }
 
 pub returns-clause-kept : goal.returns-clause-kept
-returns-clause-kept g c = invariant_of-self g c
+returns-clause-kept g c = (invariant_of-self g c).book
