@@ -14,12 +14,15 @@ pub fn decimal_of(text: &[u8], most: u64) -> Option<u64>
     requires { most < 2 ^ 64 - 1 }
     ensures { Finds result (IsDecimal text.now most) }
 {
-    if text.is_empty() || !text.iter().all(|byte| byte.is_ascii_digit()) {
+    if text.is_empty() {
         return None;
     }
     // A number past the type's end stays at that end, which `most` is below.
     let mut number: u64 = 0;
     for digit in text {
+        if !digit.is_ascii_digit() {
+            return None;
+        }
         number = number
             .saturating_mul(10)
             .saturating_add(u64::from(*digit - b'0'));
