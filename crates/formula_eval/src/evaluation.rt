@@ -18,10 +18,12 @@ use value_core::{ErrorKind, Value, never_empty};
 /// cell past the rectangle is empty.
 ///
 /// Refuses only with a cell that the formula names, that lies in the rectangle and whose value isn't
-/// known, and answers a value wherever all such cells are known. It takes no memory, and looks at each
-/// cell at most twice each time that the formula names it; cells past the rectangle take no time. Left
-/// operands and signs are walked by loops; right operands and parameters by calls, which nest no deeper
-/// than parentheses and the levels of operators do.
+/// known, and answers a value wherever all such cells are known.
+///
+/// It takes no memory. It visits each node a few times at most, and looks at each cell of the rectangle at most four
+/// times each time that the formula names it: the time is in proportion to both. Cells past the rectangle take no time.
+/// Left operands and signs are walked by loops; right operands and parameters by calls, which nest no deeper than
+/// parentheses and the levels of operators do.
 pub fn eval<I: Inputs>(formula: &Formula, inputs: &I, stack: &mut Stack) -> Result<Value, Missing>
     ensures value { IfOk result
         (IsFormulaValue (I.sizes inputs.now) (I.codes inputs.now) formula.now) }
@@ -39,8 +41,8 @@ pub fn eval<I: Inputs>(formula: &Formula, inputs: &I, stack: &mut Stack) -> Resu
 }
 
 /// The same of a formula of which it is known that evaluation can read past each cell of the rectangle that
-/// it names: its value is known, and isn't `#CIRC!`. It looks at each cell at most once each time that the
-/// formula names it.
+/// it names: its value is known, and isn't `#CIRC!`. It looks at each cell at most three times each time that
+/// the formula names it, and takes no memory.
 pub fn eval_known<I: Inputs>(formula: &Formula, inputs: &I, stack: &mut Stack) -> Value
     requires { IsPlainTree (I.sizes inputs.now) (I.codes inputs.now) formula.now }
     ensures { IsFormulaValue (I.sizes inputs.now) (I.codes inputs.now) formula.now result }

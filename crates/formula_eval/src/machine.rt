@@ -75,7 +75,8 @@ fn scalar_of<I: Inputs>(inputs: &I, range: Range) -> Value
 }
 
 /// The value of a tree, over values that are all held. It goes down left operands by a loop, and looks at
-/// each node once. What waited before waits afterwards.
+/// each node once. What waited before waits afterwards. The time is in proportion to the nodes and to the cells of the
+/// rectangle that they name.
 #[cycle(machine)]
 pub(crate) fn value<I: Inputs>(inputs: &I, root: &Node, pending: &mut Vec<Pending>) -> Value
     requires plain { IsPlainTree (I.sizes inputs.now) (I.codes inputs.now) (tree_of root.now) }

@@ -22,7 +22,7 @@ use sheet_refs::{Range, Ref};
 use value_core::{ErrorKind, Value, Whole, as_number, in_range};
 
 /// What a function of ranges gives, by its parameters as they are written and as scalars. The functions of the last
-/// line take no ranges.
+/// line take no ranges. It looks at each cell of the rectangle at most twice each time that the parameters name it.
 pub(crate) fn ranged_value<I: Inputs>(
     inputs: &I,
     function: Function,

@@ -30,7 +30,8 @@ pub(crate) fn sizes<I: Inputs>(inputs: &I) -> Sizes
 }
 
 /// Looks at each cell of the tree's references that lies in the rectangle, once, up to the first that
-/// evaluation can't read past. It goes down left operands by a loop.
+/// evaluation can't read past. It goes down left operands by a loop. The time is in proportion to the nodes and
+/// to these cells.
 #[cycle(scan)]
 pub(crate) fn scan<I: Inputs>(inputs: &I, root: &Node) -> Result<(), Stop>
     ensures plain { OnOk result

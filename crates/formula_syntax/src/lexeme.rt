@@ -30,7 +30,8 @@ pub(crate) fn word_length(text: &[u8]) -> usize
     text.iter().take_while(|byte| in_word(**byte)).count()
 }
 
-/// What a word stands for; None exactly where it stands for nothing.
+/// What a word stands for; None exactly where it stands for nothing. The time is in proportion to its length, and to
+/// the number of functions where it is no number and no reference.
 pub(crate) fn word_of(word: &[u8]) -> Option<Token>
     ensures { MatchOption result ((t : AToken) → ¬ IsWord word.now t) (IsWord word.now) }
 {

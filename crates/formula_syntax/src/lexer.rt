@@ -158,7 +158,7 @@ fn after_blanks(text: &[u8]) -> &[u8]
 }
 
 /// The tokens of a text. NotFormula exactly where it isn't made of tokens and white space, unless memory
-/// runs out.
+/// runs out. Each word is gone through a fixed number of times, so that time and memory are in proportion to the text.
 pub(crate) fn tokens(alloc: Global, text: &[u8]) -> Result<Vec<Token>, Unread>
     requires { length text.now < 2 ^ 32 }
     ensures read { IfOk result (λ tokens. HasTokens text.now tokens.items) }

@@ -160,8 +160,9 @@ fn list_ranges(alloc: Global, root: &Node) -> Result<Vec<Range>, AllocError>
 
 /// The ranges that a formula refers to: each once, in the order in which it first stands.
 ///
-/// A reference that begins behind all before it isn't compared with them, and another with at most 254. It goes by
-/// a list of what is left to look at, and needs no deep stack.
+/// It goes by a list of what is left to look at, and needs no deep stack. Each node is looked at once. A reference that
+/// begins behind all before it isn't compared with them, and another with at most 254. So the time is in proportion to
+/// the nodes, with at most 32,385 comparisons of two ranges beside them; the memory is in proportion to the nodes.
 pub fn refs(alloc: Global, formula: &Formula) -> Result<Refs, Memory>
     ensures { IfOk result (IsOnceEach (ranges_of formula.now)) }
 {

@@ -268,7 +268,8 @@ fn under_signs(alloc: Global, mut signs: Vec<PrefixOp>, operand: Node) -> Result
 ///
 /// The operand behind an operator is read with the tighter levels alone, so that operators of one level group
 /// from the left. The calls nest as deep as parentheses and operators that grow tighter do; signs and chains
-/// of operators are read by loops.
+/// of operators are read by loops. Each token is looked at a few times at most, so that time and memory are in
+/// proportion to the tokens.
 #[cycle(parser)]
 pub(crate) fn expression(
     alloc: Global,

@@ -326,7 +326,8 @@ pub fn send_formula<F: FnMut(&[u8]) -> bool>(formula: &Formula, to: &mut F) -> b
     send_tree(root, 0, to)
 }
 
-/// The plain text of a formula, as `send_formula` hands it out.
+/// The plain text of a formula, as `send_formula` hands it out. It takes the same time, and memory in proportion to the
+/// text.
 pub fn print(alloc: Global, formula: &Formula) -> Result<Vec<u8>, Memory>
     ensures plain { IfOk result (λ text. text.items ≡ plain formula.now) }
     ensures reads_back { IfOk result (λ text. Spells text.items formula.now) }

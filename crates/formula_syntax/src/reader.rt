@@ -186,8 +186,11 @@ fn read(alloc: Global, text: &[u8], edition: Edition) -> Result<Formula, ReadRef
 /// NotFormula exactly where the text is outside the grammar or names a function that the edition lacks; else with
 /// TooManyRefs exactly where it writes more than 255 references; and else reads it. Memory may come before any of
 /// them. The plain text of a formula that was read is such a text, and gives the same tree in the same edition
-/// (`formula_laws`). The time is in proportion to the length of the text, but for the table of functions, which is
-/// gone through for each name.
+/// (`formula_laws`).
+///
+/// Time and memory are in proportion to the length of the text. A word that is no number and no reference is compared
+/// with the names of the 25 functions. Signs and chains of operators are read by loops; the calls nest as deep as
+/// parentheses and operators that grow tighter do.
 pub fn read_formula(alloc: Global, text: &[u8], edition: Edition) -> Result<Formula, ReadRefused>
     requires { length text.now ≤ MAX_FIELD }
     ensures read { IfOk result (IsRead edition text.now) }
