@@ -71,11 +71,7 @@ fn add_line<G: Graph>(lines: &mut String, book: &mut Book<G>, sizes: Sizes) -> R
 }
 
 // The cells on cycles of a sheet of three rows and columns with these fields, and after each edit.
-fn told(
-    alloc: Global,
-    fields: &[(&str, &str)],
-    edits: &[&[(&str, &str)]],
-) -> Result<String, Fail> {
+fn told(alloc: Global, fields: &[(&str, &str)], edits: &[&[(&str, &str)]]) -> Result<String, Fail> {
     let sizes = Sizes { rows: 3, cols: 3 };
     let mut scratch = Sheet::blank(alloc, 1, 1, Edition::One)?;
     let sheet = filled(Sheet::blank(alloc, 3, 3, Edition::One)?, fields)?;
@@ -95,7 +91,12 @@ fn told(
 fn edits_put_cells_onto_cycles_and_take_them_off(rt: HostRuntime) -> Result<(), Fail> {
     let found = told(
         rt.alloc(),
-        &[("A1", "=B1"), ("B1", "=C1"), ("B2", "=A1+C3"), ("C3", "=SUM(A3:B3)")],
+        &[
+            ("A1", "=B1"),
+            ("B1", "=C1"),
+            ("B2", "=A1+C3"),
+            ("C3", "=SUM(A3:B3)"),
+        ],
         &[
             // a cycle of three cells, on which B2 depends
             &[("C1", "=A1")],
@@ -112,7 +113,8 @@ fn edits_put_cells_onto_cycles_and_take_them_off(rt: HostRuntime) -> Result<(), 
             &[("C2", "=B1")],
         ],
     )?;
-    let lines = "\nA1 B1 C1 \nA1 B1 C1 B2 A3 C3 \nB2 A3 C3 \nA2 B2 A3 C3 \nA2 B2 A3 C3 \nA2 C2 \n\n";
+    let lines =
+        "\nA1 B1 C1 \nA1 B1 C1 B2 A3 C3 \nB2 A3 C3 \nA2 B2 A3 C3 \nA2 B2 A3 C3 \nA2 C2 \n\n";
     assert_eq!(rt; found.as_str(), lines);
     Ok(())
 }

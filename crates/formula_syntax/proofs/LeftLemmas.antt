@@ -309,8 +309,9 @@ module _ {F : Type 0} (taker : Taker F) where
       subst (λ t. HandsOut taker old t false last) (sym (halves_behind half depth level tree here at few is is_at))
       (cut taker old last (text_behind (depth - half) at here) (text_behind half level tree) sent)
 
-  pub outer_sent : (old mid last : F) (half depth level : ℕ) (tree here : Tree) (at : ℕ) (b : Bool) → half ≤ depth → here ≡ below half tree → at ≡ level_below half level tree
-      → HandsOut taker old (text_behind (depth - half) at here) true mid → HandsOut taker mid (text_behind half level tree) b last
+  pub outer_sent : (old mid last : F) (half depth level : ℕ) (tree here : Tree) (at : ℕ) (b : Bool) → half ≤ depth → here ≡ below half tree
+      → at ≡ level_below half level tree → HandsOut taker old (text_behind (depth - half) at here) true mid
+      → HandsOut taker mid (text_behind half level tree) b last
       → HandsOut taker old (text_behind depth level tree) b last
   outer_sent old mid last half depth level tree here at b few is is_at inner outer =
       subst (λ t. HandsOut taker old t b last) (sym (halves_behind half depth level tree here at few is is_at))

@@ -290,10 +290,12 @@ in_more rows col zero more =
     let none : 0 + more ≡ more = omega arith in
     rw (same, none) refl
 in_more rows col (suc some) more =
-    let rest : ranges_in rows (col + 1) (some + more) ≡ ranges_in rows (col + 1) some ++ ranges_in rows (col + 1 + some) more = in_more rows (col + 1) some more in
+    let rest : ranges_in rows (col + 1) (some + more) ≡ ranges_in rows (col + 1) some ++ ranges_in rows (col + 1 + some) more =
+    in_more rows (col + 1) some more in
     let shift : col + 1 + some ≡ col + suc some = omega arith in
     let count : suc some + more ≡ suc (some + more) = omega arith in
-    rw count (ap (λ (rs : List Corners). column_ranges col (rows col) ++ rs) (rest ∙ ap (λ (c : ℕ). ranges_in rows (col + 1) some ++ ranges_in rows c more) shift)
+    let moved = ap (λ (c : ℕ). ranges_in rows (col + 1) some ++ ranges_in rows c more) shift in
+    rw count (ap (λ (rs : List Corners). column_ranges col (rows col) ++ rs) (rest ∙ moved)
     ∙ sym (append_assoc (column_ranges col (rows col)) (ranges_in rows (col + 1) some) (ranges_in rows (col + suc some) more)))
 
 -- the ranges of a column stand in it

@@ -75,7 +75,8 @@ parts_more rows set range left right parts gaps same named below from forward to
             from = past;
             to = omega arith;
             row =
-                ((lack cell.col past under).exact cell.row).1 (inside.row_from, omega arith, λ has. new.new.absent ((among cell (omega arith) (omega arith)).1 has));
+                ((lack cell.col past under).exact cell.row).1
+                (inside.row_from, omega arith, λ has. new.new.absent ((among cell (omega arith) (omega arith)).1 has));
           })
     ]
 

@@ -6,7 +6,8 @@
 //! The readers answer None exactly where the text names nothing. What two ranges have in common, and
 //! what a list of ranges holds, is said over their cells (`specs/Rectangles.antt`), never over corners.
 //! A `RectSet` is a set of cells; contracts see it as the list of its maximal vertical runs, which it
-//! keeps in ordered maps, once for columns side by side that have the same rows (`specs/Runs.antt`, `specs/Bands.antt`).
+//! keeps in ordered maps, once for columns side by side that have the same rows (`specs/Runs.antt`,
+//! `specs/Bands.antt`).
 //!
 //! Nothing stands below this crate. Every other crate speaks of cells through it.
 #![tactic(auto)]

@@ -1,5 +1,6 @@
 -- An index stays one as texts are filed, and says where a text is.
-use Rattle.std.proofs.Common.{◌≡◌, ◌≢◌, ℕ, ◌+◌, ◌<◌, ◌≤◌, ◌%◌, ◌↔◌, IsTrue, get_or, map, true≢false, inl, inr, Bool, true, false, cond, List, [], ◌∷◌, ◌++◌, length, slice_get, set}
+use Rattle.std.proofs.Common.{◌≡◌, ◌≢◌, ℕ, ◌+◌, ◌<◌, ◌≤◌, ◌%◌, ◌↔◌, IsTrue, get_or, map, true≢false, inl, inr}
+use Rattle.std.proofs.Common.{Bool, true, false, cond, List, [], ◌∷◌, ◌++◌, length, slice_get, set}
 use Rattle.std.proofs.Common.{Option, Some, None, refl, sym, ap, ◌∙◌, subst, arith, length-set, ap₂}
 use Rattle.std.specs.Option.{unwrap_or, option_map}
 use Rattle.std.proofs.lemmas.List.{length-map, map-set, set-get_or}
@@ -213,7 +214,8 @@ none_more count slots slot tag texts text within is differs before place i below
       | inr most ↦
           let same : i ≡ count = omega (arith, below, most) in
           let here : slice_get slots count ≡ Some slot = slice_get_read slots (length slots) count slot refl within is in
-          let equal : slot ≡ record { tag = tag; place = place } = same_Some slot (record { tag = tag; place = place }) (sym here ∙ (ap (slice_get slots) (sym same) ∙ at)) in
+          let equal : slot ≡ record { tag = tag; place = place } =
+          same_Some slot (record { tag = tag; place = place }) (sym here ∙ (ap (slice_get slots) (sym same) ∙ at)) in
           differs (ap (λ (s : Slot). s.tag) equal) (ap (λ (s : Slot). slice_get texts s.place) equal ∙ there)
     ]
 

@@ -49,7 +49,8 @@ length_taken (suc n) [] = omega arith
 length_taken (suc n) (x ∷ xs) = omega (arith, length_taken n xs)
 
 -- a text is at no place before its own
-pub absent_before : (texts : List (List ℕ)) (place : ℕ) (text : List ℕ) → AreDistinct texts → slice_get texts place ≡ Some text → IsAbsent (take place texts) text
+pub absent_before : (texts : List (List ℕ)) (place : ℕ) (text : List ℕ) → AreDistinct texts → slice_get texts place ≡ Some text
+    → IsAbsent (take place texts) text
 absent_before texts place text distinct at other before =
     let all : slice_get (take place texts ++ drop place texts) other ≡ Some text = slice_get-append (take place texts) (drop place texts) other text before in
     let there : slice_get texts other ≡ Some text = subst (λ (ts : List (List ℕ)). slice_get ts other ≡ Some text) (take-append-drop place texts) all in
@@ -59,7 +60,8 @@ absent_before texts place text distinct at other before =
     absurd (omega (arith, same, within, most))
 
 -- the texts up to a place, with that one
-pub taken_more : (texts : List (List ℕ)) (place : ℕ) (text : List ℕ) → slice_get texts place ≡ Some text → take (place + 1) texts ≡ take place texts ++ text ∷ []
+pub taken_more : (texts : List (List ℕ)) (place : ℕ) (text : List ℕ) → slice_get texts place ≡ Some text
+    → take (place + 1) texts ≡ take place texts ++ text ∷ []
 taken_more texts place text at =
     take_more texts place text (slice_get_within texts place text at)
     ∙ ap (λ (t : List ℕ). take place texts ++ t ∷ []) (get_or_from_slice_get texts place text text at)

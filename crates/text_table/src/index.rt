@@ -1,4 +1,5 @@
-ghost use Rattle.std.specs.Prelude.{◌≡◌, ◌<◌, ◌≤◌, ◌^◌, true, false, ◌++◌, ◌∷◌, [], List, ℕ, Some};
+ghost use Rattle.std.specs.Prelude.{◌≡◌, ◌<◌, ◌≤◌, ◌^◌, true, false, ◌++◌, ◌∷◌};
+ghost use Rattle.std.specs.Prelude.{[], List, ℕ, Some};
 ghost use Rattle.std.specs.Prelude.{length, map, slice_get, string_bytes};
 ghost use Rattle.std.specs.Prelude.{IfOk, OnOk, OnErr, MatchOption};
 ghost use Rattle.std.specs.BTreeMap.{get_by_text};

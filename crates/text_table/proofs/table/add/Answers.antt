@@ -9,7 +9,9 @@ pub returns-clause-stored : goal.returns-clause-stored
 returns-clause-stored c =
     let texts : List (List ℕ) = map string_bytes c.args.texts.now.items in
     let text = c.args.text.now in
-    let count : length texts ≡ c.len-place.result = length-map c.args.texts.now.items string_bytes ∙ (ap length (sym c.reserve.ensures.items) ∙ (sym c.reserve.new.self.ok.0 ∙ sym c.len-place.ensures)) in
+    let count : length texts ≡ c.len-place.result =
+    length-map c.args.texts.now.items string_bytes
+    ∙ (ap length (sym c.reserve.ensures.items) ∙ (sym c.reserve.new.self.ok.0 ∙ sym c.len-place.ensures)) in
     let all : map string_bytes c.push_reserved.new.self.items ≡ texts ++ text ∷ [] =
     ap (map string_bytes) c.push_reserved.ensures.items
     ∙ (map-append string_bytes c.reserve.new.self.items (c.in_ok-copy.copy ∷ [])

@@ -11,7 +11,8 @@ pub returns-then-put-clause-filed : goal.returns-then-put-clause-filed
 returns-then-put-clause-filed c = λ texts count absent index.
     let buckets = c.args.self.now.buckets.items in
     let home : c.args.hash % c.len.result ≡ c.args.hash % length buckets = ap (λ (n : ℕ). c.args.hash % n) (c.len.ensures ∙ c.args.self.now.buckets.ok.0) in
-    let within : c.args.hash % c.len.result < length buckets = subst (λ (n : ℕ). n < length buckets) (sym home) (mod_below c.args.hash (length buckets) c.requires.some) in
+    let within : c.args.hash % c.len.result < length buckets =
+    subst (λ (n : ℕ). n < length buckets) (sym home) (mod_below c.args.hash (length buckets) c.requires.some) in
     let put = c.put.ensures.put c.if-put.true in (
       put_in_bucket (λ bucket. bucket.items) buckets (get_by_text c.args.self.now.beside) texts c.args.text.now c.args.hash
           (c.args.hash % c.len.result) c.index_mut.result.now c.put.new.bucket c.requires.hash home within c.index_mut.ensures.value index
@@ -23,7 +24,8 @@ pub returns-clause-filed : goal.returns-clause-filed
 returns-clause-filed c = λ texts count absent index.
     let buckets = c.args.self.now.buckets.items in
     let home : c.args.hash % c.len.result ≡ c.args.hash % length buckets = ap (λ (n : ℕ). c.args.hash % n) (c.len.ensures ∙ c.args.self.now.buckets.ok.0) in
-    let within : c.args.hash % c.len.result < length buckets = subst (λ (n : ℕ). n < length buckets) (sym home) (mod_below c.args.hash (length buckets) c.requires.some) in
+    let within : c.args.hash % c.len.result < length buckets =
+    subst (λ (n : ℕ). n < length buckets) (sym home) (mod_below c.args.hash (length buckets) c.requires.some) in
     let full = c.put.ensures.full c.if-put.false in
     let old = get_by_text c.args.self.now.beside in (
       put_beside (λ bucket. bucket.items) buckets old texts c.args.text.now c.args.hash (c.args.hash % c.len.result)

@@ -15,7 +15,8 @@ pub invariant_of-result : goal.invariant_of-result
 invariant_of-result c =
     let alike = seen_alike string_bytes c.self.inside.texts.items c.in_ok-texts.texts.items c.in_ok-texts.ensures.cases.0 in
     record {
-      index = subst (λ (ts : List (List ℕ)). IsIndexOf (map (λ bucket. bucket.items) c.in_ok-index.index.buckets.items) (get_by_text c.in_ok-index.index.beside) ts)
+      index =
+          subst (λ (ts : List (List ℕ)). IsIndexOf (map (λ bucket. bucket.items) c.in_ok-index.index.buckets.items) (get_by_text c.in_ok-index.index.beside) ts)
           (ap (map string_bytes) c.deref.ensures.value) c.in_ok-index.ensures.index;
       distinct = subst (λ (ts : List (List ℕ)). AreDistinct ts) (sym alike) c.self.invariant.distinct;
       few = subst (λ (ts : List (List ℕ)). length ts < 2 ^ 32) (sym alike) c.self.invariant.few;
