@@ -1,2 +1,3 @@
 pub mod ArithmeticLemmas
+mod CodeLemmas
 pub mod InRange

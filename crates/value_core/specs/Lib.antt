@@ -1,3 +1,4 @@
+pub mod Codes
 pub mod Conversions
 pub mod Decoding
 pub mod Laws

@@ -6,7 +6,7 @@ use crate::value::{ErrorKind, Value};
 use crate::whole::Whole;
 
 // What is added to a number so that its code is no negative number.
-const SHIFT: i64 = 1 << 53;
+pub(crate) const SHIFT: i64 = 1 << 53;
 
 /// The word that stands for a value: 0 for Empty, `(n + 2^53) * 8 + 1` for a number n, 2 for FALSE and
 /// 10 for TRUE, `8i + 3` for the i-th error of `#NULL!`, `#DIV/0!`, `#VALUE!`, `#REF!`, `#NAME?`,
