@@ -17,6 +17,7 @@ use Rattle.edit_log.proofs.InputLemmas.{depends_step}
 use Rattle.recalc_workers.proofs.ReadingLemmas.{taken_more}
 use Rattle.sheet_model.specs.Sheets.{IsSheetSize, SheetValue}
 use Rattle.live_sheet.specs.Ranges.{AreClosed, AreCutTo, PushesPart}
+use Rattle.live_sheet.specs.Stale.{KnowsAllBut}
 use Rattle.edit_log.specs.Rows.{LieInside}
 use Rattle.live_sheet.proofs.StaleLemmas.{apart_from_first}
 
@@ -140,3 +141,15 @@ none_inside sizes size unnamed cell inside =
 -- they lie in the rectangle
 pub cut_inside : (sizes : Sizes) (Set : Position → Type 0) (ranges : List Corners) → AreCutTo sizes Set ranges → LieInside sizes ranges
 cut_inside sizes Set ranges cut cell among = ((cut.exact cell).0 among).1
+
+-- a list of one range is disjoint
+pub lone_disjoint : (range : Corners) → AreDisjoint (range ∷ [])
+lone_disjoint range = λ i j d before within. absurd (omega (arith, before, within))
+
+-- where no cell of a range is stale, each is known
+pub none_stale : {Knows : Position → Type 0} (range : Corners) (stale : List Position) → KnowsAllBut Knows (IsAmong (range ∷ [])) stale
+    → length stale ≡ 0 → (cell : Position) → IsIn cell range → Knows cell
+none_stale range stale all none cell inside = elim (all.each cell (record { range = range; listed = (0, omega arith, refl); inside = inside })) [
+  | inl knows ↦ knows
+  | inr there ↦ (let below = there.1 in absurd (omega (arith, none, below)))
+]

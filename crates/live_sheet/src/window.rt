@@ -1,4 +1,4 @@
-ghost use Rattle.std.specs.Prelude.{◌≡◌, ◌<◌, ◌≤◌, length, IfOk, OnOk};
+ghost use Rattle.std.specs.Prelude.{◌≡◌, ◌<◌, ◌≤◌, length, IfOk, IsTrue, OnOk};
 ghost use Rattle.edit_log.specs.Rows.{IsInside};
 ghost use Rattle.sheet_refs.specs.Cells.{IsIn, Position};
 ghost use Rattle.sheet_refs.specs.Rectangles.{AreDisjoint, IsAmong};
@@ -14,6 +14,7 @@ ghost use Rattle.live_sheet.specs.Stale.{IsFree, KnowsCell};
 
 use crate::crossing::{entries_cross, subject_crosses};
 use crate::settle_ranges::settle_ranges;
+use crate::stale::list_stale;
 use edit_log::{Book, OverSheet};
 use graph_walk::{Graph, back_laws, precedents};
 use mark_words::{Marks, Seat};
@@ -73,8 +74,33 @@ pub(crate) fn opening_sizes<G: Graph>(book: &Book<G>) -> Sizes
     book.sheet().sizes()
 }
 
-/// Computes the cells of a window, and those on which they depend, that aren't clean, as `settle_ranges` does.
-pub(crate) fn settle_window<R: Threads + Wait + Sync, G: Graph, T: Gate + Sync>(
+/// Whether all cells of a window are clean, by one read of each with the editor's seat, which then knows those that are.
+fn is_clean_window<G: Graph>(
+    alloc: Global,
+    book: &Book<G>,
+    marks: &Marks<OverSheet>,
+    editor: &mut Seat<OverSheet>,
+    window: Range,
+) -> Result<bool, Memory>
+    requires subject { subject_of marks.now ≡ book.now.opening }
+    requires table { IsSeatOf marks.now editor.old }
+    requires free { IsFree editor.old }
+    requires inside { IsInside book.now.opening.sizes window }
+    ensures table { IsSeatOf marks.now editor.new }
+    ensures editor { KeepsEditor editor.old editor.new }
+    ensures clean { IfOk result (λ clean. IsTrue clean → (cell : Position) → IsIn cell window
+        → KnowsCell (TouchesPlace book.now.opening) book.now.opening.sizes (view_of editor.new) cell) }
+{
+    entries_cross();
+    subject_crosses();
+    let sizes = opening_sizes(book);
+    let stale = list_stale(alloc, marks, editor, sizes, &[window])?;
+    Ok(stale.is_empty())
+}
+
+/// Computes the cells of a window, and those on which they depend, that aren't clean, as `settle_ranges` does, by a walk
+/// over all of them.
+fn settle_behind<R: Threads + Wait + Sync, G: Graph, T: Gate + Sync>(
     rt: &R,
     alloc: Global,
     book: &Book<G>,
@@ -102,4 +128,38 @@ pub(crate) fn settle_window<R: Threads + Wait + Sync, G: Graph, T: Gate + Sync>(
     back_laws();
     let ranges = window_ranges(alloc, book.graph(), opening_sizes(book), window)?;
     settle_ranges(rt, alloc, book, marks, editor, &ranges, desks, gate)
+}
+
+/// Computes the cells of a window, and those on which they depend, that aren't clean. Where the window is clean it takes
+/// three loads for each of its cells, and no walk.
+pub(crate) fn settle_window<R: Threads + Wait + Sync, G: Graph, T: Gate + Sync>(
+    rt: &R,
+    alloc: Global,
+    book: &Book<G>,
+    marks: &Marks<OverSheet>,
+    editor: &mut Seat<OverSheet>,
+    window: Range,
+    desks: &mut [Desk<OverSheet>],
+    gate: &T,
+) -> Result<(), Memory>
+    requires subject { subject_of marks.now ≡ book.now.opening }
+    requires table { IsSeatOf marks.now editor.old }
+    requires free { IsFree editor.old }
+    requires log { log_of editor.old ≡ book.now.log }
+    requires inside { IsInside book.now.opening.sizes window }
+    requires desks { AreDesksOf marks.now desks.old }
+    requires some { 0 < length desks.old }
+    ensures table { IsSeatOf marks.now editor.new }
+    ensures editor { KeepsEditor editor.old editor.new }
+    ensures desks { Each (IsDeskAfter marks.now) desks.old desks.new }
+    ensures clean { OnOk result ((cell : Position) → IsIn cell window
+        → KnowsCell (TouchesPlace book.now.opening) book.now.opening.sizes (view_of editor.new) cell) }
+{
+    entries_cross();
+    subject_crosses();
+    let clean = is_clean_window(alloc, book, marks, editor, window)?;
+    if clean {
+        return Ok(());
+    }
+    settle_behind(rt, alloc, book, marks, editor, window, desks, gate)
 }

@@ -1,31 +1,19 @@
-use Rattle.std.proofs.Common.{subst}
-use Rattle.sheet_refs.specs.declared.sizes.Sizes.{Sizes}
-use Rattle.mark_words.specs.Tokens.{view_of}
-use Rattle.edit_log.specs.Touches.{TouchesPlace}
-use Rattle.live_sheet.specs.Stale.{KnowsCell}
-use Rattle.live_sheet.proofs.LevelLemmas.{on_ok_then}
-use Rattle.live_sheet.proofs.RangeLemmas.{cut_closed, cut_inside}
+use Rattle.std.proofs.Common.{◌∙◌}
+use Rattle.recalc_workers.proofs.SharingLemmas.{keeps_editor_on}
+use Rattle.live_sheet.proofs.LevelLemmas.{desks_themselves}
+use Rattle.live_sheet.proofs.StaleLemmas.{free_still}
 use Rattle.live_sheet.proofs.window.settle_window.Goals as goal
 
-pub settle_ranges-requires-clause-inside : goal.settle_ranges-requires-clause-inside
-settle_ranges-requires-clause-inside g c κs within =
-    rw (c.deref.ensures.value, c.opening_sizes.ensures.same) (cut_inside _ _ _ (rw c.opening_sizes.ensures.sizes at c.in_ok-ranges.ensures))
+pub returns-in_err-clean-clause-desks : goal.returns-in_err-clean-clause-desks
+returns-in_err-clean-clause-desks g c = desks_themselves c.args.marks.now c.args.desks.now c.requires.desks
 
-pub settle_ranges-requires-clause-disjoint : goal.settle_ranges-requires-clause-disjoint
-settle_ranges-requires-clause-disjoint g c κs within = rw c.deref.ensures.value c.in_ok-ranges.ensures.disjoint
+pub returns-then-clean-clause-desks : goal.returns-then-clean-clause-desks
+returns-then-clean-clause-desks g c = desks_themselves c.args.marks.now c.args.desks.now c.requires.desks
 
-pub settle_ranges-requires-clause-closed : goal.settle_ranges-requires-clause-closed
-settle_ranges-requires-clause-closed g c κs within =
-    rw c.deref.ensures.value
-    (cut_closed c.args.book.now.sheet _ c.args.window _ c.graph.ensures.kept.pairs_are
-    (λ from to step is. c.back_laws.ensures.steps _ c.args.window from to step is)
-    (rw (c.opening_sizes.ensures.sizes, ← c.opening_sizes.ensures.same, c.graph.ensures.graph) at c.in_ok-ranges.ensures))
+pub settle_behind-requires-clause-free : goal.settle_behind-requires-clause-free
+settle_behind-requires-clause-free g c κs within =
+    free_still c.args.editor.now c.is_clean_window.new.editor c.is_clean_window.ensures.editor c.requires.free
 
-pub returns-clause-clean : goal.returns-clause-clean
-returns-clause-clean g c =
-    on_ok_then _ _ c.settle_ranges.result
-    (λ known cell inside.
-    subst (λ (s : Sizes). KnowsCell (TouchesPlace c.args.book.now.opening) s (view_of c.settle_ranges.new.editor) cell) c.opening_sizes.ensures.same
-    (known cell (((rw c.opening_sizes.ensures.sizes at c.in_ok-ranges.ensures).exact cell).1
-    (c.back_laws.ensures.starts _ c.args.window cell inside, c.requires.inside cell inside))))
-    (rw c.deref.ensures.value at c.settle_ranges.ensures.clean)
+pub returns-clause-editor : goal.returns-clause-editor
+returns-clause-editor g c = keeps_editor_on c.args.editor.now c.is_clean_window.new.editor c.settle_behind.new.editor
+    c.is_clean_window.ensures.editor c.settle_behind.ensures.editor
