@@ -1,6 +1,7 @@
 ghost use Rattle.std.specs.Prelude.{◌≡◌, IfOk, OnOk, IsTrue, All};
 ghost use Rattle.sheet_refs.specs.Sizes.{is_inside};
-ghost use Rattle.sheet_model.specs.KeptValues.{KeepsValuesOf, ForgetsValues};
+ghost use Rattle.sheet_model.specs.KeptValues.{KeepsValuesOf, ForgetsValues, HoldsNoLess};
+ghost use Rattle.sheet_model.specs.KeptValues.{HoldsValue, TellCodes};
 ghost use Rattle.sheet_model.specs.Values.{value_of};
 
 use crate::sheet::Sheet;
@@ -34,10 +35,20 @@ impl KeptValues {
         requires inside { IsTrue (is_inside sheet.now.sizes cell) }
         ensures value { IfOk result (λ value. value ≡ value_of sheet.now cell) }
         ensures kept { OnOk result (KeepsValuesOf sheet.now self.new) }
+        ensures held { OnOk result (HoldsValue sheet.now.sizes self.new cell) }
+        ensures others { OnOk result (HoldsNoLess sheet.now.sizes self.old self.new) }
     {
         let place = sheet.place(cell);
         self.walk.settle(sheet, place)?;
         Ok(decode(self.walk.words[place]).unwrap())
+    }
+
+    /// The codes of the values that are kept, each at the place of its cell, row by row. What is at the places of other
+    /// cells means nothing.
+    pub fn codes(&self) -> &[u64]
+        ensures { TellCodes self.now result.now }
+    {
+        &self.walk.words
     }
 
     /// Forgets the values of some cells. What is left are values of each sheet that gives all other cells the values
