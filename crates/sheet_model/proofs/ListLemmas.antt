@@ -62,7 +62,6 @@ pub map_after : {A B C : Type 0} (f : B → C) (g : A → B) (xs : List A) → m
 map_after f g [] = refl
 map_after f g (x ∷ xs) = ap (λ ys. f (g x) ∷ ys) (map_after f g xs)
 
-
 -- the first elements of a list, and one more, as they are seen
 pub seen_more : {A B : Type 0} (f : A → B) (xs ys : List A) (i : ℕ) (x y : A) → map f ys ≡ map f (take i xs)
     → i < length xs → x ≡ get_or xs i x → f y ≡ f x → map f (ys ++ y ∷ []) ≡ map f (take (i + 1) xs)
