@@ -21,6 +21,7 @@ use Rattle.sheet_model.specs.Values.{AreValues, circular_value, value_of}
 use Rattle.sheet_model.specs.declared.entry.Entry.{Entry}
 use Rattle.sheet_model.proofs.EditLemmas.{changed_or_not, edit-here, first_or_later, of_each}
 use Rattle.sheet_model.proofs.ListMembers.{no_member}
+use Rattle.sheet_model.specs.declared.kept_values.KeptValues.{KeptValues}
 use Rattle.edit_log.specs.Books.{IsBookOf, IsKeptBook, IsPreparedFor, HaveRefs, PreparedValue}
 use Rattle.edit_log.specs.Cycles.{AddsWhereCircular, HoldsCircular, HoldsCycles, Misses, MissesAll, RefersToNone}
 use Rattle.edit_log.specs.Kept.{Depends, content-kept, depends-same}
@@ -162,10 +163,12 @@ cycles_of_same old new (Some set) same was = λ cell on. was cell (record {
 })
 
 pub same_kept : (opening sheet : SheetValue) (log same_log : List Entry) (old new : List Pair) (known : Option (List Corners))
-    → IsKeptBook opening sheet log old known → SamePairs old new → same_log ≡ log → IsKeptBook opening sheet same_log new known
-same_kept opening sheet log same_log old new known is same logged = record {
+    (values : Option KeptValues) → IsKeptBook opening sheet log old known values → SamePairs old new → same_log ≡ log
+    → IsKeptBook opening sheet same_log new known values
+same_kept opening sheet log same_log old new known values is same logged = record {
   book = same_book opening sheet log same_log old new is.book same logged;
   cycles_held = cycles_of_same old new known same is.cycles_held;
+  values_kept = is.values_kept;
 }
 
 -- where all of a range is new to a set, the set has none of it
@@ -248,10 +251,12 @@ all_held sheet codes place cells are ended so_far cell inside circular =
 
 -- what is learned of the cycles of a book's sheet
 pub learned : (opening sheet : SheetValue) (log : List Entry) (pairs : List Pair) (known : Option (List Corners)) (set : List Corners)
-    → IsKeptBook opening sheet log pairs known → HoldsCircular sheet set → IsKeptBook opening sheet log pairs (Some set)
-learned opening sheet log pairs known set is holds = record {
+    (values : Option KeptValues) → IsKeptBook opening sheet log pairs known values → HoldsCircular sheet set
+    → IsKeptBook opening sheet log pairs (Some set) values
+learned opening sheet log pairs known set values is holds = record {
   book = is.book;
   cycles_held = circular_held sheet pairs set (book_sheet opening sheet log pairs is.book) is.book.pairs_are holds;
+  values_kept = is.values_kept;
 }
 
 -- a known set has each cell on a cycle

@@ -10,3 +10,4 @@ mod RowLemmas
 mod RunLemmas
 mod Sent
 pub mod TouchLemmas
+pub mod ValueLemmas

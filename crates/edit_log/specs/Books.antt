@@ -7,9 +7,11 @@ use Rattle.formula_syntax.specs.Listing.{IsOnceEach}
 use Rattle.graph_walk.specs.Graphs.{Pair, SamePairs}
 use Rattle.sheet_model.specs.Changes.{ChangeValue}
 use Rattle.sheet_model.specs.Edits.{EditValue, AreHeldBeside, AreInSheet, IsEdit, after_edit}
+use Rattle.sheet_model.specs.KeptValues.{KeepsValuesOf}
 use Rattle.sheet_model.specs.Logs.{after, AreHeld}
 use Rattle.sheet_model.specs.Sheets.{SheetValue, IsSheet}
 use Rattle.sheet_model.specs.declared.entry.Entry.{Entry}
+use Rattle.sheet_model.specs.declared.kept_values.KeptValues.{KeptValues}
 use Rattle.edit_log.specs.Cycles.{HoldsCycles, RefersToNone}
 use Rattle.edit_log.specs.Pairs.{ArePairsOf}
 use Rattle.sheet_model.specs.Ranges.{ranges_in}
@@ -85,10 +87,12 @@ pub record IsStoredEdit (prepared : PreparedValue) (edit : EditValue) (refs : Li
   pub closes : IsTrue closes_none → RefersToNone prepared.entry.edit prepared.touched
 
 -- what a book keeps: its sheet, graph and log agree, and each cell on a cycle is in the set of those that may be on one, where
--- there is such a set
-pub record IsKeptBook (opening sheet : SheetValue) (log : List Entry) (pairs : List Pair) (cycles : Option (List Corners)) : Type 0 where
+-- there is such a set; the values that are kept are those of the sheet
+pub record IsKeptBook (opening sheet : SheetValue) (log : List Entry) (pairs : List Pair) (cycles : Option (List Corners))
+    (values : Option KeptValues) : Type 0 where
   pub book : IsBookOf opening sheet log pairs
   pub cycles_held : IfSome cycles (HoldsCycles pairs)
+  pub values_kept : IfSome values (KeepsValuesOf sheet)
 
 -- a book after an edit: the entry is the last of the log, and the edit is made
 pub record HasApplied {G : Type 0} (entry : Entry) (old new : BookValue G) : Type 0 where

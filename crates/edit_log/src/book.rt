@@ -6,8 +6,9 @@ use crate::cycles::kept_where;
 use crate::graphs::graph_of;
 use crate::prepared::{Applied, Prepared};
 use crate::replacing::replace_all;
+use crate::values::forget;
 use graph_walk::Graph;
-use sheet_model::{Entry, Sheet};
+use sheet_model::{Entry, KeptValues, Sheet};
 use sheet_refs::{Memory, RectSet};
 use std::alloc::Global;
 use std::marker::Model;
@@ -20,6 +21,7 @@ use std::snapshot::Snapshot;
 /// that what it puts into them may stand beside the labels of the opening sheet, that the graph's pairs are those of
 /// the sheet, and that the log has at most 1,048,576 entries. Beside these a book keeps a set that has each cell which
 /// is on a cycle (`on_cycle`); from an edit that may put a cell onto one, or changes one of the set, nothing is known.
+/// And it keeps the values that it is given to keep (`keep_values`); an edit forgets those of the cells that it touches.
 #[derive(Drop)]
 pub struct Book<G: Graph> {
     pub(crate) opening: Snapshot<Sheet>,
@@ -29,6 +31,8 @@ pub struct Book<G: Graph> {
     /// The cells that may be on a cycle: each one that is on one, and perhaps others whose value was `#CIRC!`. None
     /// where nothing is known.
     pub(crate) cycles: Option<RectSet>,
+    /// The values of cells, as far as they are kept.
+    pub(crate) values: Option<KeptValues>,
     pub(crate) alloc: Global,
 }
 
@@ -51,7 +55,7 @@ impl<G: Graph> Model for Book<G> {
     } };
 
     ghost invariant = { λ b. IsKeptBook b.opening.value b.sheet b.log.items (G.pairs b.graph)
-        b.cycles };
+        b.cycles b.values };
 }
 
 impl<G: Graph> Book<G> {
@@ -73,6 +77,7 @@ impl<G: Graph> Book<G> {
             graph,
             log: Vec::new(alloc),
             cycles: None,
+            values: None,
             alloc,
         })
     }
@@ -110,7 +115,7 @@ impl<G: Graph> Book<G> {
     }
 
     /// Makes a prepared edit: changes its cells, gives the graph their references, and adds the entry to the log. It
-    /// takes no memory, and the time of the graph's `replace` for each change.
+    /// takes no memory, the time of the graph's `replace` for each change, and a step for each touched cell.
     pub fn apply(&mut self, prepared: Prepared) -> Applied
         requires prepared { IsPreparedFor self.old.opening self.old.log prepared }
         requires room { length prepared.entry.edit ≤ self.old.spare }
@@ -127,6 +132,7 @@ impl<G: Graph> Book<G> {
             refs,
             keeps_cycles,
         } = prepared;
+        forget(&mut self.values, &self.sheet, &touched);
         self.cycles = kept_where(self.cycles.take(), keeps_cycles);
         replace_all(&mut self.graph, edit.changes(), &refs);
         let _ = self.sheet.apply(edit);
@@ -148,6 +154,7 @@ impl<G: Graph> Book<G> {
             graph: _,
             log,
             cycles: _,
+            values: _,
             alloc: _,
         } = self;
         (sheet, log)

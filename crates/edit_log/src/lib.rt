@@ -10,7 +10,8 @@
 //! that depend on one of them. `touch_laws` says that every other cell keeps its value, and by this an `OverSheet` is
 //! what the marks of a sheet are about. `place_laws`, `pair_laws` and `book_laws` say what holds of places, of pairs
 //! and inputs, and of books; `book_crosses` that threads may share a book under a lock. `on_cycle` answers by a set of
-//! cells that the book keeps, which has each cell on a cycle (`specs/Cycles.antt`).
+//! cells that the book keeps, which has each cell on a cycle (`specs/Cycles.antt`). `take_values` and `keep_values` let
+//! a book keep values of its sheet's cells through its edits.
 //!
 //! Below stand `sheet_refs`, `formula_syntax`, `sheet_model`, `graph_walk` and `mark_core`.
 #![tactic(auto)]
@@ -29,6 +30,7 @@ mod refused;
 mod replacing;
 mod rows;
 mod runs;
+mod values;
 
 pub use book::Book;
 pub use crossing::book_crosses;

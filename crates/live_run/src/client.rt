@@ -7,6 +7,7 @@ use crate::answering::follow;
 use crate::cut::Cut;
 use crate::look_orders::orders_of;
 use crate::order::Order;
+use crate::watch::Watch;
 use edit_script::Command;
 use live_sheet::{Live, Naming, Pass};
 use recalc_workers::Gate;
@@ -56,11 +57,12 @@ pub(crate) fn ready_client<N: Naming>(
     })
 }
 
-/// Follows the client's commands, in order. The gate is told of each ahead of it. Want of memory, for an edit or a firm
+/// Follows the client's commands, in order, and wakes the workers after each. The gate is told of each ahead of it. Want of memory, for an edit or a firm
 /// look, ends the task. So would a full log, which the pass knows then; closing shows that no run of a script has one.
 pub(crate) fn run_client<N: Naming, R: Threads + Wait + Sync, T: Gate + Sync>(
     rt: &R,
     live: &Live<N>,
+    watch: &Watch,
     gate: &T,
     task: &mut Client<N>,
 )
@@ -79,7 +81,9 @@ pub(crate) fn run_client<N: Naming, R: Threads + Wait + Sync, T: Gate + Sync>(
     while let Some(order) = orders.pop() {
         number += 1;
         gate.before(*client, number);
-        match follow(rt, live, gate, pass, order, reports) {
+        let followed = follow(rt, live, gate, pass, order, reports);
+        watch.wake();
+        match followed {
             Ok(()) => {}
             Err(Cut::Memory) => {
                 *failed = true;

@@ -27,6 +27,7 @@ mod session;
 mod sharing;
 mod split;
 mod tasks;
+mod watch;
 mod workers;
 
 pub use laws::{legal_laws, plain_laws};

@@ -5,33 +5,33 @@ ghost use Rattle.live_run.specs.Tasks.{AllEnd, IsEndOf};
 
 use crate::client::{Client, run_client};
 use crate::sharing::clients_cross;
+use crate::watch::Watch;
 use crate::workers::work_on;
 use live_sheet::{Desk, Live, Naming, desks_cross, live_crosses};
 use recalc_workers::Gate;
 use std::sync::Wait;
-use std::sync::atomic::{AtomicU64, Ordering};
 use std::thread::{Threads, for_each_mut, join};
 
-/// Runs the client's commands; then one client less is left.
+/// Runs the client's commands; then one client less goes on, after want of memory too.
 fn run_and_leave<N: Naming, R: Threads + Wait + Sync, T: Gate + Sync>(
     rt: &R,
     live: &Live<N>,
-    left: &AtomicU64,
+    watch: &Watch,
     task: &mut Client<N>,
     gate: &T,
 )
     requires { Begins N.opening task.old }
     ensures { IsEndOf N.opening task.old task.new }
 {
-    run_client(rt, live, gate, task);
-    let _ = left.fetch_sub(1, Ordering::SeqCst);
+    run_client(rt, live, watch, gate, task);
+    watch.leave();
 }
 
 /// Runs all clients side by side, each in a task of its own.
 fn run_clients<N: Naming + Send + Sync, R: Threads + Wait + Sync, T: Gate + Sync>(
     rt: &R,
     live: &Live<N>,
-    left: &AtomicU64,
+    watch: &Watch,
     tasks: Vec<Client<N>>,
     gate: &T,
 ) -> Vec<Client<N>>
@@ -49,7 +49,7 @@ fn run_clients<N: Naming + Send + Sync, R: Threads + Wait + Sync, T: Gate + Sync
         &|_: usize, task: &mut Client<N>|
             requires { IsSync R.row × Begins N.opening task.now }
             ensures { IsEndOf N.opening task.entry.now task.exit.now }
-        { run_and_leave(rt, live, left, task, gate) },
+        { run_and_leave(rt, live, watch, task, gate) },
     );
     tasks
 }
@@ -58,7 +58,7 @@ fn run_clients<N: Naming + Send + Sync, R: Threads + Wait + Sync, T: Gate + Sync
 fn work_at_desks<N: Naming + Send + Sync, R: Threads + Wait + Sync, T: Gate + Sync>(
     rt: &R,
     live: &Live<N>,
-    left: &AtomicU64,
+    watch: &Watch,
     desks: Vec<Desk<N>>,
     gate: &T,
 ) -> Vec<Desk<N>> {
@@ -70,7 +70,7 @@ fn work_at_desks<N: Naming + Send + Sync, R: Threads + Wait + Sync, T: Gate + Sy
         rt,
         &mut desks,
         threads,
-        &|_: usize, desk: &mut Desk<N>| { work_on(rt, live, left, desk, gate) },
+        &|_: usize, desk: &mut Desk<N>| { work_on(rt, live, watch, desk, gate) },
     );
     desks
 }
@@ -88,16 +88,16 @@ pub(crate) fn run_all<N: Naming + Send + Sync, R: Threads + Wait + Sync, T: Gate
 {
     live_crosses::<N>();
     desks_cross::<N>();
-    let left = AtomicU64::new(tasks.len() as u64);
-    let left = &left;
+    let watch = Watch::new(tasks.len());
+    let watch = &watch;
     join(
         rt,
         || -> Vec<Desk<N>>
             requires { IsSync R.row }
-        { work_at_desks(rt, live, left, desks, gate) },
+        { work_at_desks(rt, live, watch, desks, gate) },
         || -> Vec<Client<N>>
             requires { IsSync R.row × All (Begins N.opening) tasks.items }
             ensures { AllEnd N.opening tasks.items result.items }
-        { run_clients(rt, live, left, tasks, gate) },
+        { run_clients(rt, live, watch, tasks, gate) },
     )
 }

@@ -5,7 +5,6 @@ pub mod Edits
 pub mod Firm
 pub mod Graphs
 pub mod Held
-pub mod Levels
 pub mod Looks
 pub mod Names
 pub mod Opened

@@ -16,7 +16,7 @@ use crate::locked::Locked;
 use crate::meeting::{hear, learn};
 use crate::naming::Naming;
 use crate::pass::Pass;
-use crate::window::{opening_sizes, settle_window};
+use crate::settle_range::{opening_sizes, settle_range};
 use edit_log::{Book, OverSheet};
 use graph_walk::Graph;
 use mark_words::{Marks, Seat};
@@ -27,12 +27,12 @@ use std::alloc::Global;
 use std::sync::Wait;
 use std::thread::Threads;
 
-/// Lets the editor's seat hear of another seat, computes what isn't clean of a window and of the cells on which it
-/// depends, shows the window, and tells the seat.
+/// Lets the editor's seat hear of another seat, computes what isn't clean of a window, shows the window, and tells the
+/// seat.
 fn firm_for<R: Threads + Wait + Sync, G: Graph, T: Gate + Sync>(
     rt: &R,
     alloc: Global,
-    book: &Book<G>,
+    book: &mut Book<G>,
     marks: &Marks<OverSheet>,
     editor: &mut Seat<OverSheet>,
     seat: &mut Seat<OverSheet>,
@@ -41,15 +41,16 @@ fn firm_for<R: Threads + Wait + Sync, G: Graph, T: Gate + Sync>(
     desks: &mut [Desk<OverSheet>],
     gate: &T,
 ) -> Result<(), Memory>
-    requires subject { subject_of marks.now ≡ book.now.opening }
+    requires subject { subject_of marks.now ≡ book.old.opening }
     requires table { IsSeatOf marks.now editor.old }
     requires free { IsFree editor.old }
-    requires log { log_of editor.old ≡ book.now.log }
+    requires log { log_of editor.old ≡ book.old.log }
     requires seat { IsSeatOf marks.now seat.old }
-    requires inside { IsInside book.now.opening.sizes window }
+    requires inside { IsInside book.old.opening.sizes window }
     requires room { length (cells_of window) ≤ board.old.room }
     requires desks { AreDesksOf marks.now desks.old }
     requires some { 0 < length desks.old }
+    ensures book { book.new ≡ book.old }
     ensures table { IsSeatOf marks.now editor.new }
     ensures editor { KeepsEditor editor.old editor.new }
     ensures desks { Each (IsDeskAfter marks.now) desks.old desks.new }
@@ -57,22 +58,23 @@ fn firm_for<R: Threads + Wait + Sync, G: Graph, T: Gate + Sync>(
     ensures keeps { Keeps seat.old seat.new }
     ensures idle { HasDoneNothing seat.old seat.new }
     ensures firm { OnOk result
-        (IsFirmLook book.now.opening window seat.old seat.new board.old.room board.new) }
+        (IsFirmLook book.old.opening window seat.old seat.new board.old.room board.new) }
     ensures room { board.new.room ≡ board.old.room }
 {
     entries_cross();
     subject_crosses();
     hear(marks, editor, seat);
-    settle_window(rt, alloc, book, marks, editor, window, desks, gate)?;
     let sizes = opening_sizes(book);
-    show_window(marks, editor, sizes, book.length(), window, board);
+    let length = book.length();
+    settle_range(rt, alloc, book, marks, editor, window, desks, gate)?;
+    show_window(marks, editor, sizes, length, window, board);
     learn(marks, seat, editor);
     Ok(())
 }
 
 impl<N: Naming> Locked<N> {
-    /// Computes the cells of a window that aren't clean, with those on which they depend, and shows the window: the
-    /// value of each cell after the log. Whatever is answered, the sheet, its graph and the log stay as they are.
+    /// Computes the cells of a window that aren't clean, and shows the window: the value of each cell after the log.
+    /// Whatever is answered, the sheet, its graph and the log stay as they are.
     pub(crate) fn firm<R: Threads + Wait + Sync, T: Gate + Sync>(
         &mut self,
         rt: &R,

@@ -11,11 +11,9 @@ use crate::locked::Locked;
 use crate::meeting::{hear, learn};
 use crate::naming::Naming;
 use edit_log::{OverSheet, pair_laws};
-use graph_walk::on_cycle;
 use mark_words::{Marks, Seat};
 use recalc_workers::{Office, Task};
 use sheet_refs::{Cell, Memory};
-use std::alloc::Global;
 use std::sync::Wait;
 
 impl<N: Naming> Locked<N> {
@@ -60,7 +58,6 @@ impl<N: Naming> Locked<N> {
     /// Whether the cell is on a cycle, after the log, which the seat knows then.
     fn circular(
         &mut self,
-        alloc: Global,
         marks: &Marks<OverSheet>,
         cell: Cell,
         seat: &mut Seat<OverSheet>,
@@ -75,7 +72,7 @@ impl<N: Naming> Locked<N> {
         self.lend(marks, seat);
         pair_laws();
         let _ = self.book.sheet().sizes();
-        on_cycle(alloc, self.book.graph(), cell)
+        self.book.on_cycle(cell)
     }
 }
 
@@ -107,8 +104,6 @@ impl<'a, N: Naming> Office<OverSheet> for LiveOffice<'a, N> {
         seat: &mut Seat<OverSheet>,
     ) -> Result<bool, Memory> {
         let live = self.live;
-        live.locked
-            .lock(rt)
-            .circular(live.alloc, &live.marks, cell, seat)
+        live.locked.lock(rt).circular(&live.marks, cell, seat)
     }
 }

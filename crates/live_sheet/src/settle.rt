@@ -27,34 +27,34 @@ use std::thread::Threads;
 fn settle_for<R: Threads + Wait + Sync, G: Graph, T: Gate + Sync>(
     rt: &R,
     alloc: Global,
-    book: &Book<G>,
+    book: &mut Book<G>,
     marks: &Marks<OverSheet>,
     editor: &mut Seat<OverSheet>,
     seat: &mut Seat<OverSheet>,
     desks: &mut [Desk<OverSheet>],
     gate: &T,
 ) -> Result<(), Memory>
-    requires subject { subject_of marks.now ≡ book.now.opening }
+    requires subject { subject_of marks.now ≡ book.old.opening }
     requires table { IsSeatOf marks.now editor.old }
     requires free { IsFree editor.old }
-    requires log { log_of editor.old ≡ book.now.log }
+    requires log { log_of editor.old ≡ book.old.log }
     requires seat { IsSeatOf marks.now seat.old }
     requires desks { AreDesksOf marks.now desks.old }
     requires some { 0 < length desks.old }
+    ensures book { book.new ≡ book.old }
     ensures table { IsSeatOf marks.now editor.new }
     ensures editor { KeepsEditor editor.old editor.new }
     ensures desks { Each (IsDeskAfter marks.now) desks.old desks.new }
     ensures seat { IsSeatOf marks.now seat.new }
     ensures keeps { Keeps seat.old seat.new }
     ensures idle { HasDoneNothing seat.old seat.new }
-    ensures settled { OnOk result (HasSettled book.now.opening seat.old seat.new) }
+    ensures settled { OnOk result (HasSettled book.old.opening seat.old seat.new) }
 {
     entries_cross();
     subject_crosses();
     hear(marks, editor, seat);
     settle_whole(rt, alloc, book, marks, editor, desks, gate)?;
     learn(marks, seat, editor);
-    let _ = book.length();
     Ok(())
 }
 

@@ -9,7 +9,7 @@ ghost use Rattle.live_sheet.specs.Ranges.{KnowsAll};
 ghost use Rattle.live_sheet.specs.Stale.{IsFree};
 
 use crate::crossing::{entries_cross, subject_crosses};
-use crate::settle_ranges::settle_ranges;
+use crate::settle_range::{opening_sizes, settle_range};
 use edit_log::{Book, OverSheet};
 use graph_walk::Graph;
 use mark_words::{Marks, Seat};
@@ -32,32 +32,33 @@ fn whole(sizes: Sizes) -> Option<Range>
     }
 }
 
-/// Computes all cells of the sheet that aren't clean, as `settle_ranges` does.
+/// Computes all cells of the sheet that aren't clean, as `settle_range` does.
 pub(crate) fn settle_whole<R: Threads + Wait + Sync, G: Graph, T: Gate + Sync>(
     rt: &R,
     alloc: Global,
-    book: &Book<G>,
+    book: &mut Book<G>,
     marks: &Marks<OverSheet>,
     editor: &mut Seat<OverSheet>,
     desks: &mut [Desk<OverSheet>],
     gate: &T,
 ) -> Result<(), Memory>
-    requires subject { subject_of marks.now ≡ book.now.opening }
+    requires subject { subject_of marks.now ≡ book.old.opening }
     requires table { IsSeatOf marks.now editor.old }
     requires free { IsFree editor.old }
-    requires log { log_of editor.old ≡ book.now.log }
+    requires log { log_of editor.old ≡ book.old.log }
     requires desks { AreDesksOf marks.now desks.old }
     requires some { 0 < length desks.old }
+    ensures book { book.new ≡ book.old }
     ensures table { IsSeatOf marks.now editor.new }
     ensures editor { KeepsEditor editor.old editor.new }
     ensures desks { Each (IsDeskAfter marks.now) desks.old desks.new }
-    ensures clean { OnOk result (KnowsAll (TouchesPlace book.now.opening) book.now.sheet.sizes
+    ensures clean { OnOk result (KnowsAll (TouchesPlace book.old.opening) book.old.opening.sizes
         (view_of editor.new)) }
 {
     entries_cross();
     subject_crosses();
-    match whole(book.sheet().sizes()) {
+    match whole(opening_sizes(book)) {
         None => Ok(()),
-        Some(range) => settle_ranges(rt, alloc, book, marks, editor, &[range], desks, gate),
+        Some(range) => settle_range(rt, alloc, book, marks, editor, range, desks, gate),
     }
 }

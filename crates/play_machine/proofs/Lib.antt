@@ -8,5 +8,4 @@ mod QueueLemmas
 mod ReadyLemmas
 mod TouchedLemmas
 mod TurnLemmas
-mod ValueLemmas
 mod WaiterLemmas

@@ -9,6 +9,7 @@ pub mod Seats
 pub mod SettleLaws
 pub mod Settling
 pub mod Sides
+pub mod Sources
 pub mod TurnLaws
 pub mod Turns
 pub mod Work

@@ -1,12 +1,20 @@
 use sheet_model::{Content, Sheet, value_laws};
 use sheet_refs::Cell;
+use value_core::{ErrorKind, Value, code};
+
+/// Where settling takes the word of a cell from.
+pub(crate) enum Source<'a> {
+    /// What is in the cell: its word is the code of what this gives over the values of its inputs.
+    Inputs(&'a Content),
+    /// The word itself.
+    Word(u64),
+}
 
 /// What settling puts at the cells of a sheet: the codes of their values.
 pub(crate) trait CellWords {
-    ghost use Rattle.std.specs.Prelude.{◌≡◌, IfSome, IfNone};
     ghost use Rattle.sheet_refs.specs.Cells.{Position};
-    ghost use Rattle.sheet_model.specs.Sheets.{SheetValue, content_of, content_value};
-    ghost use Rattle.sheet_model.specs.Values.{circular_value, value_of};
+    ghost use Rattle.sheet_model.specs.Sheets.{SheetValue};
+    ghost use Rattle.recalc_workers.specs.Sources.{IsSourceOf};
 
     /// The sheet.
     ghost sheet: { Self → SheetValue };
@@ -14,13 +22,10 @@ pub(crate) trait CellWords {
     /// Of which of its cells.
     ghost covers: { Self → Position → Type 0 };
 
-    /// What stands in the cell, where its value is what this gives over the values of its inputs; None where its value
-    /// is `#CIRC!`.
-    fn content(&self, cell: Cell) -> Option<&Content>
+    /// Where the word of the cell comes from.
+    fn source(&self, cell: Cell) -> Source<'_>
         requires { covers self.now cell }
-        ensures content { IfSome result
-            (λ content. content_value content.now ≡ content_of (sheet self.now) cell) }
-        ensures circular { IfNone result (value_of (sheet self.now) cell ≡ circular_value) };
+        ensures { IsSourceOf (sheet self.now) cell result };
 }
 
 /// Cells whose inputs are clean.
@@ -36,8 +41,8 @@ impl<'a> CellWords for FromInputs<'a> {
 
     ghost covers = { λ words cell. ⊤ };
 
-    fn content(&self, cell: Cell) -> Option<&Content> {
-        Some(self.sheet.content(cell))
+    fn source(&self, cell: Cell) -> Source<'_> {
+        Source::Inputs(self.sheet.content(cell))
     }
 }
 
@@ -55,9 +60,28 @@ impl<'a> CellWords for OnCycles<'a> {
 
     ghost covers = { λ words cell. LeadsIntoCycle (IsInput words.sheet.now) cell };
 
-    fn content(&self, _cell: Cell) -> Option<&Content> {
+    fn source(&self, _cell: Cell) -> Source<'_> {
         value_laws();
         let _ = self.sheet.sizes();
-        None
+        Source::Word(code(Value::Error(ErrorKind::Circ)))
+    }
+}
+
+/// Cells whose values were computed: the code of each is at the cell's place.
+#[derive(Clone, Copy)]
+pub(crate) struct FromValues<'a> {
+    pub(crate) sheet: &'a Sheet,
+    pub(crate) codes: &'a [u64],
+}
+
+impl<'a> CellWords for FromValues<'a> {
+    ghost use Rattle.recalc_workers.specs.Sources.{HasCodeInside};
+
+    ghost sheet = { λ words. words.sheet.now };
+
+    ghost covers = { λ words. HasCodeInside words.sheet.now words.codes.now };
+
+    fn source(&self, cell: Cell) -> Source<'_> {
+        Source::Word(self.codes[self.sheet.sizes().place(cell)])
     }
 }

@@ -9,8 +9,8 @@
 //! why it doesn't. Each answer has its cause in what the desk's seat noted in this call (`specs/Turns.antt`,
 //! `turn_laws`), and in the lists of its hand (`specs/Again.antt`).
 //!
-//! `settle_level` and `settle_circular` compute many cells at many desks for the editor's seat, which knows each of
-//! them as clean afterwards (`specs/Settling.antt`, `settle_laws`). A `Gate` is what happens between a claim and its
+//! `settle_values` puts the values of many cells at many desks for the editor's seat, which knows each of them as clean
+//! afterwards; `settle_level` and `settle_circular` compute them there (`specs/Settling.antt`, `settle_laws`). A `Gate` is what happens between a claim and its
 //! put: nothing, but in tests. Below stand `sheet_refs`, `formula_eval`, `sheet_model`, `mark_words` and the kit's
 //! `crossbeam_queue`; above stands the live sheet.
 #![tactic(auto)]
@@ -55,7 +55,7 @@ pub use laws::hand_laws;
 pub use office::Office;
 pub use rules::{HandView, Queued};
 pub use settlement::settle_laws;
-pub use settling::{settle_circular, settle_level};
+pub use settling::{settle_circular, settle_level, settle_values};
 pub use taking::turn;
 pub use task::Task;
 pub use turns::Turn;

@@ -2,11 +2,13 @@ ghost use Rattle.std.specs.Prelude.{◌≡◌, ◌≤◌, ◌<◌, ◌+◌, ◌*
 ghost use Rattle.std.specs.Prelude.{false, length, IsTrue, IfOk, OnOk};
 ghost use Rattle.sheet_refs.specs.Sizes.{is_inside, cell_count, place_of};
 ghost use Rattle.mark_words.specs.Tokens.{IsSeatOf, subject_of, view_of, log_of};
+ghost use Rattle.sheet_model.specs.Logs.{after};
+ghost use Rattle.sheet_model.specs.Sheets.{IsSheet, content_of, content_value};
 ghost use Rattle.recalc_workers.specs.Desks.{seat_of, wants_memory};
 ghost use Rattle.recalc_workers.specs.Settling.{HasSettledShare, IsCovered, IsLevelOf, KnowsPart, KnowsPlace};
 ghost use Rattle.recalc_workers.specs.Settling.{MaySettle, WorksAt};
 
-use crate::cell_words::CellWords;
+use crate::cell_words::{CellWords, Source};
 use crate::clearing::clear;
 use crate::crossing::entries_cross;
 use crate::desk::Desk;
@@ -16,10 +18,9 @@ use crate::gathering::place_of_cell;
 use crate::read_again::read_all;
 use crate::working::is_of_sheet;
 use mark_words::Marks;
-use sheet_model::{SheetSubject, log_laws};
+use sheet_model::{Content, SheetSubject, log_laws};
 use sheet_refs::{Cell, Memory, Sizes};
 use std::sync::Wait;
-use value_core::{ErrorKind, Value, code};
 
 /// The cells of a level, in a sheet of these sizes, after so many entries.
 #[derive(Clone, Copy)]
@@ -27,6 +28,44 @@ pub(crate) struct Level<'a> {
     pub(crate) sizes: Sizes,
     pub(crate) cells: &'a [Cell],
     pub(crate) count: u64,
+}
+
+/// The code of what a content gives over the values of the cell's inputs, after the entries that the desk's seat knows.
+fn word_from_inputs<R: Wait, S: SheetSubject>(
+    rt: &R,
+    marks: &Marks<S>,
+    level: Level<'_>,
+    cell: Cell,
+    content: &Content,
+    desk: &mut Desk<S>,
+) -> Result<u64, Memory>
+    requires table { IsSeatOf marks.now (seat_of desk.old) }
+    requires sizes { level.sizes ≡ (S.opening (subject_of marks.now)).sizes }
+    requires small { cell_count level.sizes ≤ 1048576 }
+    requires count { level.count ≡ length (log_of (seat_of desk.old)) }
+    requires inside { IsTrue (is_inside level.sizes cell) }
+    requires is_sheet { IsSheet (after (S.opening (subject_of marks.now)) (log_of (seat_of desk.old))) }
+    requires content { content_value content.now
+        ≡ content_of (after (S.opening (subject_of marks.now)) (log_of (seat_of desk.old))) cell }
+    ensures table { IsSeatOf marks.now (seat_of desk.new) }
+    ensures works { WorksAt desk.old desk.new }
+    ensures word { IfOk result (λ word. S.worth (subject_of marks.now)
+        (log_of (seat_of desk.old)) (place_of level.entry.sizes cell) ≡ word) }
+{
+    entries_cross();
+    log_laws();
+    let Level { sizes, count, .. } = level;
+    read_all(
+        rt,
+        marks,
+        &mut desk.seat,
+        sizes,
+        content,
+        count,
+        &mut desk.inputs,
+    )?;
+    is_of_sheet(marks);
+    Ok(evaluate(sizes, content, &desk.inputs, &mut desk.stack))
 }
 
 /// The code of the cell's value after the entries that the desk's seat knows.
@@ -52,21 +91,11 @@ fn word_at<R: Wait, S: SheetSubject, W: CellWords>(
 {
     entries_cross();
     log_laws();
-    let Some(content) = words.content(cell) else {
-        return Ok(code(Value::Error(ErrorKind::Circ)));
-    };
-    let Level { sizes, count, .. } = level;
-    read_all(
-        rt,
-        marks,
-        &mut desk.seat,
-        sizes,
-        content,
-        count,
-        &mut desk.inputs,
-    )?;
     is_of_sheet(marks);
-    Ok(evaluate(sizes, content, &desk.inputs, &mut desk.stack))
+    match words.source(cell) {
+        Source::Inputs(content) => word_from_inputs(rt, marks, level, cell, content, desk),
+        Source::Word(word) => Ok(word),
+    }
 }
 
 /// Clears one cell at the desk.

@@ -2,11 +2,11 @@ ghost use Rattle.std.specs.Prelude.{◌<◌, length, All, OnOk};
 ghost use Rattle.std.specs.Thread.{IsSync};
 ghost use Rattle.mark_words.specs.Tokens.{IsSeatOf, subject_of, view_of};
 ghost use Rattle.sheet_model.specs.Budget.{LeadsIntoCycle};
-ghost use Rattle.sheet_model.specs.Values.{IsInput};
+ghost use Rattle.sheet_model.specs.Values.{HasCode, IsInput};
 ghost use Rattle.recalc_workers.specs.Settling.{AreDesksOf, AreInside, Each, IsDeskAfter};
 ghost use Rattle.recalc_workers.specs.Settling.{IsEditorOf, KeepsEditor, KnowsCells, KnowsInputs};
 
-use crate::cell_words::{FromInputs, OnCycles};
+use crate::cell_words::{FromInputs, FromValues, OnCycles};
 use crate::desk::Desk;
 use crate::gates::Gate;
 use crate::levels::settle;
@@ -96,6 +96,44 @@ pub fn settle_circular<R: Threads + Wait + Sync, S: SheetSubject, G: Gate + Sync
         &OnCycles { sheet },
         sizes,
         level,
+        desks,
+        gate,
+    )
+}
+
+/// The same of cells whose values were computed: the code of each is at the cell's place, row by row, and what is at
+/// other places means nothing. It puts these codes there and reads no input, so the cells come in any order.
+pub fn settle_values<R: Threads + Wait + Sync, S: SheetSubject, G: Gate + Sync>(
+    rt: &R,
+    marks: &Marks<S>,
+    editor: &mut Seat<S>,
+    sheet: &Sheet,
+    codes: &[u64],
+    cells: &[Cell],
+    desks: &mut [Desk<S>],
+    gate: &G,
+) -> Result<(), Memory>
+    requires editor { IsEditorOf marks.now (S.opening (subject_of marks.now)) sheet.now editor.old }
+    requires inside { AreInside sheet.now.sizes cells.now }
+    requires codes { All (HasCode sheet.now codes.now) cells.now }
+    requires desks { AreDesksOf marks.now desks.old }
+    requires some { 0 < length desks.old }
+    ensures table { IsSeatOf marks.now editor.new }
+    ensures editor { KeepsEditor editor.old editor.new }
+    ensures desks { Each (IsDeskAfter marks.now) desks.old desks.new }
+    ensures clean { OnOk result (KnowsCells (S.touches (subject_of marks.now)) sheet.now.sizes
+        (view_of editor.new) cells.now) }
+{
+    log_laws();
+    may_be_shared::<Sheet>();
+    let sizes = sheet.sizes();
+    settle(
+        rt,
+        marks,
+        editor,
+        &FromValues { sheet, codes },
+        sizes,
+        cells,
         desks,
         gate,
     )

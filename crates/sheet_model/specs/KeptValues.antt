@@ -1,10 +1,12 @@
 -- Values of a sheet's cells that are kept from one question to the next, and through edits of the sheet.
-use Rattle.std.specs.Prelude.{◌≡◌, IsTrue, List, Contains}
+use Rattle.std.specs.Prelude.{◌≡◌, ◌≢◌, IsTrue, ℕ, List, Contains, slice_get, Some}
 use Rattle.sheet_refs.specs.Cells.{Position}
-use Rattle.sheet_refs.specs.Sizes.{is_inside}
+use Rattle.sheet_refs.specs.Sizes.{is_inside, place_of}
+use Rattle.sheet_refs.specs.declared.sizes.Sizes.{Sizes}
 use Rattle.sheet_model.specs.Sheets.{SheetValue, IsSheet}
-use Rattle.sheet_model.specs.Values.{value_of}
-use Rattle.sheet_model.specs.Walks.{IsStoredWalk, IsIdle}
+use Rattle.sheet_model.specs.Values.{value_of, HasCode}
+use Rattle.sheet_model.specs.Walks.{IsStoredWalk, IsIdle, walk_states}
+use Rattle.sheet_model.specs.Words.{Unseen}
 use Rattle.sheet_model.specs.declared.kept_values.KeptValues.{KeptValues}
 
 -- each value that is kept of a cell is the one that the sheet gives it, and no cell waits for another
@@ -21,3 +23,16 @@ pub record HasSameValuesBeside (sheet : SheetValue) (cells : List Position) (oth
 -- what is kept are values of each such sheet
 abbrev pub ForgetsValues : SheetValue → List Position → KeptValues → Type 0
 ForgetsValues sheet cells kept = (other : SheetValue) → HasSameValuesBeside sheet cells other → KeepsValuesOf other kept
+
+-- a value is kept of the cell
+abbrev pub HoldsValue : Sizes → KeptValues → Position → Type 0
+HoldsValue sizes kept cell = slice_get (walk_states kept.walk) (place_of sizes cell) ≢ Some Unseen
+
+-- what was kept before is kept still
+abbrev pub HoldsNoLess : Sizes → KeptValues → KeptValues → Type 0
+HoldsNoLess sizes old new = (cell : Position) → HoldsValue sizes old cell → HoldsValue sizes new cell
+
+-- the codes have the one of each value that is kept, at the place of its cell
+abbrev pub TellCodes : KeptValues → List ℕ → Type 0
+TellCodes kept codes = (sheet : SheetValue) (cell : Position) → KeepsValuesOf sheet kept → IsTrue (is_inside sheet.sizes cell)
+    → HoldsValue sheet.sizes kept cell → HasCode sheet codes cell

@@ -1,6 +1,9 @@
 ghost use Rattle.std.specs.Prelude.{◌≡◌, IfOk, OnOk, IsTrue, All};
 ghost use Rattle.sheet_refs.specs.Sizes.{is_inside};
-ghost use Rattle.sheet_model.specs.KeptValues.{KeepsValuesOf, ForgetsValues};
+ghost use Rattle.sheet_refs.specs.declared.sizes.Sizes.{Sizes};
+ghost use Rattle.sheet_model.specs.KeptValues.{KeepsValuesOf, ForgetsValues, HoldsNoLess};
+ghost use Rattle.sheet_model.specs.KeptValues.{HoldsValue, TellCodes};
+ghost use Rattle.sheet_model.specs.Sheets.{SheetValue};
 ghost use Rattle.sheet_model.specs.Values.{value_of};
 
 use crate::sheet::Sheet;
@@ -12,7 +15,8 @@ use value_core::{Value, decode};
 
 /// The values of a sheet's cells, as far as they were asked for.
 ///
-/// They outlast edits of the sheet, if those that an edit may change are forgotten before it.
+/// They outlast edits of the sheet, if those that an edit may change are forgotten before it. Beside them is a list of the
+/// cells whose values were found on the way to others (`found`).
 #[derive(Drop)]
 pub struct KeptValues {
     pub(crate) walk: Walk,
@@ -23,7 +27,8 @@ impl KeptValues {
     pub fn new(alloc: Global, sheet: &Sheet) -> Result<KeptValues, Memory>
         ensures { IfOk result (KeepsValuesOf sheet.now) }
     {
-        let walk = Walk::new(alloc, sheet)?;
+        let mut walk = Walk::new(alloc, sheet)?;
+        walk.found = Some(Vec::new(alloc));
         Ok(KeptValues { walk })
     }
 
@@ -34,10 +39,49 @@ impl KeptValues {
         requires inside { IsTrue (is_inside sheet.now.sizes cell) }
         ensures value { IfOk result (λ value. value ≡ value_of sheet.now cell) }
         ensures kept { OnOk result (KeepsValuesOf sheet.now self.new) }
+        ensures held { OnOk result (HoldsValue sheet.now.sizes self.new cell) }
+        ensures others { OnOk result (HoldsNoLess sheet.now.sizes self.old self.new) }
     {
         let place = sheet.place(cell);
         self.walk.settle(sheet, place)?;
         Ok(decode(self.walk.words[place]).unwrap())
+    }
+
+    /// The codes of the values that are kept, each at the place of its cell, row by row. What is at the places of other
+    /// cells means nothing.
+    pub fn codes(&self) -> &[u64]
+        ensures { TellCodes self.now result.now }
+    {
+        &self.walk.words
+    }
+
+    /// Whether this is a cell of the sheet whose value is kept.
+    pub fn holds(&self, sheet: &Sheet, cell: Cell) -> bool
+        requires { KeepsValuesOf sheet.now self.now }
+        ensures inside { IsTrue result → IsTrue (is_inside sheet.now.sizes cell) }
+        ensures held { IsTrue result → HoldsValue sheet.now.sizes self.now cell }
+    {
+        sheet.sizes().holds(cell) && self.walk.words[sheet.place(cell)] != UNSEEN
+    }
+
+    /// The cells for whose values others waited since the list was emptied: their values were found on the way to those
+    /// that were asked for, and weren't kept before. A cell on a cycle may be twice. No clause says so: it is of use to
+    /// whoever looks at each of these cells, whatever they are.
+    pub fn found(&self) -> &[Cell] {
+        match &self.walk.found {
+            Some(found) => found,
+            None => &[],
+        }
+    }
+
+    /// Empties the list of the cells that were found.
+    pub fn clear_found(&mut self)
+        ensures kept { (sheet : SheetValue) → KeepsValuesOf sheet self.old → KeepsValuesOf sheet self.new }
+        ensures same { (sizes : Sizes) → HoldsNoLess sizes self.old self.new }
+    {
+        if let Some(found) = &mut self.walk.found {
+            found.clear();
+        }
     }
 
     /// Forgets the values of some cells. What is left are values of each sheet that gives all other cells the values

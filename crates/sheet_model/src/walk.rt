@@ -27,13 +27,15 @@ pub(crate) struct Frame {
 }
 
 /// What is known of each cell, as a word; the open cells, each of which waits for the value of the
-/// one above it; and what is left to look at of the ranges that they name, that of the newest cell
-/// last.
+/// one above it; what is left to look at of the ranges that they name, that of the newest cell
+/// last; and perhaps a list of the cells for which others waited.
 #[derive(Drop)]
 pub(crate) struct Walk {
     pub(crate) words: Vec<u64>,
     pub(crate) frames: Vec<Frame>,
     pub(crate) parts: Vec<Part>,
+    /// The cells for whose values others waited, where they are to be listed.
+    pub(crate) found: Option<Vec<Cell>>,
     stack: Stack,
 }
 
@@ -57,6 +59,7 @@ impl Walk {
             words,
             frames: Vec::new(alloc),
             parts: Vec::new(alloc),
+            found: None,
             stack,
         })
     }
@@ -162,7 +165,16 @@ impl Walk {
         }
         let frame = self.frames[count - 1];
         match look(sheet.sizes(), &self.words, &mut self.parts, frame.first) {
-            Some(cell) => self.enter(sheet, cell),
+            Some(cell) => {
+                self.enter(sheet, cell)?;
+                match &mut self.found {
+                    Some(found) => {
+                        found.push(cell)?;
+                        Ok(())
+                    }
+                    None => Ok(()),
+                }
+            }
             None => {
                 self.finish(sheet);
                 Ok(())

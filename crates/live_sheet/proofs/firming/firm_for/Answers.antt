@@ -17,19 +17,19 @@ pub show_window-requires-clause-sheet : goal.show_window-requires-clause-sheet
 show_window-requires-clause-sheet g c κs =
     subst IsSheet
     (c.opening_sizes-sizes.ensures.kept.replayed ∙ ap (λ (o : SheetValue). after o c.args.book.now.log) (sym c.requires.subject)
-    ∙ ap (after (subject_of c.args.marks.now)) (sym (c.settle_window.ensures.editor.log ∙ c.hear.ensures.editor.log ∙ c.requires.log)))
+    ∙ ap (after (subject_of c.args.marks.now)) (sym (c.settle_range.ensures.editor.log ∙ c.hear.ensures.editor.log ∙ c.requires.log)))
     c.opening_sizes-sizes.ensures.sheet
 
 pub show_window-requires-clause-inside : goal.show_window-requires-clause-inside
 show_window-requires-clause-inside g c κs = rw c.opening_sizes-sizes.ensures.sizes c.requires.inside
 
 pub show_window-requires-clause-known : goal.show_window-requires-clause-known
-show_window-requires-clause-known g c κs = rw (c.requires.subject, c.opening_sizes-sizes.ensures.sizes) c.in_ok-settle_window.ensures.clean
+show_window-requires-clause-known g c κs = rw (c.requires.subject, c.opening_sizes-sizes.ensures.sizes) c.in_ok-settle_range.ensures.clean
 
 pub returns-clause-firm : goal.returns-clause-firm
 returns-clause-firm g c =
     is_firm c.args.book.now.opening (subject_of c.args.marks.now) _ c.args.window _ c.show_window.new.board
-    c.args.seat.now c.hear.new.editor c.settle_window.new.editor c.show_window.new.editor c.learn.new.seat
+    c.args.seat.now c.hear.new.editor c.settle_range.new.editor c.show_window.new.editor c.learn.new.seat
     c.requires.subject (c.length.ensures.length ∙ ap length (sym (c.hear.ensures.editor.log ∙ c.requires.log)))
     c.hear.ensures.seen (c.hear.new.editor.knows_all.seen (c.hear.ensures.editor.editor ∙ c.requires.free.editor))
-    c.settle_window.ensures.editor c.show_window.ensures.editor c.learn.ensures.knows c.in_ok-settle_window.ensures.clean c.show_window.ensures.shows
+    c.settle_range.ensures.editor c.show_window.ensures.editor c.learn.ensures.knows c.in_ok-settle_range.ensures.clean c.show_window.ensures.shows

@@ -7,8 +7,8 @@ use Rattle.live_sheet.proofs.locked.Locked.circular.Goals as goal
 pub returns-clause-circular : goal.returns-clause-circular
 returns-clause-circular g c =
     tells_cycle g.N.Naming.opening c.lend.new.self.book.sheet c.args.cell c.lend.new.seat _ c.on_cycle.result
-    c.pair_laws.ensures.cycles c.graph.ensures.kept.pairs_are
+    c.pair_laws.ensures.cycles c.on_cycle.ensures.kept.pairs_are
     (subst IsSheet c.sheet.ensures.sheet c.sizes.ensures.sheet)
-    (c.graph.ensures.kept.replayed ∙ ap (λ (o : SheetValue). after o c.lend.new.self.book.log) c.lend.new.self.opening
+    (c.on_cycle.ensures.kept.replayed ∙ ap (λ (o : SheetValue). after o c.lend.new.self.book.log) c.lend.new.self.opening
     ∙ ap (after g.N.Naming.opening) (sym c.lend.ensures.log))
-    (rw c.graph.ensures.graph at c.on_cycle.ensures)
+    c.on_cycle.ensures.on

@@ -10,7 +10,7 @@ use Rattle.play_machine.specs.Marking.{SetsMarks}
 use Rattle.play_machine.specs.Waiting.{AreKept}
 use Rattle.play_machine.proofs.EditedLemmas.{touches_at_most}
 use Rattle.play_machine.proofs.PlayLemmas.{put_machine, put_marks}
-use Rattle.play_machine.proofs.ValueLemmas.{book_sheet, kept_through, same_beside, touched_inside}
+use Rattle.edit_log.proofs.ValueLemmas.{book_sheet, kept_through, same_beside, touched_inside}
 use Rattle.play_machine.proofs.machine.Player.put.Goals as goal
 
 pub forget-requires-clause-inside : goal.forget-requires-clause-inside

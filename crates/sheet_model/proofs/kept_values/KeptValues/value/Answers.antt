@@ -1,8 +1,9 @@
 use Rattle.std.proofs.Common.{◌≡◌, slice_get, Some, sym, ◌∙◌, ap, rules}
 use Rattle.std.proofs.lemmas.Option.{slice_get_read}
-use Rattle.sheet_refs.specs.Sizes.{cell_count}
+use Rattle.sheet_refs.specs.Sizes.{cell_count, place_of}
 use Rattle.value_core.specs.Values.{code_of}
 use Rattle.sheet_model.specs.Values.{value_of}
+use Rattle.sheet_model.specs.Walks.{walk_states}
 use Rattle.sheet_model.proofs.ResultLemmas.{word_known}
 use Rattle.sheet_model.proofs.StepLemmas.{words_count}
 use Rattle.sheet_model.proofs.WordLemmas.{decoded_code}
@@ -29,3 +30,9 @@ unwrap-requires c = let is = shown (goal.at.unwrap-requires c).After-decode in r
 
 pub returns-clause-value : goal.returns-clause-value
 returns-clause-value c = let is = shown (goal.at.returns-clause-value c).After-decode in search (rules, is)
+
+pub returns-clause-held : goal.returns-clause-held
+returns-clause-held c = λ same. c.in_ok-settle.ensures.known (ap (slice_get (walk_states c.settle.new.self)) c.place-place.ensures.place ∙ same)
+
+pub returns-clause-others : goal.returns-clause-others
+returns-clause-others c = λ other before same. before (c.in_ok-settle.ensures.seen (place_of c.args.sheet.now.sizes other) same)

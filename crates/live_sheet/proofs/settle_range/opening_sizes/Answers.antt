@@ -1,7 +1,7 @@
 use Rattle.std.proofs.Common.{ap, ◌∙◌}
 use Rattle.sheet_model.specs.Sheets.{SheetValue}
 use Rattle.sheet_model.proofs.LogLemmas.{after-sizes}
-use Rattle.live_sheet.proofs.window.opening_sizes.Goals as goal
+use Rattle.live_sheet.proofs.settle_range.opening_sizes.Goals as goal
 
 pub returns-clause-sizes : goal.returns-clause-sizes
 returns-clause-sizes g c =

@@ -1,4 +1,4 @@
--- What an edit leaves of the values that are kept.
+-- What an edit leaves of the values that a book keeps, or someone else.
 use Rattle.std.proofs.Common.{◌≡◌, All, IsTrue, List, ap, subst, sym, ◌∙◌}
 use Rattle.std.specs.Prelude.{IfSome, Option, None, Some}
 use Rattle.sheet_refs.specs.Cells.{Position}
