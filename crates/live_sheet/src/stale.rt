@@ -30,7 +30,7 @@ fn is_clean<S: SheetSubject>(marks: &Marks<S>, editor: &mut Seat<S>, place: u32)
 }
 
 /// Lists the cell, unless it is clean, which the editor's seat knows then.
-fn list_if_stale<S: SheetSubject>(
+pub(crate) fn list_if_stale<S: SheetSubject>(
     marks: &Marks<S>,
     editor: &mut Seat<S>,
     sizes: Sizes,

@@ -14,5 +14,5 @@ returns g c =
     let of_sheet : IsSend sheet.the_row = record { owned = c.may_cross.ensures.owned; leaving = λ k x w. tt } in
     let of_log : IsSend (vec.the_row entry.the_row global.the_row impl.ghosts) = record { owned = c.may_cross-2.ensures.owned; leaving = λ k x w. tt } in
     let of_set : IsSend rect_set.the_row = record { owned = c.may_cross-3.ensures.owned; leaving = λ k x w. tt } in
-    let of_values : IsSend kept_values.the_row = record { owned = c.may_cross-4.ensures.owned; leaving = λ k x w. tt } in
+    let of_values : IsSend kept_values.the_row = record { owned = c.may_cross-4.ensures.owned; leaving = c.may_cross-4.ensures.leaving } in
     book_send _ g.G.Graph of_sheet of_log of_set of_values c.type_bounds.send-G
