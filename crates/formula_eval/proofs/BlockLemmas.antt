@@ -1,5 +1,5 @@
 -- Words at equal distances in a list, and what they add to a sum.
-use Rattle.std.proofs.Common.{◌≡◌, ℕ, ℤ, zero, suc, ◌+◌, ◌-◌, ◌*◌, ◌/◌, ◌%◌, ◌^◌, ◌<◌, ◌≤◌, pos, ◌+ℤ◌, ◌-ℤ◌, nat_abs}
+use Rattle.std.proofs.Common.{◌≡◌, ℕ, ℤ, zero, suc, ◌+◌, ◌-◌, ◌*◌, ◌/◌, ◌^◌, ◌<◌, ◌≤◌, pos, ◌+ℤ◌, ◌-ℤ◌, nat_abs}
 use Rattle.std.proofs.Common.{List, [], ◌∷◌, ◌++◌, length, map, get_or, Option, Some, None, IsSome, true, false}
 use Rattle.std.proofs.Common.{Result, Err, IfOk, IfErr}
 use Rattle.std.proofs.Common.{refl, sym, ◌∙◌, ap, ap₂, subst, arith, length-append, append_assoc}
@@ -12,6 +12,7 @@ use Rattle.std.proofs.lemmas.Option.{slice_get_within, get_or_from_slice_get}
 use Rattle.sheet_refs.specs.Cells.{Position, Corners, IsIn, height, width, row_cells, cells_of}
 use Rattle.sheet_refs.specs.declared.sizes.Sizes.{Sizes}
 use Rattle.sheet_refs.proofs.Grid.{rows_from}
+use Rattle.value_core.specs.Codes.{IsNumberWord, number_of_word}
 use Rattle.value_core.specs.Decoding.{value_of_word, value_of_its_code}
 use Rattle.value_core.specs.declared.value.ErrorKind.{ErrorKind}
 use Rattle.value_core.specs.declared.value.ErrorKind.TheVariants as error
@@ -185,10 +186,6 @@ pub moved_to : (sum : Sum) (words : List ℕ) (first step k count : ℕ) (total 
 moved_to sum words first step k count total whole all same adds is are =
     rw (is, are) (subst (λ (n : ℕ). AddsWords sum (line_of words first step n) (moved sum total n)) same adds)
 
--- what a word's kind is off from that of a number
-pub number_kind : (word : ℕ) → ((word % 8 + 7) % 8 ≤ 7) × ((word % 8 + 7) % 8 ≡ 0 → word % 8 ≡ 1)
-number_kind word = (omega arith, λ none. omega (arith, none))
-
 -- the same results for the same items
 pub ok_items : (r : Result Sum ErrorKind) (sum : Sum) (xs ys : List Item) → ys ≡ xs
     → IfOk r (λ more. AddsItems SumOf (tally_of sum) (tally_of more) xs) → IfOk r (λ more. AddsItems SumOf (tally_of sum) (tally_of more) ys)
@@ -198,7 +195,7 @@ pub err_items : (r : Result Sum ErrorKind) (xs ys : List Item) → ys ≡ xs →
     → IfErr r (λ kind. contributions SumOf ys ≡ Err kind)
 err_items r xs ys same err = subst (λ (items : List Item). IfErr r (λ kind. contributions SumOf items ≡ Err kind)) (sym same) err
 
-number_is : (word : ℕ) → word % 8 ≡ 1 → value_of_word word ≡ Number (pos (word / 8) -ℤ pos (2 ^ 53))
+number_is : (word : ℕ) → IsNumberWord word → value_of_word word ≡ Number (number_of_word word)
 unfolding value_of_word
 number_is word last = rw last refl
 
@@ -215,12 +212,12 @@ one_more sum total next n k bounded small is =
 
 -- one more word of a number
 pub moved_more : (sum : Sum) (words : List ℕ) (first step k : ℕ) (total next : ℤ) → AddsWords sum (line_of words first step k) (moved sum total k)
-    → IsCode (get_or words (first + k * step) 0) → get_or words (first + k * step) 0 % 8 ≡ 1
-    → next ≡ total +ℤ (pos (get_or words (first + k * step) 0 / 8) -ℤ pos (2 ^ 53))
+    → IsCode (get_or words (first + k * step) 0) → IsNumberWord (get_or words (first + k * step) 0)
+    → next ≡ total +ℤ number_of_word (get_or words (first + k * step) 0)
     → AddsWords sum (line_of words first step (k + 1)) (moved sum next (k + 1))
 moved_more sum words first step k total next adds code last is =
     let word = get_or words (first + k * step) 0 in
-    let n = pos (word / 8) -ℤ pos (2 ^ 53) in
+    let n = number_of_word word in
     let small : nat_abs n ≤ 2 ^ 53 = omega (arith, ints, content_small word code) in
     let one = one_more sum total next n k adds.bounded small is in
     let value = ap (λ (v : Value). items_of_cells (v ∷ [])) (number_is word last) in

@@ -4,13 +4,10 @@ ghost use Rattle.formula_eval.specs.Sums.{AddsWords, IsFirstError, tally_of};
 ghost use Rattle.formula_eval.specs.Tallies.{IsBounded};
 
 use crate::sums::Sum;
-use value_core::{ErrorKind, decode};
+use value_core::{CodeWord, ErrorKind, decode};
 
 /// The most words that are added without a look at each: their sum fits a word.
 const BATCH: usize = 512;
-
-/// What the code of a number has above its last three bits is more than the number by this.
-const SHIFT: i64 = 1 << 53;
 
 // The sum with the numbers of a line; None where one of its words is that of another value. It adds up what each word's
 // kind is off from that of a number, so that no word decides which way the loop goes, and it takes several words at
@@ -25,9 +22,9 @@ fn with_numbers(words: &[u64], first: usize, step: usize, count: usize, sum: Sum
     let mut total: i64 = 0;
     let mut others = 0;
     for k in 0..count {
-        let word = words[first + k * step];
-        others += (word % 8 + 7) % 8;
-        total += (word / 8) as i64 - SHIFT;
+        let word = CodeWord::new(words[first + k * step]);
+        others += word.off_number();
+        total += word.number();
     }
     if others != 0 {
         return None;

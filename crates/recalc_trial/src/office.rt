@@ -1,6 +1,7 @@
 ghost use Rattle.std.specs.Prelude.{◌≡◌, true, None, IsSome};
 ghost use Rattle.mark_words.specs.Tokens.{IsSeatOf, edits_of, is_editor, log_of, subject_of};
 
+use crate::crossing::{entries_cross, subject_crosses};
 use crate::lending::lend;
 use edit_log::{Book, OverSheet, place_laws, touch_laws};
 use graph_walk::on_cycle;
@@ -45,6 +46,8 @@ fn mark_first(
     ensures editor { is_editor editor.new ≡ true }
     ensures log { log_of editor.new ≡ log_of editor.old }
 {
+    entries_cross();
+    subject_crosses();
     place_laws();
     touch_laws();
     log_laws();
@@ -77,6 +80,8 @@ impl<'a> Office<OverSheet> for BookOffice<'a> {
         cell: Cell,
         seat: &mut Seat<OverSheet>,
     ) -> Result<Task, Memory> {
+        entries_cross();
+        subject_crosses();
         lend(self.marks, &mut self.editor, seat);
         let content = self.book.sheet().content(cell).copy()?;
         let length = self.book.length();
@@ -92,6 +97,8 @@ impl<'a> Office<OverSheet> for BookOffice<'a> {
         cell: Cell,
         seat: &mut Seat<OverSheet>,
     ) -> Result<bool, Memory> {
+        entries_cross();
+        subject_crosses();
         lend(self.marks, &mut self.editor, seat);
         on_cycle(self.alloc, self.book.graph(), cell)
     }

@@ -83,6 +83,8 @@ fn turns<R: Wait>(
 fn opened(alloc: Global, sheet: &Sheet) -> Result<(Marks<OverSheet>, Seat<OverSheet>), Fail>
     ensures { IfOk result (IsOpenedOver sheet.now) }
 {
+    entries_cross();
+    subject_crosses();
     let codes = opening_codes(alloc, sheet)?;
     // Says that its cells are few enough.
     let _sizes = sheet.sizes();
