@@ -10,7 +10,6 @@ mod GatherLemmas
 mod LevelLemmas
 mod LookLemmas
 mod MeetingLemmas
-mod OfferLemmas
 mod OpeningLemmas
 mod PassEdits
 mod PassLemmas

@@ -11,7 +11,7 @@ use Rattle.recalc_workers.specs.declared.rules.Queued.{Queued}
 use Rattle.recalc_workers.specs.declared.rules.HandView.{HandView}
 use Rattle.recalc_workers.specs.declared.hands.Hand.{Hand}
 use Rattle.recalc_workers.specs.Rule.{FitsSheet, AllFit, PutsEntry, TakesEntry, KnowsHeld}
-use Rattle.recalc_workers.specs.Hands.{jobs_of, put_of, taken_of, HasHeld, HasPut, HasRefused, HasTaken, HasFoundNone}
+use Rattle.recalc_workers.specs.Hands.{jobs_of, put_of, taken_of, HasHeld, HasPut, HasRefused, HasTaken, HasFoundFull, HasFoundNone}
 
 fit_jobs : (sizes : Sizes) (entries : List Queued) → AllFit sizes entries → (place : ℕ) (job : Job)
     → get_elem? (jobs_of entries) place ≡ some job → FitsSheet sizes job
@@ -80,4 +80,17 @@ has_found_none sizes old new sized same noted h =
       };
       empty = none;
       all_taken = λ sole. none_left (put_of old) (taken_of old) none.held (none.accounts sole) none.counted;
+    }
+
+pub has_found_full : (sizes : Sizes) (old new : Hand) (n : ℕ) → (view old.pass).sizes ≡ sizes → n ≡ 65536 → view new.pass ≡ view old.pass
+    → view new.note ≡ view old.note → Held n (KnowsHeld (view old.pass)) → HasFoundFull sizes old new
+has_found_full sizes old new n sized room same noted h =
+    let full = held sizes 65536 old sized (h.0, h.1 ∙ room, h.2) in record {
+      same = record {
+        put = ap (λ (w : HandView). jobs_of w.put) same;
+        refused = noted;
+        taken = ap (λ (w : HandView). jobs_of w.taken) same;
+      };
+      full = full;
+      no_room = λ sole. counts (put_of old) (taken_of old) full.held 65536 (full.accounts sole) full.counted;
     }

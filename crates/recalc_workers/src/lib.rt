@@ -35,6 +35,7 @@ mod notes;
 mod office;
 mod read_again;
 mod reading;
+mod refusal;
 mod rules;
 mod settle_cells;
 mod settlement;
