@@ -2,14 +2,14 @@
 use Rattle.std.specs.Prelude.{List, [], ◌∷◌, map, drop}
 use Rattle.sheet_refs.specs.Cells.{Position}
 use Rattle.recalc_workers.specs.declared.job.Job.{Job}
-use Rattle.recalc_workers.specs.declared.refusal.Refusal.{Refusal}
-use Rattle.recalc_workers.specs.declared.refusal.Refusal.TheVariants.{One, Rest}
+use Rattle.recalc_workers.specs.declared.refused_jobs.RefusedJobs.{RefusedJobs}
+use Rattle.recalc_workers.specs.declared.refused_jobs.RefusedJobs.TheVariants.{One, Rest}
 
 -- a new job for a cell
 abbrev pub new_job : Position → Job
 new_job cell = record { cell = cell; tries = 16 }
 
--- the jobs of a refusal, in order
-abbrev pub refused_together : Refusal → List Job
+-- the jobs that were refused by one step, in order
+abbrev pub refused_together : RefusedJobs → List Job
 refused_together (One job) = job ∷ []
 refused_together (Rest cells from) = map new_job (drop from cells.value.items)

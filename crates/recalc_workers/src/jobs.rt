@@ -75,30 +75,8 @@ impl Jobs {
         Ok(Hand { pass, slot, note })
     }
 
-    /// Puts the job at the end of the queue. Err, with the job, only where the queue held 65,536 jobs at a step of this
-    /// call.
-    pub fn offer<R: Wait>(&self, rt: &R, hand: &mut Hand, job: Job) -> Result<(), Job>
-        requires hand { IsHandOf self.now hand.old }
-        requires fits { FitsSheet (sizes_of self.now) job }
-        ensures hand { IsHandOf self.now hand.new × (is_sole hand.new ≡ is_sole hand.old) }
-        ensures put { OnOk result (HasPut hand.old hand.new job) }
-        ensures refused { IfErr result
-            (λ back. (back ≡ job) × HasRefused (sizes_of self.now) hand.old hand.new job) }
-    {
-        let entry = Queued {
-            job,
-            sizes: self.sizes,
-        };
-        match self.queue.push_as::<Puts, R>(rt, &mut hand.pass, entry) {
-            Ok(()) => Ok(()),
-            Err(_) => {
-                note(rt, &hand.slot, &mut hand.note, &job);
-                Err(job)
-            }
-        }
-    }
-
-    /// Puts the job at the end of the queue; false only where the queue held 65,536 jobs at a step of this call.
+    // Puts the job at the end of the queue. False only where the queue held 65,536 jobs at a step of this call; nothing is
+    // noted then.
     fn put<R: Wait>(&self, rt: &R, hand: &mut Hand, job: Job) -> bool
         requires hand { IsHandOf self.now hand.old }
         requires fits { FitsSheet (sizes_of self.now) job }
@@ -116,8 +94,26 @@ impl Jobs {
         }
     }
 
-    /// Offers a job of 16 tries for each of the cells, in order. From the first that finds the queue full on all are
-    /// refused, by that step of the queue, at a cost that doesn't grow with their number.
+    /// Puts the job at the end of the queue. Err, with the job, only where the queue held 65,536 jobs at a step of this
+    /// call.
+    pub fn offer<R: Wait>(&self, rt: &R, hand: &mut Hand, job: Job) -> Result<(), Job>
+        requires hand { IsHandOf self.now hand.old }
+        requires fits { FitsSheet (sizes_of self.now) job }
+        ensures hand { IsHandOf self.now hand.new × (is_sole hand.new ≡ is_sole hand.old) }
+        ensures put { OnOk result (HasPut hand.old hand.new job) }
+        ensures refused { IfErr result
+            (λ back. (back ≡ job) × HasRefused (sizes_of self.now) hand.old hand.new job) }
+    {
+        if self.put(rt, hand, job) {
+            Ok(())
+        } else {
+            note(rt, &hand.slot, &mut hand.note, &job);
+            Err(job)
+        }
+    }
+
+    /// Offers a job of 16 tries for each of the cells, in order. Once a job finds the queue full, it and all that are left
+    /// are refused by that step of the queue, at a cost that doesn't grow with their number.
     pub fn offer_each<R: Wait>(&self, rt: &R, hand: &mut Hand, cells: &Vec<Cell>)
         requires hand { IsHandOf self.now hand.old }
         requires inside { All (λ cell. IsTrue (is_inside (sizes_of self.now) cell)) cells.now.items }

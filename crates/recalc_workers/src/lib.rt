@@ -35,7 +35,7 @@ mod notes;
 mod office;
 mod read_again;
 mod reading;
-mod refusal;
+mod refused_jobs;
 mod rules;
 mod settle_cells;
 mod settlement;

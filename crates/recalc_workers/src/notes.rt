@@ -3,7 +3,7 @@ ghost use Rattle.crossbeam_queue.specs.Passes.{view, IsPassOf};
 ghost use Rattle.recalc_workers.specs.Noted.{new_job};
 
 use crate::job::Job;
-use crate::refusal::Refusal;
+use crate::refused_jobs::RefusedJobs;
 use crossbeam_queue::protocol::{Outcome, Protocol};
 use crossbeam_queue::{Pass, RuledArrayQueue};
 use sheet_refs::{Cell, Memory};
@@ -18,7 +18,7 @@ pub(crate) type Noted = LinkedList<Job>;
 /// The rule of a hand's own slot, which asks nothing: only its hand notes there.
 pub struct NoteRule;
 
-impl Protocol<Refusal, Noted> for NoteRule {
+impl Protocol<RefusedJobs, Noted> for NoteRule {
     ghost use Rattle.std.specs.Prelude.{⊤, []};
 
     ghost holds = { λ items views. ⊤ };
@@ -26,31 +26,31 @@ impl Protocol<Refusal, Noted> for NoteRule {
     ghost first = { [] };
 }
 
-/// The jobs of a refusal are noted.
+/// Refused jobs are noted.
 pub(crate) struct Notes;
 
-impl Outcome<Refusal, Noted> for Notes {
+impl Outcome<RefusedJobs, Noted> for Notes {
     ghost use Rattle.std.specs.Prelude.{◌≡◌, ◌++◌};
     ghost use Rattle.recalc_workers.specs.Noted.{refused_together};
 
     ghost then = { λ v x w. w ≡ v ++ refused_together x };
 }
 
-/// The refusal that was noted before leaves the slot.
+/// What was noted before leaves the slot.
 pub(crate) struct Leaves;
 
-impl Outcome<Refusal, Noted> for Leaves {
+impl Outcome<RefusedJobs, Noted> for Leaves {
     ghost use Rattle.std.specs.Prelude.{◌≡◌};
 
     ghost then = { λ v x w. w ≡ v };
 }
 
-/// A slot of one refusal, through which a hand notes the jobs that it was refused: a queue tells nothing to whom it
+/// A slot of one place, through which a hand notes the jobs that it was refused: a queue tells nothing to whom it
 /// refuses.
-pub(crate) type NoteSlot = RuledArrayQueue<Refusal, Noted, NoteRule>;
+pub(crate) type NoteSlot = RuledArrayQueue<RefusedJobs, Noted, NoteRule>;
 
 /// The token to note in a slot.
-pub(crate) type NotePass = Pass<Refusal, Noted>;
+pub(crate) type NotePass = Pass<RefusedJobs, Noted>;
 
 /// A slot, and the token to note there.
 pub(crate) fn note_slot(alloc: Global) -> Result<(NoteSlot, NotePass), Memory>
@@ -65,7 +65,7 @@ pub(crate) fn note<R: Wait>(rt: &R, slot: &NoteSlot, pass: &mut NotePass, job: &
     ensures same { IsPassOf slot.now pass.new }
     ensures noted { view pass.new ≡ view pass.old ++ job.now ∷ [] }
 {
-    let _ = slot.force_push_as::<Notes, Leaves, R>(rt, pass, Refusal::One(*job));
+    let _ = slot.force_push_as::<Notes, Leaves, R>(rt, pass, RefusedJobs::One(*job));
 }
 
 /// Notes a new job for each cell of a list from a place on, all by one push.
@@ -80,7 +80,7 @@ pub(crate) fn note_rest<R: Wait>(
     ensures same { IsPassOf slot.now pass.new }
     ensures noted { view pass.new ≡ view pass.old ++ map new_job (drop from cells.now.items) }
 {
-    let rest = Refusal::Rest {
+    let rest = RefusedJobs::Rest {
         cells: Snapshot::of(cells),
         from,
     };

@@ -2,9 +2,9 @@ use crate::job::Job;
 use sheet_refs::Cell;
 use std::snapshot::Snapshot;
 
-/// Jobs that a hand was refused at one step of the queue.
+/// Jobs that a hand was refused by one step of the queue.
 #[derive(Drop)]
-pub enum Refusal {
+pub enum RefusedJobs {
     /// One job.
     One(Job),
     /// A new job for each cell of a list from a place on. The list itself isn't kept.
