@@ -10,7 +10,6 @@ mod FirmLemmas
 mod GatherLemmas
 mod LookLemmas
 mod MeetingLemmas
-mod OfferLemmas
 mod OpeningLemmas
 mod PassEdits
 mod PassLemmas

@@ -37,7 +37,6 @@ mod looking;
 mod marking;
 mod meeting;
 mod naming;
-mod offering;
 mod office;
 mod opened;
 mod opening;

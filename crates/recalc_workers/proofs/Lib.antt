@@ -5,6 +5,7 @@ mod LawLemmas
 pub mod LevelLemmas
 mod ListedLemmas
 mod LookupLemmas
+mod OfferLemmas
 mod PartLemmas
 mod PlainLemmas
 mod QueueLemmas

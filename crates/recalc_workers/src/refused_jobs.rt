@@ -1,0 +1,17 @@
+use crate::job::Job;
+use sheet_refs::Cell;
+use std::snapshot::Snapshot;
+
+/// Jobs that a hand was refused by one step of the queue.
+#[derive(Drop)]
+pub enum RefusedJobs {
+    /// One job.
+    One(Job),
+    /// A new job for each cell of a list from a place on. The list itself isn't kept.
+    Rest {
+        /// The list, as clauses see it.
+        cells: Snapshot<Vec<Cell>>,
+        /// How many of its cells stand before them.
+        from: usize,
+    },
+}
