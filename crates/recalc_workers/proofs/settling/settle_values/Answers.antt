@@ -6,7 +6,7 @@ use Rattle.recalc_workers.specs.Settling.{KnowsCells}
 use Rattle.recalc_workers.proofs.settling.settle_values.Goals as goal
 
 pub settle-requires-clause-covered : goal.settle-requires-clause-covered
-settle-requires-clause-covered g c = λ k cell below. record {
+settle-requires-clause-covered g c κs within = λ k cell below. record {
   is_sheet = c.sizes-sizes.ensures.sheet;
   sheet_is = c.requires.editor.sheet_is;
   covered = record { inside = c.requires.inside k cell below; code = c.requires.codes k cell below };
