@@ -2,7 +2,7 @@ ghost use Rattle.std.specs.Thread.{IsSend};
 ghost use Rattle.edit_log.specs.contracts.book.Book.{the_row};
 
 use graph_walk::Graph;
-use sheet_model::{Entry, KeptValues, Sheet};
+use sheet_model::{Entry, Sheet};
 use sheet_refs::RectSet;
 
 // A type that may go to another thread is one by its values.
@@ -20,5 +20,4 @@ pub fn book_crosses<G: Graph + Send>()
     may_cross::<Sheet>();
     may_cross::<Vec<Entry>>();
     may_cross::<RectSet>();
-    may_cross::<KeptValues>();
 }
