@@ -9,6 +9,7 @@ ghost use Rattle.live_run.specs.declared.cut.Cut.TheVariants as cut;
 
 use crate::cut::Cut;
 use crate::order::Order;
+use crate::watch::Watch;
 use live_sheet::{EditRefused, Live, Naming, Pass};
 use recalc_workers::Gate;
 use sheet_model::{Board, Edit, Report};
@@ -16,10 +17,11 @@ use sheet_refs::{Memory, Range};
 use std::sync::Wait;
 use std::thread::Threads;
 
-/// Makes an edit.
+/// Makes an edit. Its jobs are in the queue when it wakes the workers that sleep.
 fn put<N: Naming, R: Wait>(
     rt: &R,
     live: &Live<N>,
+    watch: &Watch,
     pass: &mut Pass<N>,
     edit: Edit,
 ) -> Result<(), Cut>
@@ -30,7 +32,10 @@ fn put<N: Naming, R: Wait>(
     // Says that what it writes may stand in a sheet.
     let _ = edit.changes();
     match live.edit(rt, pass, edit) {
-        Ok(_) => Ok(()),
+        Ok(_) => {
+            watch.wake();
+            Ok(())
+        }
         Err(EditRefused::Memory) => Err(Cut::Memory),
         Err(EditRefused::LogFull { .. }) => Err(Cut::FullLog),
         Err(EditRefused::OutOfSheet { .. }) => unreachable!(),
@@ -95,6 +100,7 @@ fn show<N: Naming, R: Threads + Wait + Sync, T: Gate + Sync>(
 pub(crate) fn follow<N: Naming, R: Threads + Wait + Sync, T: Gate + Sync>(
     rt: &R,
     live: &Live<N>,
+    watch: &Watch,
     gate: &T,
     pass: &mut Pass<N>,
     order: Order,
@@ -108,7 +114,7 @@ pub(crate) fn follow<N: Naming, R: Threads + Wait + Sync, T: Gate + Sync>(
     ensures room { vec_capacity reports.new ≡ vec_capacity reports.old }
 {
     match order {
-        Order::Put(edit) => put(rt, live, pass, edit),
+        Order::Put(edit) => put(rt, live, watch, pass, edit),
         Order::Look {
             firm,
             window,

@@ -57,7 +57,7 @@ pub(crate) fn ready_client<N: Naming>(
     })
 }
 
-/// Follows the client's commands, in order, and wakes the workers after each. The gate is told of each ahead of it. Want of memory, for an edit or a firm
+/// Follows the client's commands, in order. The gate is told of each ahead of it. Want of memory, for an edit or a firm
 /// look, ends the task. So would a full log, which the pass knows then; closing shows that no run of a script has one.
 pub(crate) fn run_client<N: Naming, R: Threads + Wait + Sync, T: Gate + Sync>(
     rt: &R,
@@ -81,9 +81,7 @@ pub(crate) fn run_client<N: Naming, R: Threads + Wait + Sync, T: Gate + Sync>(
     while let Some(order) = orders.pop() {
         number += 1;
         gate.before(*client, number);
-        let followed = follow(rt, live, gate, pass, order, reports);
-        watch.wake();
-        match followed {
+        match follow(rt, live, watch, gate, pass, order, reports) {
             Ok(()) => {}
             Err(Cut::Memory) => {
                 *failed = true;

@@ -12,7 +12,7 @@ use recalc_workers::Gate;
 use std::sync::Wait;
 use std::thread::{Threads, for_each_mut, join};
 
-/// Runs the client's commands; then one client less goes on, after want of memory too.
+/// Runs the client's commands; then one client less is left, also where memory ran out.
 fn run_and_leave<N: Naming, R: Threads + Wait + Sync, T: Gate + Sync>(
     rt: &R,
     live: &Live<N>,
@@ -40,6 +40,7 @@ fn run_clients<N: Naming + Send + Sync, R: Threads + Wait + Sync, T: Gate + Sync
 {
     live_crosses::<N>();
     clients_cross::<N>();
+    watch.begin();
     let mut tasks = tasks;
     let threads = tasks.len().max(1);
     for_each_mut(

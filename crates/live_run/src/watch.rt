@@ -1,19 +1,35 @@
 use crossbeam_utils::sync::{EventCount, Key};
-use std::sync::atomic::{AtomicU64, Ordering};
+use std::sync::atomic::{AtomicBool, AtomicU64, Ordering};
 
-/// What workers wait for: that a client makes an edit, or that all clients come to their end.
+/// What workers wait for: that a client makes an edit or comes to its end.
+#[derive(Drop)]
 pub(crate) struct Watch {
+    /// Whether the clients have begun.
+    begun: AtomicBool,
+    /// How many clients haven't come to their end.
     left: AtomicU64,
     events: EventCount,
 }
 
 impl Watch {
-    /// With so many clients that go on.
+    /// A watch over so many clients, none of which has begun.
     pub(crate) fn new(clients: usize) -> Watch {
         Watch {
+            begun: AtomicBool::new(false),
             left: AtomicU64::new(clients as u64),
             events: EventCount::new(),
         }
+    }
+
+    /// The clients begin.
+    pub(crate) fn begin(&self) {
+        self.begun.store(true, Ordering::SeqCst);
+    }
+
+    /// One client has come to its end. It wakes the workers that sleep.
+    pub(crate) fn leave(&self) {
+        let _ = self.left.fetch_sub(1, Ordering::SeqCst);
+        self.wake();
     }
 
     /// Whether all clients have come to their end.
@@ -21,19 +37,18 @@ impl Watch {
         self.left.load(Ordering::SeqCst) == 0
     }
 
-    /// A wait that is announced: what is woken for after this call ends it.
-    pub(crate) fn prepare(&self) -> Key<'_> {
-        self.events.prepare_wait()
+    /// Announces a wait: it ends with the next wake-up after this call. None before the clients have begun, since they
+    /// may be waiting for this thread.
+    pub(crate) fn announce(&self) -> Option<Key<'_>> {
+        if self.begun.load(Ordering::SeqCst) {
+            Some(self.events.prepare_wait())
+        } else {
+            None
+        }
     }
 
-    /// Wakes the workers that sleep. One load where none does.
+    /// Wakes the workers that sleep, and ends each wait that was announced. It is one load where there is none.
     pub(crate) fn wake(&self) {
         self.events.notify_all();
-    }
-
-    /// One client less goes on.
-    pub(crate) fn leave(&self) {
-        let _ = self.left.fetch_sub(1, Ordering::SeqCst);
-        self.wake();
     }
 }
