@@ -15,7 +15,7 @@ use std::sync::Wait;
 impl<N: Naming> Live<N> {
     /// Makes an edit of the pass's client. It is answered once each cell that it touches is marked and it is committed;
     /// then the pass knows the log up to it. The lock is held for this alone. After it a job is offered for each of the
-    /// cells, row by row; from the first that finds the queue full on all are dropped.
+    /// cells, row by row; once one finds the queue full, it and all that are left are dropped.
     ///
     /// An edit is refused where a cell of it is outside the sheet, with the first such cell; where the log is full,
     /// which the pass then knows; or where there is no memory. A refused edit offers nothing and leaves the pass's
