@@ -10,6 +10,7 @@ mod FirmLemmas
 mod GatherLemmas
 mod LookLemmas
 mod MeetingLemmas
+mod OfferLemmas
 mod OpeningLemmas
 mod PassEdits
 mod PassLemmas

@@ -37,6 +37,7 @@ mod looking;
 mod marking;
 mod meeting;
 mod naming;
+mod offering;
 mod office;
 mod opened;
 mod opening;

@@ -5,7 +5,6 @@ mod LawLemmas
 pub mod LevelLemmas
 mod ListedLemmas
 mod LookupLemmas
-mod OfferLemmas
 mod PartLemmas
 mod PlainLemmas
 mod QueueLemmas

@@ -3,8 +3,6 @@ pub mod Desks
 pub mod Hands
 pub mod Inputs
 pub mod Laws
-pub mod Noted
-pub mod Offers
 pub mod Offices
 pub mod Rule
 pub mod Seats

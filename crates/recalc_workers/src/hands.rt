@@ -1,7 +1,8 @@
 ghost use Rattle.std.specs.Prelude.{◌≡◌};
 ghost use Rattle.crossbeam_queue.specs.Passes.{IsPassOf, ruled_capacity};
 
-use crate::notes::{NotePass, NoteSlot};
+use crate::job::Job;
+use crate::notes::{NoteSlot, Noted};
 use crate::rules::{HandView, JobQueue, Queued};
 use crossbeam_queue::Pass;
 use sheet_refs::Sizes;
@@ -19,6 +20,6 @@ pub struct Jobs {
 pub struct Hand {
     pub(crate) pass: Pass<Queued, HandView>,
     pub(crate) slot: NoteSlot,
-    pub(crate) note: NotePass,
+    pub(crate) note: Pass<Job, Noted>,
     ghost noting: { IsPassOf slot note },
 }

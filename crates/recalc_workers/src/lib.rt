@@ -35,7 +35,6 @@ mod notes;
 mod office;
 mod read_again;
 mod reading;
-mod refused_jobs;
 mod rules;
 mod settle_cells;
 mod settlement;
