@@ -68,7 +68,7 @@ impl CodeWord {
         self.word == CodeWord::CIRCULAR.word
     }
 
-    /// 0 where it has the kind of a number, and from 1 to 7 where it has that of another value or of none. A sum of these
+    /// 0 where it has the kind of a number, from 1 to 7 where it has that of another value or of none. A sum of them
     /// tells whether all of many words are those of numbers, and no word decides which way a loop goes.
     #[inline(always)]
     pub fn off_number(self) -> u64
