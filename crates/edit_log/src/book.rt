@@ -21,7 +21,8 @@ use std::snapshot::Snapshot;
 /// that what it puts into them may stand beside the labels of the opening sheet, that the graph's pairs are those of
 /// the sheet, and that the log has at most 1,048,576 entries. Beside these a book keeps a set that has each cell which
 /// is on a cycle (`on_cycle`); from an edit that may put a cell onto one, or changes one of the set, nothing is known.
-/// And it keeps the values that it is given to keep (`keep_values`); an edit forgets those of the cells that it touches.
+/// It also keeps the values that it is given to keep (`keep_values`); an edit forgets those of the cells that it
+/// touches.
 #[derive(Drop)]
 pub struct Book<G: Graph> {
     pub(crate) opening: Snapshot<Sheet>,

@@ -19,9 +19,9 @@ pub(crate) fn forget(values: &mut Option<KeptValues>, sheet: &Sheet, cells: &[Ce
 }
 
 impl<G: Graph> Book<G> {
-    /// The values of the sheet's cells, as far as they are kept. They are handed out: `keep_values` hands them back, and
-    /// where they are dropped the book goes on without. Where none are kept these are new ones, in the time and memory
-    /// of `KeptValues::new`; after `Memory` the book is as before.
+    /// The values of the sheet's cells, as far as they are kept. They are handed out: `keep_values` hands them back,
+    /// and where they are dropped the book goes on without. Where none are kept these are new ones, in the time and
+    /// memory of `KeptValues::new`; after `Memory` the book is as before.
     pub fn take_values(&mut self) -> Result<KeptValues, Memory>
         ensures values { IfOk result (KeepsValuesOf self.old.sheet) }
         ensures same { self.new ≡ self.old }

@@ -117,9 +117,9 @@ impl<N: Naming> Live<N> {
     /// clean, what isn't clean of the window and of the cells on which it depends is computed first. The pass knows
     /// each cell of the window as clean, with its last mark in that log.
     ///
-    /// It takes the lock for the whole of it: three loads a cell where the window is clean, and else the time of computing
-    /// the values that aren't kept. After `Memory` the log is as it was, some cells may have been computed, and what is
-    /// on the board is open.
+    /// It takes the lock for the whole of it: three loads a cell where the window is clean, and else the time of
+    /// computing the values that aren't kept. After `Memory` the log is as it was, some cells may have been computed,
+    /// and what is on the board is open.
     pub fn firm<R: Threads + Wait + Sync, T: Gate + Sync>(
         &self,
         rt: &R,

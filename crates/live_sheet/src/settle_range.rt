@@ -142,9 +142,9 @@ fn put_values<R: Threads + Wait + Sync, S: SheetSubject, T: Gate + Sync>(
 /// Whatever is answered, the book is as it was, that seat keeps its log and loses nothing that it knew, no place is
 /// held by a desk, and the hands are as they were. After `Memory` some cells may have been computed.
 ///
-/// It takes three loads for each cell of the range. Where some aren't clean it takes the time of `KeptValues::value` for
-/// these, and then a claim, a put and a finish for each of them and for each stale cell whose value was found on the
-/// way, shared among the desks.
+/// It takes three loads for each cell of the range. Where some aren't clean it takes the time of `KeptValues::value`
+/// for these, and then a claim, a put and a finish for each of them and for each stale cell whose value was found on
+/// the way, shared among the desks.
 pub(crate) fn settle_range<R: Threads + Wait + Sync, G: Graph, T: Gate + Sync>(
     rt: &R,
     alloc: Global,

@@ -10,9 +10,9 @@
 //! `turn_laws`), and in the lists of its hand (`specs/Again.antt`).
 //!
 //! `settle_values` puts the values of many cells at many desks for the editor's seat, which knows each of them as clean
-//! afterwards; `settle_level` and `settle_circular` compute them there (`specs/Settling.antt`, `settle_laws`). A `Gate` is what happens between a claim and its
-//! put: nothing, but in tests. Below stand `sheet_refs`, `formula_eval`, `sheet_model`, `mark_words` and the kit's
-//! `crossbeam_queue`; above stands the live sheet.
+//! afterwards; `settle_level` and `settle_circular` compute them there (`specs/Settling.antt`, `settle_laws`). A
+//! `Gate` is what happens between a claim and its put: nothing, but in tests. Below stand `sheet_refs`,
+//! `formula_eval`, `sheet_model`, `mark_words` and the kit's `crossbeam_queue`; above stands the live sheet.
 #![tactic(auto)]
 
 mod causes;

@@ -15,8 +15,8 @@ use value_core::{Value, decode};
 
 /// The values of a sheet's cells, as far as they were asked for.
 ///
-/// They outlast edits of the sheet, if those that an edit may change are forgotten before it. Beside them is a list of the
-/// cells whose values were found on the way to others (`found`).
+/// They outlast edits of the sheet, if those that an edit may change are forgotten before it. Beside them is a list
+/// of the cells whose values were found on the way to others (`found`).
 #[derive(Drop)]
 pub struct KeptValues {
     pub(crate) walk: Walk,

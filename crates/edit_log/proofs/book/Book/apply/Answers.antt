@@ -59,7 +59,8 @@ invariant_of-self g c =
           kept_through c.self.inside.sheet c.apply.new.self c.deref.result.now c.forget.new.values c.forget.ensures
           (same_beside c.self.inside.opening.value c.self.inside.sheet c.apply.new.self c.self.inside.log.items c.args.prepared.entry c.deref.result.now
           c.self.invariant.book.replayed
-          (subst (AreTouched c.self.inside.opening.value c.self.inside.log.items c.args.prepared.entry) (sym (c.deref.ensures.value ∙ touched_is)) ready.touched)
+          (subst (AreTouched c.self.inside.opening.value c.self.inside.log.items c.args.prepared.entry) (sym (c.deref.ensures.value ∙ touched_is))
+          ready.touched)
           (book_sheet _ _ _ _ kept_book)
           (c.apply.ensures.placed ∙ ap (after_edit c.self.inside.sheet) (c.prepared.invariant.same ∙ ap (λ (e : Entry). e.edit) entry_is)));
     }

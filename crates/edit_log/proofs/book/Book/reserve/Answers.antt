@@ -5,8 +5,8 @@ use Rattle.edit_log.proofs.book.Book.reserve.Goals as goal
 
 pub invariant_of-self : goal.invariant_of-self
 invariant_of-self g c = same_kept c.self.inside.opening.value c.self.inside.sheet c.self.inside.log.items
-    c.self.inside.log.items (g.G.Graph.pairs c.self.inside.graph) (g.G.Graph.pairs c.reserve.new.self) c.self.inside.cycles c.self.inside.values c.self.invariant
-    c.reserve.ensures.same refl
+    c.self.inside.log.items (g.G.Graph.pairs c.self.inside.graph) (g.G.Graph.pairs c.reserve.new.self) c.self.inside.cycles
+    c.self.inside.values c.self.invariant c.reserve.ensures.same refl
 
 pub returns-in_err-reserve-clause-same : goal.returns-in_err-reserve-clause-same
 returns-in_err-reserve-clause-same g c =
