@@ -1,7 +1,7 @@
 -- The range that a firm look computes, and that of all cells.
-use Rattle.std.proofs.Common.{◌≡◌, ◌⊎◌, inl, inr, ℕ, ◌*◌, ◌≤◌, List, [], ◌∷◌, IsTrue, length, get_or, refl, subst, arith}
+use Rattle.std.proofs.Common.{◌≡◌, ◌⊎◌, inl, inr, ℕ, ◌*◌, ◌≤◌, List, [], ◌∷◌, IsTrue, length, get_or, refl, sym, subst, arith}
 use Rattle.std.specs.Prelude.{All, Contains}
-use Rattle.std.proofs.lemmas.List.Elements.{All-contains, Contains-get_or}
+use Rattle.std.proofs.lemmas.List.Elements.{All-contains, All-push, Contains-get_or}
 use Rattle.sheet_refs.specs.Cells.{Position, Corners, IsIn, IsNamed}
 use Rattle.sheet_refs.specs.Rectangles.{AreDisjoint, IsAmong}
 use Rattle.sheet_refs.specs.Sizes.{is_inside}
@@ -9,7 +9,7 @@ use Rattle.sheet_refs.specs.declared.sizes.Sizes.{Sizes}
 use Rattle.sheet_refs.proofs.Places.{inside_bounds}
 use Rattle.sheet_refs.proofs.Tiles.{among_one}
 use Rattle.sheet_model.specs.Sheets.{IsSheetSize}
-use Rattle.live_sheet.specs.Stale.{KnowsAllBut}
+use Rattle.live_sheet.specs.Stale.{IsListedOr, KnowsAllBut}
 
 -- a number of rows isn't more than that of the cells
 at_least : (rows cols : ℕ) → 1 ≤ cols → rows ≤ rows * cols
@@ -55,3 +55,9 @@ all_of_range More range stale left more known cell inside =
       | inl knows ↦ more cell knows
       | inr there ↦ All-contains More stale cell known there
     ]
+
+-- what is so of a cell, and of each that was listed, is so of each that is listed once the cell was listed or not
+pub all_listed : (Knows P : Position → Type 0) (cell : Position) (old new : List Position)
+    → IsListedOr Knows cell old new → All P old → P cell → All P new
+all_listed Knows P cell old new (inl same) all here = subst (All P) (sym same.1) all
+all_listed Knows P cell old new (inr more) all here = subst (All P) (sym more) (All-push P old cell all here)

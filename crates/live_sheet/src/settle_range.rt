@@ -73,6 +73,32 @@ fn put<R: Threads + Wait + Sync, S: SheetSubject, T: Gate + Sync>(
     settle_values(rt, marks, editor, sheet, values.codes(), cells, desks, gate)
 }
 
+/// Lists the cell where its value is kept, unless it is clean.
+fn list_if_kept<S: SheetSubject>(
+    marks: &Marks<S>,
+    editor: &mut Seat<S>,
+    sheet: &Sheet,
+    values: &KeptValues,
+    cell: Cell,
+    stale: &mut Vec<Cell>,
+) -> Result<(), Memory>
+    requires table { IsSeatOf marks.now editor.old }
+    requires free { IsFree editor.old }
+    requires places { places_of marks.now ≡ cell_count sheet.now.sizes }
+    requires kept { KeepsValuesOf sheet.now values.now }
+    requires inside { AreInside sheet.now.sizes stale.old.items }
+    requires held { All (HoldsValue sheet.now.sizes values.now) stale.old.items }
+    ensures table { IsSeatOf marks.now editor.new }
+    ensures editor { KeepsEditor editor.old editor.new }
+    ensures inside { OnOk result (AreInside sheet.now.sizes stale.new.items) }
+    ensures held { OnOk result (All (HoldsValue sheet.now.sizes values.now) stale.new.items) }
+{
+    if values.holds(sheet, cell) {
+        return list_if_stale(marks, editor, sheet.sizes(), cell, stale);
+    }
+    Ok(())
+}
+
 /// Of the cells whose values were found on the way to those of others, the ones that aren't clean.
 fn stale_found<S: SheetSubject>(
     alloc: Global,
@@ -90,12 +116,9 @@ fn stale_found<S: SheetSubject>(
     ensures inside { IfOk result (λ cells. AreInside sheet.now.sizes cells.items) }
     ensures held { IfOk result (λ cells. All (HoldsValue sheet.now.sizes values.now) cells.items) }
 {
-    let sizes = sheet.sizes();
     let mut stale = Vec::new(alloc);
     for cell in values.found() {
-        if values.holds(sheet, *cell) {
-            list_if_stale(marks, editor, sizes, *cell, &mut stale)?;
-        }
+        list_if_kept(marks, editor, sheet, values, *cell, &mut stale)?;
     }
     Ok(stale)
 }

@@ -13,12 +13,12 @@ loop-cell-preserved c =
     let l = c.loop-cell in
     let cell = c.cell-item.result in
     record {
-      kept = c.in_ok-value.ensures.kept;
+      kept = c.in_ok-_value.ensures.kept;
       held =
           subst (All (HoldsValue sheet.sizes c.value.new.self)) (sym (taken_more c.args.cells.now l.cell-index cell c.loop-cell-test.true c.cell-item.is))
           (All-push (HoldsValue sheet.sizes c.value.new.self) (take l.cell-index c.args.cells.now) cell
-          (λ k d below. c.in_ok-value.ensures.others (get_or (take l.cell-index c.args.cells.now) k d) (l.invariant.held k d below))
-          c.in_ok-value.ensures.held);
+          (λ k d below. c.in_ok-_value.ensures.others (get_or (take l.cell-index c.args.cells.now) k d) (l.invariant.held k d below))
+          c.in_ok-_value.ensures.held);
     }
 
 pub returns-clause-held : goal.returns-clause-held
