@@ -4,6 +4,7 @@ mod QuoteLemmas
 mod ReportLemmas
 mod RowLemmas
 mod RunsLemmas
+mod StopLemmas
 pub mod ToldCells
 pub mod ToldChanges
 mod ToldEntries

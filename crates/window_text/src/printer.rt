@@ -8,17 +8,16 @@ ghost use Rattle.window_text.specs.Texts.{check_text, generated_text, runs_text,
 ghost use Rattle.sheet_model.specs.Sheets.{IsWithinSheet};
 ghost use Rattle.window_text.specs.Transcripts.{IsWhole, live_text, transcript_value};
 
-use crate::changes::send_changes;
-use crate::edges::{send_count, send_edge};
-use crate::generated::send_sum;
-use crate::live::{send_clients, send_closing, send_entries};
+use crate::changes::send_batch;
+use crate::edges::{send_check, send_runs};
+use crate::generated::send_generated;
+use crate::live::send_live;
 use crate::reports::send_reports;
 use crate::transcript::Transcript;
-use crate::windows::{send_sheet_head, send_window};
+use crate::windows::send_show;
 use edge_patterns::Edge;
-use sheet_model::{Edit, Entry, Report, Sheet};
+use sheet_model::{Edit, Report, Sheet};
 use sheet_refs::Range;
-use text_pieces::{send, send_range};
 
 /// Hands out the texts that the commands print, piece by piece, to a function that answers whether it takes
 /// more. After the first false nothing more is handed out, and the answer is false; else it is true. No call
@@ -41,10 +40,7 @@ impl Printer {
         requires within { IsWithinSheet range sheet.now }
         ensures sent { HandsOut F.FnMut to.old (show_text sheet.now range) result to.new }
     {
-        if !send_sheet_head(0, to) {
-            return false;
-        }
-        send_window(sheet, range, values, to)
+        send_show(sheet, range, values, to).is_ok()
     }
 
     /// What `deps` and `precs` print of a list of ranges: a line for each, with its corners joined by a
@@ -53,15 +49,7 @@ impl Printer {
         requires callable { F.IsAlwaysCallable to.old }
         ensures sent { HandsOut F.FnMut to.old (runs_text runs.now) result to.new }
     {
-        for run in runs {
-            if !send_range(*run, to) {
-                return false;
-            }
-            if !send(b"\n", to) {
-                return false;
-            }
-        }
-        true
+        send_runs(runs, to).is_ok()
     }
 
     /// What `check` prints of a number of pairs and a list of edges: a line `pairs P`, a line `edges E` with
@@ -72,18 +60,7 @@ impl Printer {
         requires callable { F.IsAlwaysCallable to.old }
         ensures sent { HandsOut F.FnMut to.old (check_text pairs edges.now) result to.new }
     {
-        if !send_count(b"pairs", pairs, to) {
-            return false;
-        }
-        if !send_count(b"edges", edges.len() as u64, to) {
-            return false;
-        }
-        for edge in edges {
-            if !send_edge(edge, to) {
-                return false;
-            }
-        }
-        true
+        send_check(pairs, edges, to).is_ok()
     }
 
     /// What `play` prints of its reports, in order: for each a line `look NUMBER RANGE` or `firm NUMBER RANGE`, and
@@ -95,7 +72,7 @@ impl Printer {
         ensures sent { HandsOut F.FnMut to.old
             (play_text sheet.now.labels reports.now) result to.new }
     {
-        send_reports(reports, sheet.labels(), to)
+        send_reports(reports, sheet.labels(), to).is_ok()
     }
 
     /// What an edit is as lines of a script: `batch`, a line `set CELL CONTENT` or `clear CELL` for each change, in
@@ -105,13 +82,7 @@ impl Printer {
         requires callable { F.IsAlwaysCallable to.old }
         ensures sent { HandsOut F.FnMut to.old (batch_text sheet.now.labels edit.now) result to.new }
     {
-        if !send(b"batch\n", to) {
-            return false;
-        }
-        if !send_changes(edit.changes(), sheet.labels(), to) {
-            return false;
-        }
-        send(b"end\n", to)
+        send_batch(sheet, edit, to).is_ok()
     }
 
     /// What `live` prints of a run: a line `log N` with the number of entries; for each entry its number, its
@@ -125,18 +96,7 @@ impl Printer {
         ensures sent { HandsOut F.FnMut to.old
             (live_text (transcript_value transcript.now)) result to.new }
     {
-        let log: &[Entry] = &transcript.log;
-        let labels = transcript.sheet.labels();
-        if !send_count(b"log", log.len() as u64, to) {
-            return false;
-        }
-        if !send_entries(&transcript.names, labels, log, to) {
-            return false;
-        }
-        if !send_clients(&transcript.names, labels, &transcript.reports, to) {
-            return false;
-        }
-        send_closing(log.len() as u64, &transcript.sheet, &transcript.values, to)
+        send_live(transcript, to).is_ok()
     }
 
     /// What `gen` prints of a generated run: a line `gen NUMBER` with the number that it is drawn from, a line `cells
@@ -151,15 +111,6 @@ impl Printer {
         requires callable { F.IsAlwaysCallable to.old }
         ensures sent { HandsOut F.FnMut to.old (generated_text number edits sum) result to.new }
     {
-        if !send_count(b"gen", u64::from(number), to) {
-            return false;
-        }
-        if !send(b"cells 7000\n", to) {
-            return false;
-        }
-        if !send_count(b"edits", edits, to) {
-            return false;
-        }
-        send_sum(sum, to)
+        send_generated(number, edits, sum, to).is_ok()
     }
 }

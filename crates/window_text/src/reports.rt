@@ -1,4 +1,4 @@
-ghost use Rattle.std.specs.Prelude.{◌≡◌, ◌++◌, ◌<◌, ◌≤◌, length, slice_index_or, All};
+ghost use Rattle.std.specs.Prelude.{◌≡◌, ◌++◌, ◌<◌, ◌≤◌, length, slice_index_or, All, is_ok};
 ghost use Rattle.std.specs.Fmt.{decimal};
 ghost use Rattle.sheet_refs.specs.Cells.{IsIn, cells_of};
 ghost use Rattle.sheet_model.specs.declared.board.Shown.TheVariants as shown;
@@ -8,83 +8,75 @@ ghost use Rattle.sheet_model.specs.Boards.{IsFull};
 ghost use Rattle.window_text.specs.Reports.{report_kind, window_text};
 ghost use Rattle.window_text.specs.Texts.{row_text};
 
-use crate::pieces::send_value;
-use itoa::Buffer;
+use crate::pieces::{Stopped, send_bytes, send_decimal, send_range_name, send_value};
 use sheet_model::{Board, Labels, Report, Shown};
 use sheet_refs::Range;
-use text_pieces::{send, send_range};
 
 /// Hands out reports, in order.
 pub(crate) fn send_reports<F: FnMut(&[u8]) -> bool>(
     reports: &[Report],
     labels: &Labels,
     to: &mut F,
-) -> bool
+) -> Result<(), Stopped>
     requires callable { F.IsAlwaysCallable to.old }
     requires full { All (λ report. IsFull report.board) reports.now }
-    ensures sent { HandsOut F.FnMut to.old (play_text labels.now reports.now) result to.new }
+    ensures sent { HandsOut F.FnMut to.old (play_text labels.now reports.now) (is_ok result) to.new }
     ensures callable { F.IsAlwaysCallable to.new }
 {
     for report in reports {
-        if !send_report(report, labels, to) {
-            return false;
-        }
+        send_report(report, labels, to)?;
     }
-    true
+    Ok(())
 }
 
 // Hands out a report.
-fn send_report<F: FnMut(&[u8]) -> bool>(report: &Report, labels: &Labels, to: &mut F) -> bool
+fn send_report<F: FnMut(&[u8]) -> bool>(
+    report: &Report,
+    labels: &Labels,
+    to: &mut F,
+) -> Result<(), Stopped>
     requires callable { F.IsAlwaysCallable to.old }
     requires full { IsFull report.now.board }
-    ensures sent { HandsOut F.FnMut to.old (report_text labels.now report.now) result to.new }
+    ensures sent { HandsOut F.FnMut to.old (report_text labels.now report.now) (is_ok result) to.new }
     ensures callable { F.IsAlwaysCallable to.new }
 {
-    if !send_kind(report.firm, to) {
-        return false;
-    }
-    if !send(Buffer::new().format(report.board.number()).as_bytes(), to) {
-        return false;
-    }
-    if !send(b" ", to) {
-        return false;
-    }
+    send_kind(report.firm, to)?;
+    send_decimal(report.board.number(), to)?;
+    send_bytes(b" ", to)?;
     send_board(&report.board, labels, to)
 }
 
 // Hands out the word that a report begins with.
-fn send_kind<F: FnMut(&[u8]) -> bool>(firm: bool, to: &mut F) -> bool
+fn send_kind<F: FnMut(&[u8]) -> bool>(firm: bool, to: &mut F) -> Result<(), Stopped>
     requires callable { F.IsAlwaysCallable to.old }
-    ensures sent { HandsOut F.FnMut to.old (report_kind firm) result to.new }
+    ensures sent { HandsOut F.FnMut to.old (report_kind firm) (is_ok result) to.new }
     ensures callable { F.IsAlwaysCallable to.new }
 {
     if firm {
-        send(b"firm ", to)
+        send_bytes(b"firm ", to)
     } else {
-        send(b"look ", to)
+        send_bytes(b"look ", to)
     }
 }
 
 // Hands out a board's window and its rows.
-fn send_board<F: FnMut(&[u8]) -> bool>(board: &Board, labels: &Labels, to: &mut F) -> bool
+fn send_board<F: FnMut(&[u8]) -> bool>(
+    board: &Board,
+    labels: &Labels,
+    to: &mut F,
+) -> Result<(), Stopped>
     requires callable { F.IsAlwaysCallable to.old }
     requires full { IsFull board.now }
-    ensures sent { HandsOut F.FnMut to.old (window_text labels.now board.now) result to.new }
+    ensures sent { HandsOut F.FnMut to.old (window_text labels.now board.now) (is_ok result) to.new }
     ensures callable { F.IsAlwaysCallable to.new }
 {
     let window = board.window();
-    if !send_range(window, to) {
-        return false;
-    }
-    if !send(b"\n", to) {
-        return false;
-    }
+    send_range_name(window, to)?;
+    send_bytes(b"\n", to)?;
     for row in window.head().row()..window.tail().row() + 1 {
-        if !send_board_row(board, labels, row, to) {
-            return false;
-        }
+        send_board_row(board, labels, row, to)?;
     }
-    true
+    Ok(())
 }
 
 // Hands out a row of a board, with its line's end.
@@ -93,28 +85,22 @@ fn send_board_row<F: FnMut(&[u8]) -> bool>(
     labels: &Labels,
     row: u32,
     to: &mut F,
-) -> bool
+) -> Result<(), Stopped>
     requires callable { F.IsAlwaysCallable to.old }
     requires full { IsFull board.now }
     requires from { board.now.window.head.row ≤ row }
     requires to { row ≤ board.now.window.tail.row }
     ensures sent { HandsOut F.FnMut to.old
-        (row_text (board_text labels.now board.now) board.now.window row) result to.new }
+        (row_text (board_text labels.now board.now) board.now.window row) (is_ok result) to.new }
     ensures callable { F.IsAlwaysCallable to.new }
 {
     let window = board.window();
-    if !send_shown(shown_at(board, row, window.head().col()), labels, to) {
-        return false;
-    }
+    send_shown(shown_at(board, row, window.head().col()), labels, to)?;
     for col in window.head().col() + 1..window.tail().col() + 1 {
-        if !send(b",", to) {
-            return false;
-        }
-        if !send_shown(shown_at(board, row, col), labels, to) {
-            return false;
-        }
+        send_bytes(b",", to)?;
+        send_shown(shown_at(board, row, col), labels, to)?;
     }
-    send(b"\n", to)
+    send_bytes(b"\n", to)
 }
 
 // What is shown of a cell of the board's window.
@@ -140,9 +126,13 @@ fn place_in(window: Range, row: u32, col: u32) -> usize
 }
 
 // Hands out what is shown of a cell.
-fn send_shown<F: FnMut(&[u8]) -> bool>(shown: Shown, labels: &Labels, to: &mut F) -> bool
+fn send_shown<F: FnMut(&[u8]) -> bool>(
+    shown: Shown,
+    labels: &Labels,
+    to: &mut F,
+) -> Result<(), Stopped>
     requires callable { F.IsAlwaysCallable to.old }
-    ensures sent { HandsOut F.FnMut to.old (shown_text labels.now shown) result to.new }
+    ensures sent { HandsOut F.FnMut to.old (shown_text labels.now shown) (is_ok result) to.new }
     ensures callable { F.IsAlwaysCallable to.new }
 {
     match &shown {
@@ -153,13 +143,11 @@ fn send_shown<F: FnMut(&[u8]) -> bool>(shown: Shown, labels: &Labels, to: &mut F
 }
 
 // Hands out a sign and a number.
-fn send_number<F: FnMut(&[u8]) -> bool>(sign: &[u8], number: u64, to: &mut F) -> bool
+fn send_number<F: FnMut(&[u8]) -> bool>(sign: &[u8], number: u64, to: &mut F) -> Result<(), Stopped>
     requires callable { F.IsAlwaysCallable to.old }
-    ensures sent { HandsOut F.FnMut to.old (sign.now ++ decimal number) result to.new }
+    ensures sent { HandsOut F.FnMut to.old (sign.now ++ decimal number) (is_ok result) to.new }
     ensures callable { F.IsAlwaysCallable to.new }
 {
-    if !send(sign, to) {
-        return false;
-    }
-    send(Buffer::new().format(number).as_bytes(), to)
+    send_bytes(sign, to)?;
+    send_decimal(number, to)
 }

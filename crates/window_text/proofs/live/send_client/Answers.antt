@@ -1,25 +1,29 @@
 use Rattle.std.proofs.Common.{[], ◌∷◌, ◌++◌, codes}
 use Rattle.text_pieces.proofs.PieceLemmas.{and_then, cut}
 use Rattle.window_text.specs.Reports.{play_text}
+use Rattle.window_text.proofs.StopLemmas.{stopped}
 use Rattle.window_text.proofs.live.send_client.Goals as goal
 
-pub returns-then-not-send-clause-sent : goal.returns-then-not-send-clause-sent
-returns-then-not-send-clause-sent g c =
-    cut g.F.FnMut _ _ (codes "client ") (c.args.name.now ++ (10 ∷ play_text c.args.labels.now c.args.reports.now)) c.if-not-send.ensures.sent
+pub returns-in_err-send_bytes-clause-sent : goal.returns-in_err-send_bytes-clause-sent
+returns-in_err-send_bytes-clause-sent g c =
+    stopped g.F.FnMut _ _ _ _ c.from_residual.ensures.0 (
+    cut g.F.FnMut _ _ (codes "client ") (c.args.name.now ++ (10 ∷ play_text c.args.labels.now c.args.reports.now)) c.in_err-send_bytes.ensures.sent)
 
-pub returns-then-not-send_name-clause-sent : goal.returns-then-not-send_name-clause-sent
-returns-then-not-send_name-clause-sent g c =
-    and_then g.F.FnMut _ _ _ (codes "client ") _ _ c.if-not-send.ensures.sent
-    (cut g.F.FnMut _ _ c.args.name.now (10 ∷ play_text c.args.labels.now c.args.reports.now) c.if-not-send_name.ensures.sent)
+pub returns-in_err-send_name-clause-sent : goal.returns-in_err-send_name-clause-sent
+returns-in_err-send_name-clause-sent g c =
+    stopped g.F.FnMut _ _ _ _ c.from_residual-in_err-send_name.ensures.0 (
+    and_then g.F.FnMut _ _ _ (codes "client ") _ _ c.in_ok-send_bytes.ensures.sent
+    (cut g.F.FnMut _ _ c.args.name.now (10 ∷ play_text c.args.labels.now c.args.reports.now) c.in_err-send_name.ensures.sent))
 
-pub returns-then-not-send-2-clause-sent : goal.returns-then-not-send-2-clause-sent
-returns-then-not-send-2-clause-sent g c =
-    and_then g.F.FnMut _ _ _ (codes "client ") _ _ c.if-not-send.ensures.sent
-    (and_then g.F.FnMut _ _ _ c.args.name.now _ _ c.if-not-send_name.ensures.sent (cut g.F.FnMut _ _ (10
-    ∷ []) (play_text c.args.labels.now c.args.reports.now) c.if-not-send-2.ensures.sent))
+pub returns-in_err-send_bytes-2-clause-sent : goal.returns-in_err-send_bytes-2-clause-sent
+returns-in_err-send_bytes-2-clause-sent g c =
+    stopped g.F.FnMut _ _ _ _ c.from_residual-in_err-send_bytes-2.ensures.0 (
+    and_then g.F.FnMut _ _ _ (codes "client ") _ _ c.in_ok-send_bytes.ensures.sent
+    (and_then g.F.FnMut _ _ _ c.args.name.now _ _ c.in_ok-send_name.ensures.sent (cut g.F.FnMut _ _ (10
+    ∷ []) (play_text c.args.labels.now c.args.reports.now) c.in_err-send_bytes-2.ensures.sent)))
 
 pub returns-clause-sent : goal.returns-clause-sent
 returns-clause-sent g c =
-    and_then g.F.FnMut _ _ _ (codes "client ") _ _ c.if-not-send.ensures.sent
-    (and_then g.F.FnMut _ _ _ c.args.name.now _ _ c.if-not-send_name.ensures.sent (and_then g.F.FnMut _ _ _ (10
-    ∷ []) _ _ c.if-not-send-2.ensures.sent c.send_reports.ensures.sent))
+    and_then g.F.FnMut _ _ _ (codes "client ") _ _ c.in_ok-send_bytes.ensures.sent
+    (and_then g.F.FnMut _ _ _ c.args.name.now _ _ c.in_ok-send_name.ensures.sent (and_then g.F.FnMut _ _ _ (10
+    ∷ []) _ _ c.in_ok-send_bytes-2.ensures.sent c.send_reports.ensures.sent))

@@ -5,10 +5,12 @@ use Rattle.text_pieces.specs.Pieces.{HandsOut}
 use Rattle.text_pieces.proofs.PieceLemmas.{Completes, none, next, ended}
 use Rattle.window_text.specs.Transcripts.{edit_text, entries_text, name_at}
 use Rattle.window_text.proofs.TranscriptLemmas.{entries_end, entries_go_on, made_there}
+use Rattle.window_text.proofs.StopLemmas.{stopped}
 use Rattle.window_text.proofs.live.send_entries.Goals as goal
 
-pub returns-then-not-send_entry-clause-sent : goal.returns-then-not-send_entry-clause-sent
-returns-then-not-send_entry-clause-sent g c =
+pub returns-in_err-send_entry-clause-sent : goal.returns-in_err-send_entry-clause-sent
+returns-in_err-send_entry-clause-sent g c =
+    stopped g.F.FnMut _ _ _ _ c.from_residual.ensures.0 (
     let names = map string_bytes c.args.names.now in
     let entry = c.index-log-place.result in
     let goes = entries_go_on names c.args.labels.now c.args.log.now c.loop-place.place entry (search rules) (search rules) in
@@ -17,10 +19,10 @@ returns-then-not-send_entry-clause-sent g c =
     in
     let sent = subst (λ n. HandsOut g.F.FnMut c.loop-place.to (decimal (c.loop-place.place + 1)
     ++ (32 ∷ (n ++ (32 ∷ edit_text c.args.labels.now entry.edit)))) false c.send_entry.new.to) named
-    c.if-not-send_entry.ensures.sent in
+    c.in_err-send_entry.ensures.sent in
     ended g.F.FnMut _ _ _ _ _ _
     (subst (Completes g.F.FnMut c.args.to.now (entries_text names c.args.labels.now 1 c.args.log.now)
-    c.loop-place.to) goes c.loop-place.invariant.completes) sent
+    c.loop-place.to) goes c.loop-place.invariant.completes) sent)
 
 pub loop-place-preserved : goal.loop-place-preserved
 loop-place-preserved g c =
@@ -32,9 +34,9 @@ loop-place-preserved g c =
     in
     let sent = subst (λ n. HandsOut g.F.FnMut c.loop-place.to (decimal (c.loop-place.place + 1)
     ++ (32 ∷ (n ++ (32 ∷ edit_text c.args.labels.now entry.edit)))) true c.send_entry.new.to) named
-    c.if-not-send_entry.ensures.sent in
+    c.in_ok-send_entry.ensures.sent in
     record {
-      callable = c.if-not-send_entry.ensures.callable;
+      callable = c.in_ok-send_entry.ensures.callable;
       completes =
           next g.F.FnMut _ _ _ _ _ _
           (subst (Completes g.F.FnMut c.args.to.now (entries_text names c.args.labels.now 1 c.args.log.now)

@@ -2,28 +2,33 @@ use Rattle.std.proofs.Common.{[], ◌∷◌, ◌++◌, sym, subst}
 use Rattle.value_core.specs.Values.{in_quotes}
 use Rattle.text_pieces.proofs.PieceLemmas.{Completes, begun, next, ended, and_then, cut}
 use Rattle.window_text.proofs.QuoteLemmas.{with_double_quotes, double_quotes_clean, from_place, from_second}
+use Rattle.window_text.proofs.StopLemmas.{stopped}
 use Rattle.window_text.proofs.pieces.send_quoted.Goals as goal
 
-pub returns-then-not-send-clause-sent : goal.returns-then-not-send-clause-sent
-returns-then-not-send-clause-sent g c = cut g.F.FnMut _ _ (34 ∷ []) (with_double_quotes c.args.text.now ++ 34 ∷ []) c.if-not-send.ensures.sent
+pub returns-in_err-send_bytes-clause-sent : goal.returns-in_err-send_bytes-clause-sent
+returns-in_err-send_bytes-clause-sent g c =
+    stopped g.F.FnMut _ _ _ _ c.from_residual.ensures.0 (
+    cut g.F.FnMut _ _ (34 ∷ []) (with_double_quotes c.args.text.now ++ 34 ∷ []) c.in_err-send_bytes.ensures.sent)
 
 pub loop-place-init : goal.loop-place-init
 loop-place-init g c = (
-  c.if-not-send.ensures.callable,
-  subst (λ t. Completes g.F.FnMut c.args.to.now (in_quotes c.args.text.now) c.send.new.to (with_double_quotes t ++ 34 ∷ [])) (sym c.as_bytes-rest.ensures.value)
-      (begun g.F.FnMut _ _ (34 ∷ []) (with_double_quotes c.args.text.now ++ 34 ∷ []) c.if-not-send.ensures.sent),
+  c.in_ok-send_bytes.ensures.callable,
+  subst (λ t. Completes g.F.FnMut c.args.to.now (in_quotes c.args.text.now) c.send_bytes.new.to (with_double_quotes t ++ 34 ∷ [])) (sym c.as_bytes-rest.ensures.value)
+      (begun g.F.FnMut _ _ (34 ∷ []) (with_double_quotes c.args.text.now ++ 34 ∷ []) c.in_ok-send_bytes.ensures.sent),
 )
 
-pub returns-then-not-send-2-clause-sent : goal.returns-then-not-send-2-clause-sent
-returns-then-not-send-2-clause-sent g c =
+pub returns-in_err-send_bytes-2-clause-sent : goal.returns-in_err-send_bytes-2-clause-sent
+returns-in_err-send_bytes-2-clause-sent g c =
+    stopped g.F.FnMut _ _ _ _ c.from_residual-in_err-send_bytes-2.ensures.0 (
     let place = c.in-Some.ensures in
     let parts = from_place c.loop-place.rest.now c.split_at.result.0.now c.split_at.result.1.now c.in-Some.place
     c.split_at.ensures.front c.split_at.ensures.back place.0 place.1.0 place.1.1 in
     ended g.F.FnMut _ _ _ _ _ _ (subst (Completes g.F.FnMut c.args.to.now (in_quotes c.args.text.now) c.loop-place.to)
-    parts c.loop-place.invariant.1) c.if-not-send-2.ensures.sent
+    parts c.loop-place.invariant.1) c.in_err-send_bytes-2.ensures.sent)
 
-pub returns-then-not-send-3-clause-sent : goal.returns-then-not-send-3-clause-sent
-returns-then-not-send-3-clause-sent g c =
+pub returns-in_err-send_bytes-3-clause-sent : goal.returns-in_err-send_bytes-3-clause-sent
+returns-in_err-send_bytes-3-clause-sent g c =
+    stopped g.F.FnMut _ _ _ _ c.from_residual-in_err-send_bytes-3.ensures.0 (
     let place = c.in-Some.ensures in
     let parts = from_place c.loop-place.rest.now c.split_at.result.0.now c.split_at.result.1.now c.in-Some.place
     c.split_at.ensures.front c.split_at.ensures.back place.0 place.1.0 place.1.1 in
@@ -31,7 +36,7 @@ returns-then-not-send-3-clause-sent g c =
     ∷ []) _
     (next g.F.FnMut _ _ _ _ _ _
     (subst (Completes g.F.FnMut c.args.to.now (in_quotes c.args.text.now) c.loop-place.to) parts
-    c.loop-place.invariant.1) c.if-not-send-2.ensures.sent) c.if-not-send-3.ensures.sent
+    c.loop-place.invariant.1) c.in_ok-send_bytes-2.ensures.sent) c.in_err-send_bytes-3.ensures.sent)
 
 pub loop-place-preserved : goal.loop-place-preserved
 loop-place-preserved g c =
@@ -43,21 +48,22 @@ loop-place-preserved g c =
     ∷ []) _
     (next g.F.FnMut _ _ _ _ _ _
     (subst (Completes g.F.FnMut c.args.to.now (in_quotes c.args.text.now) c.loop-place.to) parts
-    c.loop-place.invariant.1) c.if-not-send-2.ensures.sent) c.if-not-send-3.ensures.sent in (
-      c.if-not-send-3.ensures.callable,
-      subst (λ t. Completes g.F.FnMut c.args.to.now (in_quotes c.args.text.now) c.send-in-Some-2.new.to
+    c.loop-place.invariant.1) c.in_ok-send_bytes-2.ensures.sent) c.in_ok-send_bytes-3.ensures.sent in (
+      c.in_ok-send_bytes-3.ensures.callable,
+      subst (λ t. Completes g.F.FnMut c.args.to.now (in_quotes c.args.text.now) c.send_bytes-in-Some-2.new.to
           (with_double_quotes t ++ 34 ∷ [])) (sym (from_second c.split_at.result.1.now)) completes,
     )
 
-pub returns-then-not-send-4-clause-sent : goal.returns-then-not-send-4-clause-sent
-returns-then-not-send-4-clause-sent g c =
+pub returns-in_err-send_bytes-4-clause-sent : goal.returns-in_err-send_bytes-4-clause-sent
+returns-in_err-send_bytes-4-clause-sent g c =
+    stopped g.F.FnMut _ _ _ _ c.from_residual-in_err-send_bytes-4.ensures.0 (
     ended g.F.FnMut _ _ _ _ c.loop-place.rest.now (34 ∷ [])
     (subst (λ t. Completes g.F.FnMut c.args.to.now (in_quotes c.args.text.now) c.loop-place.to (t ++ 34 ∷ []))
     (double_quotes_clean c.loop-place.rest.now c.in_default.ensures) c.loop-place.invariant.1)
-    c.if-not-send-4.ensures.sent
+    c.in_err-send_bytes-4.ensures.sent)
 
 pub returns-clause-sent : goal.returns-clause-sent
 returns-clause-sent g c =
     subst (λ t. Completes g.F.FnMut c.args.to.now (in_quotes c.args.text.now) c.loop-place.to (t ++ 34 ∷ []))
     (double_quotes_clean c.loop-place.rest.now c.in_default.ensures) c.loop-place.invariant.1 _ _
-    (and_then g.F.FnMut _ _ _ _ _ _ c.if-not-send-4.ensures.sent c.send-3.ensures.sent)
+    (and_then g.F.FnMut _ _ _ _ _ _ c.in_ok-send_bytes-4.ensures.sent c.send_bytes-3.ensures.sent)

@@ -1,7 +1,7 @@
 use Rattle.window_text.specs.Texts.{check_text}
 use Rattle.text_pieces.proofs.PieceLemmas.{Completes}
 use Rattle.window_text.proofs.EdgesLemmas.{edges_rest}
-use Rattle.window_text.proofs.printer.Printer.check.Given as goal
+use Rattle.window_text.proofs.edges.send_check.Given as goal
 
 abbrev pub invariant-loop-edge : goal.invariant-loop-edge
 invariant-loop-edge g l =
