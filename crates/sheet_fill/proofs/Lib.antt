@@ -9,6 +9,7 @@ mod LineTexts
 mod MovedLemmas
 mod OtherLemmas
 mod PairLemmas
+mod ReadBackLemmas
 mod RunLemmas
 mod ScriptLemmas
 mod ShapeLemmas

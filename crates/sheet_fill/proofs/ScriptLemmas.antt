@@ -64,7 +64,7 @@ number_back (negsuc n) whole =
     let size = size_of_whole (negsuc n) whole in
     minus (45 ∷ decimal (suc n)) (decimal (suc n)) (suc n) refl (decimal_printed 9007199254740991 (suc n) size (omega (arith, size)))
 
-constant_back : (edition : Edition) (texts : List (List ℕ)) (v : Value) → IsWritten (Constant v) → WritesItself edition (Constant v)
+pub constant_back : (edition : Edition) (texts : List (List ℕ)) (v : Value) → IsWritten (Constant v) → WritesItself edition (Constant v)
     → WritesBack edition texts (Constant v)
 constant_back edition texts value.Empty written itself = λ labels. refl
 constant_back edition texts (value.Number number) written itself = λ labels. number_back number written.in_range

@@ -4,4 +4,5 @@ pub mod FilledRuns
 pub mod FilledTexts
 pub mod Filling
 pub mod MovedReferences
+pub mod ReadBack
 pub mod Singles

@@ -9,6 +9,8 @@ ghost use Rattle.sheet_fill.specs.MovedReferences.{EndsAreLostPastTheNames, Form
 ghost use Rattle.sheet_fill.specs.MovedReferences.{LostReferencesAreErrors, OperatorsStay, OtherCallsStay};
 ghost use Rattle.sheet_fill.specs.MovedReferences.{ReferencesAreLostByTheirEnds, ReferencesMoveByTheirEnds};
 ghost use Rattle.sheet_fill.specs.MovedReferences.{ShiftedFormulasAdd};
+ghost use Rattle.sheet_fill.specs.ReadBack.{ContentsAreReadBack, FormulasAreReadBack};
+ghost use Rattle.sheet_fill.specs.ReadBack.{FormulasThatTheEditionLacks};
 
 use taco_graph::join_laws;
 
@@ -57,6 +59,16 @@ pub fn copied_laws()
     ensures lost_calls { CallsAreLostByTheirPlaces }
     ensures calls { OtherCallsStay }
     ensures operators { OperatorsStay }
+{}
+
+/// Which contents of a sheet are read back from their printed text. A number, a truth, an error and an empty cell are. A
+/// formula is exactly where the sheet's edition has each of its functions and its text never has more than 64
+/// parentheses open. One with a function that the edition lacks is read as `#NAME?`. A label isn't, since its text
+/// is printed between quotes.
+pub fn read_back_laws()
+    ensures contents { ContentsAreReadBack }
+    ensures formulas { FormulasAreReadBack }
+    ensures lacking { FormulasThatTheEditionLacks }
 {}
 
 /// Fills that were worked out by hand, from the text of the formula to the lines of the edit, and the edges of two
