@@ -30,6 +30,6 @@ pub returns-clause-firm : goal.returns-clause-firm
 returns-clause-firm g c =
     is_firm c.args.book.now.opening (subject_of c.args.marks.now) _ c.args.window _ c.show_window.new.board
     c.args.seat.now c.hear.new.editor c.settle_range.new.editor c.show_window.new.editor c.learn.new.seat
-    c.requires.subject (c.length.ensures.length ∙ ap length (sym (c.hear.ensures.editor.log ∙ c.requires.log)))
+    c.requires.subject (c.length-length.ensures.length ∙ ap length (sym (c.hear.ensures.editor.log ∙ c.requires.log)))
     c.hear.ensures.seen (c.hear.new.editor.knows_all.seen (c.hear.ensures.editor.editor ∙ c.requires.free.editor))
     c.settle_range.ensures.editor c.show_window.ensures.editor c.learn.ensures.knows c.in_ok-settle_range.ensures.clean c.show_window.ensures.shows
