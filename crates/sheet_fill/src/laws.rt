@@ -61,8 +61,8 @@ pub fn copied_laws()
     ensures operators { OperatorsStay }
 {}
 
-/// Which contents of a sheet are read back from their printed text. A number, a truth, an error and an empty cell are. A
-/// formula is exactly where the sheet's edition has each of its functions and its text never has more than 64
+/// Which contents of a sheet are read back from their printed text. A number, a truth, an error and an empty cell are.
+/// A formula is exactly where the sheet's edition has each of its functions and its text never has more than 64
 /// parentheses open. One with a function that the edition lacks is read as `#NAME?`. A label isn't, since its text
 /// is printed between quotes.
 pub fn read_back_laws()

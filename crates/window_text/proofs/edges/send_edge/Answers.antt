@@ -36,7 +36,8 @@ returns-in_err-send_range_name-2-clause-sent g c =
     (subst (λ r. HandsOut g.F.FnMut c.args.to.now (range_text r) true c.send_range_name.new.to) c.dep.ensures.dep
     c.in_ok-send_range_name.ensures.sent))
     c.in_ok-send_bytes.ensures.sent)
-    (subst (λ r. HandsOut g.F.FnMut c.send_bytes.new.to (range_text r) false c.send_range_name-2.new.to) c.prec.ensures.prec c.in_err-send_range_name-2.ensures.sent))
+    (subst (λ r. HandsOut g.F.FnMut c.send_bytes.new.to (range_text r) false c.send_range_name-2.new.to) c.prec.ensures.prec
+    c.in_err-send_range_name-2.ensures.sent))
 
 pub returns-clause-sent : goal.returns-clause-sent
 returns-clause-sent g c =
@@ -49,6 +50,7 @@ returns-clause-sent g c =
     (subst (λ r. HandsOut g.F.FnMut c.args.to.now (range_text r) true c.send_range_name.new.to) c.dep.ensures.dep
     c.in_ok-send_range_name.ensures.sent))
     c.in_ok-send_bytes.ensures.sent)
-    (subst (λ r. HandsOut g.F.FnMut c.send_bytes.new.to (range_text r) true c.send_range_name-2.new.to) c.prec.ensures.prec c.in_ok-send_range_name-2.ensures.sent))
+    (subst (λ r. HandsOut g.F.FnMut c.send_bytes.new.to (range_text r) true c.send_range_name-2.new.to) c.prec.ensures.prec
+    c.in_ok-send_range_name-2.ensures.sent))
     c.send_bytes-2.new.to (is_ok c.send_bytes-2.result)
     (subst (λ t. HandsOut g.F.FnMut c.send_range_name-2.new.to t (is_ok c.send_bytes-2.result) c.send_bytes-2.new.to) said c.send_bytes-2.ensures.sent)

@@ -16,7 +16,10 @@ returns-in_err-send_range_name g c =
 pub returns-in_err-send_bytes : goal.returns-in_err-send_bytes
 returns-in_err-send_bytes g c =
     let rest = next_run g.F.FnMut _ _ c.args.runs.now c.loop-run.run-index c.run-item.result c.loop-run-test.true c.run-item.is c.loop-run.invariant.1 in
-    record { sent = stopped g.F.FnMut _ _ _ _ c.from_residual-in_err-send_bytes.ensures.0 (ended g.F.FnMut _ _ _ _ (10 ∷ []) _ (next g.F.FnMut _ _ _ _ _ _ rest c.in_ok-send_range_name.ensures.sent) c.in_err-send_bytes.ensures.sent) }
+    record {
+      sent = stopped g.F.FnMut _ _ _ _ c.from_residual-in_err-send_bytes.ensures.0
+          (ended g.F.FnMut _ _ _ _ (10 ∷ []) _ (next g.F.FnMut _ _ _ _ _ _ rest c.in_ok-send_range_name.ensures.sent) c.in_err-send_bytes.ensures.sent);
+    }
 
 pub loop-run-preserved : goal.loop-run-preserved
 loop-run-preserved g c =

@@ -19,7 +19,8 @@ returns-in_err-send_bytes g c =
     let edits_line = count_line (codes "edits") c.args.edits ++ sum_line in
     let cells_line = codes "cells 7000" ++ (10 ∷ edits_line) in
     record {
-      sent = stopped g.F.FnMut _ _ _ _ c.from_residual-in_err-send_bytes.ensures.0 (ended g.F.FnMut _ _ _ (generated_text c.args.number c.args.edits c.args.sum) (codes "cells 7000" ++ 10 ∷ []) edits_line
+      sent = stopped g.F.FnMut _ _ _ _ c.from_residual-in_err-send_bytes.ensures.0
+          (ended g.F.FnMut _ _ _ (generated_text c.args.number c.args.edits c.args.sum) (codes "cells 7000" ++ 10 ∷ []) edits_line
           (begun g.F.FnMut _ _ (count_line (codes "gen") c.args.number) cells_line head) c.in_err-send_bytes.ensures.sent);
     }
 
@@ -30,7 +31,8 @@ returns-in_err-send_count-2 g c =
     let edits_line = count_line (codes "edits") c.args.edits ++ sum_line in
     let cells_line = codes "cells 7000" ++ (10 ∷ edits_line) in
     record {
-      sent = stopped g.F.FnMut _ _ _ _ c.from_residual-in_err-send_count-2.ensures.0 (ended g.F.FnMut _ _ _ (generated_text c.args.number c.args.edits c.args.sum) (count_line (codes "edits") c.args.edits) sum_line
+      sent = stopped g.F.FnMut _ _ _ _ c.from_residual-in_err-send_count-2.ensures.0
+          (ended g.F.FnMut _ _ _ (generated_text c.args.number c.args.edits c.args.sum) (count_line (codes "edits") c.args.edits) sum_line
           (next g.F.FnMut _ _ _ (generated_text c.args.number c.args.edits c.args.sum) (codes "cells 7000" ++ 10 ∷ []) edits_line
           (begun g.F.FnMut _ _ (count_line (codes "gen") c.args.number) cells_line head) c.in_ok-send_bytes.ensures.sent)
           c.in_err-send_count-2.ensures.sent);

@@ -26,7 +26,8 @@ returns-in_err-send_decimal-clause-sent g c =
 
 pub returns-clause-sent : goal.returns-clause-sent
 returns-clause-sent g c =
-    subst (λ t. HandsOut g.F.FnMut c.args.to.now t (is_ok c.send_bytes-2.result) c.send_bytes-2.new.to) (sym (head_of_many c.args.changes c.if-changes-le1.false))
+    subst (λ t. HandsOut g.F.FnMut c.args.to.now t (is_ok c.send_bytes-2.result) c.send_bytes-2.new.to)
+    (sym (head_of_many c.args.changes c.if-changes-le1.false))
     (and_then g.F.FnMut _ _ _ (codes "batch ") _ _ c.in_ok-send_bytes.ensures.sent
     (and_then g.F.FnMut _ _ _ (decimal c.args.changes) _ _ c.in_ok-send_decimal.ensures.sent
     c.send_bytes-2.ensures.sent))

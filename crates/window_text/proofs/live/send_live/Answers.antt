@@ -28,7 +28,8 @@ returns-in_err-send_entries g c =
     c.deref-log.result.now t.log c.deref.ensures.value c.labels-labels.ensures.labels c.deref-log.ensures.value)
     c.in_err-send_entries.ensures.sent in
     record {
-      sent = stopped g.F.FnMut _ _ _ _ c.from_residual-in_err-send_entries.ensures.0 (and_then g.F.FnMut _ _ _ (count_line (codes "log") (length t.log)) _ _ count
+      sent = stopped g.F.FnMut _ _ _ _ c.from_residual-in_err-send_entries.ensures.0
+          (and_then g.F.FnMut _ _ _ (count_line (codes "log") (length t.log)) _ _ count
           (cut g.F.FnMut _ _ (entries_text t.names t.sheet.labels 1 t.log)
           (clients_text t.sheet.labels t.names t.reports ++ closing_text (length t.log) t.sheet) entries));
     }
@@ -47,7 +48,8 @@ returns-in_err-send_clients g c =
     c.deref-3.result.now c.args.transcript.now.reports.items c.deref-2.ensures.value c.labels-labels.ensures.labels
     c.deref-3.ensures.value) c.in_err-send_clients.ensures.sent in
     record {
-      sent = stopped g.F.FnMut _ _ _ _ c.from_residual-in_err-send_clients.ensures.0 (and_then g.F.FnMut _ _ _ (count_line (codes "log") (length t.log)) _ _ count
+      sent = stopped g.F.FnMut _ _ _ _ c.from_residual-in_err-send_clients.ensures.0
+          (and_then g.F.FnMut _ _ _ (count_line (codes "log") (length t.log)) _ _ count
           (and_then g.F.FnMut _ _ _ (entries_text t.names t.sheet.labels 1 t.log) _ _ entries
           (cut g.F.FnMut _ _ (clients_text t.sheet.labels t.names t.reports) (closing_text (length t.log) t.sheet) clients)));
     }

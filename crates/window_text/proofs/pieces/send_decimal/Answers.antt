@@ -5,4 +5,5 @@ use Rattle.window_text.proofs.pieces.send_decimal.Goals as goal
 
 pub returns-clause-sent : goal.returns-clause-sent
 returns-clause-sent g c =
-    subst (λ t. HandsOut g.F.FnMut c.args.to.now t (is_ok c.send_bytes.result) c.send_bytes.new.to) (c.as_bytes.ensures.value ∙ c.format.ensures.text) c.send_bytes.ensures.sent
+    subst (λ t. HandsOut g.F.FnMut c.args.to.now t (is_ok c.send_bytes.result) c.send_bytes.new.to) (c.as_bytes.ensures.value ∙ c.format.ensures.text)
+    c.send_bytes.ensures.sent

@@ -13,7 +13,8 @@ returns-in_err-send_bytes-clause-sent g c =
 pub loop-place-init : goal.loop-place-init
 loop-place-init g c = (
   c.in_ok-send_bytes.ensures.callable,
-  subst (λ t. Completes g.F.FnMut c.args.to.now (in_quotes c.args.text.now) c.send_bytes.new.to (with_double_quotes t ++ 34 ∷ [])) (sym c.as_bytes-rest.ensures.value)
+  subst (λ t. Completes g.F.FnMut c.args.to.now (in_quotes c.args.text.now) c.send_bytes.new.to (with_double_quotes t ++ 34 ∷ []))
+      (sym c.as_bytes-rest.ensures.value)
       (begun g.F.FnMut _ _ (34 ∷ []) (with_double_quotes c.args.text.now ++ 34 ∷ []) c.in_ok-send_bytes.ensures.sent),
 )
 

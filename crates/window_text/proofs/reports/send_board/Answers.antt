@@ -19,7 +19,8 @@ returns-in_err-send_range_name-clause-sent g c =
 pub returns-in_err-send_bytes-clause-sent : goal.returns-in_err-send_bytes-clause-sent
 returns-in_err-send_bytes-clause-sent g c =
     stopped g.F.FnMut _ _ _ _ c.from_residual-in_err-send_bytes.ensures.0 (
-    let sent = subst (λ w. HandsOut g.F.FnMut c.args.to.now (range_text w) true c.send_range_name.new.to) c.window-window.ensures c.in_ok-send_range_name.ensures.sent in
+    let sent = subst (λ w. HandsOut g.F.FnMut c.args.to.now (range_text w) true c.send_range_name.new.to) c.window-window.ensures
+    c.in_ok-send_range_name.ensures.sent in
     and_then g.F.FnMut _ _ _ (range_text c.args.board.now.window) _ _ sent (cut g.F.FnMut _ _ (10 ∷ []) _ c.in_err-send_bytes.ensures.sent))
 
 pub loop-row-init : goal.loop-row-init
@@ -28,7 +29,8 @@ loop-row-init g c =
     let shown = board_text c.args.labels.now c.args.board.now in
     let first : c.row-row.result ≡ window.head.row = c.row-row.ensures.row
     ∙ ap (λ (p : Position). p.row) c.head.ensures.head ∙ ap (λ (w : Corners). w.head.row) c.window-window.ensures in
-    let sent = subst (λ w. HandsOut g.F.FnMut c.args.to.now (range_text w) true c.send_range_name.new.to) c.window-window.ensures c.in_ok-send_range_name.ensures.sent in
+    let sent = subst (λ w. HandsOut g.F.FnMut c.args.to.now (range_text w) true c.send_range_name.new.to) c.window-window.ensures
+    c.in_ok-send_range_name.ensures.sent in
     let rows = rows_text shown window in (
       c.in_ok-send_bytes.ensures.callable,
       subst (λ n. Completes g.F.FnMut c.args.to.now (window_text c.args.labels.now c.args.board.now) c.send_bytes.new.to (rows_rest shown window n)) (sym first)

@@ -16,7 +16,8 @@ returns-in_err-send_range_name-clause-sent g c =
 pub returns-in_err-send_bytes-clause-sent : goal.returns-in_err-send_bytes-clause-sent
 returns-in_err-send_bytes-clause-sent g c =
     stopped g.F.FnMut _ _ _ _ c.from_residual-in_err-send_bytes.ensures.0 (
-    and_then g.F.FnMut _ _ _ (range_text c.args.range) _ _ c.in_ok-send_range_name.ensures.sent (cut g.F.FnMut _ _ (10 ∷ []) _ c.in_err-send_bytes.ensures.sent))
+    and_then g.F.FnMut _ _ _ (range_text c.args.range) _ _ c.in_ok-send_range_name.ensures.sent
+    (cut g.F.FnMut _ _ (10 ∷ []) _ c.in_err-send_bytes.ensures.sent))
 
 pub loop-row-init : goal.loop-row-init
 loop-row-init g c =
@@ -24,7 +25,8 @@ loop-row-init g c =
     let first : c.row-row.result ≡ c.args.range.head.row = c.row-row.ensures.row ∙ ap (λ (cell : Position). cell.row) c.head.ensures.head in
     let rows = rows_text shown c.args.range in (
       c.in_ok-send_bytes.ensures.callable,
-      subst (λ n. Completes g.F.FnMut c.args.to.now (sheet_window c.args.sheet.now c.args.range) c.send_bytes.new.to (rows_rest shown c.args.range n)) (sym first)
+      subst (λ n. Completes g.F.FnMut c.args.to.now (sheet_window c.args.sheet.now c.args.range) c.send_bytes.new.to (rows_rest shown c.args.range n))
+          (sym first)
           (next g.F.FnMut _ _ _ _ (10 ∷ []) rows (begun g.F.FnMut _ _ (range_text c.args.range) (10
           ∷ rows) c.in_ok-send_range_name.ensures.sent) c.in_ok-send_bytes.ensures.sent),
     )
