@@ -1,7 +1,7 @@
 -- One value more is kept, and the others still.
 use Rattle.std.proofs.Common.{All, List, length, take, get_or, sym, subst}
 use Rattle.std.proofs.lemmas.List.Elements.{All-push}
-use Rattle.formula_eval.proofs.NodeLemmas.{take-all}
+use Rattle.std.proofs.lemmas.List.{take_all}
 use Rattle.sheet_refs.specs.Cells.{Position}
 use Rattle.sheet_model.specs.KeptValues.{HoldsValue}
 use Rattle.sheet_model.proofs.ListLemmas.{taken_more}
@@ -23,5 +23,5 @@ loop-cell-preserved c =
 
 pub returns-clause-held : goal.returns-clause-held
 returns-clause-held c =
-    let all = take-all c.args.cells.now c.loop-cell.cell-index c.loop-cell-test.false in
+    let all = take_all c.loop-cell.cell-index c.args.cells.now c.loop-cell-test.false in
     subst (All (HoldsValue c.args.sheet.now.sizes c.loop-cell.values)) all c.loop-cell.invariant.held
