@@ -1,6 +1,8 @@
 ghost use Rattle.std.specs.Prelude.{◌≤◌, IfOk};
+ghost use Rattle.edit_log.specs.Books.{IsBook, IsOpenedWith};
 ghost use Rattle.mark_words.specs.Opened.{HasOpened};
 ghost use Rattle.sheet_refs.specs.Sizes.{cell_count};
+ghost use Rattle.live_sheet.specs.Graphs.{live_pairs};
 ghost use Rattle.live_sheet.specs.Openings.{opening_codes as codes_at_opening};
 ghost use Rattle.live_sheet.specs.Setups.{IsSetupOf};
 
@@ -32,6 +34,18 @@ fn open_marks(alloc: Global, sheet: &Sheet) -> Result<(Marks<OverSheet>, Seat<Ov
     }
 }
 
+/// A book of the sheet over the program's graph. It keeps the values of the constants from the start, so that each edit
+/// forgets those of the cells that it touches.
+fn open_book(alloc: Global, sheet: Sheet) -> Result<Book<LiveGraph>, Memory>
+    ensures opened { IfOk result (IsOpenedWith sheet) }
+    ensures kept { IfOk result (IsBook live_pairs) }
+{
+    let mut book = Book::open(alloc, sheet, LiveGraph::new(alloc))?;
+    let values = book.take_values()?;
+    book.keep_values(values);
+    Ok(book)
+}
+
 impl Setup {
     /// A setup of a sheet for so many clients and workers. It takes the time of the sheet's graph, and of one load of
     /// each cell. After `Memory` the sheet is dropped.
@@ -44,7 +58,7 @@ impl Setup {
         let (marks, editor) = open_marks(alloc, &sheet)?;
         let sizes = sheet.sizes();
         let (jobs, hand) = Jobs::new(alloc, sizes.rows, sizes.cols)?;
-        let book = Book::open(alloc, sheet, LiveGraph::new(alloc))?;
+        let book = open_book(alloc, sheet)?;
         let blank = Blank::new(u64::from(clients) + 1);
         Ok(Setup {
             marks,
