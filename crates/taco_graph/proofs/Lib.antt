@@ -8,6 +8,7 @@ mod FilingLemmas
 mod GraphLemmas
 pub mod GrowthLemmas
 mod JoinableLemmas
+mod NearLemmas
 mod OneEdgeLemmas
 mod ReplaceLemmas
 mod RunLemmas

@@ -4,6 +4,7 @@ pub mod Filing
 pub mod Filled
 pub mod Joinable
 pub mod Laws
+pub mod Near
 pub mod Order
 pub mod Pairs
 pub mod Runs

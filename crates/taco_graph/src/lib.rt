@@ -23,6 +23,7 @@ mod changes;
 mod counting;
 mod filing;
 mod laws;
+mod near;
 mod neighbours;
 mod order;
 mod side;

@@ -7,6 +7,7 @@ ghost use Rattle.taco_graph.specs.Joinable.{CantJoinAt, CantJoinAny};
 ghost use Rattle.taco_graph.specs.Sides.{CantJoinBetween, CantJoinListed, CantJoinBeside};
 ghost use Rattle.taco_graph.specs.Sides.{NamesBeside, HasBeside, KeepsKeys, WasAskedWithin};
 
+use crate::near::lie_near;
 use crate::store::EdgeStore;
 use edge_patterns::{Edge, join};
 use range_index::RangeIndex;
@@ -26,6 +27,10 @@ fn joined_at<I: RangeIndex>(
     let Some(other) = store.get(key) else {
         return None;
     };
+    // Cells side by side mostly refer to cells far from one another, which is found at a look.
+    if !lie_near(edge, &other) {
+        return None;
+    }
     if other.dep().contains(cell) {
         return None;
     }
