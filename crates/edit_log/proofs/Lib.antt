@@ -11,3 +11,4 @@ mod RunLemmas
 mod Sent
 pub mod TouchLemmas
 pub mod ValueLemmas
+mod WaitingLemmas

@@ -1,5 +1,5 @@
 -- How the pairs of a graph grow, cell by cell.
-use Rattle.std.proofs.Common.{◌≡◌, ◌≢◌, ◌⊎◌, inl, inr, ◌<◌, ◌≤◌, ◌+◌, ◌-◌, ℕ, Bool, true, false, List, [], length, Contains}
+use Rattle.std.proofs.Common.{◌≡◌, ◌≢◌, ◌↔◌, ◌⊎◌, inl, inr, ◌<◌, ◌≤◌, ◌+◌, ◌-◌, ℕ, Bool, true, false, List, [], length, Contains}
 use Rattle.std.proofs.Common.{arith, refl, sym, ap, subst, ◌∙◌}
 use Rattle.std.proofs.Math.Nat.{eq-or-lt_of_le}
 use Rattle.std.proofs.lemmas.Bool.{cases_lt}
@@ -10,9 +10,10 @@ use Rattle.sheet_refs.specs.Sizes.{is_inside}
 use Rattle.formula_syntax.specs.Listing.{IsOnceEach}
 use Rattle.formula_syntax.proofs.Listings.{once_all, once_back}
 use Rattle.graph_walk.specs.Graphs.{Pair, Replaces, SamePairs}
-use Rattle.graph_walk.specs.Series.{SeriesValue, FollowDown, LackRun, AddsRun, IsOfRun}
+use Rattle.graph_walk.specs.Series.{SeriesValue, FollowDown, LackRun, IsOfRun}
 use Rattle.sheet_model.specs.Sheets.{SheetValue, content_of}
-use Rattle.edit_log.specs.Pairs.{IsPairOf, ArePairsOf, HasNoPairs, IsBeforeRow, HasPairsBefore}
+use Rattle.edit_log.specs.Pairs.{IsPairOf}
+use Rattle.edit_log.specs.Waiting.{AreThoseBefore, IsBeforeRow}
 use Rattle.edit_log.specs.Runs.{Follow, IsRunOf, cells_down, down, ranges_at, series_of}
 use Rattle.edit_log.proofs.RunLemmas.{column_cell, column_follows, listed_range, range_listed, run_more, run_of_one, same_end, series_length}
 use Rattle.sheet_model.specs.Ranges.{ranges_in}
@@ -43,17 +44,17 @@ pair_inside sheet pair is = by_test (is_inside sheet.sizes pair.cell) refl
     by_test false e = absurd (no_element pair.range (rw e at is))
 
 -- before the first row of the first column there is no pair
-pub none_before : (sheet : SheetValue) (pairs : List Pair) → HasNoPairs pairs → HasPairsBefore sheet 1 1 pairs
-none_before sheet pairs none pair = (λ there. absurd (none pair there), λ at. absurd (outside at.0 (pair_inside sheet pair at.1)))
+pub none_before : (sheet : SheetValue) (Meant : Pair → Type 0) → ((pair : Pair) → ¬ Meant pair) → AreThoseBefore sheet 1 1 Meant
+none_before sheet Meant none pair = (λ there. absurd (none pair there), λ at. absurd (outside at.0 (pair_inside sheet pair at.1)))
   where
     outside : IsBeforeRow 1 1 pair.cell → IsCellOf sheet pair.cell → ⊥
     outside (inl left) is = omega (arith, left, is.col_from)
     outside (inr above) is = omega (arith, above.1, is.row_from)
 
 -- past the last row of a column the next one begins
-pub column_ends : (sheet : SheetValue) (col row : ℕ) (pairs : List Pair) → sheet.sizes.rows < row
-    → HasPairsBefore sheet col row pairs → HasPairsBefore sheet (col + 1) 1 pairs
-column_ends sheet col row pairs past before pair =
+pub column_ends : (sheet : SheetValue) (col row : ℕ) (Meant : Pair → Type 0) → sheet.sizes.rows < row
+    → AreThoseBefore sheet col row Meant → AreThoseBefore sheet (col + 1) 1 Meant
+column_ends sheet col row Meant past before pair =
     (λ there. let at = (before pair).0 there in (onward at.0, at.1), λ at. (before pair).1 (backward at.0 (pair_inside sheet pair at.1), at.1))
   where
     onward : IsBeforeRow col row pair.cell → IsBeforeRow (col + 1) 1 pair.cell
@@ -68,8 +69,9 @@ column_ends sheet col row pairs past before pair =
     backward (inr above) is = absurd (omega (arith, above.1, is.row_from))
 
 -- past the last column all pairs are there
-pub all_before : (sheet : SheetValue) (col : ℕ) (pairs : List Pair) → sheet.sizes.cols < col → HasPairsBefore sheet col 1 pairs → ArePairsOf sheet pairs
-all_before sheet col pairs past before pair =
+pub all_before : (sheet : SheetValue) (col : ℕ) (Meant : Pair → Type 0) → sheet.sizes.cols < col → AreThoseBefore sheet col 1 Meant
+    → (pair : Pair) → Meant pair ↔ IsPairOf sheet pair
+all_before sheet col Meant past before pair =
     (λ there. ((before pair).0 there).1, λ is. (before pair).1 (inl (omega (arith, (pair_inside sheet pair is).col_to, past)), is))
 
 -- a cell of the next row is before it, or is that cell
@@ -95,30 +97,21 @@ row_on cell other (inr above) = (inr (above.0, omega (arith, above.1)), λ same.
 at_row : (cell : Position) → IsBeforeRow cell.col (cell.row + 1) cell
 at_row cell = inr (refl, omega arith)
 
--- a cell with a formula has the pairs that it is given
-pub with_formula : (sheet : SheetValue) (cell : Position) (old new : List Pair) (refs : List Corners)
-    → IsOnceEach (ranges_in (content_of sheet cell)) refs → HasPairsBefore sheet cell.col cell.row old
-    → Replaces old new cell refs → HasPairsBefore sheet cell.col (cell.row + 1) new
-with_formula sheet cell old new refs once before replaced pair =
-    (λ there. from_new ((replaced pair).0 there), λ at. (replaced pair).1 (to_new (row_ends cell pair.cell at.0) at.1))
+-- to what is meant before a cell come the pairs of that cell
+pub cell_more : (sheet : SheetValue) (cell : Position) (Old New : Pair → Type 0) → AreThoseBefore sheet cell.col cell.row Old
+    → ((pair : Pair) → New pair ↔ (Old pair ⊎ ((pair.cell ≡ cell) × IsPairOf sheet pair)))
+    → AreThoseBefore sheet cell.col (cell.row + 1) New
+cell_more sheet cell Old New before more pair =
+    (λ there. from_new ((more pair).0 there), λ at. (more pair).1 (to_new (row_ends cell pair.cell at.0) at.1))
   where
-    ranges_at : Position → List Corners
-    ranges_at c = ranges_in (content_of sheet c)
-
-    from_new : ((pair.cell ≡ cell) × Contains refs pair.range) ⊎ ((pair.cell ≢ cell) × Contains old pair)
-        → IsBeforeRow cell.col (cell.row + 1) pair.cell × IsPairOf sheet pair
-    from_new (inl own) = (
-      subst (λ (c : Position). IsBeforeRow cell.col (cell.row + 1) c) (sym own.0) (at_row cell),
-      subst (λ (c : Position). Contains (ranges_at c) pair.range) (sym own.0) (once_back (ranges_at cell) refs pair.range once own.1),
-    )
-    from_new (inr other) =
-        let at = (before pair).0 other.1 in
-        ((row_on cell pair.cell at.0).0, at.1)
+    from_new : Old pair ⊎ ((pair.cell ≡ cell) × IsPairOf sheet pair) → IsBeforeRow cell.col (cell.row + 1) pair.cell × IsPairOf sheet pair
+    from_new (inl old) = let at = (before pair).0 old in ((row_on cell pair.cell at.0).0, at.1)
+    from_new (inr own) = (subst (λ (c : Position). IsBeforeRow cell.col (cell.row + 1) c) (sym own.0) (at_row cell), own.1)
 
     to_new : IsBeforeRow cell.col cell.row pair.cell ⊎ (pair.cell ≡ cell) → IsPairOf sheet pair
-        → ((pair.cell ≡ cell) × Contains refs pair.range) ⊎ ((pair.cell ≢ cell) × Contains old pair)
-    to_new (inl above) is = inr ((row_on cell pair.cell above).1, (before pair).1 (above, is))
-    to_new (inr own) is = inl (own, once_all (ranges_at cell) refs pair.range once (subst (λ (c : Position). Contains (ranges_at c) pair.range) own is))
+        → Old pair ⊎ ((pair.cell ≡ cell) × IsPairOf sheet pair)
+    to_new (inl above) is = inl ((before pair).1 (above, is))
+    to_new (inr own) is = inr (own, is)
 
 -- room for calls leaves the pairs, of which a call then replaces those of a cell
 pub replaced_alone : (old kept new : List Pair) (cell : Position) (refs : List Corners) → SamePairs old kept
@@ -145,9 +138,9 @@ rows_end cell other count (inr above) = elim (cases_lt other.row cell.row) [
 ]
 
 -- before some cells, none of them has a pair
-pub run_lacks : (sheet : SheetValue) (cell : Position) (count : ℕ) (pairs : List Pair) → HasPairsBefore sheet cell.col cell.row pairs
-    → LackRun pairs (cells_down cell count)
-run_lacks sheet cell count pairs before pair there inside = outside ((before pair).0 there).0
+pub run_lacks : (sheet : SheetValue) (cell : Position) (count : ℕ) (pairs : List Pair) (Meant : Pair → Type 0)
+    → ((pair : Pair) → Contains pairs pair → Meant pair) → AreThoseBefore sheet cell.col cell.row Meant → LackRun pairs (cells_down cell count)
+run_lacks sheet cell count pairs Meant these before pair there inside = outside ((before pair).0 (these pair there)).0
   where
     outside : IsBeforeRow cell.col cell.row pair.cell → ⊥
     outside (inl left) = omega (arith, left, inside.col_from)
@@ -190,24 +183,25 @@ to_run sheet cell count firsts lasts pair run below same is =
     }
 
 -- the cells of a run have the pairs that its series give them
-pub run_added : (sheet : SheetValue) (cell : Position) (count : ℕ) (firsts lasts : List Corners) (old new : List Pair)
-    → IsRunOf sheet cell count firsts lasts → HasPairsBefore sheet cell.col cell.row old
-    → AddsRun old new (cells_down cell count) (series_of firsts lasts) → HasPairsBefore sheet cell.col (cell.row + count) new
-run_added sheet cell count firsts lasts old new run before adds pair =
+pub run_added : (sheet : SheetValue) (cell : Position) (count : ℕ) (firsts lasts : List Corners) (Old New : Pair → Type 0)
+    → IsRunOf sheet cell count firsts lasts → AreThoseBefore sheet cell.col cell.row Old
+    → ((pair : Pair) → New pair ↔ (IsOfRun (cells_down cell count) (series_of firsts lasts) pair ⊎ Old pair))
+    → AreThoseBefore sheet cell.col (cell.row + count) New
+run_added sheet cell count firsts lasts Old New run before adds pair =
     (λ there. from_new ((adds pair).0 there), λ at. (adds pair).1 (to_new (rows_end cell pair.cell count at.0) at.1))
   where
     still : IsBeforeRow cell.col cell.row pair.cell → IsBeforeRow cell.col (cell.row + count) pair.cell
     still (inl left) = inl left
     still (inr above) = inr (above.0, omega (arith, above.1))
 
-    from_new : IsOfRun (cells_down cell count) (series_of firsts lasts) pair ⊎ Contains old pair
+    from_new : IsOfRun (cells_down cell count) (series_of firsts lasts) pair ⊎ Old pair
         → IsBeforeRow cell.col (cell.row + count) pair.cell × IsPairOf sheet pair
     from_new (inl own) = of_run sheet cell count firsts lasts pair run own
     from_new (inr kept) = let at = (before pair).0 kept in (still at.0, at.1)
 
     to_new : IsBeforeRow cell.col cell.row pair.cell
         ⊎ ((pair.cell.row - cell.row < count) × (pair.cell ≡ down cell (pair.cell.row - cell.row))) → IsPairOf sheet pair
-        → IsOfRun (cells_down cell count) (series_of firsts lasts) pair ⊎ Contains old pair
+        → IsOfRun (cells_down cell count) (series_of firsts lasts) pair ⊎ Old pair
     to_new (inl above) is = inr ((before pair).1 (above, is))
     to_new (inr among) is = inl (to_run sheet cell count firsts lasts pair run among.0 among.1 is)
 
@@ -236,24 +230,13 @@ run_follows sheet cell count firsts lasts run several =
     column_follows (λ index. ranges_in (content_of sheet (down cell index))) cell count firsts lasts run several
 
 -- a run whose cells refer to nothing has no pairs
-pub nothing_added : (sheet : SheetValue) (cell : Position) (count : ℕ) (firsts lasts : List Corners) (pairs : List Pair)
-    → length firsts ≡ 0 → IsRunOf sheet cell count firsts lasts → HasPairsBefore sheet cell.col cell.row pairs
-    → HasPairsBefore sheet cell.col (cell.row + count) pairs
-nothing_added sheet cell count firsts lasts pairs none run before = run_added sheet cell count firsts lasts pairs pairs run before adds
+pub nothing_added : (sheet : SheetValue) (cell : Position) (count : ℕ) (firsts lasts : List Corners) (Meant : Pair → Type 0)
+    → length firsts ≡ 0 → IsRunOf sheet cell count firsts lasts → AreThoseBefore sheet cell.col cell.row Meant
+    → AreThoseBefore sheet cell.col (cell.row + count) Meant
+nothing_added sheet cell count firsts lasts Meant none run before = run_added sheet cell count firsts lasts Meant Meant run before adds
   where
     no_series : (one : SeriesValue) → Contains (series_of firsts lasts) one → ⊥
     no_series one there = omega (arith, there.1, series_length firsts lasts run.as_many, none)
 
-    adds : AddsRun pairs pairs (cells_down cell count) (series_of firsts lasts)
+    adds : (pair : Pair) → Meant pair ↔ (IsOfRun (cells_down cell count) (series_of firsts lasts) pair ⊎ Meant pair)
     adds pair = (λ there. inr there, λ either. elim either [ inl own ↦ absurd (no_series own.one own.listed) | inr kept ↦ kept ])
-
--- the pairs before a cell, by its row and its column, and those before the cell to which it goes on
-pub pairs_at : (sheet : SheetValue) (cell : Position) (row col : ℕ) (pairs : List Pair) → cell.row ≡ row → cell.col ≡ col
-    → HasPairsBefore sheet col row pairs → HasPairsBefore sheet cell.col cell.row pairs
-pairs_at sheet cell row col pairs row_is col_is before =
-    subst (λ r. HasPairsBefore sheet cell.col r pairs) (sym row_is) (subst (λ c. HasPairsBefore sheet c row pairs) (sym col_is) before)
-
-pub column_on : (sheet : SheetValue) (cell : Position) (row col : ℕ) (pairs : List Pair) (count : ℕ) → cell.row ≡ row → cell.col ≡ col
-    → HasPairsBefore sheet cell.col (cell.row + count) pairs → HasPairsBefore sheet col (row + count) pairs
-column_on sheet cell row col pairs count row_is col_is before =
-    subst (λ r. HasPairsBefore sheet col (r + count) pairs) row_is (subst (λ c. HasPairsBefore sheet c (cell.row + count) pairs) col_is before)

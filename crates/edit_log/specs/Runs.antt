@@ -7,8 +7,9 @@ use Rattle.graph_walk.specs.Graphs.{Pair}
 use Rattle.graph_walk.specs.Series.{SeriesValue, GoOn, range_in}
 use Rattle.sheet_model.specs.Ranges.{ranges_in}
 use Rattle.sheet_model.specs.Sheets.{SheetValue, content_of}
-use Rattle.edit_log.specs.Pairs.{HasPairsBefore}
+use Rattle.edit_log.specs.Waiting.{HasPairsBefore}
 use Rattle.edit_log.specs.declared.runs.Run.{Run}
+use Rattle.edit_log.specs.declared.waiting.Waiting.{Waiting}
 
 -- the cell so many rows below another
 abbrev pub down : Position → ℕ → Position
@@ -76,7 +77,7 @@ pub record IsRunFrom (sheet : SheetValue) (cell : Position) (run : Run) : Type 0
   pub refs : AreRefs run.first.now
   pub once : IsOnceEach (ranges_in (content_of sheet cell)) run.first.now
 
--- the pairs of the cells that go on so far have come to those of the cells before them
-pub record AreAdded (sheet : SheetValue) (cell : Position) (pairs : List Pair) (count : ℕ) : Type 0 where
-  pub before : HasPairsBefore sheet cell.col (cell.row + count) pairs
+-- the pairs of the cells that go on so far have come to those of the cells before them, or wait as some of those do
+pub record AreAdded (sheet : SheetValue) (cell : Position) (pairs : List Pair) (waiting : Waiting) (count : ℕ) : Type 0 where
+  pub before : HasPairsBefore sheet cell.col (cell.row + count) pairs waiting
   pub goes : GoTo sheet cell count

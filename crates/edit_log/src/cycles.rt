@@ -128,8 +128,8 @@ impl<G: Graph> Book<G> {
         Ok(())
     }
 
-    // Whether the cell may be on a cycle, by what is known.
-    fn may_be_on_cycle(&self, cell: Cell) -> bool
+    /// Whether the cell may be on a cycle, by what is known: true where nothing is known. It is a look-up.
+    pub fn may_be_on_cycle(&self, cell: Cell) -> bool
         ensures { IsOnCycle (G.pairs self.now.graph) cell → IsTrue result }
     {
         match &self.cycles {

@@ -1,8 +1,8 @@
 //! The graph of a sheet, and the book of its edits.
 //!
 //! A sheet's pairs are those of each cell whose formula refers to a range, with that range
-//! (`specs/Pairs.antt`). `graph_of` gives a graph exactly these, and those of a run of formulas that follow one another
-//! down a column (`specs/Runs.antt`) by one call.
+//! (`specs/Pairs.antt`). `graph_of` gives a graph exactly these: those of a run of formulas that follow one another
+//! down a column (`specs/Runs.antt`) by one call, and those of rows after all of these (`specs/Waiting.antt`).
 //!
 //! A `Book` is a sheet with its graph and the log of its edits, which agree at every moment (`specs/Books.antt`).
 //! `prepare` finds the cells that an edit touches, by one walk from all cells that it changes, and takes all memory;
@@ -31,6 +31,7 @@ mod replacing;
 mod rows;
 mod runs;
 mod values;
+mod waiting;
 
 pub use book::Book;
 pub use crossing::book_crosses;

@@ -154,4 +154,27 @@ impl Reaches {
         let across = self.count_across(sheet, listing, cell);
         across > 1 && across > self.count_down(sheet, listing, cell)
     }
+
+    // Whether formulas go on to the right from a cell of a column or to it, if the sheet has the row.
+    fn is_in_row(&mut self, sheet: &Sheet, listing: &Listing, row: u32, col: u32) -> bool
+        requires lists { ListsAll sheet.now listing.now }
+        requires cols { col ≤ sheet.now.sizes.cols }
+    {
+        if row > sheet.rows() {
+            return false;
+        }
+        let Some(cell) = Cell::new(row, col) else {
+            return false;
+        };
+        !listing.at(sheet, cell).is_empty() && self.count_across(sheet, listing, cell) > 1
+    }
+
+    /// Whether the cell above or the one below is in a run to the right.
+    pub(crate) fn touches_a_row(&mut self, sheet: &Sheet, listing: &Listing, cell: Cell) -> bool
+        requires lists { ListsAll sheet.now listing.now }
+        requires cols { cell.col ≤ sheet.now.sizes.cols }
+    {
+        self.is_in_row(sheet, listing, cell.row() - 1, cell.col())
+            || self.is_in_row(sheet, listing, cell.row() + 1, cell.col())
+    }
 }

@@ -20,7 +20,7 @@ fn range(name: &str) -> Result<Range, Fail> {
 }
 
 // Puts what a field says into a cell.
-fn put(sheet: &mut Sheet, name: &str, field: &str) -> Result<(), Fail> {
+pub(crate) fn put(sheet: &mut Sheet, name: &str, field: &str) -> Result<(), Fail> {
     let cell = cell(name)?;
     if field.len() > 8_192 || !sheet.holds(cell) || sheet.labels().length() == u32::MAX {
         return Err(Fail::from("a field that has no place"));

@@ -1,6 +1,6 @@
 -- The words of a range's cells, as they lie among those of all cells.
 use Rattle.std.proofs.Common.{◌≡◌, ℕ, zero, suc, ◌+◌, ◌-◌, ◌*◌, ◌==◌, List, [], ◌∷◌, length, drop, get_or, slice_get, Some, None}
-use Rattle.std.proofs.Common.{Bool, true, false, cond, IsTrue, refl, ◌∙◌, ap, arith}
+use Rattle.std.proofs.Common.{Bool, true, false, ◌||◌, cond, IsTrue, refl, ◌∙◌, ap, arith}
 use Rattle.std.proofs.lemmas.Option.{slice_get-get_or}
 use Rattle.sheet_refs.specs.Cells.{Corners, IsOrdered}
 use Rattle.sheet_refs.specs.declared.sizes.Sizes.{Sizes}
@@ -18,7 +18,7 @@ dropped (word ∷ words) (suc n) k = let one : suc n + k ≡ suc (n + k) = omega
 code_is : (here word : ℕ) → known_code here ≡ Some word → here ≡ word
 code_is here word = by_tests (here == 5) (here == 6)
   where
-    by_tests : (p q : Bool) → cond p None (cond q None (Some here)) ≡ Some word → here ≡ word
+    by_tests : (p q : Bool) → cond (p || q) None (Some here) ≡ Some word → here ≡ word
     by_tests true q is = absurd (cc)
     by_tests false true is = absurd (cc)
     by_tests false false is = cc

@@ -15,7 +15,7 @@ use Rattle.formula_eval.specs.Meaning.{is_circular}
 use Rattle.sheet_model.specs.Values.{step, value_of, IsInput}
 use Rattle.sheet_model.specs.Words.{CellState, Unseen, Open, Known, is_plain_state}
 use Rattle.sheet_model.specs.declared.walk.Frame.{Frame}
-use Rattle.sheet_model.specs.Walks.{is_unseen, work_left, closed_state, IsWalkOf, KeepsSeen, IsWaiting, IsClosing}
+use Rattle.sheet_model.specs.Walks.{is_unseen, work_left, closed_state, IsWalkOf, KeepsSeen, KeepsKnown, IsWaiting, IsClosing}
 use Rattle.sheet_model.proofs.BudgetLemmas.{circular_closed}
 use Rattle.sheet_model.proofs.ListLemmas.{slice_get-append, slice_get-push, slice_get-pushed, count_by-map}
 use Rattle.sheet_model.proofs.ListLemmas.{set_same, map_same}
@@ -25,7 +25,7 @@ use Rattle.sheet_model.proofs.ValueLemmas.{step_local, step_strict, is_circular-
 use Rattle.sheet_model.proofs.TurnLemmas.{read_set}
 
 -- the state of a cell of the rectangle
-state_at : (states : List CellState) (p n : ℕ) → length states ≡ n → p < n → (s : CellState) × (slice_get states p ≡ Some s)
+pub state_at : (states : List CellState) (p n : ℕ) → length states ≡ n → p < n → (s : CellState) × (slice_get states p ≡ Some s)
 state_at states p n count lt = elim (slice_get_cases states p).1 [
   | inl there ↦ (there.0, there.2)
   | inr past ↦
@@ -153,6 +153,10 @@ module _ (sheet : SheetValue) (states : List CellState) (frames : List Frame) (w
       go Unseen at e = at
       go Open at e = absurd (cc)
       go (Known v) at e = absurd (cc)
+
+-- what was known stays so where open cells are closed
+pub known_close : (states : List CellState) → KeepsKnown states (map closed_state states)
+known_close states p v at = slice_get-map closed_state states p ∙ ap (option_map closed_state) at
 
 -- closing goes on with the cell of one frame closed
 module _ (sheet : SheetValue) (states : List CellState) (rest : List Frame) (f : Frame) (closing : IsClosing sheet states (rest ++ f ∷ [])) where

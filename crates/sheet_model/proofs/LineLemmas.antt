@@ -9,6 +9,7 @@ use Rattle.sheet_refs.specs.Cells.{Position, IsIn, IsOrdered, height, width, cel
 use Rattle.sheet_refs.specs.declared.sizes.Sizes.{Sizes}
 use Rattle.sheet_refs.specs.Sizes.{is_inside, cell_count, place_of, cell_of_place}
 use Rattle.sheet_refs.proofs.Places.{range_place, inside_bounds, place-lt}
+use Rattle.value_core.specs.Codes.{IsNumberWord}
 use Rattle.sheet_model.specs.declared.parts.Part.{Part}
 use Rattle.sheet_model.specs.Lines.{IsWithin, HasNumbers, is_plain_at, StopsAfter, AreRowsWithin, place_in_rows, StopsInRows}
 use Rattle.sheet_model.specs.Parts.{IsPartOfRectangle, part_at}
@@ -25,7 +26,7 @@ within_part words first step a b count within below k less =
     subst (λ (n : ℕ). n < length words) place (within (a + k) (omega arith))
 
 -- evaluation can read past a number
-number_plain : (word : ℕ) → IsCodeWord word → word % 8 ≡ 1 → IsTrue (is_plain_state (cell_state word))
+number_plain : (word : ℕ) → IsCodeWord word → IsNumberWord word → IsTrue (is_plain_state (cell_state word))
 number_plain word is last =
     let circular : not (word == 59) ≡ true = (let other : word ≢ 59 = λ e. omega (arith, e, last) in grind (arith, nat_tests)) in
     sym (plain_known word is (λ e. omega (arith, e, last)) (λ e. omega (arith, e, last))) ∙ circular
@@ -35,18 +36,14 @@ pub numbers_plain : (words : List ℕ) (first step count : ℕ) → AreWords wor
 numbers_plain words first step count are within numbers k below =
     number_plain (get_or words (first + k * step) 0) (word_at words (first + k * step) 0 are (within k below)) (numbers k below)
 
--- what a word's kind is off from that of a number
-pub number_kind : (word : ℕ) → ((word % 8 + 7) % 8 ≤ 7) × ((word % 8 + 7) % 8 ≡ 0 → word % 8 ≡ 1)
-number_kind word = (omega arith, λ none. omega (arith, none))
-
 pub numbers_next : (words : List ℕ) (first step count : ℕ) → HasNumbers words first step count
-    → get_or words (first + count * step) 0 % 8 ≡ 1 → HasNumbers words first step (count + 1)
+    → IsNumberWord (get_or words (first + count * step) 0) → HasNumbers words first step (count + 1)
 numbers_next words first step count all here k below =
     elim (dec_lt k count) [
       | yes before ↦ all k before
       | no past ↦ (let h : ¬ (k < count) = past in
           let same : count ≡ k = omega arith in
-          subst (λ (n : ℕ). get_or words (first + n * step) 0 % 8 ≡ 1) same here)
+          subst (λ (n : ℕ). IsNumberWord (get_or words (first + n * step) 0)) same here)
     ]
 
 -- words behind words

@@ -7,37 +7,39 @@ use Rattle.sheet_refs.specs.Cells.{Position, Corners, ListsCells, cells_of}
 use Rattle.sheet_refs.specs.Sizes.{is_inside, place_of, cell_count}
 use Rattle.sheet_refs.specs.declared.sizes.Sizes.{Sizes}
 use Rattle.sheet_refs.proofs.Places.{HasComeTo, place-lt}
-use Rattle.value_core.specs.declared.value.Value.{Value}
 use Rattle.value_core.specs.Values.{IsValue, code_of}
 use Rattle.sheet_model.specs.Sheets.{SheetValue, IsWithinSheet}
 use Rattle.sheet_model.specs.Values.{value_of, AreValues, HaveCodes}
-use Rattle.sheet_model.specs.Walks.{IsWalkOf, KeepsSeen, SeenBelow, SeenWithin}
+use Rattle.sheet_model.specs.Walks.{IsKnownAt, IsWalkOf, KeepsSeen, SeenBelow, SeenWithin}
 use Rattle.sheet_model.specs.Words.{CellState, Unseen, Open, Known, cell_state, states_of, AreWords}
+use Rattle.sheet_model.specs.declared.walk.Frame.{Frame}
+use Rattle.sheet_model.proofs.CycleLemmas.{state_at}
 
-module _ (sheet : SheetValue) (states : List CellState) (walk : IsWalkOf sheet states []) where
-  -- a seen cell is known where none is open, and its value is what the sheet gives
-  value_known : (cell : Position) → IsTrue (is_inside sheet.sizes cell)
-      → slice_get states (place_of sheet.sizes cell) ≢ Some Unseen → (v : Value)
-      × (slice_get states (place_of sheet.sizes cell) ≡ Some (Known v)) × (value_of sheet cell ≡ v)
-  value_known cell inside seen =
-      elim (slice_get_cases states (place_of sheet.sizes cell)).1 [
-        | inl there ↦ go there.0 there.2
-        | inr past ↦ absurd (let lt = place-lt sheet.sizes cell inside in let e = walk.count in
-            let le : length states ≤ place_of sheet.sizes cell = past.0 in omega arith)
-      ]
+module _ (sheet : SheetValue) (states : List CellState) (walk : IsWalkOf sheet states []) (place : ℕ) (below : place < cell_count sheet.sizes) where
+  -- where no cell is open, a cell that isn't known was not looked at
+  pub unseen_there : ¬ IsKnownAt states place → slice_get states place ≡ Some Unseen
+  unseen_there unknown = let there = state_at states place (cell_count sheet.sizes) walk.count below in go there.0 there.1
     where
-      go : (s : CellState) → slice_get states (place_of sheet.sizes cell) ≡ Some s → (v : Value)
-          × (slice_get states (place_of sheet.sizes cell) ≡ Some (Known v)) × (value_of sheet cell ≡ v)
-      go Unseen at = absurd (seen at)
-      go Open at = absurd (let l = walk.listed (place_of sheet.sizes cell) at in let no = l.2 in cc)
-      go (Known v) at = (v, at, walk.settled cell v inside at)
+      go : (s : CellState) → slice_get states place ≡ Some s → slice_get states place ≡ Some Unseen
+      go Unseen at = at
+      go Open at = absurd (let l = walk.listed place at in let no = l.2 in cc)
+      go (Known v) at = absurd (unknown (v, at))
 
--- so the word of a seen cell is the code of the sheet's value
-module _ (sheet : SheetValue) (words : List ℕ) (are : AreWords words) (walk : IsWalkOf sheet (states_of words) []) where
-  pub word_known : (cell : Position) → IsTrue (is_inside sheet.sizes cell)
-      → slice_get (states_of words) (place_of sheet.sizes cell) ≢ Some Unseen → IsValue (value_of sheet cell)
+  -- and one that was looked at is known
+  pub known_there : slice_get states place ≢ Some Unseen → IsKnownAt states place
+  known_there seen = let there = state_at states place (cell_count sheet.sizes) walk.count below in go there.0 there.1
+    where
+      go : (s : CellState) → slice_get states place ≡ Some s → IsKnownAt states place
+      go Unseen at = absurd (seen at)
+      go Open at = absurd (let l = walk.listed place at in let no = l.2 in cc)
+      go (Known v) at = (v, at)
+
+-- the word of a known cell is the code of the sheet's value
+module _ (sheet : SheetValue) (words : List ℕ) (frames : List Frame) (are : AreWords words) (walk : IsWalkOf sheet (states_of words) frames) where
+  pub word_held : (cell : Position) → IsTrue (is_inside sheet.sizes cell)
+      → IsKnownAt (states_of words) (place_of sheet.sizes cell) → IsValue (value_of sheet cell)
       × (slice_get words (place_of sheet.sizes cell) ≡ Some (code_of (value_of sheet cell)))
-  word_known cell inside seen =
+  word_held cell inside known =
       elim (slice_get_cases words place).1 [
         | inl there ↦ by_word there.0 there.2
         | inr past ↦ absurd (let lt = place-lt sheet.sizes cell inside in let e = walk.count in
@@ -47,15 +49,24 @@ module _ (sheet : SheetValue) (words : List ℕ) (are : AreWords words) (walk : 
       place : ℕ
       place = place_of sheet.sizes cell
 
-      known : (v : Value) × (slice_get (states_of words) place ≡ Some (Known v)) × (value_of sheet cell ≡ v)
-      known = value_known sheet (states_of words) walk cell inside seen
+      settled : value_of sheet cell ≡ known.0
+      settled = walk.settled cell known.0 inside known.1
 
       by_word : (word : ℕ) → slice_get words place ≡ Some word → IsValue (value_of sheet cell) × (slice_get words place ≡ Some (code_of (value_of sheet cell)))
       by_word word at =
           let state : Some (cell_state word) ≡ Some (Known known.0) = sym (slice_get-map cell_state words place ∙ ap (option_map cell_state) at) ∙ known.1 in
           let same : cell_state word ≡ Known known.0 = cc in
           let is = are place word at known.0 same in
-          (subst IsValue (sym known.2) is.0, at ∙ ap Some (sym is.1) ∙ ap (λ v. Some (code_of v)) (sym known.2))
+          (subst IsValue (sym settled) is.0, at ∙ ap Some (sym is.1) ∙ ap (λ v. Some (code_of v)) (sym settled))
+
+-- so is that of a seen cell where none is open
+module _ (sheet : SheetValue) (words : List ℕ) (are : AreWords words) (walk : IsWalkOf sheet (states_of words) []) where
+  pub word_known : (cell : Position) → IsTrue (is_inside sheet.sizes cell)
+      → slice_get (states_of words) (place_of sheet.sizes cell) ≢ Some Unseen → IsValue (value_of sheet cell)
+      × (slice_get words (place_of sheet.sizes cell) ≡ Some (code_of (value_of sheet cell)))
+  word_known cell inside seen =
+      word_held sheet words [] are walk cell inside
+      (known_there sheet (states_of words) walk (place_of sheet.sizes cell) (place-lt sheet.sizes cell inside) seen)
 
   pub words_are_values : SeenBelow (states_of words) (cell_count sheet.sizes) → AreValues sheet words
   words_are_values seen = record {

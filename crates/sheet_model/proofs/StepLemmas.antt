@@ -10,14 +10,14 @@ use Rattle.formula_eval.specs.Meaning.{IsNamedBy}
 use Rattle.sheet_model.specs.Parts.{AddsParts, LooksOn}
 use Rattle.sheet_model.specs.Sheets.{SheetValue, content_of}
 use Rattle.sheet_model.specs.Values.{content_references, step}
-use Rattle.sheet_model.specs.Walks.{known_values, closed_state, work_left, IsWalkState, KeepsSeen, IsWaiting, IsClosing, IsNextToOpen}
+use Rattle.sheet_model.specs.Walks.{known_values, closed_state, work_left, IsWalkOf, IsWalkState, KeepsSeen, KeepsKnown, IsWaiting, IsClosing, IsNextToOpen}
 use Rattle.sheet_model.specs.Words.{Unseen, Open, Known, cell_state, IsCodeWord, AreWords, states_of, is_plain}
 use Rattle.sheet_model.specs.declared.parts.Part.{Part}
 use Rattle.sheet_model.specs.declared.walk.Frame.{Frame}
 use Rattle.sheet_model.proofs.CycleLemmas.{walk_close, closing_step, closing_same}
 use Rattle.sheet_model.proofs.LeftLemmas.{parts_none, parts_set, parts_look, parts_open, parts_finish, inputs_plain}
 use Rattle.sheet_model.proofs.ListLemmas.{slice_get-push}
-use Rattle.sheet_model.proofs.TurnLemmas.{walk_open, work_open, walk_finish, work_finish, seen_set}
+use Rattle.sheet_model.proofs.TurnLemmas.{walk_open, work_open, walk_pop, walk_finish, work_finish, seen_set, known_set}
 use Rattle.sheet_model.proofs.WordLemmas.{state_of_code, code_is_word, open_is_word, words_set, states_set, states_at}
 
 -- the word of a circular cell
@@ -138,6 +138,9 @@ module _ (sheet : SheetValue) (words : List ℕ) (rest : List Frame) (f : Frame)
       (seen_set (states_of words) there Open (Known (step sheet f.cell (known_values sheet.sizes (states_of words))))
       is_open (λ same. cc))
 
+  pub known_finish : (word : ℕ) → KeepsKnown (states_of words) (states_of (set words there word))
+  known_finish word = rw (states_set words there word) (known_set (states_of words) there Open (cell_state word) is_open (λ v same. cc))
+
 -- closing goes on with the cell of one frame closed
 module _ (sheet : SheetValue) (words : List ℕ) (rest : List Frame) (f : Frame) (closing : IsClosing sheet (states_of words) (rest ++ f ∷ [])) where
   abbrev at : ℕ
@@ -151,3 +154,18 @@ module _ (sheet : SheetValue) (words : List ℕ) (rest : List Frame) (f : Frame)
 
   pub words_same : map closed_state (states_of (set words at 59)) ≡ map closed_state (states_of words)
   words_same = ap (map closed_state) now_closed ∙ closing_same sheet (states_of words) rest f closing
+
+-- the newest open cell is given up
+module _ (sheet : SheetValue) (words : List ℕ) (rest : List Frame) (f : Frame) (walk : IsWalkOf sheet (states_of words) (rest ++ f ∷ [])) where
+  pub inside_newest : IsTrue (is_inside sheet.sizes f.cell)
+  inside_newest = walk.inside (length rest) f (slice_get-push rest f)
+
+  pub walk_given_up : IsWalkOf sheet (states_of (set words (place_of sheet.sizes f.cell) 5)) rest
+  walk_given_up =
+      rw (states_set words (place_of sheet.sizes f.cell) 5)
+      (walk_pop sheet (states_of words) rest f Unseen walk (λ same. cc) (λ v same. absurd (cc)))
+
+  pub known_given_up : KeepsKnown (states_of words) (states_of (set words (place_of sheet.sizes f.cell) 5))
+  known_given_up =
+      rw (states_set words (place_of sheet.sizes f.cell) 5)
+      (known_set (states_of words) (place_of sheet.sizes f.cell) Open Unseen (walk.opened (length rest) f (slice_get-push rest f)) (λ v same. cc))

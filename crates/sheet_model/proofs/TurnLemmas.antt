@@ -10,7 +10,7 @@ use Rattle.sheet_model.specs.Sheets.{SheetValue}
 use Rattle.sheet_model.specs.Values.{step, value_of, IsInput}
 use Rattle.sheet_model.specs.Words.{CellState, Unseen, Open, Known, is_plain}
 use Rattle.sheet_model.specs.declared.walk.Frame.{Frame}
-use Rattle.sheet_model.specs.Walks.{known_value, known_values, is_unseen, work_left, IsWalkOf, KeepsSeen}
+use Rattle.sheet_model.specs.Walks.{known_value, known_values, is_unseen, work_left, IsWalkOf, KeepsSeen, KeepsKnown}
 use Rattle.sheet_model.proofs.ListLemmas.{slice_get-append, slice_get-push, slice_get-pushed, slice_get-set_same, slice_get-set_other, count_by-set}
 use Rattle.sheet_refs.proofs.Places.{place_same}
 use Rattle.sheet_model.proofs.SheetValues.{value_over}
@@ -94,24 +94,21 @@ module _ (sheet : SheetValue) (states : List CellState) where
   work_open frames frame p unseen = let fewer = count_by-set is_unseen states p Unseen Open unseen in
       let longer = length-append frames (frame ∷ []) in omega arith
 
-  -- the newest open cell, whose references can all be read past, has the value of one step over the known values
-  pub walk_finish : (rest : List Frame) (f : Frame) → IsWalkOf sheet states (rest ++ f ∷ [])
-      → ((c : Position) → IsInput sheet f.cell c → IsTrue (is_plain sheet.sizes states c))
-      → IsWalkOf sheet (set states (place_of sheet.sizes f.cell)
-      (Known (step sheet f.cell (known_values sheet.sizes states)))) rest
-  walk_finish rest f walk plain = record {
+  -- the newest open cell is open no longer; where it has a value now, that is the sheet's
+  pub walk_pop : (rest : List Frame) (f : Frame) (s : CellState) → IsWalkOf sheet states (rest ++ f ∷ []) → s ≢ Open
+      → ((v : Value) → s ≡ Known v → value_of sheet f.cell ≡ v) → IsWalkOf sheet (set states (place_of sheet.sizes f.cell) s) rest
+  walk_pop rest f s walk closed settles = record {
     is_sheet = walk.is_sheet;
-    count = length-set states p (Known value) ∙ walk.count;
+    count = length-set states p s ∙ walk.count;
     settled = λ c v c_inside at.
-        elim (read_set states p (place_of sheet.sizes c) Open (Known value) (Known v) here at) [
-          | inl same ↦ (let same_value : value ≡ v = (let e = same.1 in cc) in
-              let same_cell : f.cell ≡ c = place_same sheet.sizes f.cell c f_inside c_inside (sym same.0) in
-              ap (value_of sheet) (sym same_cell) ∙ settles ∙ same_value)
+        elim (read_set states p (place_of sheet.sizes c) Open s (Known v) here at) [
+          | inl same ↦ (let same_cell : f.cell ≡ c = place_same sheet.sizes f.cell c f_inside c_inside (sym same.0) in
+              ap (value_of sheet) (sym same_cell) ∙ settles v same.1)
           | inr other ↦ walk.settled c v c_inside other.1
         ];
     listed = λ q at.
-        elim (read_set states p q Open (Known value) Open here at) [
-          | inl same ↦ absurd (let no = same.1 in cc)
+        elim (read_set states p q Open s Open here at) [
+          | inl same ↦ absurd (closed same.1)
           | inr other ↦ (let l = walk.listed q other.1 in
               elim (slice_get-pushed rest f l.0 l.1 l.2) [
                 | inl old ↦ (l.0, l.1, old, l.3)
@@ -119,16 +116,13 @@ module _ (sheet : SheetValue) (states : List CellState) where
               ])
         ];
     inside = λ i g at. walk.inside i g (old i g at);
-    opened = λ i g at. slice_get-set_other states p (place_of sheet.sizes g.cell) (Known value) (apart i g at) ∙ walk.opened i g (old i g at);
+    opened = λ i g at. slice_get-set_other states p (place_of sheet.sizes g.cell) s (apart i g at) ∙ walk.opened i g (old i g at);
     once = λ i j g h lt at_i at_j. walk.once i j g h lt (old i g at_i) (old j h at_j);
     waits = λ i g h at_i at_j. walk.waits i g h (old i g at_i) (old (suc i) h at_j);
   }
     where
       p : ℕ
       p = place_of sheet.sizes f.cell
-
-      value : Value
-      value = step sheet f.cell (known_values sheet.sizes states)
 
       at_end : slice_get (rest ++ f ∷ []) (length rest) ≡ Some f
       at_end = slice_get-push rest f
@@ -145,6 +139,19 @@ module _ (sheet : SheetValue) (states : List CellState) where
       apart : (i : ℕ) (g : Frame) → slice_get rest i ≡ Some g → place_of sheet.sizes g.cell ≢ p
       apart i g at = walk.once i (length rest) g f (slice_get_within rest i g at) (old i g at) at_end
 
+  -- the newest open cell, whose references can all be read past, has the value of one step over the known values
+  pub walk_finish : (rest : List Frame) (f : Frame) → IsWalkOf sheet states (rest ++ f ∷ [])
+      → ((c : Position) → IsInput sheet f.cell c → IsTrue (is_plain sheet.sizes states c))
+      → IsWalkOf sheet (set states (place_of sheet.sizes f.cell)
+      (Known (step sheet f.cell (known_values sheet.sizes states)))) rest
+  walk_finish rest f walk plain = walk_pop rest f (Known value) walk (λ same. cc) (λ v same. settles ∙ one v same)
+    where
+      value : Value
+      value = step sheet f.cell (known_values sheet.sizes states)
+
+      one : (v : Value) → Known value ≡ Known v → value ≡ v
+      one v same = cc
+
       settles : value_of sheet f.cell ≡ value
       settles =
           value_over sheet f.cell (known_values sheet.sizes states) walk.is_sheet
@@ -153,6 +160,10 @@ module _ (sheet : SheetValue) (states : List CellState) where
           let e : known_values sheet.sizes states d ≡ known.0 =
           ap known_value (get_or_from_slice_get states (place_of sheet.sizes d) (Known known.0) Unseen known.1) in
           walk.settled d known.0 input.inside known.1 ∙ sym e)
+
+  pub work_settle : (frames : List Frame) (p : ℕ) (v : Value) → slice_get states p ≡ Some Unseen
+      → work_left (set states p (Known v)) frames < work_left states frames
+  work_settle frames p v unseen = let fewer = count_by-set is_unseen states p Unseen (Known v) unseen in omega arith
 
   pub work_finish : (rest : List Frame) (f : Frame) (p : ℕ) (v : Value) → slice_get states p ≡ Some Open
       → work_left (set states p (Known v)) rest < work_left states (rest ++ f ∷ [])
@@ -163,3 +174,12 @@ module _ (sheet : SheetValue) (states : List CellState) where
 pub seen_set : (states : List CellState) (p : ℕ) (s t : CellState) → slice_get states p ≡ Some s → t ≢ Unseen → KeepsSeen states (set states p t)
 seen_set states p s t at seen q unseen =
     elim (read_set states p q s t Unseen at unseen) [ inl here ↦ absurd (seen here.1) | inr other ↦ other.1 ]
+
+-- a write to a cell without a known value keeps what was known
+pub known_set : (states : List CellState) (p : ℕ) (s t : CellState) → slice_get states p ≡ Some s → ((v : Value) → s ≢ Known v)
+    → KeepsKnown states (set states p t)
+known_set states p s t at free q v known =
+    elim (eqb_tells q p) [
+      | inl same ↦ absurd (free v (let e = ap (slice_get states) same.1 in cc))
+      | inr other ↦ slice_get-set_other states p q t other.1 ∙ known
+    ]

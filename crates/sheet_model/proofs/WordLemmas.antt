@@ -1,6 +1,6 @@
 -- Words as what they tell of cells.
 use Rattle.std.proofs.Common.{◌≡◌, ◌≢◌, ℕ, zero, suc, ◌<◌, ◌==◌, inl, inr, List, [], ◌∷◌, ◌++◌, length, slice_get}
-use Rattle.std.proofs.Common.{get_or, set, Option, Some, None, Bool, true, false, not, cond, option_map, IsTrue}
+use Rattle.std.proofs.Common.{get_or, set, Option, Some, None, Bool, true, false, not, ◌||◌, cond, option_map, IsTrue, IsFalse}
 use Rattle.std.proofs.Common.{refl, sym, ◌∙◌}
 use Rattle.std.proofs.Common.{ap, subst, arith}
 use Rattle.std.proofs.lemmas.Bool.Decides.{nat_tests}
@@ -15,23 +15,24 @@ use Rattle.sheet_refs.specs.declared.sizes.Sizes.{Sizes}
 use Rattle.value_core.specs.declared.value.ErrorKind.TheVariants as error
 use Rattle.value_core.specs.declared.value.Value.{Value}
 use Rattle.value_core.specs.declared.value.Value.TheVariants.{Empty, Number, Truth, Error, Label}
+use Rattle.value_core.specs.Codes.{unseen_word, open_word, is_spare}
 use Rattle.value_core.specs.Decoding.{value_of_word, value_of_its_code}
 use Rattle.value_core.specs.Values.{IsDecoded, IsValue, code_of}
 use Rattle.formula_eval.specs.Inputs.{IsCode, IsKnownPlain, IsPlainRange, ArePlain}
 use Rattle.formula_eval.specs.Meaning.{is_circular, formula_value, IsNamedBy, IsFormulaValue}
 use Rattle.formula_syntax.specs.Tree.{Tree}
-use Rattle.sheet_model.specs.Walks.{known_value, known_values}
+use Rattle.sheet_model.specs.Walks.{IsKnownAt, known_value, known_values}
 use Rattle.sheet_model.specs.Words.{Unseen, Open, Known, cell_state, IsCodeWord, AreWords, states_of, known_code, known_codes, is_plain_state, is_plain}
 use Rattle.sheet_model.proofs.ListLemmas.{slice_get-pushed}
 
--- no value has the code of a word of no value
-code_not_free : (v : Value) → (code_of v ≢ 5) × (code_of v ≢ 6)
-code_not_free Empty = (λ e. omega arith, λ e. omega arith)
-code_not_free (Number n) = (λ e. omega arith, λ e. omega arith)
-code_not_free (Truth false) = (λ e. omega arith, λ e. omega arith)
-code_not_free (Truth true) = (λ e. omega arith, λ e. omega arith)
-code_not_free (Error kind) = (λ e. omega arith, λ e. omega arith)
-code_not_free (Label place) = (λ e. omega arith, λ e. omega arith)
+-- no value has a spare word as its code
+code_not_spare : (v : Value) → (code_of v ≢ unseen_word) × (code_of v ≢ open_word)
+code_not_spare Empty = (λ e. omega arith, λ e. omega arith)
+code_not_spare (Number n) = (λ e. omega arith, λ e. omega arith)
+code_not_spare (Truth false) = (λ e. omega arith, λ e. omega arith)
+code_not_spare (Truth true) = (λ e. omega arith, λ e. omega arith)
+code_not_spare (Error kind) = (λ e. omega arith, λ e. omega arith)
+code_not_spare (Label place) = (λ e. omega arith, λ e. omega arith)
 
 -- a word of neither is that of a value
 state_known : (word : ℕ) → word ≢ 5 → word ≢ 6 → cell_state word ≡ Known (value_of_word word)
@@ -44,7 +45,7 @@ state_known word a b = by_tests (word == 5) (word == 6) refl refl
 
 pub state_of_code : (v : Value) → IsValue v → cell_state (code_of v) ≡ Known v
 state_of_code v is =
-    let free = code_not_free v in
+    let free = code_not_spare v in
     state_known (code_of v) free.0 free.1 ∙ ap Known (value_of_its_code v is)
 
 pub code_is_word : (v : Value) → IsValue v → IsCodeWord (code_of v)
@@ -64,6 +65,50 @@ unseen_is_word v same = absurd (cc)
 
 pub open_is_word : IsCodeWord 6
 open_is_word v same = absurd (cc)
+
+-- a word that is no spare one is neither
+pub not_spare : (word : ℕ) → is_spare word ≡ false → (word ≢ unseen_word) × (word ≢ open_word)
+not_spare word is = by_tests (word == unseen_word) (word == open_word) refl refl is
+  where
+    by_tests : (p q : Bool) → (word == unseen_word) ≡ p → (word == open_word) ≡ q → (p || q) ≡ false → (word ≢ unseen_word) × (word ≢ open_word)
+    by_tests true q is_p is_q is = absurd (cc)
+    by_tests false true is_p is_q is = absurd (cc)
+    by_tests false false is_p is_q is = (λ e. absurd (grind (arith, nat_tests)), λ e. absurd (grind (arith, nat_tests)))
+
+-- evaluation can't read past a cell with a spare word
+pub spare_stops : (word : ℕ) → is_spare word ≡ true → is_plain_state (cell_state word) ≡ false
+spare_stops word is = by_tests (word == unseen_word) (word == open_word) is
+  where
+    by_tests : (p q : Bool) → (p || q) ≡ true → is_plain_state (cond p Unseen (cond q Open (Known (value_of_word word)))) ≡ false
+    by_tests true q is = refl
+    by_tests false true is = refl
+    by_tests false false is = absurd (cc)
+
+-- a spare word tells no value, and each other one does
+pub spare_unknown : (word : ℕ) (v : Value) → is_spare word ≡ true → cell_state word ≢ Known v
+spare_unknown word v is = by_tests (word == unseen_word) (word == open_word) is
+  where
+    by_tests : (p q : Bool) → (p || q) ≡ true → cond p Unseen (cond q Open (Known (value_of_word word))) ≢ Known v
+    by_tests true q is same = cc
+    by_tests false true is same = cc
+    by_tests false false is same = absurd (cc)
+
+pub known_word : (word : ℕ) → is_spare word ≡ false → cell_state word ≡ Known (value_of_word word)
+known_word word is = let free = not_spare word is in state_known word free.0 free.1
+
+-- so a word tells whether a value is known of its cell
+pub known_at : (words : List ℕ) (place word : ℕ) (spare : Bool) → slice_get words place ≡ Some word → spare ≡ is_spare word
+    → IsTrue (not spare) → IsKnownAt (states_of words) place
+known_at words place word true at is told = absurd (cc)
+known_at words place word false at is told =
+    (value_of_word word, slice_get-map cell_state words place ∙ ap (option_map cell_state) at ∙ ap Some (known_word word (sym is)))
+
+pub unknown_at : (words : List ℕ) (place word : ℕ) (spare : Bool) → slice_get words place ≡ Some word → spare ≡ is_spare word
+    → IsFalse (not spare) → ¬ IsKnownAt (states_of words) place
+unknown_at words place word false at is untold known = absurd (cc)
+unknown_at words place word true at is untold known =
+    let state : Some (cell_state word) ≡ Some (Known known.0) = sym (slice_get-map cell_state words place ∙ ap (option_map cell_state) at) ∙ known.1 in
+    spare_unknown word known.0 (sym is) (cc)
 
 -- a known value other than #CIRC!, by its word
 pub plain_known : (word : ℕ) → IsCodeWord word → word ≢ 5 → word ≢ 6 → not (word == 59) ≡ is_plain_state (cell_state word)
@@ -116,7 +161,7 @@ held_value sizes words cell word are below held =
     rw state (by_tests here is (here == 5) (here == 6) refl refl held)
   where
     by_tests : (here : ℕ) → IsCodeWord here → (p q : Bool) → (here == 5) ≡ p → (here == 6) ≡ q
-        → cond p None (cond q None (Some here)) ≡ Some word
+        → cond (p || q) None (Some here) ≡ Some word
         → IsValue (known_value (cond p Unseen (cond q Open (Known (value_of_word here)))))
         × (code_of (known_value (cond p Unseen (cond q Open (Known (value_of_word here))))) ≡ word)
     by_tests here is true q is_p is_q held = absurd (cc)
@@ -185,7 +230,7 @@ passes_known sizes words cell are below plain =
 
     by_tests : (word : ℕ) → IsCodeWord word → (p q : Bool) → (word == 5) ≡ p → (word == 6) ≡ q
         → is_plain_state (cond p Unseen (cond q Open (Known (value_of_word word)))) ≡ true → (known : ℕ) × IsCode known
-        × (cond p None (cond q None (Some word)) ≡ Some known) × (known ≢ code_of (Error error.Circ))
+        × (cond (p || q) None (Some word) ≡ Some known) × (known ≢ code_of (Error error.Circ))
     by_tests word is true q is_p is_q plain = absurd (cc)
     by_tests word is false true is_p is_q plain = absurd (cc)
     by_tests word is false false is_p is_q plain =

@@ -1,14 +1,15 @@
 -- Words at equal distances in a list, and how many of them evaluation can read past.
-use Rattle.std.specs.Prelude.{◌≡◌, ℕ, ◌+◌, ◌*◌, ◌/◌, ◌%◌, ◌<◌, ◌≤◌, List, length, slice_index_or, Bool, IsTrue, IsFalse}
+use Rattle.std.specs.Prelude.{ℕ, ◌+◌, ◌*◌, ◌/◌, ◌%◌, ◌<◌, ◌≤◌, List, length, slice_index_or, Bool, IsTrue, IsFalse}
+use Rattle.value_core.specs.Codes.{IsNumberWord}
 use Rattle.sheet_model.specs.Words.{cell_state, is_plain_state}
 
 -- so many words, from a place on and each so far behind the one before it, lie in the list
 abbrev pub IsWithin : List ℕ → ℕ → ℕ → ℕ → Type 0
 IsWithin words first step count = (k : ℕ) → k < count → first + k * step < length words
 
--- each of them has the last bits that the code of a number has
+-- each of them has the kind of a number
 abbrev pub HasNumbers : List ℕ → ℕ → ℕ → ℕ → Type 0
-HasNumbers words first step count = (k : ℕ) → k < count → slice_index_or words (first + k * step) 0 % 8 ≡ 1
+HasNumbers words first step count = (k : ℕ) → k < count → IsNumberWord (slice_index_or words (first + k * step) 0)
 
 -- evaluation can read past the word at a place
 abbrev pub is_plain_at : List ℕ → ℕ → Bool

@@ -97,6 +97,14 @@ pub record HasParts (sheet : SheetValue) (states : List CellState) (frames : Lis
 abbrev pub KeepsSeen : List CellState → List CellState → Type 0
 KeepsSeen old new = (p : ℕ) → slice_get new p ≡ Some Unseen → slice_get old p ≡ Some Unseen
 
+-- no value that was known is lost
+abbrev pub KeepsKnown : List CellState → List CellState → Type 0
+KeepsKnown old new = (p : ℕ) (v : Value) → slice_get old p ≡ Some (Known v) → slice_get new p ≡ Some (Known v)
+
+-- a value is known of the cell at a place
+abbrev pub IsKnownAt : List CellState → ℕ → Type 0
+IsKnownAt states place = (v : Value) × (slice_get states place ≡ Some (Known v))
+
 -- every cell before the place has been seen
 abbrev pub SeenBelow : List CellState → ℕ → Type 0
 SeenBelow states end = (p : ℕ) → p < end → slice_get states p ≢ Some Unseen
@@ -153,3 +161,6 @@ cells_left walk = work_left (walk_states walk) walk.frames.items
 
 abbrev pub StaysSeen : Walk → Walk → Type 0
 StaysSeen old new = KeepsSeen (walk_states old) (walk_states new)
+
+abbrev pub StaysKnown : Walk → Walk → Type 0
+StaysKnown old new = KeepsKnown (walk_states old) (walk_states new)

@@ -6,6 +6,7 @@ use Rattle.sheet_refs.specs.Sizes.{place_of}
 use Rattle.sheet_refs.specs.declared.sizes.Sizes.{Sizes}
 use Rattle.value_core.specs.declared.value.Value.{Value}
 use Rattle.value_core.specs.declared.value.Value.TheVariants.{Empty, Number, Truth, Error, Label}
+use Rattle.value_core.specs.Codes.{unseen_word, open_word, is_spare}
 use Rattle.value_core.specs.Decoding.{value_of_word}
 use Rattle.value_core.specs.Values.{IsValue, code_of}
 use Rattle.formula_eval.specs.Meaning.{is_circular}
@@ -18,7 +19,7 @@ pub data CellState : Type 0 where
 
 -- the state for which a word stands
 abbrev pub cell_state : ℕ → CellState
-cell_state word = if word == 5 then Unseen else (if word == 6 then Open else Known (value_of_word word))
+cell_state word = if word == unseen_word then Unseen else (if word == open_word then Open else Known (value_of_word word))
 
 -- that a value is in range has one proof at most
 pub value_prop : (v : Value) → IsProp (IsValue v)
@@ -44,7 +45,7 @@ states_of words = map cell_state words
 
 -- the code that is known by a word
 abbrev pub known_code : ℕ → Option ℕ
-known_code word = if word == 5 then None else (if word == 6 then None else Some word)
+known_code word = if is_spare word then None else Some word
 
 -- the codes that are known of the cells of a rectangle
 abbrev pub known_codes : Sizes → List ℕ → Position → Option ℕ

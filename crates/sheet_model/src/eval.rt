@@ -10,11 +10,10 @@ ghost use Rattle.sheet_model.specs.Words.{cell_state, states_of};
 use crate::content::Content;
 use crate::known::Known;
 use crate::parts::{Part, add_in_order};
-use crate::words::UNSEEN;
 use formula_eval::{Stack, eval_known};
 use sheet_refs::Sizes;
 use std::alloc::{AllocError, Global};
-use value_core::{Value, code};
+use value_core::{CodeWord, Value, code};
 
 // The word of a cell before the walk: constants are known, and formulas not looked at.
 fn first_word(content: &Content) -> u64
@@ -27,7 +26,7 @@ fn first_word(content: &Content) -> u64
         Content::Truth(truth) => code(Value::Truth(*truth)),
         Content::Error(kind) => code(Value::Error(*kind)),
         Content::Label(place) => code(Value::Label(*place)),
-        Content::Formula(_) => UNSEEN,
+        Content::Formula(_) => CodeWord::UNSEEN.get(),
     }
 }
 

@@ -4,9 +4,9 @@ ghost use Rattle.formula_eval.specs.Inputs.{IsCode};
 ghost use Rattle.sheet_model.specs.Words.{AreWords, IsCodeWord, known_code, value_prop};
 ghost use Rattle.std.proofs.Props.{props};
 
-use crate::words::{OPEN, UNSEEN};
 use formula_eval::{Block, Inputs};
 use sheet_refs::{Cell, Range, Sizes};
+use value_core::CodeWord;
 
 /// The values that a walk knows, as an evaluation takes them.
 #[derive(Clone, Copy)]
@@ -62,7 +62,7 @@ fn code_of_word(word: u64) -> Option<u64>
     ensures held { result ≡ known_code word }
     ensures code { IfSome result IsCode }
 {
-    if word == UNSEEN || word == OPEN {
+    if CodeWord::new(word).is_spare() {
         return None;
     }
     Some(word)

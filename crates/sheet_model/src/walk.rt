@@ -1,12 +1,12 @@
-ghost use Rattle.std.specs.Prelude.{◌≡◌, ◌≢◌, ◌<◌, []};
-ghost use Rattle.std.specs.Prelude.{map, set, slice_get, IfOk};
+ghost use Rattle.std.specs.Prelude.{◌≡◌, ◌≢◌, ◌+◌, ◌<◌, ◌≤◌, []};
+ghost use Rattle.std.specs.Prelude.{map, set, slice_get, length, IfOk};
 ghost use Rattle.std.specs.Prelude.{OnOk, Some, IsTrue, IsFalse};
 ghost use Rattle.sheet_refs.specs.Sizes.{place_of, cell_count};
 ghost use Rattle.sheet_model.specs.Values.{AreValues, HaveCodes};
 ghost use Rattle.sheet_model.specs.Sheets.{content_value, IsWithinSheet};
 ghost use Rattle.sheet_model.specs.Walks.{IsStoredWalk, IsIdle, StaysSeen, SeenBelow, SeenWithin, IsWaiting};
 ghost use Rattle.sheet_model.specs.Walks.{IsClosing, IsNextToOpen, IsDone, cells_left, closed_state};
-ghost use Rattle.sheet_model.specs.Walks.{walk_states, content_there, KnowsOneMore};
+ghost use Rattle.sheet_model.specs.Walks.{walk_states, content_there, IsKnownAt, KnowsOneMore, StaysKnown};
 ghost use Rattle.sheet_model.specs.Words.{AreWords, Open, Unseen};
 
 use crate::content::Content;
@@ -14,10 +14,11 @@ use crate::eval::{add_content, evaluate, first_words};
 use crate::parts::Part;
 use crate::ready::is_ready;
 use crate::sheet::Sheet;
-use crate::words::{OPEN, UNSEEN, look};
-use formula_eval::{CIRCULAR, Stack};
+use crate::words::look;
+use formula_eval::Stack;
 use sheet_refs::{Cell, Memory, Range};
 use std::alloc::{AllocError, Global};
+use value_core::CodeWord;
 
 /// An open cell, and where its parts begin among all that is left to look at.
 #[derive(Clone, Copy)]
@@ -37,6 +38,25 @@ pub(crate) struct Walk {
     /// The cells for whose values others waited, where they are to be listed.
     pub(crate) found: Option<Vec<Cell>>,
     stack: Stack,
+}
+
+// Lists a cell whose value was found, where such cells are to be listed.
+fn list(found: &mut Option<Vec<Cell>>, cell: Cell) -> Result<(), AllocError> {
+    match found {
+        Some(found) => {
+            found.push(cell)?;
+            Ok(())
+        }
+        None => Ok(()),
+    }
+}
+
+// The same of all open cells.
+fn list_open(found: &mut Option<Vec<Cell>>, frames: &[Frame]) -> Result<(), AllocError> {
+    for frame in frames {
+        list(found, frame.cell)?;
+    }
+    Ok(())
 }
 
 // What stands in the cell at a place.
@@ -73,8 +93,22 @@ impl Walk {
         ensures frames { self.new.frames.items ≡ [] }
     {
         while let Some(frame) = self.frames.pop() {
-            self.words[sheet.place(frame.cell)] = CIRCULAR;
+            self.words[sheet.place(frame.cell)] = CodeWord::CIRCULAR.get();
         }
+    }
+
+    /// Gives up the open cells: it is as if none of them had been looked at. It takes a write for each of them.
+    pub(crate) fn give_up(&mut self, sheet: &Sheet)
+        requires sound { IsStoredWalk sheet.now self.old }
+        ensures sound { IsStoredWalk sheet.now self.new }
+        ensures idle { IsIdle self.new }
+        ensures parts { self.new.parts.items ≡ [] }
+        ensures known { StaysKnown self.old self.new }
+    {
+        while let Some(frame) = self.frames.pop() {
+            self.words[sheet.place(frame.cell)] = CodeWord::UNSEEN.get();
+        }
+        self.parts.clear();
     }
 
     /// Opens a cell: all that it names in the rectangle is left to look at.
@@ -87,7 +121,7 @@ impl Walk {
         ensures less { OnOk result (cells_left self.new < cells_left self.old) }
     {
         let first = self.parts.len();
-        self.words[sheet.place(cell)] = OPEN;
+        self.words[sheet.place(cell)] = CodeWord::OPEN.get();
         self.frames.push(Frame { cell, first })?;
         add_content(sheet.sizes(), sheet.content(cell), &mut self.parts)
     }
@@ -121,15 +155,17 @@ impl Walk {
         requires waiting { IsWaiting sheet.now (walk_states self.old) self.old.frames.items cell }
         ensures sound { OnOk result (IsStoredWalk sheet.now self.new) }
         ensures seen { OnOk result (StaysSeen self.old self.new) }
+        ensures known { OnOk result (StaysKnown self.old self.new) }
         ensures less { OnOk result (cells_left self.new < cells_left self.old) }
     {
         let place = sheet.place(cell);
-        if self.words[place] == UNSEEN {
+        if self.words[place] == CodeWord::UNSEEN.get() {
             if self.settle_at_once(sheet, place) {
-                return Ok(());
+                return list(&mut self.found, cell);
             }
             return self.open(sheet, cell);
         }
+        list_open(&mut self.found, &self.frames)?;
         self.close(sheet);
         self.parts.clear();
         Ok(())
@@ -141,6 +177,7 @@ impl Walk {
         requires done { IsDone self.old }
         ensures sound { IsStoredWalk sheet.now self.new }
         ensures seen { StaysSeen self.old self.new }
+        ensures known { StaysKnown self.old self.new }
         ensures less { ¬ IsIdle self.old → cells_left self.new < cells_left self.old }
     {
         let Some(frame) = self.frames.pop() else {
@@ -157,6 +194,7 @@ impl Walk {
         requires sound { IsStoredWalk sheet.now self.old }
         ensures sound { OnOk result (IsStoredWalk sheet.now self.new) }
         ensures seen { OnOk result (StaysSeen self.old self.new) }
+        ensures known { OnOk result (StaysKnown self.old self.new) }
         ensures less { OnOk result (¬ IsIdle self.old → cells_left self.new < cells_left self.old) }
     {
         let count = self.frames.len();
@@ -165,21 +203,30 @@ impl Walk {
         }
         let frame = self.frames[count - 1];
         match look(sheet.sizes(), &self.words, &mut self.parts, frame.first) {
-            Some(cell) => {
-                self.enter(sheet, cell)?;
-                match &mut self.found {
-                    Some(found) => {
-                        found.push(cell)?;
-                        Ok(())
-                    }
-                    None => Ok(()),
-                }
-            }
+            Some(cell) => self.enter(sheet, cell),
             None => {
                 self.finish(sheet);
-                Ok(())
+                list(&mut self.found, frame.cell)
             }
         }
+    }
+
+    /// Settles the cell at a place, or opens it, where no other one is open.
+    fn begin(&mut self, sheet: &Sheet, place: usize) -> Result<(), AllocError>
+        requires sound { IsStoredWalk sheet.now self.old }
+        requires idle { IsIdle self.old }
+        requires place { place < cell_count sheet.now.sizes }
+        requires unseen { slice_get (walk_states self.old) place ≡ Some Unseen }
+        ensures sound { OnOk result (IsStoredWalk sheet.now self.new) }
+        ensures seen { OnOk result (StaysSeen self.old self.new) }
+        ensures known { OnOk result (StaysKnown self.old self.new) }
+        ensures begun { OnOk result (slice_get (walk_states self.new) place ≢ Some Unseen) }
+        ensures less { OnOk result (cells_left self.new < cells_left self.old) }
+    {
+        if self.settle_at_once(sheet, place) {
+            return Ok(());
+        }
+        self.open(sheet, sheet.cell_at(place))
     }
 
     /// Settles the cell at a place, and every cell that it leads to.
@@ -190,19 +237,86 @@ impl Walk {
         ensures sound { OnOk result (IsStoredWalk sheet.now self.new) }
         ensures idle { OnOk result (IsIdle self.new) }
         ensures seen { OnOk result (StaysSeen self.old self.new) }
-        ensures known { OnOk result (slice_get (walk_states self.new) place ≢ Some Unseen) }
+        ensures known { OnOk result (StaysKnown self.old self.new) }
+        ensures settled { OnOk result (slice_get (walk_states self.new) place ≢ Some Unseen) }
     {
-        if self.words[place] != UNSEEN {
+        if self.words[place] != CodeWord::UNSEEN.get() {
             return Ok(());
         }
-        if self.settle_at_once(sheet, place) {
-            return Ok(());
-        }
-        self.open(sheet, sheet.cell_at(place))?;
+        self.begin(sheet, place)?;
         while !self.frames.is_empty() {
             self.turn(sheet)?;
         }
         Ok(())
+    }
+
+    /// Whether the value of the cell at a place is known.
+    pub(crate) fn knows(&self, place: usize) -> bool
+        requires { place < length self.now.words.items }
+        ensures known { IsTrue result → IsKnownAt (walk_states self.now) place }
+        ensures unknown { IsFalse result → ¬ IsKnownAt (walk_states self.now) place }
+    {
+        !CodeWord::new(self.words[place]).is_spare()
+    }
+
+    /// Settles the cell at a place, and every cell that it leads to, whatever cells are open. Unless its value is known
+    /// already, these are given up.
+    pub(crate) fn settle_apart(&mut self, sheet: &Sheet, place: usize) -> Result<(), AllocError>
+        requires sound { IsStoredWalk sheet.now self.old }
+        requires place { place < cell_count sheet.now.sizes }
+        ensures sound { OnOk result (IsStoredWalk sheet.now self.new) }
+        ensures known { OnOk result (StaysKnown self.old self.new) }
+        ensures settled { OnOk result (IsKnownAt (walk_states self.new) place) }
+    {
+        if self.knows(place) {
+            return Ok(());
+        }
+        self.give_up(sheet);
+        self.settle(sheet, place)?;
+        Ok(())
+    }
+
+    /// Goes on with the open cells, or begins with the one at a place where none is open.
+    fn step(&mut self, sheet: &Sheet, place: usize) -> Result<(), AllocError>
+        requires sound { IsStoredWalk sheet.now self.old }
+        requires place { place < cell_count sheet.now.sizes }
+        requires unknown { ¬ IsKnownAt (walk_states self.old) place }
+        ensures sound { OnOk result (IsStoredWalk sheet.now self.new) }
+        ensures known { OnOk result (StaysKnown self.old self.new) }
+        ensures less { OnOk result (cells_left self.new < cells_left self.old) }
+    {
+        if self.frames.is_empty() {
+            return self.begin(sheet, place);
+        }
+        self.turn(sheet)
+    }
+
+    /// Goes on until the value of the cell at a place is known, and says so, or until no step is left. Each turn of the
+    /// walk takes a step.
+    pub(crate) fn settle_within(
+        &mut self,
+        sheet: &Sheet,
+        place: usize,
+        steps: &mut u32,
+    ) -> Result<bool, AllocError>
+        requires sound { IsStoredWalk sheet.now self.old }
+        requires place { place < cell_count sheet.now.sizes }
+        ensures sound { OnOk result (IsStoredWalk sheet.now self.new) }
+        ensures known { OnOk result (StaysKnown self.old self.new) }
+        ensures settled { IfOk result
+            (λ done. IsTrue done → IsKnownAt (walk_states self.new) place) }
+        ensures ended { IfOk result (λ done. IsFalse done → steps.new ≡ 0) }
+        ensures less { OnOk result
+            (cells_left self.new + steps.old ≤ cells_left self.old + steps.new) }
+    {
+        while !self.knows(place) {
+            if *steps == 0 {
+                return Ok(false);
+            }
+            *steps -= 1;
+            self.step(sheet, place)?;
+        }
+        Ok(true)
     }
 
     /// Settles every cell.

@@ -8,23 +8,18 @@ ghost use Rattle.sheet_model.specs.Words.{AreWords, IsCodeWord, is_plain as plai
 ghost use Rattle.sheet_model.specs.Words.{cell_state, states_of};
 
 use crate::parts::Part;
-use formula_eval::CIRCULAR;
 use sheet_refs::{Cell, Range, Sizes};
-
-/// The word of a cell that wasn't looked at. No value has it as its code.
-pub(crate) const UNSEEN: u64 = 5;
-
-/// The word of a cell that waits for the value of another one. No value has it as its code.
-pub(crate) const OPEN: u64 = 6;
+use value_core::CodeWord;
 
 fn is_plain_word(word: u64) -> bool
     requires { IsCodeWord word }
     ensures { result ≡ is_plain_state (cell_state word) }
 {
-    if word == UNSEEN || word == OPEN {
+    let word = CodeWord::new(word);
+    if word.is_spare() {
         return false;
     }
-    word != CIRCULAR
+    !word.is_circular()
 }
 
 /// Whether evaluation can read past a cell of the rectangle.
@@ -54,7 +49,7 @@ fn are_numbers(words: &[u64], first: usize, step: usize, count: usize) -> bool
 {
     let mut others = 0;
     for k in 0..count {
-        others += (words[first + k * step] % 8 + 7) % 8;
+        others += CodeWord::new(words[first + k * step]).off_number();
     }
     others == 0
 }

@@ -1,12 +1,13 @@
 use Rattle.std.proofs.Common.{◌≡◌, ◌∙◌, length, arith, sym, rules}
 use Rattle.std.proofs.lemmas.Bool.Decides.{nat_tests}
-use Rattle.edit_log.proofs.PairLemmas.{nothing_added, run_added, run_follows, run_lacks, with_formula}
+use Rattle.edit_log.proofs.PairLemmas.{run_follows}
+use Rattle.edit_log.proofs.WaitingLemmas.{cell_across, nothing_waiting, run_waiting, waiting_lacks}
 use Rattle.edit_log.proofs.graphs.add_from.Goals as goal
 
 pub returns-then-is_longer_across : goal.returns-then-is_longer_across
 returns-then-is_longer_across g c = record {
-  before = with_formula c.args.sheet.now c.args.cell (g.G.Graph.pairs c.args.graph.now) (g.G.Graph.pairs c.add_alone.new.graph)
-      c.at.result.now c.at.ensures.once c.requires.before c.in_ok-add_alone.ensures;
+  before = cell_across c.args.sheet.now c.args.cell (g.G.Graph.pairs c.args.graph.now) c.args.waiting.now c.put_across.new.self
+      (search rules) (search rules) c.in_ok-put_across.ensures.across c.put_across.ensures.alone c.requires.before;
   goes = record {
     some = omega arith;
     inside = omega (arith, c.requires.rows);
@@ -19,19 +20,13 @@ returns-then-is_empty g c =
     let run = c.run_from-run.result in
     let none : length run.first.now ≡ 0 = grind (arith, nat_tests, sym c.is_empty.ensures ∙ c.if-is_empty.true) in
     record {
-      before = nothing_added c.args.sheet.now c.args.cell run.count run.first.now run.last.now (g.G.Graph.pairs c.args.graph.now) none
-          c.run_from-run.ensures.follow c.requires.before;
+      before = nothing_waiting c.args.sheet.now c.args.cell run.count run.first.now run.last.now (g.G.Graph.pairs c.args.graph.now)
+          c.args.waiting.now none c.run_from-run.ensures.follow c.requires.before;
       goes = c.run_from-run.ensures.goes;
     }
 
 pub returns-then-run-eq1 : goal.returns-then-run-eq1
-returns-then-run-eq1 g c =
-    let run = c.run_from-run.result in
-    record {
-      before = with_formula c.args.sheet.now c.args.cell (g.G.Graph.pairs c.args.graph.now) (g.G.Graph.pairs c.add_alone-then-run-eq1.new.graph)
-          run.first.now c.run_from-run.ensures.once c.requires.before c.in_ok-add_alone-2.ensures;
-      goes = search rules;
-    }
+returns-then-run-eq1 g c = record { before = c.in_ok-add_one.ensures; goes = search rules }
 
 pub add_several-requires-clause-follow : goal.add_several-requires-clause-follow
 add_several-requires-clause-follow g c =
@@ -40,13 +35,13 @@ add_several-requires-clause-follow g c =
 
 pub add_several-requires-clause-free : goal.add_several-requires-clause-free
 add_several-requires-clause-free g c =
-    run_lacks c.args.sheet.now c.args.cell c.run_from-run.result.count (g.G.Graph.pairs c.args.graph.now) c.requires.before
+    waiting_lacks c.args.sheet.now c.args.cell c.run_from-run.result.count (g.G.Graph.pairs c.args.graph.now) c.args.waiting.now c.requires.before
 
 pub returns : goal.returns
 returns g c =
     let run = c.run_from-run.result in
     record {
-      before = run_added c.args.sheet.now c.args.cell run.count run.first.now run.last.now (g.G.Graph.pairs c.args.graph.now)
-          (g.G.Graph.pairs c.add_several.new.graph) c.run_from-run.ensures.follow c.requires.before c.in_ok-add_several.ensures;
+      before = run_waiting c.args.sheet.now c.args.cell run.count run.first.now run.last.now (g.G.Graph.pairs c.args.graph.now)
+          (g.G.Graph.pairs c.add_several.new.graph) c.args.waiting.now c.run_from-run.ensures.follow c.requires.before c.in_ok-add_several.ensures;
       goes = c.run_from-run.ensures.goes;
     }

@@ -1,10 +1,10 @@
-use Rattle.std.proofs.Common.{◌≡◌, slice_get, Some, sym, ◌∙◌, ap, rules}
+use Rattle.std.proofs.Common.{◌≡◌, slice_get, Some, sym, ◌∙◌, ap, subst, rules}
 use Rattle.std.proofs.lemmas.Option.{slice_get_read}
 use Rattle.sheet_refs.specs.Sizes.{cell_count, place_of}
 use Rattle.value_core.specs.Values.{code_of}
 use Rattle.sheet_model.specs.Values.{value_of}
-use Rattle.sheet_model.specs.Walks.{walk_states}
-use Rattle.sheet_model.proofs.ResultLemmas.{word_known}
+use Rattle.sheet_model.specs.Walks.{IsKnownAt, walk_states}
+use Rattle.sheet_model.proofs.ResultLemmas.{word_held}
 use Rattle.sheet_model.proofs.StepLemmas.{words_count}
 use Rattle.sheet_model.proofs.WordLemmas.{decoded_code}
 use Rattle.sheet_model.proofs.kept_values.KeptValues.value.Goals as goal
@@ -14,10 +14,10 @@ use Rattle.sheet_model.proofs.kept_values.KeptValues.value.Goals.{After-decode}
 shown : (c : After-decode) → c.decode.result ≡ Some (value_of c.args.sheet.now c.args.cell)
 shown c =
     let sheet = c.args.sheet.now in
-    let walk = c.settle.new.self in
-    let state = rw c.in_ok-settle.ensures.idle at c.in_ok-settle.ensures.sound in
-    let known = word_known sheet walk.words.items state.coded state.walk c.args.cell c.requires.inside
-    (rw c.place-place.ensures.place at c.in_ok-settle.ensures.known) in
+    let walk = c.settle_apart.new.self in
+    let state = c.in_ok-settle_apart.ensures.sound in
+    let known = word_held sheet walk.words.items walk.frames.items state.coded state.walk c.args.cell c.requires.inside
+    (subst (IsKnownAt (walk_states walk)) c.place-place.ensures.place c.in_ok-settle_apart.ensures.settled) in
     let count = words_count sheet walk.words.items _ _ state in
     let at = slice_get_read walk.words.items (cell_count sheet.sizes) c.place-place.result c.index.result.now (sym count)
     c.place-place.ensures.within c.index.ensures in
@@ -32,7 +32,7 @@ pub returns-clause-value : goal.returns-clause-value
 returns-clause-value c = let is = shown (goal.at.returns-clause-value c).After-decode in search (rules, is)
 
 pub returns-clause-held : goal.returns-clause-held
-returns-clause-held c = λ same. c.in_ok-settle.ensures.known (ap (slice_get (walk_states c.settle.new.self)) c.place-place.ensures.place ∙ same)
+returns-clause-held c = subst (IsKnownAt (walk_states c.settle_apart.new.self)) c.place-place.ensures.place c.in_ok-settle_apart.ensures.settled
 
 pub returns-clause-others : goal.returns-clause-others
-returns-clause-others c = λ other before same. before (c.in_ok-settle.ensures.seen (place_of c.args.sheet.now.sizes other) same)
+returns-clause-others c = λ other held. (held.0, c.in_ok-settle_apart.ensures.known (place_of c.args.sheet.now.sizes other) held.0 held.1)

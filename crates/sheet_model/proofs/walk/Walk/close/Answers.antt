@@ -11,7 +11,7 @@ pub loop-frame-preserved : goal.loop-frame-preserved
 loop-frame-preserved c =
     let words = c.loop-frame.self.words.items in
     let closing = rw c.in-Some.ensures.items at c.loop-frame.invariant.closing in
-    rw c.place.ensures.place (record {
+    rw (c.place.ensures.place, c.get.ensures) (record {
       words = words_set words (place_of c.args.sheet.now.sizes c.in-Some.frame.cell) 59 c.loop-frame.invariant.words circular_is_word;
       closing = words_closing c.args.sheet.now words c.pop.new.self.items c.in-Some.frame closing;
       same = words_same c.args.sheet.now words c.pop.new.self.items c.in-Some.frame closing ∙ c.loop-frame.invariant.same;

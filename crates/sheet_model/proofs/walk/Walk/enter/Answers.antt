@@ -3,10 +3,10 @@ use Rattle.std.proofs.lemmas.Option.{slice_get-map, slice_get_read}
 use Rattle.sheet_refs.specs.Sizes.{cell_count, place_of}
 use Rattle.sheet_model.specs.Walks.{cells_left}
 use Rattle.sheet_model.specs.Words.{Unseen, Open, cell_state, states_of}
-use Rattle.sheet_model.proofs.CycleLemmas.{closing_begin, seen_close, work_close}
+use Rattle.sheet_model.proofs.CycleLemmas.{closing_begin, known_close, seen_close, work_close}
 use Rattle.sheet_model.proofs.ListLemmas.{on_ok}
 use Rattle.sheet_model.proofs.StepLemmas.{words_count, state_close}
-use Rattle.sheet_model.proofs.TurnLemmas.{seen_set}
+use Rattle.sheet_model.proofs.TurnLemmas.{known_set, seen_set}
 use Rattle.sheet_model.proofs.WordLemmas.{unseen_state, seen_state}
 use Rattle.sheet_model.proofs.walk.Walk.enter.Goals as goal
 use Rattle.sheet_model.proofs.walk.Walk.enter.Goals.{After-index}
@@ -32,15 +32,24 @@ open-requires-clause-opening c = record {
   newest = rw c.settle_at_once.ensures.frames c.requires.waiting.newest;
 }
 
-pub returns-then-index-eq-UNSEEN-clause-seen : goal.returns-then-index-eq-UNSEEN-clause-seen
-returns-then-index-eq-UNSEEN-clause-seen c =
-    let at = state (goal.at.returns-then-index-eq-UNSEEN-clause-seen c).After-index ∙ ap Some (unseen_state c.index.result.now (search rules)) in
+pub returns-then-index-get-clause-seen : goal.returns-then-index-get-clause-seen
+returns-then-index-get-clause-seen c =
+    let at = state (goal.at.returns-then-index-get-clause-seen c).After-index ∙ ap Some (unseen_state c.index.result.now (search rules)) in
     let differs : Open ≢ Unseen = λ e. cc in
     on_ok c.open.result
     (λ (less : cells_left c.open.new.self < cells_left c.settle_at_once.new.self).
     rw (c.open.ensures.states, c.settle_at_once.ensures.left (search rules))
     (seen_set (states_of c.args.self.now.words.items) (place_of c.args.sheet.now.sizes c.args.cell) Unseen Open at
     differs))
+    c.open.ensures.less
+
+pub returns-then-index-get-clause-known : goal.returns-then-index-get-clause-known
+returns-then-index-get-clause-known c =
+    let at = state (goal.at.returns-then-index-get-clause-known c).After-index ∙ ap Some (unseen_state c.index.result.now (search rules)) in
+    on_ok c.open.result
+    (λ (less : cells_left c.open.new.self < cells_left c.settle_at_once.new.self).
+    rw (c.open.ensures.states, c.settle_at_once.ensures.left (search rules))
+    (known_set (states_of c.args.self.now.words.items) (place_of c.args.sheet.now.sizes c.args.cell) Unseen Open at (λ v same. cc)))
     c.open.ensures.less
 
 pub close-requires-clause-closing : goal.close-requires-clause-closing
@@ -60,6 +69,9 @@ pub returns-clause-seen : goal.returns-clause-seen
 returns-clause-seen c =
     rw c.close.ensures.states (seen_close c.args.sheet.now (states_of c.args.self.now.words.items)
     c.args.self.now.frames.items c.requires.sound.walk)
+
+pub returns-clause-known : goal.returns-clause-known
+returns-clause-known c = rw c.close.ensures.states (known_close (states_of c.args.self.now.words.items))
 
 pub returns-clause-less : goal.returns-clause-less
 returns-clause-less c =

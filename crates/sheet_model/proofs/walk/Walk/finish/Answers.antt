@@ -1,6 +1,6 @@
 use Rattle.std.proofs.Common.{◌≤◌, ◌++◌, ◌∷◌, [], length}
 use Rattle.sheet_model.specs.Walks.{IsWalkState}
-use Rattle.sheet_model.proofs.StepLemmas.{done_last, finish_plain, finish_inside, state_finish, less_finish, seen_finish}
+use Rattle.sheet_model.proofs.StepLemmas.{done_last, finish_plain, finish_inside, state_finish, less_finish, seen_finish, known_finish}
 use Rattle.sheet_model.proofs.walk.Walk.finish.Goals as goal
 use Rattle.sheet_model.proofs.walk.Walk.finish.Goals.{After-content-content}
 
@@ -44,6 +44,13 @@ returns-clause-seen c =
     rw c.place.ensures.place
     (seen_finish c.args.sheet.now c.args.self.now.words.items c.pop.new.self.items c.in-Some.frame
     c.args.self.now.parts.items (sound before) c.evaluate-word.result known)
+
+pub returns-clause-known : goal.returns-clause-known
+returns-clause-known c =
+    let before = (goal.at.returns-clause-known c).After-content-content in
+    rw c.place.ensures.place
+    (known_finish c.args.sheet.now c.args.self.now.words.items c.pop.new.self.items c.in-Some.frame
+    c.args.self.now.parts.items (sound before) c.evaluate-word.result)
 
 pub returns-clause-less : goal.returns-clause-less
 returns-clause-less c = λ not_idle.

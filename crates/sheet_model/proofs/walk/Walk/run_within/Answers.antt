@@ -18,7 +18,7 @@ loop-place-init c =
 pub loop-place-preserved : goal.loop-place-preserved
 loop-place-preserved c =
     let below : c.loop-place._place < length (cells_of c.args.range) = omega (arith, c.loop-place-test.true, c.cells-place-end.ensures.count) in
-    let known = subst (λ place. slice_get (walk_states c.settle.new.self) place ≢ Some Unseen) c.place.ensures.place c.in_ok-settle.ensures.known in
+    let known = subst (λ place. slice_get (walk_states c.settle.new.self) place ≢ Some Unseen) c.place.ensures.place c.in_ok-settle.ensures.settled in
     let at_next = comes_to_next c.args.range c.loop-place._place c.loop-place.cell c.cell_behind-cell.result
     c.loop-place.invariant.so_far.at below c.cell_behind-cell.ensures.next c.cell_behind-cell.ensures.inside in
     record {

@@ -2,7 +2,7 @@ use Rattle.std.proofs.Common.{List, subst}
 use Rattle.sheet_refs.specs.Cells.{Corners}
 use Rattle.graph_walk.specs.Graphs.{Replaces}
 use Rattle.edit_log.proofs.PairLemmas.{replaced_alone}
-use Rattle.edit_log.proofs.graphs.add_alone.Goals as goal
+use Rattle.edit_log.proofs.waiting.add_alone.Goals as goal
 
 pub returns : goal.returns
 returns g c =
