@@ -11,7 +11,7 @@ use Rattle.recalc_workers.specs.declared.rules.Queued.{Queued}
 use Rattle.recalc_workers.specs.declared.rules.HandView.{HandView}
 use Rattle.recalc_workers.specs.declared.hands.Hand.{Hand}
 use Rattle.recalc_workers.specs.Rule.{FitsSheet, AllFit, PutsEntry, TakesEntry, KnowsHeld}
-use Rattle.recalc_workers.specs.Hands.{jobs_of, put_of, taken_of, HasHeld, HasPut, HasRefused, HasTaken, HasFoundNone}
+use Rattle.recalc_workers.specs.Hands.{jobs_of, put_of, refused_of, taken_of, is_sole, HasHeld, HasPut, HasRefused, HasTaken, HasFoundFull, HasFoundNone}
 
 fit_jobs : (sizes : Sizes) (entries : List Queued) → AllFit sizes entries → (place : ℕ) (job : Job)
     → get_elem? (jobs_of entries) place ≡ some job → FitsSheet sizes job
@@ -47,17 +47,6 @@ has_put old new entry h same =
       room = λ sole. let short = h.1 sole in let a = length-map v.put (λ entry. entry.job) in let b = length-map v.taken (λ entry. entry.job) in omega arith;
     }
 
-pub has_refused : (sizes : Sizes) (old new : Hand) (job : Job) (n : ℕ) → (view old.pass).sizes ≡ sizes → n ≡ 65536 → view new.pass ≡ view old.pass
-    → view new.note ≡ view old.note ++ job ∷ [] → Held n (KnowsHeld (view old.pass)) → HasRefused sizes old new job
-has_refused sizes old new job n sized room same noted h =
-    let full = held sizes 65536 old sized (h.0, h.1 ∙ room, h.2) in record {
-      put = ap (λ (w : HandView). jobs_of w.put) same;
-      refused = noted;
-      taken = ap (λ (w : HandView). jobs_of w.taken) same;
-      full = full;
-      no_room = λ sole. counts (put_of old) (taken_of old) full.held 65536 (full.accounts sole) full.counted;
-    }
-
 pub has_taken : (sizes : Sizes) (old new : Hand) (entry : Queued) → (view old.pass).sizes ≡ sizes → TakesEntry (view old.pass) entry (view new.pass)
     → view new.note ≡ view old.note → HasTaken sizes old new entry.job
 has_taken sizes old new entry sized h same =
@@ -80,4 +69,43 @@ has_found_none sizes old new sized same noted h =
       };
       empty = none;
       all_taken = λ sole. none_left (put_of old) (taken_of old) none.held (none.accounts sole) none.counted;
+    }
+
+pub has_found_full : (sizes : Sizes) (old new : Hand) (n : ℕ) → (view old.pass).sizes ≡ sizes → n ≡ 65536 → view new.pass ≡ view old.pass
+    → view new.note ≡ view old.note → Held n (KnowsHeld (view old.pass)) → HasFoundFull sizes old new
+has_found_full sizes old new n sized room same noted h =
+    let full = held sizes 65536 old sized (h.0, h.1 ∙ room, h.2) in record {
+      same = record {
+        put = ap (λ (w : HandView). jobs_of w.put) same;
+        refused = noted;
+        taken = ap (λ (w : HandView). jobs_of w.taken) same;
+      };
+      full = full;
+      no_room = λ sole. counts (put_of old) (taken_of old) full.held 65536 (full.accounts sole) full.counted;
+    }
+
+-- a job is noted as refused after the queue was found full
+pub has_refused : (sizes : Sizes) (old full new : Hand) (job : Job) → HasFoundFull sizes old full → put_of new ≡ put_of full
+    → taken_of new ≡ taken_of full → refused_of new ≡ refused_of full ++ job ∷ [] → HasRefused sizes old new job
+has_refused sizes old full new job found put taken noted = record {
+  put = put ∙ found.same.put;
+  refused = noted ∙ ap (λ (jobs : List Job). jobs ++ job ∷ []) found.same.refused;
+  taken = taken ∙ found.same.taken;
+  full = found.full;
+  no_room = found.no_room;
+}
+
+-- what a hand found, another one finds too that has put and taken the same
+pub found_still : (sizes : Sizes) (old full other : Hand) → HasFoundFull sizes old full → is_sole other ≡ is_sole old
+    → put_of other ≡ put_of old → taken_of other ≡ taken_of old → HasFoundFull sizes other other
+found_still sizes old full other found sole put taken =
+    let h = found.full in record {
+      same = record { put = refl; refused = refl; taken = refl };
+      full = record {
+        held = h.held;
+        counted = h.counted;
+        fit = h.fit;
+        accounts = λ is. put ∙ h.accounts (sym sole ∙ is) ∙ ap (λ (jobs : List Job). jobs ++ h.held) (sym taken);
+      };
+      no_room = λ is. ap length put ∙ found.no_room (sym sole ∙ is) ∙ ap (λ (jobs : List Job). length jobs + 65536) (sym taken);
     }

@@ -5,7 +5,8 @@ mod LawLemmas
 pub mod LevelLemmas
 mod ListedLemmas
 mod LookupLemmas
-mod PartLemmas
+mod OfferLemmas
+pub mod PartLemmas
 mod PlainLemmas
 mod QueueLemmas
 pub mod ReadingLemmas
@@ -15,5 +16,6 @@ pub mod SettlingLemmas
 pub mod SharingLemmas
 mod SideLemmas
 mod TurnLawLemmas
+pub mod VisitLemmas
 mod WorkLemmas
 mod WorthLemmas

@@ -89,3 +89,9 @@ pub record HasFoundNone (sizes : Sizes) (old new : Hand) : Type 0 where
   pub same : HasSameLists old new
   pub empty : HasHeld sizes 0 old
   pub all_taken : is_sole old ≡ true → put_of old ≡ taken_of old
+
+-- there was no room, and the queue was full at one moment of the call; where the hand is the only one, it was full all along
+pub record HasFoundFull (sizes : Sizes) (old new : Hand) : Type 0 where
+  pub same : HasSameLists old new
+  pub full : HasHeld sizes 65536 old
+  pub no_room : is_sole old ≡ true → length (put_of old) ≡ length (taken_of old) + 65536

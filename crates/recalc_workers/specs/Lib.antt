@@ -3,6 +3,8 @@ pub mod Desks
 pub mod Hands
 pub mod Inputs
 pub mod Laws
+pub mod Noted
+pub mod Offers
 pub mod Offices
 pub mod Rule
 pub mod Seats
@@ -12,4 +14,5 @@ pub mod Sides
 pub mod Sources
 pub mod TurnLaws
 pub mod Turns
+pub mod Visits
 pub mod Work

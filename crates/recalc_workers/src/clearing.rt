@@ -2,6 +2,7 @@ ghost use Rattle.std.specs.Prelude.{◌≡◌, ◌<◌, true, length};
 ghost use Rattle.mark_words.specs.Tokens.{IsSeatOf, subject_of, places_of, view_of, log_of};
 ghost use Rattle.recalc_workers.specs.Seats.{HoldsNothing};
 ghost use Rattle.recalc_workers.specs.Settling.{HasWorked, KnowsPlace};
+ghost use Rattle.recalc_workers.specs.Visits.{KnowsFinished};
 
 use crate::finishing::finish_at;
 use crate::gates::Gate;
@@ -15,7 +16,7 @@ use std::thread::yield_now;
 /// Reads the cell's place and, where it is stale and free, puts the word there: its worth after the log that the seat
 /// knows, which has `count` entries. Answers whether the seat knows the place as clean now. It doesn't where another
 /// seat holds the place or took it first, nor where the place was marked by a later entry.
-fn try_to_clear<S: Subject, G: Gate>(
+pub(crate) fn try_to_clear<S: Subject, G: Gate>(
     marks: &Marks<S>,
     seat: &mut Seat<S>,
     gate: &G,
@@ -31,6 +32,7 @@ fn try_to_clear<S: Subject, G: Gate>(
     requires count { count ≡ length (log_of seat.old) }
     ensures same { IsSeatOf marks.now seat.new }
     ensures worked { HasWorked seat.old seat.new }
+    ensures finished { KnowsFinished (S.touches (subject_of marks.now)) seat.old seat.new }
     ensures known { result ≡ true
         → KnowsPlace (S.touches (subject_of marks.now)) (view_of seat.new) place }
 {

@@ -10,17 +10,18 @@ ghost use Rattle.recalc_workers.specs.Inputs.{AreCodes, AgreeWith, HaveNoCircula
 
 use crate::inputs::InputList;
 use crate::lookups::Listed;
-use formula_eval::{CIRCULAR, Stack, eval, eval_known};
+use formula_eval::{Stack, eval, eval_known};
 use formula_syntax::Formula;
 use sheet_model::Content;
 use sheet_refs::Sizes;
-use value_core::{Value, code};
+use value_core::{CodeWord, Value, code};
 
 // Whether one of the words is the code of `#CIRC!`.
 fn has_circular_word(words: &[u64]) -> bool
     ensures { result ≡ false → HaveNoCircular words.now }
 {
-    words.contains(&CIRCULAR)
+    let circular = CodeWord::CIRCULAR.get();
+    words.contains(&circular)
 }
 
 // The value of a formula over the words in the list, which has one for each cell that the formula names. One look

@@ -1,8 +1,7 @@
 ghost use Rattle.std.specs.Prelude.{◌≡◌};
 ghost use Rattle.crossbeam_queue.specs.Passes.{IsPassOf, ruled_capacity};
 
-use crate::job::Job;
-use crate::notes::{NoteSlot, Noted};
+use crate::notes::{NotePass, NoteSlot};
 use crate::rules::{HandView, JobQueue, Queued};
 use crossbeam_queue::Pass;
 use sheet_refs::Sizes;
@@ -20,6 +19,6 @@ pub struct Jobs {
 pub struct Hand {
     pub(crate) pass: Pass<Queued, HandView>,
     pub(crate) slot: NoteSlot,
-    pub(crate) note: Pass<Job, Noted>,
+    pub(crate) note: NotePass,
     ghost noting: { IsPassOf slot note },
 }

@@ -1,11 +1,15 @@
-ghost use Rattle.std.specs.Prelude.{◌≡◌, true, false, IfOk, OnOk, OnErr, IfErr, IfSome, IfNone};
+ghost use Rattle.std.specs.Prelude.{◌≡◌, true, false, All, IsTrue, IsFalse};
+ghost use Rattle.std.specs.Prelude.{IfOk, OnOk, OnErr, IfErr, IfSome, IfNone};
+ghost use Rattle.sheet_refs.specs.Sizes.{is_inside};
 ghost use Rattle.recalc_workers.specs.Rule.{FitsSheet};
 ghost use Rattle.recalc_workers.specs.Hands.{sizes_of, is_sole, IsHandOf, IsNewHand};
-ghost use Rattle.recalc_workers.specs.Hands.{HasPut, HasRefused, HasTaken, HasFoundNone, HasSameLists};
+ghost use Rattle.recalc_workers.specs.Hands.{HasPut, HasRefused, HasTaken, HasFoundFull, HasFoundNone};
+ghost use Rattle.recalc_workers.specs.Hands.{HasSameLists};
+ghost use Rattle.recalc_workers.specs.Offers.{AreOffered};
 
 use crate::hands::{Hand, Jobs};
 use crate::job::Job;
-use crate::notes::{note, note_slot};
+use crate::notes::{note, note_rest, note_slot};
 use crate::rules::{Further, JobQueue, Learns, Puts, Queued, Takes};
 use sheet_refs::{Cell, Memory, Sizes};
 use std::alloc::Global;
@@ -13,6 +17,9 @@ use std::sync::Wait;
 
 /// The most jobs that wait at once.
 const ROOM: usize = 65_536;
+
+/// The tries of a new job.
+const TRIES: u8 = 16;
 
 impl Jobs {
     /// An empty queue for the jobs of a sheet of these sizes, and its one hand.
@@ -69,6 +76,25 @@ impl Jobs {
         Ok(Hand { pass, slot, note })
     }
 
+    // Puts the job at the end of the queue. False only where the queue held 65,536 jobs at a step of this call;
+    // nothing is noted then.
+    fn put<R: Wait>(&self, rt: &R, hand: &mut Hand, job: Job) -> bool
+        requires hand { IsHandOf self.now hand.old }
+        requires fits { FitsSheet (sizes_of self.now) job }
+        ensures hand { IsHandOf self.now hand.new × (is_sole hand.new ≡ is_sole hand.old) }
+        ensures put { IsTrue result → HasPut hand.old hand.new job }
+        ensures full { IsFalse result → HasFoundFull (sizes_of self.now) hand.old hand.new }
+    {
+        let entry = Queued {
+            job,
+            sizes: self.sizes,
+        };
+        match self.queue.push_as::<Puts, R>(rt, &mut hand.pass, entry) {
+            Ok(()) => true,
+            Err(_) => false,
+        }
+    }
+
     /// Puts the job at the end of the queue. Err, with the job, only where the queue held 65,536 jobs at a step of this
     /// call.
     pub fn offer<R: Wait>(&self, rt: &R, hand: &mut Hand, job: Job) -> Result<(), Job>
@@ -79,15 +105,30 @@ impl Jobs {
         ensures refused { IfErr result
             (λ back. (back ≡ job) × HasRefused (sizes_of self.now) hand.old hand.new job) }
     {
-        let entry = Queued {
-            job,
-            sizes: self.sizes,
-        };
-        match self.queue.push_as::<Puts, R>(rt, &mut hand.pass, entry) {
-            Ok(()) => Ok(()),
-            Err(_) => {
-                note(rt, &hand.slot, &mut hand.note, &job);
-                Err(job)
+        if self.put(rt, hand, job) {
+            Ok(())
+        } else {
+            note(rt, &hand.slot, &mut hand.note, &job);
+            Err(job)
+        }
+    }
+
+    /// Offers a job of 16 tries for each of the cells, in order. Once a job finds the queue full, it and all that are
+    /// left are refused by that step of the queue, at a cost that doesn't grow with their number.
+    pub fn offer_each<R: Wait>(&self, rt: &R, hand: &mut Hand, cells: Vec<Cell>)
+        requires hand { IsHandOf self.now hand.old }
+        requires inside { All (λ cell. IsTrue (is_inside (sizes_of self.now) cell)) cells.items }
+        ensures hand { IsHandOf self.now hand.new × (is_sole hand.new ≡ is_sole hand.old) }
+        ensures offered { AreOffered (sizes_of self.now) hand.old cells.items hand.new }
+    {
+        for place in 0..cells.len() {
+            let job = Job {
+                cell: cells[place],
+                tries: TRIES,
+            };
+            if !self.put(rt, hand, job) {
+                note_rest(rt, &hand.slot, &mut hand.note, cells, place);
+                return;
             }
         }
     }

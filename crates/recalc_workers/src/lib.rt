@@ -9,10 +9,12 @@
 //! why it doesn't. Each answer has its cause in what the desk's seat noted in this call (`specs/Turns.antt`,
 //! `turn_laws`), and in the lists of its hand (`specs/Again.antt`).
 //!
-//! `settle_values` puts the values of many cells at many desks for the editor's seat, which knows each of them as clean
-//! afterwards; `settle_level` and `settle_circular` compute them there (`specs/Settling.antt`, `settle_laws`). A
-//! `Gate` is what happens between a claim and its put: nothing, but in tests. Below stand `sheet_refs`,
-//! `formula_eval`, `sheet_model`, `mark_words` and the kit's `crossbeam_queue`; above stands the live sheet.
+//! `settle_values` puts the values of many cells at many desks for the editor's seat, which knows each of them as
+//! clean afterwards; `settle_level` and `settle_circular` compute them there (`specs/Settling.antt`, `settle_laws`).
+//! A `Gate` is what happens between a claim and its put: nothing, but in tests. A worker without a job goes on by
+//! single visits: `find` reads a cell at a desk, and `put_once` puts a value there (`specs/Visits.antt`). Below stand
+//! `sheet_refs`, `formula_eval`, `sheet_model`, `mark_words` and the kit's `crossbeam_queue`; above stands the live
+//! sheet.
 #![tactic(auto)]
 
 mod causes;
@@ -35,6 +37,7 @@ mod notes;
 mod office;
 mod read_again;
 mod reading;
+mod refused_jobs;
 mod rules;
 mod settle_cells;
 mod settlement;
@@ -44,6 +47,7 @@ mod side_by_side;
 mod taking;
 mod task;
 mod turns;
+mod visits;
 mod working;
 
 pub use causes::turn_laws;
@@ -56,6 +60,8 @@ pub use office::Office;
 pub use rules::{HandView, Queued};
 pub use settlement::settle_laws;
 pub use settling::{settle_circular, settle_level, settle_values};
+pub use sharing::tell_desk;
 pub use taking::turn;
 pub use task::Task;
 pub use turns::Turn;
+pub use visits::{Found, find, put_once};

@@ -1,6 +1,7 @@
-ghost use Rattle.std.specs.Prelude.{◌≡◌, true, false};
-ghost use Rattle.mark_words.specs.Tokens.{IsSeatOf, view_of, is_editor};
+ghost use Rattle.std.specs.Prelude.{◌≡◌, ◌≤◌, true, false};
+ghost use Rattle.mark_words.specs.Tokens.{IsSeatOf, view_of, seen_of, is_editor};
 ghost use Rattle.recalc_workers.specs.Desks.{seat_of, wants_memory};
+ghost use Rattle.recalc_workers.specs.Seats.{HasDoneNothing};
 ghost use Rattle.recalc_workers.specs.Settling.{AreDesksOf, Each, IsDeskAfter, IsLent, KnowsOf};
 ghost use Rattle.recalc_workers.specs.Settling.{KeepsDesk, KeepsEditor, KnowsNoLess, KnowsOfAll};
 ghost use Rattle.recalc_workers.specs.Settling.{NoneWantsMemory};
@@ -10,7 +11,7 @@ use mark_core::Subject;
 use mark_words::{Marks, Seat};
 
 /// Lets the desk know what the editor's seat knows: both meet, and then the desk has the editor's log.
-fn lend<S: Subject>(marks: &Marks<S>, editor: &mut Seat<S>, desk: &mut Desk<S>)
+pub fn tell_desk<S: Subject>(marks: &Marks<S>, editor: &mut Seat<S>, desk: &mut Desk<S>)
     requires table { IsSeatOf marks.now editor.old }
     requires editor { is_editor editor.old ≡ true }
     requires desk { IsSeatOf marks.now (seat_of desk.old) }
@@ -18,6 +19,8 @@ fn lend<S: Subject>(marks: &Marks<S>, editor: &mut Seat<S>, desk: &mut Desk<S>)
     ensures editor { KeepsEditor editor.old editor.new }
     ensures desk { IsSeatOf marks.now (seat_of desk.new) }
     ensures kept { KeepsDesk desk.old desk.new }
+    ensures idle { HasDoneNothing (seat_of desk.old) (seat_of desk.new) }
+    ensures seen { seen_of (seat_of desk.old) ≤ seen_of editor.old }
     ensures knows { KnowsNoLess (view_of editor.old) (view_of (seat_of desk.new)) }
 {
     marks.meet(editor, &mut desk.seat);
@@ -34,7 +37,7 @@ pub(crate) fn lend_all<S: Subject>(marks: &Marks<S>, editor: &mut Seat<S>, desks
     ensures desks { Each (IsLent marks.now (view_of editor.old)) desks.old desks.new }
 {
     for place in 0..desks.len() {
-        lend(marks, editor, &mut desks[place]);
+        tell_desk(marks, editor, &mut desks[place]);
     }
 }
 

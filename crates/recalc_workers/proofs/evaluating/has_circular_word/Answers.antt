@@ -7,4 +7,4 @@ use Rattle.recalc_workers.proofs.evaluating.has_circular_word.Goals as goal
 pub returns : goal.returns
 returns c = λ none i word at same.
     false≢true (sym none ∙ c.contains.ensures.value ∙ list_any_at _ c.args.words.now i 0 (slice_get_within c.args.words.now i word at)
-    (eq-eqb _ _ (get_or_from_slice_get c.args.words.now i word 0 at ∙ same)))
+    (eq-eqb _ _ (get_or_from_slice_get c.args.words.now i word 0 at ∙ same ∙ sym c.get-circular.ensures)))

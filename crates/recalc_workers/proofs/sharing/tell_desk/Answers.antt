@@ -3,7 +3,7 @@ use Rattle.std.proofs.Common.{subst}
 use Rattle.mark_words.specs.declared.tables.Doing.{Doing}
 use Rattle.mark_words.specs.Meets.{HasMet}
 use Rattle.mark_words.specs.Tokens.{doing_of}
-use Rattle.recalc_workers.proofs.sharing.lend.Goals as goal
+use Rattle.recalc_workers.proofs.sharing.tell_desk.Goals as goal
 
 pub returns-clause-knows : goal.returns-clause-knows
 returns-clause-knows g c =
