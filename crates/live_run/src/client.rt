@@ -80,6 +80,7 @@ pub(crate) fn run_client<N: Naming, R: Threads + Wait + Sync, T: Gate + Sync>(
     let mut number: u32 = 0;
     while let Some(order) = orders.pop() {
         number += 1;
+        watch.before(number);
         gate.before(*client, number);
         match follow(rt, live, watch, gate, pass, order, reports) {
             Ok(()) => {}

@@ -23,8 +23,9 @@ fn run_and_leave<N: Naming, R: Threads + Wait + Sync, T: Gate + Sync>(
     requires { Begins N.opening task.old }
     ensures { IsEndOf N.opening task.old task.new }
 {
+    let commands = task.orders.len();
     run_client(rt, live, watch, gate, task);
-    watch.leave();
+    watch.leave(commands.saturating_sub(task.orders.len()));
 }
 
 /// Runs all clients side by side, each in a task of its own.
@@ -71,7 +72,7 @@ fn work_at_desks<N: Naming + Send + Sync, R: Threads + Wait + Sync, T: Gate + Sy
         rt,
         &mut desks,
         threads,
-        &|_: usize, desk: &mut Desk<N>| { work_on(rt, live, watch, desk, gate) },
+        &|number: usize, desk: &mut Desk<N>| { work_on(rt, live, watch, desk, number, gate) },
     );
     desks
 }

@@ -10,11 +10,12 @@ mod FirmLemmas
 mod GatherLemmas
 mod LookLemmas
 mod MeetingLemmas
-mod OfferLemmas
 mod OpeningLemmas
 mod PassEdits
 mod PassLemmas
 mod RangeLemmas
 mod RefusalLemmas
 mod Sent
+mod SliceLemmas
 mod StaleLemmas
+mod StoreLemmas

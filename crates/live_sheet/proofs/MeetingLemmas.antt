@@ -31,7 +31,7 @@ use Rattle.live_sheet.specs.Ranges.{KnowsAll}
 use Rattle.live_sheet.specs.Stale.{KnowsCell}
 
 -- two lists, each a prefix of the other, are one
-no_more : {X : Type 0} (xs ys rest : List X) → ys ≡ xs ++ rest → length ys ≤ length xs → ys ≡ xs
+pub no_more : {X : Type 0} (xs ys rest : List X) → ys ≡ xs ++ rest → length ys ≤ length xs → ys ≡ xs
 no_more xs ys [] is short = is ∙ append-nil xs
 no_more xs ys (x ∷ rest) is short = absurd (let e = ap length is ∙ length-append xs (x ∷ rest) in omega arith)
 

@@ -1,11 +1,15 @@
 -- What of a live sheet threads may hand on and share.
 use denote.RattleType.{RattleType}
-use denote.Param.Send.{IsSend, IsSync, sendable}
+use denote.Param.Send.{IsSend, IsSync, sendable, view_send}
 use denote.Param.SendFields.{FieldsHave, declared_send, declared_sync}
 use Rattle.std.proofs.sync.ledger.Book.TheSendSync.{the_send as send_counts}
 use Rattle.std.proofs.sync.ledger.Share.TheSendSync.{the_send as send_share}
 use Rattle.std.proofs.Crossing.{crosses}
+use Rattle.std.specs.contracts.alloc.Global as global
+use Rattle.std.specs.contracts.impls.GlobalAllocator.TheImpl as allocator
+use Rattle.std.specs.contracts.option.Option as option
 use Rattle.std.specs.contracts.sync.ledger.Book as counts
+use Rattle.std.specs.contracts.vec.Vec as vec
 use Rattle.std.specs.declared.sync.ledger.Ledger.{Ghosts as LedgerGhosts}
 use Rattle.edit_log.specs.contracts.over_sheet.OverSheet as over
 use Rattle.edit_log.specs.contracts.over_sheet.OverSheetSubject.TheImpl as subject
@@ -22,6 +26,9 @@ use Rattle.live_sheet.specs.contracts.live.Live as live
 use Rattle.live_sheet.specs.contracts.locked.Locked as locked
 use Rattle.live_sheet.specs.contracts.pass.Pass as pass
 use Rattle.live_sheet.specs.contracts.rest.Rest as rest
+use Rattle.live_sheet.specs.contracts.store.Store as store
+use Rattle.live_sheet.specs.contracts.store.Store.TheInside as inside
+use Rattle.live_sheet.specs.contracts.stored.Stored as stored
 use Rattle.live_sheet.specs.declared.naming.Naming.{Ghosts}
 
 pub seat_send : IsSend entry.the_row → IsSend (seat.the_row over.the_row entry.the_row subject.ghosts)
@@ -39,8 +46,17 @@ module _ (N : RattleType) (n : Ghosts N.Denot) (l : LedgerGhosts N.Denot) (send 
       declared_send (pass.the_type N n l)
       (search (sendable, crosses) depth 40, (seat_send e, (hand_send, (search (send_share) depth 20, (search (sendable, crosses) depth 40, tt)))))
 
-  pub desk_send : IsSend (desk.the_row N n l)
-  desk_send = declared_send (desk.the_type N n l) (worker_send e, (search (sendable, crosses) depth 40, tt))
+  -- a desk's store, where its slots may
+  pub store_send : IsSend (vec.the_row (option.the_row stored.the_row) global.the_row allocator.ghosts) → IsSend (store.the_row N n l)
+  store_send of_slots =
+      view_send (inside.the_row N n l) _ _ _ _ (
+      declared_send (inside.the_type N n l)
+      (seat_send e, (search (sendable, crosses) depth 40, (of_slots, (search (sendable, crosses) depth 40, tt))))
+      )
+
+  pub desk_send : IsSend (store.the_row N n l) → IsSend (desk.the_row N n l)
+  desk_send of_store = declared_send (desk.the_type N n l)
+      (worker_send e, (search (sendable, crosses) depth 40, (search (sendable, crosses) depth 40, tt)))
 
   -- what lies behind the lock, where the book may
   pub locked_send : FieldsHave IsSend (locked.the_type N n l).parts → IsSend (locked.the_row N n l)

@@ -7,31 +7,17 @@ use Rattle.edit_log.specs.declared.refused.PrepareRefused.{PrepareRefused}
 use Rattle.edit_log.specs.declared.refused.PrepareRefused.TheVariants as prepare
 use Rattle.mark_core.specs.Marks.{IsPrefix}
 use Rattle.mark_words.specs.Tokens.{doing_of, own_steps}
-use Rattle.recalc_workers.specs.declared.hands.Hand.{Hand}
-use Rattle.recalc_workers.specs.declared.job.Job.{Job}
-use Rattle.recalc_workers.specs.Hands.{HasPut, HasRefused}
+use Rattle.recalc_workers.specs.Offers.{AreOffered}
 use Rattle.sheet_model.specs.Edits.{EditValue, AreInSheet}
 use Rattle.sheet_model.specs.Sheets.{SheetValue}
 use Rattle.sheet_model.specs.declared.entry.Entry.{Entry}
 use Rattle.sheet_refs.specs.Cells.{Position}
-use Rattle.sheet_refs.specs.declared.sizes.Sizes.{Sizes}
 use Rattle.live_sheet.specs.declared.committed.EditRefused.{EditRefused}
 use Rattle.live_sheet.specs.declared.committed.EditRefused.TheVariants.{OutOfSheet, LogFull, Memory}
 use Rattle.live_sheet.specs.declared.naming.Naming.{Ghosts}
 use Rattle.live_sheet.specs.declared.pass.Pass.{Pass}
 use Rattle.live_sheet.specs.Edits.{HasLearned}
 use Rattle.live_sheet.specs.Passes.{client_of, pass_log, pass_seen, numbers_of, accepted_of, KeepsOffice}
-
--- the job for a cell, with all its tries
-abbrev pub job_for : Position → Job
-job_for cell = record { cell = cell; tries = 16 }
-
--- A job for each of the cells was offered, in order, and nothing else: each was put, or was refused where the queue was full
--- at a step of the call.
-abbrev pub AreOffered : Sizes → Hand → List Position → Hand → Type 0
-AreOffered sizes old [] new = new ≡ old
-AreOffered sizes old (cell ∷ cells) new =
-    (between : Hand) × (HasPut old between (job_for cell) ⊎ HasRefused sizes old between (job_for cell)) × AreOffered sizes between cells new
 
 module _ {N : Type 0} {G : Ghosts N} where
   -- The pass knows a log that ends with the edit under its client, at this number, which is above every number that it saw

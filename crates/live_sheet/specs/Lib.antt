@@ -14,7 +14,9 @@ pub mod Ranges
 pub mod Rooms
 pub mod Setups
 pub mod Shares
+pub mod Slices
 pub mod Stale
 pub mod Starts
 pub mod Steps
+pub mod Stored
 pub mod Worked

@@ -8,7 +8,6 @@ ghost use Rattle.live_sheet.specs.declared.committed.EditRefused.TheVariants as 
 use crate::committed::{Committed, EditRefused};
 use crate::live::Live;
 use crate::naming::Naming;
-use crate::offering::offer_all;
 use crate::pass::Pass;
 use sheet_model::Edit;
 use std::sync::Wait;
@@ -16,7 +15,7 @@ use std::sync::Wait;
 impl<N: Naming> Live<N> {
     /// Makes an edit of the pass's client. It is answered once each cell that it touches is marked and it is committed;
     /// then the pass knows the log up to it. The lock is held for this alone. After it a job is offered for each of the
-    /// cells, row by row; one that finds the queue full is dropped.
+    /// cells, row by row; once one finds the queue full, it and all that are left are dropped.
     ///
     /// An edit is refused where a cell of it is outside the sheet, with the first such cell; where the log is full,
     /// which the pass then knows; or where there is no memory. A refused edit offers nothing and leaves the pass's
@@ -41,10 +40,9 @@ impl<N: Naming> Live<N> {
             .edit(&self.marks, self.sizes(), pass, edit);
         match made {
             Ok(applied) => {
-                offer_all(rt, &self.jobs, &mut pass.hand, &applied.touched);
-                Ok(Committed {
-                    number: applied.number,
-                })
+                let number = applied.number;
+                self.jobs.offer_each(rt, &mut pass.hand, applied.touched);
+                Ok(Committed { number })
             }
             Err(refused) => Err(refused),
         }

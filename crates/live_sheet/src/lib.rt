@@ -8,8 +8,8 @@
 //! `specs/Edits.antt` says); `look` takes no lock, no runtime and no memory (`specs/Looks.antt`). `firm` and `settle`
 //! compute what is stale first, level by level (`specs/Ranges.antt`, `specs/Levels.antt`, `specs/Firm.antt`). All speak
 //! of the pass that they are lent (`specs/Passes.antt`, `specs/Accepted.antt`). `work` is one turn at a worker's desk
-//! (`specs/Worked.antt`). `close` settles and gives the log, the sheet and the values of all cells
-//! (`specs/Closed.antt`).
+//! (`specs/Worked.antt`), and `settle_slice` computes some stale cells there that no job names (`specs/Slices.antt`).
+//! `close` settles and gives the log, the sheet and the values of all cells (`specs/Closed.antt`).
 //!
 //! Below stand `edit_log` over a compressed graph, `mark_words` and `recalc_workers`; above, the program.
 #![tactic(auto)]
@@ -29,6 +29,7 @@ mod firm_cells;
 mod firming;
 mod gathering;
 mod graph;
+mod left;
 mod live;
 mod loads;
 mod locked;
@@ -37,7 +38,6 @@ mod looking;
 mod marking;
 mod meeting;
 mod naming;
-mod offering;
 mod office;
 mod opened;
 mod opening;
@@ -46,12 +46,19 @@ mod passes;
 mod reading;
 mod rest;
 mod room;
+mod round;
 mod setting_up;
 mod settle;
 mod settle_range;
 mod setup;
 mod sharing;
+mod slicing;
+mod slots;
 mod stale;
+mod stocking;
+mod store;
+mod stored;
+mod valuing;
 mod whole;
 mod working;
 
@@ -59,6 +66,7 @@ pub use closed::{Closed, NotClosed};
 pub use committed::{Committed, EditRefused};
 pub use desk::Desk;
 pub use graph::LiveGraph;
+pub use left::Left;
 pub use live::Live;
 pub use loads::Loads;
 pub use naming::Naming;

@@ -7,6 +7,7 @@ ghost use Rattle.live_sheet.specs.contracts.pass.Pass.{the_row as pass_row};
 use crate::crossing::entries_cross;
 use crate::graph::LiveGraph;
 use crate::naming::Naming;
+use crate::stored::Stored;
 use edit_log::{OverSheet, book_crosses};
 use mark_words::Marks;
 use recalc_workers::Jobs;
@@ -16,6 +17,11 @@ use std::marker::PhantomData;
 // A type that threads may share is one by its values.
 fn may_be_shared<T: Sync>()
     ensures { IsSync T.row }
+{}
+
+// A type that may go to another thread is one by its values.
+fn may_be_sent<T: Send>()
+    ensures { IsSend T.row }
 {}
 
 /// A pass may go to another thread. The search that proves this of a thread's closure doesn't find it by itself: a
@@ -31,6 +37,7 @@ pub fn desks_cross<N: Naming + Send + Sync>()
     ensures { IsSend (desk_row N.row N.Naming.own N.Ledger) }
 {
     entries_cross();
+    may_be_sent::<Vec<Option<Stored>>>();
 }
 
 // What lies behind the lock may go to another thread.

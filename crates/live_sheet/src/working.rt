@@ -13,8 +13,9 @@ impl<N: Naming> Live<N> {
     /// with its cause, in what the desk's seat noted in this call and in the lists of its hand. The seat loses nothing
     /// that it knew, and holds no place afterwards.
     ///
-    /// The lock is held while it learns what stands in the cell, and again while it looks whether the cell is on a
-    /// cycle; not while it reads, computes, claims and puts.
+    /// The desk keeps what stands in some cells. The lock is taken where the cell isn't one of these, or an edit came
+    /// since: then the desk gets it for the cell and for those behind it that edits touched. It is taken too where the
+    /// desk can't tell that a cell isn't on a cycle. It isn't held while the turn reads, computes, claims and puts.
     pub fn work<R: Wait, T: Gate>(&self, rt: &R, desk: &mut Desk<N>, gate: &T) -> Turn
         ensures keeps { KeepsSeat desk.old desk.new }
         ensures jobs { UsesJobs N.opening desk.old desk.new result }
@@ -22,7 +23,10 @@ impl<N: Naming> Live<N> {
     {
         entries_cross();
         subject_crosses();
-        let mut office = LiveOffice { live: self };
+        let mut office = LiveOffice {
+            live: self,
+            store: &desk.store,
+        };
         turn(
             rt,
             &mut desk.desk,

@@ -26,6 +26,8 @@ mod single;
 #[cfg(test)]
 mod stories;
 #[cfg(test)]
+mod storing;
+#[cfg(test)]
 mod texts;
 #[cfg(test)]
 mod undoing;

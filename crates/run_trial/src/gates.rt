@@ -1,6 +1,7 @@
 use recalc_workers::Gate;
 use sheet_refs::Cell;
 use std::sync::atomic::{AtomicU64, Ordering};
+use std::thread::yield_now;
 use trial_parts::hold;
 
 /// Holds a client ahead of one of its commands until a worker is between its claim and its put of a cell.
@@ -23,6 +24,34 @@ impl Gate for UntilClaimed {
     fn before(&self, client: u32, number: u32) {
         if client == self.client && number == self.number {
             hold(&self.claims, 1, &self.late);
+        }
+    }
+}
+
+/// Has a client yield 200,000 times ahead of one command, and holds it ahead of a later one until the cell was claimed
+/// twice.
+#[derive(Drop)]
+pub(crate) struct AfterLong {
+    pub(crate) claimed: UntilClaimed,
+    pub(crate) number: u32,
+}
+
+impl Gate for AfterLong {
+    fn between(&self, cell: Cell) {
+        self.claimed.between(cell);
+    }
+
+    fn before(&self, client: u32, number: u32) {
+        if client != self.claimed.client {
+            return;
+        }
+        if number == self.number {
+            for _ in 0..200_000 {
+                yield_now();
+            }
+        }
+        if number == self.claimed.number {
+            hold(&self.claimed.claims, 2, &self.claimed.late);
         }
     }
 }

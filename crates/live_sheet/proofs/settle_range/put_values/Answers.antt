@@ -24,6 +24,9 @@ put-requires-2-clause-editor g c κs within =
     c.requires.editor c.stale_found.ensures.table
     (keeps_editor_on c.args.editor.now c.put.new.editor c.stale_found.new.editor c.put.ensures.editor c.stale_found.ensures.editor)
 
+pub put-requires-2-clause-held : goal.put-requires-2-clause-held
+put-requires-2-clause-held g c κs within = rw (c.deref.ensures.value) c.in_ok-found.ensures.held
+
 pub put-requires-2-clause-desks : goal.put-requires-2-clause-desks
 put-requires-2-clause-desks g c κs within = desks_of_table c.args.marks.now c.args.desks.now c.put.new.desks c.put.ensures.desks
 

@@ -1,4 +1,4 @@
-use Rattle.std.proofs.Common.{sym, ap, subst, ◌∙◌}
+use Rattle.std.proofs.Common.{ℕ, Ok, sym, ap, subst, ◌∙◌}
 use Rattle.sheet_model.specs.Logs.{after}
 use Rattle.sheet_model.specs.Sheets.{IsSheet, SheetValue}
 use Rattle.live_sheet.proofs.MeetingLemmas.{tells_cycle}
@@ -6,9 +6,9 @@ use Rattle.live_sheet.proofs.locked.Locked.circular.Goals as goal
 
 pub returns-clause-circular : goal.returns-clause-circular
 returns-clause-circular g c =
-    tells_cycle g.N.Naming.opening c.lend.new.self.book.sheet c.args.cell c.lend.new.seat _ c.on_cycle.result
-    c.pair_laws.ensures.cycles c.on_cycle.ensures.kept.pairs_are
+    tells_cycle {F = ℕ} g.N.Naming.opening c.lend.new.self.book.sheet c.args.cell c.lend.new.seat _ (Ok c.in_ok-on_cycle.on_cycle)
+    c.pair_laws.ensures.cycles c.in_ok-on_cycle.ensures.kept.pairs_are
     (subst IsSheet c.sheet.ensures.sheet c.sizes.ensures.sheet)
-    (c.on_cycle.ensures.kept.replayed ∙ ap (λ (o : SheetValue). after o c.lend.new.self.book.log) c.lend.new.self.opening
+    (c.in_ok-on_cycle.ensures.kept.replayed ∙ ap (λ (o : SheetValue). after o c.lend.new.self.book.log) c.lend.new.self.opening
     ∙ ap (after g.N.Naming.opening) (sym c.lend.ensures.log))
-    c.on_cycle.ensures.on
+    c.in_ok-on_cycle.ensures.on
