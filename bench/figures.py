@@ -2,15 +2,16 @@
 """Measures the built program over sheets of growing size, beside other spreadsheet programs and over the number of workers, prints
 the tables, and draws them as SVG into docs/figures/.
 
-Run by hand, on a machine that does nothing else: bench/figures.py [RUNS] [NAME]. Each time is the least of RUNS runs (3 by
-default), those of one line in turn; NAME draws the figures whose names contain it alone. Each figure says of which machine
-it is, with its processors, its load before the first run and the day.
+Run by hand, on a machine that does nothing else: bench/figures.py [--program FILE] [RUNS] [NAME]. Each time is the least of RUNS
+runs (3 by default), those of one line in turn; NAME draws the figures whose names contain it alone. Each figure says of which machine
+it is, with its processors, its load before the first run and the day. An axis ends where the data ends; of lines in one panel a later
+one is thinner, so that none hides another where they meet.
 
     commands    show of all cells, deps of A1 and check, over the number of cells: a chain, a fan, a ledger
     peers       show of all cells of a ledger, over their number, beside the programs that are installed, as bench/peers.py finds
                 them: ssconvert of Gnumeric, LibreOffice, and a small program over libixion
-    edges       the edges of check beside its pairs, over the number of cells
-    workers     live without commands over the number of workers: a ledger of which all is computed as the run closes
+    edges       the edges of check beside its pairs, over the number of cells: a chain, a fan, a ledger, and one laid out across
+    workers     live with an edit and a firm look over the number of workers, on four of the sheets of responsive.py
 
 It needs nothing but Python's own modules.
 """
@@ -20,12 +21,16 @@ import pathlib
 import sys
 import tempfile
 
-from measuring import ROOT, STARTER, build, called_with, chain, ledger, lines, machine, started, told
+import responsive
+from measuring import ROOT, STARTER, build, called_with, chain, ledger, lines, machine, name as cell, started, told
 from peers import others
 
 FIGURES = ROOT / "docs" / "figures"
-WIDTH, HEIGHT, LEFT, TOP, RIGHT, BOTTOM = 760, 440, 80, 50, 190, 70
-COLOURS = ("#1b6ca8", "#c8553d", "#3a7d44", "#8d6a9f", "#b8860b", "#444444")
+# The room round the panels and between them, and how large a panel is where they are so many side by side.
+LEFT, TOP, RIGHT, BOTTOM, ACROSS, DOWN = 80, 60, 190, 70, 60, 62
+PANELS = {1: (490, 300), 2: (300, 200), 3: (230, 240)}
+# The colours of lines and how wide they are, the first drawn first.
+COLOURS = (("#9cc4e4", 7), ("#c8553d", 4.5), ("#3a7d44", 2.5), ("#222222", 1))
 SIZES = (1_000, 3_000, 10_000, 30_000, 100_000)
 
 
@@ -39,6 +44,27 @@ def of_rows(count):
     return lines(count // 6, ledger)
 
 
+def laid_across(count):
+    """Such a ledger laid out across, six cells a column: at most 16,384 columns."""
+    cols = range(1, count // 6 + 1)
+    rows = (
+        lambda col: f"2026-{col % 12 + 1:02}-{col % 28 + 1:02}",
+        lambda col: "Rent",
+        lambda col: str(col % 900),
+        lambda col: str(col % 700),
+        lambda col: f"={cell(3, col)}-{cell(4, col)}",
+        lambda col: f"={cell(6, col - 1)}+{cell(5, col)}" if col > 1 else f"={cell(5, col)}",
+    )
+    return "".join(",".join(content(col) for col in cols) + "\n" for content in rows)
+
+
+# The sheets over which the number of workers is measured, by the names that their lines have.
+OF_WORKERS = {
+    "chains": "700 columns of chains, 700 rows deep",
+    "a recurrence": "a recurrence through two columns, 5,000 rows",
+    "a ledger": "a ledger of 50,000 rows",
+    "a fan": "a fan of 400,000 cells",
+}
 SHAPES = {"chain": chain, "fan": fan, "ledger": of_rows}
 
 
@@ -52,9 +78,18 @@ def escaped(text):
     return text.replace("&", "&amp;").replace("<", "&lt;")
 
 
-def ticks(least, most):
-    """The powers of ten from below the least to above the most."""
-    return [10.0**it for it in range(math.floor(math.log10(least)), math.ceil(math.log10(most)) + 1)]
+def ticks(values):
+    """The places of an axis over these values that are named: the values themselves where they are few; else the powers of ten between
+    their ends, with twice and five times these where there are hardly any."""
+    values = sorted(set(values))
+    if len(values) <= 5:
+        return values
+    least, most = extent(values)
+    tens = range(math.floor(math.log10(least)), math.ceil(math.log10(most)) + 1)
+    found = [10.0**it for it in tens if least <= 10.0**it <= most]
+    if len(found) < 3:
+        found = [step * 10.0**it for it in tens for step in (1, 2, 5) if least <= step * 10.0**it <= most]
+    return found or [least, most]
 
 
 def shown(number):
@@ -62,34 +97,58 @@ def shown(number):
     return f"{number:,.0f}" if number >= 1 else f"{number:g}"
 
 
-def chart(name, where, title, across, up, series):
-    """Draws lines over two logarithmic axes: for each name of the series its points. Below stands where it was measured."""
-    points = [point for line in series.values() for point in line]
+def grid(left, top, size, points):
+    """The lines of a panel of this size at the places of its axes that are named, with their names; and how a point is placed."""
+    (width, height), drawn = size, []
+    columns, rows = [point[0] for point in points], [point[1] for point in points]
+    ends = extent(columns), extent(rows)
+    x = lambda value: left + width * part(value, ends[0])
+    y = lambda value: top + height * (1 - part(value, ends[1]))
+    for tick in ticks(columns):
+        drawn.append(f'<line x1="{x(tick):.1f}" y1="{top}" x2="{x(tick):.1f}" y2="{top + height}" stroke="#ddd"/>')
+        drawn.append(f'<text x="{x(tick):.1f}" y="{top + height + 18}" text-anchor="middle">{shown(tick)}</text>')
+    for tick in ticks(rows):
+        drawn.append(f'<line x1="{left}" y1="{y(tick):.1f}" x2="{left + width}" y2="{y(tick):.1f}" stroke="#ddd"/>')
+        drawn.append(f'<text x="{left - 8}" y="{y(tick) + 4:.1f}" text-anchor="end">{shown(tick)}</text>')
+    drawn.append(f'<rect x="{left}" y="{top}" width="{width}" height="{height}" fill="none" stroke="#aaa"/>')
+    return drawn, x, y
+
+
+def curve(points, x, y, colour, width):
+    """A line with a dot at each of its points."""
+    path = " ".join(f"{x(a):.1f},{y(b):.1f}" for a, b in points)
+    yield f'<polyline points="{path}" fill="none" stroke="{colour}" stroke-width="{width}"/>'
+    yield from (f'<circle cx="{x(a):.1f}" cy="{y(b):.1f}" r="{width / 2 + 1.5}" fill="{colour}"/>' for a, b in points)
+
+
+def chart(name, where, title, across, up, panels):
+    """Draws panels of lines over the same two logarithmic axes: for each panel its lines by name, at most four, each with its points.
+    Below is where it was measured."""
+    points = [point for series in panels.values() for line in series.values() for point in line]
     if not points:
         return
-    columns, rows = ticks(*extent(point[0] for point in points)), ticks(*extent(point[1] for point in points))
-    x = lambda value: LEFT + (WIDTH - LEFT - RIGHT) * part(value, columns)
-    y = lambda value: HEIGHT - BOTTOM - (HEIGHT - TOP - BOTTOM) * part(value, rows)
-    drawn = [f'<text x="{LEFT}" y="24" font-size="16">{escaped(title)}</text>']
-    for tick in columns:
-        drawn.append(f'<line x1="{x(tick):.1f}" y1="{TOP}" x2="{x(tick):.1f}" y2="{HEIGHT - BOTTOM}" stroke="#ddd"/>')
-        drawn.append(f'<text x="{x(tick):.1f}" y="{HEIGHT - BOTTOM + 18}" text-anchor="middle">{shown(tick)}</text>')
-    for tick in rows:
-        drawn.append(f'<line x1="{LEFT}" y1="{y(tick):.1f}" x2="{WIDTH - RIGHT}" y2="{y(tick):.1f}" stroke="#ddd"/>')
-        drawn.append(f'<text x="{LEFT - 8}" y="{y(tick) + 4:.1f}" text-anchor="end">{shown(tick)}</text>')
-    for place, (what, line) in enumerate(series.items()):
-        # Where the colours begin anew, lines are dashed, and their names stand in italics.
-        colour, again = COLOURS[place % len(COLOURS)], place >= len(COLOURS)
-        dashes, slant = (' stroke-dasharray="6 4"', ' font-style="italic"') if again else ("", "")
-        path = " ".join(f"{x(a):.1f},{y(b):.1f}" for a, b in line)
-        drawn.append(f'<polyline points="{path}" fill="none" stroke="{colour}" stroke-width="2"{dashes}/>')
-        drawn += [f'<circle cx="{x(a):.1f}" cy="{y(b):.1f}" r="3" fill="{colour}"/>' for a, b in line]
-        drawn.append(f'<text x="{WIDTH - RIGHT + 12}" y="{TOP + 16 + 18 * place}" fill="{colour}"{slant}>{escaped(what)}</text>')
-    middle = (TOP + HEIGHT - BOTTOM) // 2
-    drawn.append(f'<text x="{(LEFT + WIDTH - RIGHT) // 2}" y="{HEIGHT - 30}" text-anchor="middle">{escaped(across)}</text>')
+    beside = {4: 2}.get(len(panels), len(panels))
+    size = PANELS[beside]
+    width = LEFT + beside * (size[0] + ACROSS) - ACROSS + RIGHT
+    height = TOP + math.ceil(len(panels) / beside) * (size[1] + DOWN) - DOWN + BOTTOM
+    drawn, names = [f'<text x="{LEFT}" y="24" font-size="16">{escaped(title)}</text>'], []
+    for place, (panel, series) in enumerate(panels.items()):
+        left, top = LEFT + place % beside * (size[0] + ACROSS), TOP + place // beside * (size[1] + DOWN)
+        lines_of_grid, x, y = grid(left, top, size, points)
+        drawn += [*lines_of_grid, f'<text x="{left}" y="{top - 8}" font-weight="bold">{escaped(panel)}</text>']
+        for what, line in series.items():
+            names += [] if what in names else [what]
+            drawn += curve(line, x, y, *COLOURS[names.index(what)])
+    for place, what in enumerate(names):
+        colour, thick = COLOURS[place]
+        x, y = width - RIGHT + 14, TOP + 16 + 20 * place
+        drawn.append(f'<line x1="{x}" y1="{y - 4}" x2="{x + 20}" y2="{y - 4}" stroke="{colour}" stroke-width="{thick}"/>')
+        drawn.append(f'<text x="{x + 28}" y="{y}">{escaped(what)}</text>')
+    middle = (TOP + height - BOTTOM) // 2
+    drawn.append(f'<text x="{(LEFT + width - RIGHT) // 2}" y="{height - 30}" text-anchor="middle">{escaped(across)}</text>')
     drawn.append(f'<text x="18" y="{middle}" text-anchor="middle" transform="rotate(-90 18 {middle})">{escaped(up)}</text>')
-    drawn.append(f'<text x="{LEFT}" y="{HEIGHT - 8}" fill="#666" font-size="10">{escaped(where)}</text>')
-    box = f'<svg xmlns="http://www.w3.org/2000/svg" width="{WIDTH}" height="{HEIGHT}" font-family="sans-serif" font-size="12">'
+    drawn.append(f'<text x="{LEFT}" y="{height - 8}" fill="#666" font-size="10">{escaped(where)}</text>')
+    box = f'<svg xmlns="http://www.w3.org/2000/svg" width="{width}" height="{height}" font-family="sans-serif" font-size="12">'
     FIGURES.mkdir(exist_ok=True)
     (FIGURES / f"{name}.svg").write_text("\n".join([box, '<rect width="100%" height="100%" fill="white"/>', *drawn, "</svg>"]) + "\n")
     print(f"docs/figures/{name}.svg")
@@ -101,15 +160,16 @@ def extent(values):
     return min(values), max(values)
 
 
-def part(value, marks):
-    """How far a number is from the first mark to the last one, by logarithms."""
-    return math.log(value / marks[0]) / math.log(marks[-1] / marks[0]) if marks[-1] > marks[0] else 0.5
+def part(value, ends):
+    """How far a number is from one end of an axis to the other one, by logarithms."""
+    return math.log(value / ends[0]) / math.log(ends[1] / ends[0]) if ends[1] > ends[0] else 0.5
 
 
 def commands(folder, runs, where):
     """The times of three commands over three shapes of sheet."""
-    series = {}
+    panels = {}
     for shape, text in SHAPES.items():
+        series = panels.setdefault(f"a {shape}", {})
         for count in SIZES:
             (folder / "sheet.csv").write_text(text(count))
             asked = {
@@ -122,9 +182,9 @@ def commands(folder, runs, where):
                 for what, words in asked.items():
                     taken[what].append(started(folder, *words)[0])
             for what, times in taken.items():
-                series.setdefault(f"{what}, {shape}", []).append((count, max(min(times), 1e-4)))
+                series.setdefault(what, []).append((count, max(min(times), 1e-4)))
                 print(f"{min(times):9.4f} s  {what} of a {shape} of {count:,} cells", flush=True)
-    chart("commands", where, "What commands take", "cells of the sheet", "seconds of processor time", series)
+    chart("commands", where, "What commands take", "cells of the sheet", "seconds of processor time", panels)
 
 
 def peers(folder, runs, where):
@@ -143,37 +203,40 @@ def peers(folder, runs, where):
         for name, times in taken.items():
             series.setdefault(name, []).append((count, min(times)))
             print(f"{min(times):9.4f} s  {name}, a ledger of {count:,} cells", flush=True)
-    chart("peers", where, "A ledger read and computed", "cells of the sheet", "seconds by the clock", series)
+    chart("peers", where, "A ledger read and computed", "cells of the sheet", "seconds by the clock", {"": series})
 
 
 def edges(folder, _, where):
     """How many edges stand for how many pairs."""
-    series = {}
-    for shape, text in SHAPES.items():
+    panels = {}
+    for shape, text in (SHAPES | {"ledger across": laid_across}).items():
+        series = panels.setdefault(f"a {shape}", {})
         for count in SIZES:
+            if shape == "ledger across":
+                count = min(count, 6 * 16_384)
             (folder / "sheet.csv").write_text(text(count))
             started(folder, "check", "sheet.csv")
             with open(folder / "output") as output:
                 found = [int(output.readline().split()[1]) for _ in range(2)]
             for what, number in zip(("pairs", "edges"), found):
-                series.setdefault(f"{what}, {shape}", []).append((count, number))
+                series.setdefault(what, []).append((count, number))
             print(f"{found[1]:9,} edges for {found[0]:,} pairs: a {shape} of {count:,} cells", flush=True)
-    chart("edges", where, "Edges that stand for pairs", "cells of the sheet", "how many", series)
+    chart("edges", where, "Edges that stand for pairs", "cells of the sheet", "how many", panels)
 
 
 def workers(folder, runs, where):
-    """The time by the clock of a live run without commands, over the number of workers."""
-    (folder / "sheet.csv").write_text(of_rows(100_000))
-    (folder / "script.txt").write_text("")
-    counts, taken = (1, 2, 4, 8, 16), {}
-    for _ in range(runs):
+    """The time by the clock of an edit and a firm look, over the number of workers and four of the sheets of bench/responsive.py."""
+    counts, series = (1, 2, 4, 8, 16), {}
+    for name, what in OF_WORKERS.items():
+        responsive.write(folder, responsive.SHEETS[what]())
+        taken = {count: [] for count in counts}
+        for _ in range(runs):
+            for count in counts:
+                taken[count].append(started(folder, "live", "sheet.csv", "script.txt", "--workers", str(count))[1])
         for count in counts:
-            words = ("live", "sheet.csv", "script.txt", "--workers", str(count))
-            taken.setdefault(count, []).append(started(folder, *words)[1])
-    for count in counts:
-        print(f"{min(taken[count]):9.4f} s  live with {count} workers, a ledger of 100,000 cells", flush=True)
-    series = {"a ledger of 100,000 cells": [(count, min(taken[count])) for count in counts]}
-    chart("workers", where, "A live run without commands over the number of workers", "workers", "seconds by the clock", series)
+            print(f"{min(taken[count]):9.4f} s  live with {count} workers, {what}", flush=True)
+        series[name] = [(count, min(taken[count])) for count in counts]
+    chart("workers", where, "An edit and a firm look", "workers", "seconds by the clock", {"": series})
 
 
 def main():

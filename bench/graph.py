@@ -1,7 +1,7 @@
 #!/usr/bin/env python3
 """Times `deps` and `check` of the built program beside `show` of the same sheet.
 
-Run by hand: bench/graph.py [RUNS] [WORD]. A line for each sheet whose name contains WORD (all by default), with the least of RUNS
+Run by hand: bench/graph.py [--program FILE] [RUNS] [WORD]. A line for each sheet whose name contains WORD (all by default), with the least of RUNS
 runs each (5 by default), the commands in turn:
 
     show      seconds of processor time of `show` of a cell below all others that adds them up, so that all are computed
@@ -14,8 +14,9 @@ runs each (5 by default), the commands in turn:
 Below them stand the times of two lines that tell something together, the second's divided by the first's.
 
 Then come commands of one sheet in two sizes, of which the second is four times the first: the seconds and megabytes of both, and the
-second's divided by the first's, which is at most 6. And last the same sheet laid out down and laid out across: the seconds of both, and
-the edges of both where they are told; neither takes more than twice the time of the other.
+second's divided by the first's, which is at most 6. After them stands the same sheet laid out down and laid out across, in two sizes:
+the seconds of both, and the edges of both where they are told; neither takes more than twice the time of the other, nor more than a
+tenth more edges. Last come edits of a cell near the left and near the right end.
 
 How it starts the program is that of bench/measuring.py.
 """
@@ -189,9 +190,25 @@ def unlike(formulas):
     return lines(500, lambda r: ",".join(formula() for _ in range(formulas)))
 
 
-def edits(cell):
-    """10,000 edits of one cell."""
-    return lines(10_000, lambda r: f"set {cell} {r % 7}")
+def block(across, times):
+    """A block of 40 lines of formulas beside one of numbers, of which each refers to the number at its place, and to the cell before it."""
+    def content(time, line):
+        if line <= 40:
+            return str(time % 900)
+        before = f"+{placed(across, time - 1, line)}" if time > 1 else ""
+        return f"={placed(across, time, line - 40)}{before}"
+
+    return laid(across, times, 80, content)
+
+
+def chains(across, times):
+    """40 chains side by side, each from a number."""
+    return laid(across, times, 40, lambda time, line: f"={placed(across, time - 1, line)}+{line}" if time > 1 else str(line))
+
+
+def edits(cell, count):
+    """So many edits of one cell."""
+    return lines(count, lambda r: f"set {cell} {r % 7}")
 
 
 # Commands of a sheet in two sizes, the second four times the first: the words, what makes the text, and both sizes.
@@ -204,15 +221,17 @@ GROWING = {
     "check of nine ledgers across": (["check", "sheet.csv"], lambda count: ledgers(True, count, 9), (2_000, 8_000)),
 }
 
-# The same sheet laid out down and across: the words of both, and what makes the text.
+# The same sheet laid out down and across: the words of both, what makes the text, and both sizes.
 TURNED = {
-    "check of nine ledgers of 8,000 times": (["check", "sheet.csv"], ["check", "sheet.csv"], lambda across: ledgers(across, 8_000, 9)),
-    "check of 16,384 growing sums": (["check", "sheet.csv"], ["check", "sheet.csv"], lambda across: growing_sums(across, 16_384)),
-    "deps of 16,384 counts beside a chain": (["deps", "sheet.csv", "B1"], ["deps", "sheet.csv", "A2"], lambda across: counts_over_a_chain(across, 16_384)),
+    "check of nine ledgers": (["check", "sheet.csv"], ["check", "sheet.csv"], lambda across, count: ledgers(across, count, 9), (2_000, 8_000)),
+    "check of growing sums": (["check", "sheet.csv"], ["check", "sheet.csv"], growing_sums, (4_096, 16_384)),
+    "check of a block of 40 lines": (["check", "sheet.csv"], ["check", "sheet.csv"], block, (1_000, 4_000)),
+    "check of 40 chains": (["check", "sheet.csv"], ["check", "sheet.csv"], chains, (1_000, 4_000)),
+    "deps of counts beside a chain": (["deps", "sheet.csv", "B1"], ["deps", "sheet.csv", "A2"], counts_over_a_chain, (4_096, 16_384)),
 }
 
-# 10,000 edits of a cell near the left and near the right end.
-EDITED = ("10,000 edits of a cell in column B, and in column XFC", "B1", "XFC1")
+# Edits of a cell near the left and near the right end, and how many.
+EDITED = ("edits of a cell in column B, and in column XFC", ("B1", "XFC1"), (10_000, 40_000))
 
 
 def timed(folder, *words):
@@ -262,25 +281,27 @@ def measure_growing(folder, runs, what):
 
 
 def measure_turned(folder, runs, what):
-    """A line of a sheet laid out down and across."""
-    down, across, text = TURNED[what]
-    taken, edges = [], []
-    for turned, words in ((False, down), (True, across)):
-        (folder / "sheet.csv").write_text(text(turned))
-        taken.append(least(folder, runs, words)[0])
-        edges.append(told_edges(folder))
-    print(f"{taken[0]:8.3f} {taken[1]:8.3f} {taken[1] / taken[0]:6.2f}  {what}, down{edges[0]}, and across{edges[1]}", flush=True)
+    """A line for each size of a sheet laid out down and across."""
+    down, across, text, sizes = TURNED[what]
+    for size in sizes:
+        taken, edges = [], []
+        for turned, words in ((False, down), (True, across)):
+            (folder / "sheet.csv").write_text(text(turned, size))
+            taken.append(least(folder, runs, words)[0])
+            edges.append(told_edges(folder))
+        print(f"{taken[0]:8.3f} {taken[1]:8.3f} {taken[1] / taken[0]:6.2f}  {size:,}: {what}, down{edges[0]}, and across{edges[1]}", flush=True)
 
 
 def measure_edited(folder, runs):
-    """A line of edits of a cell near the left and near the right end."""
-    what, *cells = EDITED
+    """A line for each number of edits of a cell near the left and near the right end."""
+    what, cells, sizes = EDITED
     (folder / "sheet.csv").write_text(f"1{',' * 16_383}2\n")
-    taken = []
-    for cell in cells:
-        (folder / "script").write_text(edits(cell))
-        taken.append(least(folder, runs, ["play", "sheet.csv", "script"])[0])
-    print(f"{taken[0]:8.3f} {taken[1]:8.3f} {taken[1] / taken[0]:6.2f}  {what}", flush=True)
+    for size in sizes:
+        taken = []
+        for cell in cells:
+            (folder / "script").write_text(edits(cell, size))
+            taken.append(least(folder, runs, ["play", "sheet.csv", "script"])[0])
+        print(f"{taken[0]:8.3f} {taken[1]:8.3f} {taken[1] / taken[0]:6.2f}  {size:,} {what}", flush=True)
 
 
 def main():

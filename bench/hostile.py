@@ -1,7 +1,7 @@
 #!/usr/bin/env python3
 """Times each command of the built program on the dearest formulas, and on formulas a quarter as long.
 
-Run by hand: bench/hostile.py [RUNS] [WORD]. A line for each command and kind of formula whose name contains WORD (all by default), with
+Run by hand: bench/hostile.py [--program FILE] [RUNS] [WORD]. A line for each command and kind of formula whose name contains WORD (all by default), with
 the least of RUNS runs each (3 by default), the two lengths in turn. The formula stands in 1,000 cells, or in as many lines of a script:
 
     quarter   seconds of processor time with formulas of a quarter of the length

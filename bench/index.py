@@ -90,7 +90,7 @@ def room(program, index):
 
 
 def main():
-    runs, word = called_with(__doc__, 3)
+    runs, word = called_with(__doc__, 3, of_program=False)
     program, has_peer = build()
     indexes = ["list", "grid", "tree"] + ["mdds"] * has_peer
     head(runs)

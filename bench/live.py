@@ -2,7 +2,7 @@
 """Times `live` of the built program beside `show`, `play` and itself, and the calls of a live sheet beside those of a book, by the
 clock.
 
-Run by hand: bench/live.py [RUNS] [WORD]. A line for each pair whose name contains WORD (all by default), with the least of RUNS
+Run by hand: bench/live.py [--program FILE] [RUNS] [WORD]. A line for each pair whose name contains WORD (all by default), with the least of RUNS
 runs each (3 by default), the two in turn:
 
     one, other  seconds by the clock of the whole run of the program, its output sent to a file
@@ -19,6 +19,7 @@ import tempfile
 
 import live_program
 import measuring
+import responsive
 from measuring import build, called_with, grid, head, lines, started, sums
 
 LIVE = "live sheet.csv script.txt"
@@ -57,10 +58,57 @@ def wide():
     return lines(1_024, lambda row: ",".join(sums(row, col) for col in range(1, 65)) + f",,{row}")
 
 
+def doubled():
+    """500,000 numbers, each with its double."""
+    return lines(500_000, lambda row: f"{row},=A{row}*2")
+
+
+def chains():
+    """700 columns of chains, 700 rows deep, that all begin at A1."""
+    return responsive.chains(700)[0]
+
+
+def windows(rows, cells):
+    """So many numbers, and sums of so many of them each."""
+    return lines(rows, lambda row: f"{row},=SUM(A{row}:A{row + cells - 1})")
+
+
+def products():
+    """250,000 formulas of three products each."""
+    return lines(250_000, lambda row: f"{row % 1_000},{row % 77},=A{row}*B{row}*3+A{row}*7*B{row}+B{row}*2*A{row}")
+
+
+# The sheets that are settled: each with the range of all its cells, and an edit and a firm look.
+SETTLED = {
+    "a ledger of 50,000 rows": (ledger, "A1:F50000", "set C2 5\nfirm A1:B1\n"),
+    "500,000 numbers and their doubles": (doubled, "A1:B500000", "set A2 5\nfirm B2\n"),
+    "700 columns of chains, 700 rows deep": (chains, "A1:ZX700", "set A1 5\nfirm A1\n"),
+    "100,000 sums of 100 cells": (lambda: windows(100_000, 100), "A1:B100000", "set A2 5\nfirm B2\n"),
+}
+# Those whose formulas take long.
+DEAR = {
+    "20,000 sums of 500 cells": lambda: windows(20_000, 500),
+    "250,000 formulas of three products": products,
+}
+CLEAN = "firm A1000000\n"
+
+
+def settled():
+    """Each settled sheet with an empty script, and with an edit and a firm look, beside `show`."""
+    for what, (sheet, cells, script) in SETTLED.items():
+        show = f"show sheet.csv {cells}"
+        yield f"an empty script on {what}, 4 workers; show of all cells", (sheet, FOUR, "", show, "")
+        yield f"an edit and a firm look on {what}, 4 workers; show of all cells", (sheet, FOUR, script, show, "")
+
+
 # What is measured: sheet, the words and the script of the one run, and those of the other.
 MEASURED = {
-    "an empty script on a ledger of 50,000 rows, 4 workers; show of all cells": (ledger, FOUR, "", "show sheet.csv A1:F50000", ""),
-    "the same; with 1 worker": (ledger, FOUR, "", ONE, ""),
+    **dict(settled()),
+    "an empty script on a ledger of 50,000 rows, 4 workers; with 1 worker": (ledger, FOUR, "", ONE, ""),
+    **{f"an empty script on {what}, 1 worker; with 4 workers": (sheet, ONE, "", FOUR, "") for what, sheet in DEAR.items()},
+    "100 firm looks of a clean cell behind a chain of 1,000,000; 100 looks": (
+        lambda: measuring.chain(1_000_000), FOUR, CLEAN * 101, FOUR, CLEAN + "look A1000000\n" * 100,
+    ),
     "100,000 edits of a number with one dependent, 4 workers; play": (pairs, FOUR, edits(100_000), "play sheet.csv script.txt", edits(100_000)),
     "the same, 1 worker; play": (pairs, ONE, edits(100_000), "play sheet.csv script.txt", edits(100_000)),
     "64 looks of 65,536 cells, 4 workers; none": (lambda: grid(sums), FOUR, "look A1:BL1024\n" * 64, FOUR, ""),

@@ -13,7 +13,9 @@ import subprocess
 import sys
 
 ROOT = pathlib.Path(__file__).resolve().parent.parent
-PROGRAM = ROOT / "crates" / "antifreeze" / "out" / "antifreeze"
+BUILT = ROOT / "crates" / "antifreeze" / "out" / "antifreeze"
+# The program that is measured: the built one, unless the words that a script is called with name another.
+PROGRAM = BUILT
 LETTERS = "ABCDEFGHIJKLMNOPQRSTUVWXYZ"
 
 # The program is started by a small process of its own: what a process had resident before it turned into the program counts as
@@ -111,7 +113,9 @@ def started(folder, *words):
 
 
 def build():
-    """Has the launcher build what isn't built."""
+    """Has the launcher build what isn't built, where no other program was named."""
+    if PROGRAM != BUILT:
+        return
     shown = subprocess.run([ROOT / "antifreeze", "show", ROOT / "examples" / "first.csv", "A1:B2"], stdout=subprocess.DEVNULL)
     if shown.returncode:
         sys.exit(f"{script()}: the program could not be built")
@@ -125,12 +129,18 @@ def judge():
     return module
 
 
-def called_with(text, runs):
-    """What a script is called with: how often it runs what it measures, and a word that the names of what it measures contain."""
+def called_with(text, runs, of_program=True):
+    """What a script is called with: how often it runs what it measures, and a word that the names of what it measures contain. Where it
+    starts the program, another one may be named, which is measured then."""
+    global PROGRAM
     parser = argparse.ArgumentParser(description=text, formatter_class=argparse.RawDescriptionHelpFormatter)
     parser.add_argument("runs", nargs="?", type=int, default=runs, metavar="RUNS", help=f"how many runs each ({runs})")
     parser.add_argument("word", nargs="?", default="", metavar="WORD", help="what has this in its name alone (all)")
+    if of_program:
+        parser.add_argument("--program", metavar="FILE", type=pathlib.Path, help="measure this program in place of the launcher's")
     given = parser.parse_args()
+    if of_program and given.program:
+        PROGRAM = given.program.resolve()
     return given.runs, given.word
 
 

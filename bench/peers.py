@@ -2,7 +2,7 @@
 """Times `show` of all cells beside the spreadsheet programs that are installed, each of which reads the same CSV file and computes all
 its values: ssconvert of Gnumeric and LibreOffice, which write them as CSV too, and a small program over libixion, which writes none.
 
-Run by hand: bench/peers.py [RUNS] [WORD]. A line for each sheet whose name contains WORD (all by default), with the least of RUNS
+Run by hand: bench/peers.py [--program FILE] [RUNS] [WORD]. A line for each sheet whose name contains WORD (all by default), with the least of RUNS
 runs each (3 by default), the programs in turn:
 
     seconds   the time by the clock, for each program
@@ -47,6 +47,7 @@ SHEETS = {
     "5,000 growing sums": (lambda: sums(5_000), "A1:B5000"),
     "100,000 windows of ten": (lambda: windows(100_000), "A1:B100000"),
     "a fan of 100,000 cells": (lambda: lines(100_000, lambda row: "=$A$1*2" if row > 1 else "1"), "A1:A100000"),
+    "a fan of 1,000,000 cells": (lambda: lines(1_000_000, lambda row: "=$A$1*2" if row > 1 else "1"), "A1:A1000000"),
     "500,000 rows of two columns": (lambda: lines(500_000, lambda row: f"{row},=A{row}+1"), "A1:B500000"),
     "a ledger of 50,000 rows": (lambda: lines(50_000, ledger), "A1:F50000"),
 }

@@ -1,7 +1,7 @@
 #!/usr/bin/env python3
 """Times `play` of the built program on large sheets and scripts, beside `show` of the same sheet.
 
-Run by hand: bench/play.py [RUNS] [WORD]. A line for each sheet and script whose name contains WORD (all by default), with the least
+Run by hand: bench/play.py [--program FILE] [RUNS] [WORD]. A line for each sheet and script whose name contains WORD (all by default), with the least
 of RUNS runs each (3 by default), the two commands in turn:
 
     show      seconds of processor time of `show` of a cell below all others that adds them up, so that all are computed;

@@ -2,7 +2,7 @@
 """Times `live` of the built program with several workers beside one, and over sheets of four times the cells, by the clock: an edit
 or two over sheets on which workers would stand in each other's way, or in that of the client.
 
-Run by hand: bench/responsive.py [RUNS] [WORD]. For each sheet whose name contains WORD (all by default), with the least of RUNS
+Run by hand: bench/responsive.py [--program FILE] [RUNS] [WORD]. For each sheet whose name contains WORD (all by default), with the least of RUNS
 runs each (3 by default), a run that takes longer than a minute given up:
 
     workers     a line with the seconds by the clock with 1, 2, 4 and 8 workers, what the most is of the first, and the voluntary
@@ -21,7 +21,8 @@ import subprocess
 import tempfile
 import time
 
-from measuring import PROGRAM, build, called_with, head, lines, name
+import measuring
+from measuring import build, called_with, head, lines, name
 
 LIMIT = 60
 
@@ -103,7 +104,7 @@ def run(folder, *words):
     start = time.monotonic()
     with open(os.devnull, "wb") as nowhere:
         try:
-            subprocess.run([PROGRAM, *words], cwd=folder, stdout=nowhere, check=True, timeout=LIMIT)
+            subprocess.run([measuring.PROGRAM, *words], cwd=folder, stdout=nowhere, check=True, timeout=LIMIT)
         except subprocess.TimeoutExpired:
             return float("inf"), 0
     return time.monotonic() - start, resource.getrusage(resource.RUSAGE_CHILDREN).ru_nvcsw - before

@@ -44,7 +44,7 @@ def level(rows):
 
 
 def main():
-    runs, word = called_with(__doc__, 3)
+    runs, word = called_with(__doc__, 3, of_program=False)
     settled = {
         "a live sheet, a chain of 100,000 cells": lambda: live("chain", 100_000),
         "a live sheet, a fan of 100,000 cells": lambda: live("fan", 100_000),

@@ -1,7 +1,7 @@
 #!/usr/bin/env python3
 """Times the built program on large sheets, each beside Python's csv module, which reads the same text into lists.
 
-Run by hand: bench/show.py [RUNS] [WORD]. A line for each sheet whose name contains WORD (all by default), with the least of
+Run by hand: bench/show.py [--program FILE] [RUNS] [WORD]. A line for each sheet whose name contains WORD (all by default), with the least of
 RUNS runs each (3 by default), program and csv in turn:
 
     program   seconds of processor time of the whole run of the program, its output sent to a file
