@@ -1,6 +1,7 @@
 -- What is known of the cells of a range after a look at each.
 use Rattle.std.proofs.Common.{◌≡◌, ℕ, ◌<◌, ◌≤◌, ◌++◌, Option, Some, List, length, slice_get, IsTrue, ◌↔◌, [], ◌∷◌, sym}
-use Rattle.std.proofs.Common.{refl, ◌∙◌, arith, append_assoc, Result, Ok, Err, IfErr}
+use Rattle.std.proofs.Common.{refl, ◌∙◌, subst, arith, append_assoc, Result, Ok, Err, IfErr, ◌+◌}
+use native.Mathlib.Decide.{dec_lt}
 use Rattle.std.specs.List.{Contains}
 use Rattle.std.proofs.lemmas.Option.{slice_get_read}
 use Rattle.sheet_refs.specs.Cells.{Position, Corners, IsIn, cells_of}
@@ -28,6 +29,18 @@ plain_range sizes codes range part count same listed all below = record {
       let found = (listed cell).1 ((same cell).1 (inside, held)) in
       below found.0 cell (omega (arith, found.1, all)) (slice_get_read (cells_of part) (length (cells_of part)) found.0 cell refl found.1 (sym found.2));
 }
+
+-- one more cell of a range is plain
+pub plain_more : (codes : Position → Option ℕ) (part : Corners) (count : ℕ) (here : Position) → PlainBelow codes part count
+    → slice_get (cells_of part) count ≡ Some here → IsKnownPlain codes here → PlainBelow codes part (count + 1)
+plain_more codes part count here below at plain k cell less is =
+    elim (dec_lt k count) [
+      | yes before ↦ below k cell before is
+      | no past ↦ (let h : ¬ (k < count) = past in
+          let same : k ≡ count = omega (arith, less) in
+          let found : here ≡ cell = cc in
+          subst (IsKnownPlain codes) found plain)
+    ]
 
 -- the references of a tree are those of a part of it and others that are plain
 pub record HasRest (sizes : Sizes) (codes : Position → Option ℕ) (whole part : Tree) : Type 0 where

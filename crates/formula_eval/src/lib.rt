@@ -24,5 +24,4 @@ mod tally;
 pub use evaluation::{eval, eval_known};
 pub use inputs::{Block, Inputs, Missing};
 pub use laws::eval_laws;
-pub use scan::CIRCULAR;
 pub use stack::Stack;

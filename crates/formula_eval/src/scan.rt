@@ -7,6 +7,7 @@ ghost use Rattle.formula_eval.specs.Seen.{IsPlainTree, AllPlain, StopsTree, Stop
 use crate::inputs::Inputs;
 use formula_syntax::Node;
 use sheet_refs::{Cell, Range, Sizes};
+use value_core::CodeWord;
 
 /// Why evaluation can't read past a cell.
 #[derive(Clone, Copy)]
@@ -16,9 +17,6 @@ pub(crate) enum Stop {
     /// Its value is `#CIRC!`.
     Circular(Cell),
 }
-
-/// The code of `#CIRC!`.
-pub const CIRCULAR: u64 = 59;
 
 pub(crate) fn sizes<I: Inputs>(inputs: &I) -> Sizes
     ensures { result ≡ I.sizes inputs.now }
@@ -80,7 +78,7 @@ fn scan_range<I: Inputs>(inputs: &I, range: Range) -> Result<(), Stop>
         let Some(word) = inputs.get(cell) else {
             return Err(Stop::Missing(cell));
         };
-        if word == CIRCULAR {
+        if CodeWord::new(word).is_circular() {
             return Err(Stop::Circular(cell));
         }
         cell = part.cell_behind(cell);
